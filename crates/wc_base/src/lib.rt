@@ -1,0 +1,21 @@
+//! What every part of the engine speaks of: exceptions, callers, media formats, lists and texts that contracts see
+//! as their items, and the traits for files and sinks that are handed in.
+#![tactic(auto)]
+
+mod error;
+mod files;
+mod list;
+mod media;
+mod sink;
+#[cfg(test)]
+mod tests;
+mod text;
+mod who;
+
+pub use error::{DomError, Failed, NoMemory};
+pub use files::{FileFault, Files, MemFiles, SystemFiles};
+pub use list::List;
+pub use media::{Picture, PictureFormat, PictureShape, SampleFormat, Samples, SoundShape};
+pub use sink::{MemSink, Output, Sink};
+pub use text::Text;
+pub use who::{By, Who};
