@@ -1,0 +1,4 @@
+pub mod Configs
+pub mod Pcm
+pub mod G711
+pub mod Streams
