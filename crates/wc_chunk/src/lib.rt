@@ -1,0 +1,6 @@
+//! Encoded chunks of audio and video.
+#![tactic(auto)]
+
+mod chunk;
+
+pub use chunk::Chunk;
