@@ -1,0 +1,11 @@
+//! Linear PCM: decoders and encoders.
+#![tactic(auto)]
+
+mod coder;
+mod decode;
+mod encode;
+
+pub use coder::PcmCoder;
+
+#[cfg(test)]
+mod tests;
