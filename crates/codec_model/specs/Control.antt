@@ -1,0 +1,350 @@
+-- The control state of a codec, and the steps of its algorithms on it (W3C WebCodecs, sections 2.2 'Control Messaging
+-- Model', 2.3 'Codec Work Parallel Queue', and the algorithms of AudioDecoder; saturation and what a removal does to
+-- epochs and tasks are our choice).
+use Rattle.std.specs.Prelude.{ℕ, ◌+◌, ◌-◌, ◌*◌, ◌==◌, max, Bool, true, false, not, ◌&&◌, ◌||◌, List, [], ◌∷◌, ◌++◌, length, count_by, sum_by, filter, drop, map, nat_le, Option, Some, None, is_some, is_none, if◌then◌else◌, unwrap_or}
+use Rattle.wc_config.specs.declared.config.Config.{Config}
+use Rattle.wc_chunk.specs.declared.chunk.Chunk.{Chunk}
+use Rattle.wc_base.specs.declared.error.DomError.{DomError}
+use Rattle.wc_base.specs.declared.error.DomError.TheVariants as dom
+use Rattle.coder_api.specs.declared.unit.Unit as media
+use Rattle.wc_config.specs.declared.config.AudioDecoderConfig.{AudioDecoderConfig}
+use Rattle.codec_model.specs.declared.entry.Kind.{Kind}
+use Rattle.codec_model.specs.declared.entry.Kind.TheVariants as kinds
+use Rattle.codec_model.specs.declared.entry.Opening.{Opening}
+use Rattle.codec_model.specs.declared.entry.PromiseEnd.{PromiseEnd}
+use Rattle.codec_model.specs.declared.entry.CodecState.{CodecState}
+use Rattle.codec_model.specs.declared.entry.CodecState.TheVariants.{Unconfigured, Configured, Closed}
+use Rattle.codec_model.specs.declared.entry.Work.{Work}
+use Rattle.codec_model.specs.declared.entry.Work.TheVariants as work
+use Rattle.codec_model.specs.declared.entry.WorkKind.{WorkKind}
+use Rattle.codec_model.specs.declared.entry.WorkKind.TheVariants as kind
+use Rattle.codec_model.specs.declared.entry.Message.{Message}
+use Rattle.codec_model.specs.declared.entry.Item.{Item}
+use Rattle.codec_model.specs.declared.entry.Running.{Running}
+use Rattle.codec_model.specs.declared.entry.Task.{Task}
+use Rattle.codec_model.specs.declared.entry.Task.TheVariants as task
+use Rattle.codec_model.specs.declared.entry.Ended.{Ended}
+use Rattle.codec_model.specs.declared.entry.Ended.TheVariants as ended
+
+pub record Control : Type 0 where
+  -- the place of the next entry
+  pub place : ℕ
+  pub opening : Opening
+  pub phase : CodecState
+  pub epoch : ℕ
+  pub key_required : Bool
+  -- the control message queue
+  pub messages : List Message
+  pub blocked : Bool
+  pub saturated : Bool
+  pub halted : Bool
+  -- coded messages in the queue
+  pub size : ℕ
+  -- the places of the flush calls whose promises are pending
+  pub pending : List ℕ
+  -- the promises that ended, in order, each with its error or resolved
+  pub ends : List PromiseEnd
+  -- the codec work queue
+  pub work : List Item
+  -- the number of the next item of this epoch
+  pub next_item : ℕ
+  pub running : Option Running
+  pub tasks : List Task
+  pub scheduled : Bool
+  -- all outputs that were shown, in order
+  pub shown : List media.Unit
+  -- how many of them were taken
+  pub taken : ℕ
+  -- the decoder config of the last encoded output that was shown
+  pub active : Option AudioDecoderConfig
+  -- the moment of the last item of this epoch that ended
+  pub progress : Option ℕ
+
+-- the outputs that were shown and not taken
+abbrev pub outbox : Control → List media.Unit
+outbox s = drop s.taken s.shown
+
+-- An event's entry has taken its place.
+abbrev pub entered : Control → Control
+entered s = record s { place = s.place + 1 }
+
+abbrev pub is_coded : Work → Bool
+is_coded (work.Configure config) = false
+is_coded (work.Coded chunk) = true
+is_coded work.Flush = false
+
+abbrev pub kind_of : Work → WorkKind
+kind_of (work.Configure config) = kind.Configure
+kind_of (work.Coded chunk) = kind.Coded
+kind_of work.Flush = kind.Flush
+
+-- the coded items of this epoch that are queued or running
+abbrev pub coded_running : ℕ → Option Running → ℕ
+coded_running epoch None = 0
+coded_running epoch (Some r) = elim (r.kind) [ kind.Configure ↦ 0 | kind.Coded ↦ (if r.epoch == epoch then 1 else 0) | kind.Flush ↦ 0 ]
+
+abbrev pub coded_out : Control → ℕ
+coded_out s = count_by (λ i. is_coded i.work) s.work + coded_running s.epoch s.running
+
+-- schedules a dequeue event, if none is scheduled
+abbrev pub with_dequeue_if : Bool → Control → Control
+with_dequeue_if wanted s = record s { scheduled = wanted || s.scheduled; tasks = if wanted && not s.scheduled then s.tasks ++ task.Dequeue ∷ [] else s.tasks }
+
+abbrev pub with_dequeue : Control → Control
+with_dequeue s = with_dequeue_if true s
+
+abbrev pub with_item : Message → Control → Control
+with_item m s = record s { work = s.work ++ record { number = s.next_item; place = m.place; work = m.work } ∷ []; next_item = s.next_item + 1 }
+
+-- the steps of a message that is processed
+abbrev pub after_message : Message → Control → Control
+after_message m s = elim (m.work) [
+  | work.Configure config ↦ with_item m (record s { blocked = true })
+  | work.Coded chunk ↦ with_item m (with_dequeue (record s { saturated = coded_out s + 1 == s.opening.saturation; size = s.size - 1 }))
+  | work.Flush ↦ with_item m s
+]
+
+-- whether the front message is processed now
+abbrev pub is_taken : Message → Control → Bool
+is_taken m s = not s.blocked && not (s.saturated && is_coded m.work)
+
+abbrev pub takes_front : List Message → Control → Bool
+takes_front [] s = false
+takes_front (m ∷ ms) s = is_taken m s
+
+-- the front message is processed and leaves the queue
+abbrev pub process_front : List Message → Control → Control
+process_front [] s = s
+process_front (m ∷ ms) s = record (after_message m s) { messages = ms }
+
+-- processes messages from the front while they can be; the list is the queue
+abbrev pub process_queue : List Message → Control → Control
+process_queue [] s = s
+process_queue (m ∷ ms) s = if is_taken m s then process_queue ms (record (after_message m s) { messages = ms }) else s
+
+abbrev pub process : Control → Control
+process s = process_queue s.messages s
+
+-- a decoder, of either medium
+abbrev pub is_decoder : Kind → Bool
+is_decoder kinds.AudioDecoder = true
+is_decoder kinds.AudioEncoder = false
+is_decoder kinds.VideoDecoder = true
+
+-- A call that was not refused queues its message and processes.
+abbrev pub with_message : ℕ → Work → Control → Control
+with_message place w s = process (record s { messages = s.messages ++ record { place = place; work = w } ∷ [] })
+
+abbrev pub after_configure : ℕ → Config → Control → Control
+after_configure place config s = with_message place (work.Configure config) (record s { phase = Configured; key_required = is_decoder s.opening.kind || s.key_required })
+
+abbrev pub after_decode : ℕ → Chunk → Control → Control
+after_decode place chunk s = with_message place (work.Coded chunk) (record s { key_required = false; size = s.size + 1 })
+
+abbrev pub after_flush : ℕ → Control → Control
+after_flush place s = with_message place work.Flush (record s { key_required = is_decoder s.opening.kind || s.key_required; pending = s.pending ++ place ∷ [] })
+
+-- The front item becomes running.
+abbrev pub started_on : List Item → Control → Control
+started_on [] s = s
+started_on (i ∷ is) s = record s { work = is; running = Some (record { epoch = s.epoch; number = i.number; place = i.place; kind = kind_of i.work }) }
+
+abbrev pub started : Control → Control
+started s = started_on s.work s
+
+abbrev pub may_start : Control → Bool
+may_start s = is_none s.running && not s.halted
+
+abbrev pub front : {X : Type 0} → List X → Option X
+front [] = None
+front (x ∷ xs) = Some x
+
+-- the item that a start takes, if it takes one
+abbrev pub start_item : Control → Option Item
+start_item s = if may_start s then front s.work else None
+
+-- a start, where there is an item to take
+abbrev pub after_start : Control → Control
+after_start s = if is_some (start_item s) then started (entered s) else s
+
+abbrev pub is_dequeue : Task → Bool
+is_dequeue task.Dequeue = true
+is_dequeue _ = false
+
+abbrev pub is_desaturate : Task → Bool
+is_desaturate task.Desaturate = true
+is_desaturate _ = false
+
+abbrev pub with_task : Task → Control → Control
+with_task t s = record s { tasks = s.tasks ++ t ∷ [] }
+
+-- The codec is halted, and its close is queued.
+abbrev pub with_close : DomError → Control → Control
+with_close x s = with_task (task.Close x) (record s { halted = true })
+
+abbrev pub with_desaturate : Control → Control
+with_desaturate s = record s { tasks = if s.saturated && (count_by is_desaturate s.tasks == 0) then s.tasks ++ task.Desaturate ∷ [] else s.tasks }
+
+abbrev pub with_output : List media.Unit → Control → Control
+with_output units s = record s { tasks = if length units == 0 then s.tasks else s.tasks ++ task.Output units ∷ [] }
+
+-- what the end of an item of this epoch queues
+abbrev pub settled_ran : Running → List media.Unit → Control → Control
+settled_ran r units s = elim (r.kind) [
+  | kind.Configure ↦ with_task task.Unblock s
+  | kind.Coded ↦ with_output units (with_desaturate s)
+  | kind.Flush ↦ with_task (task.Flushed r.place units) s
+]
+
+abbrev pub refusal_of : WorkKind → DomError
+refusal_of kind.Configure = dom.NotSupported
+refusal_of kind.Coded = dom.Encoding
+refusal_of kind.Flush = dom.Encoding
+
+abbrev pub settled : Running → Ended → Control → Control
+settled r (ended.Ran units) s = settled_ran r units s
+settled r ended.Refused s = with_close (refusal_of r.kind) s
+settled r (ended.NoSlot entry) s = with_close dom.QuotaExceeded s
+settled r ended.NoMemory s = with_close dom.OutOfMemory s
+
+-- The running item ends.
+abbrev pub done_running : Running → Ended → ℕ → Control → Control
+done_running r e moment s =
+    let idle = record s { running = None } in
+    if r.epoch == s.epoch then settled r e (record idle { progress = Some (max moment (unwrap_or s.progress moment)) }) else idle
+
+abbrev pub done_on : Option Running → Ended → ℕ → Control → Control
+done_on None e moment s = s
+done_on (Some r) e moment s = done_running r e moment s
+
+-- the end of the running item
+abbrev pub after_done : Ended → ℕ → Control → Control
+after_done e moment s = done_on s.running e moment (entered s)
+
+-- each of the promises ends with this error, or is resolved
+abbrev pub ends_of : Option DomError → List ℕ → List PromiseEnd
+ends_of error promises = map (λ p. record { promise = p; error = error }) promises
+
+abbrev pub with_ends : Option DomError → List ℕ → Control → Control
+with_ends error promises s = record s { ends = s.ends ++ ends_of error promises }
+
+-- Reset with an error: everything but the running item, the outputs that were shown and a scheduled dequeue event is
+-- removed, a new epoch begins, and each pending promise is rejected with the error, in order.
+abbrev pub after_reset : DomError → Control → Control
+after_reset x s = with_dequeue_if (not (s.size == 0)) (record s {
+  phase = Unconfigured;
+  epoch = s.epoch + 1;
+  blocked = false;
+  saturated = false;
+  halted = false;
+  active = None;
+  progress = None;
+  messages = [];
+  work = [];
+  next_item = 0;
+  size = 0;
+  pending = [];
+  ends = s.ends ++ ends_of (Some x) s.pending;
+  tasks = filter is_dequeue s.tasks;
+})
+
+-- Close with an error: reset with it, and then the codec is closed.
+abbrev pub after_close : DomError → Control → Control
+after_close x s = record (after_reset x s) { phase = Closed }
+
+-- how long a codec counts as active after its last item ended, in microseconds (our choice)
+abbrev pub activity : ℕ
+activity = 10000000
+
+abbrev pub is_inactive : ℕ → Option ℕ → Bool
+is_inactive now None = false
+is_inactive now (Some moment) = nat_le (moment + activity) now
+
+-- a configured codec may be reclaimed where it has not been active for long enough
+abbrev pub may_reclaim : ℕ → Control → Bool
+may_reclaim now s = elim (s.phase) [ Unconfigured ↦ false | Configured ↦ is_inactive now s.progress | Closed ↦ false ]
+
+-- Reclaim: close with QuotaExceededError.
+abbrev pub after_reclaim : Control → Control
+after_reclaim s = after_close dom.QuotaExceeded s
+
+abbrev pub opening_control : Opening → Control
+opening_control o = record {
+  place = 0;
+  opening = o;
+  phase = Unconfigured;
+  epoch = 0;
+  key_required = true;
+  messages = [];
+  blocked = false;
+  saturated = false;
+  halted = false;
+  size = 0;
+  pending = [];
+  ends = [];
+  work = [];
+  next_item = 0;
+  running = None;
+  tasks = [];
+  scheduled = false;
+  shown = [];
+  taken = 0;
+  active = None;
+  progress = None;
+}
+
+abbrev pub with_units : List media.Unit → Control → Control
+with_units units s = record s { shown = s.shown ++ units }
+
+-- Outputs are delivered, and then the promise is resolved.
+abbrev pub with_flushed : ℕ → List media.Unit → Control → Control
+with_flushed promise units s = with_ends None (promise ∷ []) (with_units units (record s { pending = filter (λ p. not (p == promise)) s.pending }))
+
+-- The front task, which has left the queue, runs.
+abbrev pub run_task : Task → Control → Control
+run_task task.Unblock s = with_task task.Process (record s { blocked = false })
+run_task task.Process s = process s
+run_task task.Desaturate s = process (record s { saturated = false })
+run_task (task.Output units) s = with_units units s
+run_task (task.Flushed promise units) s = with_flushed promise units s
+run_task task.Dequeue s = record s { scheduled = false }
+run_task (task.Close x) s = after_close x s
+
+abbrev pub turned_on : List Task → Control → Control
+turned_on [] s = s
+turned_on (t ∷ ts) s = run_task t (record s { tasks = ts })
+
+abbrev pub turned : Control → Control
+turned s = turned_on s.tasks s
+
+-- a turn, where there is a task
+abbrev pub has_task : Control → Bool
+has_task s = not (length s.tasks == 0)
+
+abbrev pub is_close : Task → Bool
+is_close (task.Close x) = true
+is_close _ = false
+
+-- whether the task that a turn takes closes the codec, if it takes one
+abbrev pub turn_closes : List Task → Option Bool
+turn_closes [] = None
+turn_closes (t ∷ ts) = Some (is_close t)
+
+abbrev pub after_turn_on : List Task → Control → Control
+after_turn_on [] s = s
+after_turn_on (t ∷ ts) s = turned (entered s)
+
+abbrev pub after_turn : Control → Control
+after_turn s = after_turn_on s.tasks s
+
+-- How many starts, ends and turns are left at most.
+abbrev pub task_weight : Task → ℕ
+task_weight task.Unblock = 2
+task_weight _ = 1
+
+abbrev pub running_weight : Option Running → ℕ
+running_weight None = 0
+running_weight (Some r) = 3
+
+abbrev pub left : Control → ℕ
+left s = 7 * length s.messages + 4 * length s.work + running_weight s.running + sum_by task_weight s.tasks

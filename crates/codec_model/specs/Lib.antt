@@ -1,0 +1,4 @@
+pub mod Control
+pub mod Replay
+pub mod Shown
+pub mod Rows

@@ -1,0 +1,203 @@
+-- The state of a codec, one entry after another.
+use Rattle.std.specs.Prelude.{ℕ, ◌≡◌, ◌==◌, ◌&&◌, not, Bool, true, false, List, [], ◌∷◌, ◌++◌, length, Option, Some, None, is_some, option_and_then, if◌then◌else◌}
+use Rattle.wc_base.specs.declared.error.DomError.{DomError}
+use Rattle.wc_base.specs.declared.error.DomError.TheVariants as dom
+use Rattle.wc_base.specs.declared.who.Who.{Who}
+use Rattle.wc_config.specs.declared.codec.CoderId.{CoderId}
+use Rattle.wc_config.specs.declared.config.Config.{Config}
+use Rattle.wc_config.specs.declared.config.Config.TheVariants.{Bad}
+use Rattle.wc_config.specs.Configs.{is_valid, is_supported, coder_id_of}
+use Rattle.wc_chunk.specs.declared.chunk.Chunk.{Chunk}
+use Rattle.coder_api.specs.declared.unit.Unit as media
+use Rattle.coder_api.specs.declared.coder.Command.{Command}
+use Rattle.coder_api.specs.declared.coder.Command.TheVariants as command
+use Rattle.coder_api.specs.Commands.{answers, last_answer}
+use Rattle.coder_api.specs.Meaning.{serves}
+use Rattle.codec_model.specs.declared.entry.Opening.{Opening}
+use Rattle.codec_model.specs.declared.entry.CodecState.TheVariants.{Unconfigured, Configured, Closed}
+use Rattle.codec_model.specs.declared.entry.Work.{Work}
+use Rattle.codec_model.specs.declared.entry.Work.TheVariants as work
+use Rattle.codec_model.specs.declared.entry.WorkKind.{WorkKind}
+use Rattle.codec_model.specs.declared.entry.WorkKind.TheVariants as kind
+use Rattle.codec_model.specs.declared.entry.Item.{Item}
+use Rattle.codec_model.specs.declared.entry.Running.{Running}
+use Rattle.codec_model.specs.declared.entry.Task.{Task}
+use Rattle.codec_model.specs.declared.entry.Task.TheVariants as task
+use Rattle.codec_model.specs.declared.entry.Ended.{Ended}
+use Rattle.codec_model.specs.declared.entry.Ended.TheVariants as ended
+use Rattle.codec_model.specs.declared.entry.Outcome.{Outcome}
+use Rattle.codec_model.specs.declared.entry.Outcome.TheVariants as outcome
+use Rattle.codec_model.specs.declared.entry.Call.{Call}
+use Rattle.codec_model.specs.declared.entry.Call.TheVariants as call
+use Rattle.codec_model.specs.declared.entry.Entry.{Entry}
+use Rattle.codec_model.specs.declared.entry.Entry.TheVariants as entry
+use Rattle.codec_model.specs.Control.{Control, opening_control, may_start, after_configure, after_decode, after_flush, started, done_running, entered, with_ends, after_reset, after_close, after_reclaim, may_reclaim, turned}
+
+-- what the coder was given in one epoch: its last configuration, and the commands since
+pub record Given : Type 0 where
+  pub config : Config
+  pub commands : List Command
+
+abbrev pub nothing_given : Given
+nothing_given = record { config = Bad; commands = [] }
+
+abbrev pub given_more : Work → Given → Given
+given_more (work.Configure config) g = record { config = config; commands = [] }
+given_more (work.Coded chunk) g = record g { commands = g.commands ++ command.Chunk chunk ∷ [] }
+given_more work.Flush g = record g { commands = g.commands ++ command.Drain ∷ [] }
+
+-- the coder that a config asks for serves another config too
+abbrev pub serves_too : Option CoderId → Config → Bool
+serves_too None config = false
+serves_too (Some id) config = serves id config
+
+-- The coder of which an item needs a box that its codec does not hold: a configure item whose config is supported needs
+-- one, unless the coder that was given commands before serves it.
+abbrev pub missing_coder : Given → Work → Option CoderId
+missing_coder g (work.Configure config) = if is_supported config && not (serves_too (coder_id_of g.config) config) then coder_id_of config else None
+missing_coder g (work.Coded chunk) = None
+missing_coder g work.Flush = None
+
+pub record State : Type 0 where
+  pub control : Control
+  -- what was given in this epoch by the items that started
+  pub given : Given
+  -- what the running item's epoch was given, up to it
+  pub running_given : Given
+
+abbrev pub opening_state : Opening → State
+opening_state o = record { control = opening_control o; given = nothing_given; running_given = nothing_given }
+
+-- The codec's definition over the whole list of what was given since the configuration.
+abbrev pub answers_by : Option CoderId → Given → List (Option (List media.Unit))
+answers_by None g = []
+answers_by (Some id) g = answers id g.config g.commands
+
+abbrev pub answers_to : Given → List (Option (List media.Unit))
+answers_to g = answers_by (coder_id_of g.config) g
+
+-- what the last of what was given gives: no units for a config that is supported, or a refusal
+abbrev pub answer_to : WorkKind → Given → Option (List media.Unit)
+answer_to kind.Configure g = if is_supported g.config then Some [] else None
+answer_to kind.Coded g = last_answer (answers_to g)
+answer_to kind.Flush g = last_answer (answers_to g)
+
+abbrev pub ended_run : ℕ → Option (List media.Unit) → Option Ended
+ended_run units None = None
+ended_run units (Some us) = if units == length us then Some (ended.Ran us) else None
+
+abbrev pub ended_refused : Option (List media.Unit) → Option Ended
+ended_refused None = Some ended.Refused
+ended_refused (Some us) = None
+
+-- how an item of this kind ends with this outcome; none where that is not legal
+abbrev pub ended_of : WorkKind → Given → Outcome → Option Ended
+ended_of k g (outcome.Ran units) = ended_run units (answer_to k g)
+ended_of k g outcome.Refused = ended_refused (answer_to k g)
+ended_of k g (outcome.NoSlot e) = elim k [ kind.Configure ↦ (if is_supported g.config then Some (ended.NoSlot e) else None) | kind.Coded ↦ None | kind.Flush ↦ None ]
+ended_of k g outcome.NoMemory = Some ended.NoMemory
+
+abbrev pub with_control : Control → State → State
+with_control c s = record s { control = c }
+
+-- the error with which a call is refused
+abbrev pub configure_error : Config → Control → Option DomError
+configure_error config c =
+    if is_valid config then elim (c.phase) [ Unconfigured ↦ None | Configured ↦ None | Closed ↦ Some dom.InvalidState ]
+    else Some dom.TypeErr
+
+abbrev pub decode_error : Chunk → Control → Option DomError
+decode_error chunk c = elim (c.phase) [
+  | Unconfigured ↦ Some dom.InvalidState
+  | Configured ↦ (if c.key_required && not chunk.key then Some dom.Data else None)
+  | Closed ↦ Some dom.InvalidState
+]
+
+abbrev pub flush_error : Control → Option DomError
+flush_error c = elim (c.phase) [ Unconfigured ↦ Some dom.InvalidState | Configured ↦ None | Closed ↦ Some dom.InvalidState ]
+
+abbrev pub removal_error : Control → Option DomError
+removal_error c = elim (c.phase) [ Unconfigured ↦ None | Configured ↦ None | Closed ↦ Some dom.InvalidState ]
+
+abbrev pub call_error : Call → Control → Option DomError
+call_error (call.Configure config) c = configure_error config c
+call_error (call.Decode chunk) c = decode_error chunk c
+call_error call.Flush c = flush_error c
+
+-- a call that is not refused
+abbrev pub accepted : Call → Control → Control
+accepted (call.Configure config) c = after_configure c.place config (entered c)
+accepted (call.Decode chunk) c = after_decode c.place chunk (entered c)
+accepted call.Flush c = after_flush c.place (entered c)
+
+-- a call that is refused has its entry; the promise of a flush is rejected at once
+abbrev pub refused : Call → DomError → Control → Control
+refused (call.Configure config) error c = entered c
+refused (call.Decode chunk) error c = entered c
+refused call.Flush error c = with_ends (Some error) (c.place ∷ []) (entered c)
+
+abbrev pub after_call : Option DomError → Call → Control → Control
+after_call None x c = accepted x c
+after_call (Some error) x c = refused x error c
+
+abbrev pub call_step : Call → State → State
+call_step x s = with_control (after_call (call_error x s.control) x s.control) s
+
+-- a removal begins a new epoch, to which nothing was given
+abbrev pub removed : Control → State → State
+removed c s = record s { control = c; given = nothing_given }
+
+-- a reset or close, refused or made
+abbrev pub removal_step : Option DomError → Control → State → State
+removal_step None c s = removed c s
+removal_step (Some error) c s = with_control (entered s.control) s
+
+abbrev pub start_step : List Item → ℕ → ℕ → State → Option State
+start_step [] epoch item s = None
+start_step (i ∷ is) epoch item s =
+    if may_start s.control && (epoch == s.control.epoch) && (item == i.number)
+    then (let g = given_more i.work s.given in Some (record { control = started (entered s.control); given = g; running_given = g }))
+    else None
+
+abbrev pub done_ended : Running → Option Ended → ℕ → State → Option State
+done_ended r None moment s = None
+done_ended r (Some e) moment s = Some (with_control (done_running r e moment (entered s.control)) s)
+
+abbrev pub done_step : Option Running → ℕ → ℕ → ℕ → Outcome → State → Option State
+done_step None epoch item moment o s = None
+done_step (Some r) epoch item moment o s =
+    if (r.epoch == epoch) && (r.number == item) then done_ended r (ended_of r.kind s.running_given o) moment s else None
+
+abbrev pub turn_step : List Task → State → Option State
+turn_step [] s = None
+turn_step (task.Close x ∷ ts) s = Some (removed (turned (entered s.control)) s)
+turn_step (t ∷ ts) s = Some (with_control (turned (entered s.control)) s)
+
+-- One entry after a state; none where it is not legal there.
+abbrev pub step : Entry → State → Option State
+step (entry.Configure who config) s = Some (call_step (call.Configure config) s)
+step (entry.Decode who chunk) s = Some (call_step (call.Decode chunk) s)
+step (entry.Flush who) s = Some (call_step call.Flush s)
+step (entry.Reset who) s = Some (removal_step (removal_error s.control) (after_reset dom.Abort (entered s.control)) s)
+step (entry.Close who) s = Some (removal_step (removal_error s.control) (after_close dom.Abort (entered s.control)) s)
+step (entry.Start epoch item) s = start_step s.control.work epoch item s
+step (entry.Done epoch item moment o) s = done_step s.control.running epoch item moment o s
+step entry.Turn s = turn_step s.control.tasks s
+step (entry.Reclaim moment) s = if may_reclaim moment s.control then Some (removed (after_reclaim (entered s.control)) s) else None
+
+-- the entry that a call makes
+abbrev pub entry_of : Who → Call → Entry
+entry_of who (call.Configure config) = entry.Configure who config
+entry_of who (call.Decode chunk) = entry.Decode who chunk
+entry_of who call.Flush = entry.Flush who
+
+abbrev pub replay_from : List Entry → State → Option State
+replay_from [] s = Some s
+replay_from (e ∷ es) s = option_and_then (replay_from es) (step e s)
+
+-- The state after a history; none where some entry is not legal at its place.
+abbrev pub replay : Opening → List Entry → Option State
+replay o history = replay_from history (opening_state o)
+
+abbrev pub IsLegal : Opening → List Entry → Type 0
+IsLegal o history = is_some (replay o history) ≡ true

@@ -1,0 +1,120 @@
+-- The ordinary run: one configure, one decode, one flush.
+use Rattle.std.specs.Prelude.{ℕ, ◌≡◌, true, false, pos, List, [], ◌∷◌, Some, None, option_map, codes}
+use Rattle.wc_config.specs.declared.config.Config.{Config}
+use Rattle.wc_config.specs.declared.config.Config.TheVariants as config
+use Rattle.wc_chunk.specs.declared.chunk.Chunk.{Chunk}
+use Rattle.wc_base.specs.declared.media.SampleFormat.TheVariants.{S16}
+use Rattle.wc_base.specs.declared.who.Who.{Who}
+use Rattle.wc_base.specs.declared.error.DomError.TheVariants as dom
+use Rattle.coder_api.specs.declared.unit.Unit as media
+use Rattle.coder_api.specs.declared.unit.Unit.TheVariants.{Sound}
+use Rattle.codec_model.specs.declared.entry.CodecState.TheVariants.{Configured}
+use Rattle.codec_model.specs.declared.entry.Outcome.TheVariants as outcome
+use Rattle.codec_model.specs.declared.entry.Entry.{Entry}
+use Rattle.codec_model.specs.declared.entry.Entry.TheVariants as entry
+use Rattle.codec_model.specs.declared.entry.Opening.{Opening}
+use Rattle.codec_model.specs.declared.entry.Kind.TheVariants.{AudioDecoder}
+use Rattle.codec_model.specs.Control.{Control}
+use Rattle.codec_model.specs.Replay.{replay}
+use Rattle.codec_model.specs.declared.entry.Event.TheVariants.{Output, Dequeue, Resolve, Reject, Refusal}
+use Rattle.codec_model.specs.Shown.{shown}
+
+-- opened with saturation 4, or 2
+abbrev pub four : Opening
+four = record { kind = AudioDecoder; saturation = 4 }
+
+abbrev pub two : Opening
+two = record { kind = AudioDecoder; saturation = 2 }
+
+abbrev pub step_of : ℕ → Who
+step_of j = record { caller = 0; step = j }
+
+abbrev pub pcm : Config
+pcm = config.AudioDecoder (record { codec = codes "pcm-s16"; rate = 8000; channels = 1; description = None })
+
+abbrev pub chunk : Chunk
+chunk = record { key = true; timestamp = pos 0; duration = None; bytes = 1 ∷ 0 ∷ 2 ∷ 0 ∷ [] }
+
+abbrev pub unit : media.Unit
+unit = Sound (record { shape = record { format = S16; rate = 8000; channels = 1; frames = 2; timestamp = pos 0 }; bytes = 1 ∷ 0 ∷ 2 ∷ 0 ∷ [] })
+
+abbrev pub ordinary : List Entry
+ordinary =
+    entry.Configure (step_of 0) pcm ∷ entry.Decode (step_of 2) chunk ∷ entry.Flush (step_of 3)
+    ∷ entry.Start 0 0 ∷ entry.Done 0 0 1 (outcome.Ran 0) ∷ entry.Turn ∷ entry.Turn
+    ∷ entry.Start 0 1 ∷ entry.Done 0 1 2 (outcome.Ran 1) ∷ entry.Turn ∷ entry.Turn
+    ∷ entry.Start 0 2 ∷ entry.Done 0 2 3 (outcome.Ran 0) ∷ entry.Turn ∷ []
+
+abbrev pub quiet_after : Control
+quiet_after = record {
+  place = 14;
+  opening = four;
+  phase = Configured;
+  epoch = 0;
+  key_required = true;
+  messages = [];
+  blocked = false;
+  saturated = false;
+  halted = false;
+  size = 0;
+  pending = [];
+  ends = record { promise = 2; error = None } ∷ [];
+  work = [];
+  next_item = 3;
+  running = None;
+  tasks = [];
+  scheduled = false;
+  shown = unit ∷ [];
+  taken = 0;
+  active = None;
+  progress = Some 3;
+}
+
+abbrev pub OrdinaryEnds : Type 0
+OrdinaryEnds = option_map (λ s. s.control) (replay four ordinary) ≡ Some quiet_after
+
+abbrev pub OrdinaryShows : Type 0
+OrdinaryShows = shown four ordinary ≡ (9, Dequeue) ∷ (10, Output 0 unit) ∷ (13, Resolve 2) ∷ []
+
+-- a wrong number of units is not legal
+abbrev pub WrongCount : Type 0
+WrongCount = replay four (entry.Configure (step_of 0) pcm ∷ entry.Start 0 0 ∷ entry.Done 0 0 1 (outcome.Ran 1) ∷ []) ≡ None
+
+abbrev pub sample : ℕ → Chunk
+sample n = record { key = true; timestamp = pos 0; duration = None; bytes = n ∷ 0 ∷ [] }
+
+abbrev pub sample_unit : ℕ → media.Unit
+sample_unit n = Sound (record { shape = record { format = S16; rate = 8000; channels = 1; frames = 1; timestamp = pos 0 }; bytes = n ∷ 0 ∷ [] })
+
+abbrev pub saturating : List Entry
+saturating =
+    entry.Configure (step_of 0) pcm ∷ entry.Decode (step_of 1) (sample 1) ∷ entry.Decode (step_of 2) (sample 2) ∷ entry.Decode (step_of 3) (sample 3)
+    ∷ entry.Start 0 0 ∷ entry.Done 0 0 1 (outcome.Ran 0) ∷ entry.Turn ∷ entry.Turn
+    ∷ entry.Start 0 1 ∷ entry.Done 0 1 2 (outcome.Ran 1) ∷ entry.Start 0 2 ∷ entry.Done 0 2 3 (outcome.Ran 1)
+    ∷ entry.Turn ∷ entry.Turn ∷ entry.Turn ∷ entry.Turn ∷ entry.Turn
+    ∷ entry.Start 0 3 ∷ entry.Done 0 3 4 (outcome.Ran 1) ∷ entry.Turn ∷ []
+
+-- two falls of the size show one event, and one desaturate lets the third chunk through
+abbrev pub SaturatingShows : Type 0
+SaturatingShows = shown two saturating ≡ (12, Dequeue) ∷ (14, Output 0 (sample_unit 1)) ∷ (15, Output 1 (sample_unit 2)) ∷ (16, Dequeue) ∷ (19, Output 2 (sample_unit 3)) ∷ []
+
+abbrev pub resetting : List Entry
+resetting =
+    entry.Configure (step_of 0) pcm ∷ entry.Decode (step_of 1) (sample 1)
+    ∷ entry.Start 0 0 ∷ entry.Done 0 0 1 (outcome.Ran 0) ∷ entry.Turn ∷ entry.Turn ∷ entry.Start 0 1
+    ∷ entry.Reset (step_of 2) ∷ entry.Configure (step_of 3) pcm ∷ entry.Decode (step_of 4) (sample 2)
+    ∷ entry.Done 0 1 2 (outcome.Ran 1) ∷ entry.Turn
+    ∷ entry.Start 1 0 ∷ entry.Done 1 0 3 (outcome.Ran 0) ∷ entry.Turn ∷ entry.Turn
+    ∷ entry.Start 1 1 ∷ entry.Done 1 1 4 (outcome.Ran 1) ∷ entry.Turn ∷ entry.Turn ∷ []
+
+-- nothing of a job from before the reset is shown
+abbrev pub ResettingShows : Type 0
+ResettingShows = shown four resetting ≡ (11, Dequeue) ∷ (18, Dequeue) ∷ (19, Output 0 (sample_unit 2)) ∷ []
+
+abbrev pub closing : List Entry
+closing =
+    entry.Configure (step_of 0) pcm ∷ entry.Flush (step_of 1) ∷ entry.Flush (step_of 2) ∷ entry.Close (step_of 3)
+    ∷ entry.Close (step_of 4) ∷ entry.Flush (step_of 5) ∷ []
+
+abbrev pub ClosingShows : Type 0
+ClosingShows = shown four closing ≡ (3, Reject 1 dom.Abort) ∷ (3, Reject 2 dom.Abort) ∷ (4, Refusal dom.InvalidState) ∷ (5, Reject 5 dom.InvalidState) ∷ []

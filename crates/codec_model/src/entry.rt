@@ -1,0 +1,212 @@
+// The entries of a codec's history, and what its queues hold.
+use coder_api::Unit;
+use wc_base::{DomError, List, Who};
+use wc_chunk::Chunk;
+use wc_config::Config;
+
+/// What a codec is.
+#[derive(Clone, Copy, Debug, PartialEq, Eq)]
+pub enum Kind {
+    AudioDecoder,
+    AudioEncoder,
+    VideoDecoder,
+}
+
+/// How a codec is opened: what it is, and how many coded items may be at work before it is saturated (1 to 64).
+#[derive(Clone, Copy, Debug, PartialEq, Eq)]
+pub struct Opening {
+    pub kind: Kind,
+    pub saturation: u32,
+}
+
+/// How an item that was at work ended, as its entry tells it.
+#[derive(Clone, Copy, Debug, PartialEq, Eq)]
+pub enum Outcome {
+    /// It succeeded and gave so many units.
+    Ran { units: u64 },
+    /// The config is not supported, or the codec's definition refuses the input.
+    Refused,
+    /// No coder was free, by this entry of the registry.
+    NoSlot { entry: u64 },
+    /// Memory was wanted.
+    NoMemory,
+}
+
+/// One event of a codec.
+#[derive(Debug, PartialEq, Drop)]
+pub enum Entry {
+    /// A caller's `configure`.
+    Configure {
+        who: Who,
+        config: Config,
+    },
+    /// A caller's `decode`.
+    Decode {
+        who: Who,
+        chunk: Chunk,
+    },
+    /// A caller's `flush`, whose promise has the entry's place as its name.
+    Flush {
+        who: Who,
+    },
+    /// A caller's `reset`.
+    Reset {
+        who: Who,
+    },
+    /// A caller's `close`.
+    Close {
+        who: Who,
+    },
+    /// The front item of the work queue began.
+    Start {
+        epoch: u64,
+        item: u64,
+    },
+    /// The item at work ended at a moment in microseconds.
+    Done {
+        epoch: u64,
+        item: u64,
+        moment: u64,
+        outcome: Outcome,
+    },
+    /// The front event task ran.
+    Turn,
+    /// The codec was reclaimed at a moment in microseconds.
+    Reclaim {
+        moment: u64,
+    },
+}
+
+/// The state of a codec (W3C WebCodecs, CodecState).
+#[derive(Clone, Copy, Debug, PartialEq, Eq)]
+pub enum CodecState {
+    Unconfigured,
+    Configured,
+    Closed,
+}
+
+/// What a control message or a work item asks for.
+#[derive(Debug, PartialEq, Drop)]
+pub enum Work {
+    Configure(Config),
+    Coded(Chunk),
+    Flush,
+}
+
+/// The kind of a work item.
+#[derive(Clone, Copy, Debug, PartialEq, Eq)]
+pub enum WorkKind {
+    Configure,
+    Coded,
+    Flush,
+}
+
+/// A control message, with the place of its call.
+#[derive(Debug, PartialEq, Drop)]
+pub struct Message {
+    pub place: u64,
+    pub work: Work,
+}
+
+/// A work item of the current epoch, numbered from 0 in its epoch, with the place of its call.
+#[derive(Debug, PartialEq, Drop)]
+pub struct Item {
+    pub number: u64,
+    pub place: u64,
+    pub work: Work,
+}
+
+/// The item that is at work.
+#[derive(Clone, Copy, Debug, PartialEq, Eq)]
+pub struct Running {
+    pub epoch: u64,
+    pub number: u64,
+    pub place: u64,
+    pub kind: WorkKind,
+}
+
+/// An event task that is queued.
+#[derive(Debug, PartialEq, Drop)]
+pub enum Task {
+    /// The configuration is done: messages may be processed again.
+    Unblock,
+    Process,
+    /// The codec works on fewer items than it can.
+    Desaturate,
+    /// These outputs are delivered.
+    Output(List<Unit>),
+    /// These outputs are delivered, and then the promise is resolved.
+    Flushed { promise: u64, units: List<Unit> },
+    /// The event `dequeue` is fired.
+    Dequeue,
+    /// The codec closes with an error.
+    Close(DomError),
+}
+
+/// How an item ended, with what it gave.
+#[derive(Debug, PartialEq, Drop)]
+pub enum Ended {
+    Ran(List<Unit>),
+    Refused,
+    NoSlot(u64),
+    NoMemory,
+}
+
+/// The end of a flush promise: resolved, or rejected with an error.
+#[derive(Clone, Copy, Debug, PartialEq, Eq)]
+pub struct PromiseEnd {
+    pub promise: u64,
+    pub error: Option<DomError>,
+}
+
+/// What a caller asks a codec for, beside a reset or close.
+#[derive(Debug, PartialEq, Drop)]
+pub enum Call {
+    Configure(Config),
+    Decode(Chunk),
+    Flush,
+}
+
+/// How a flush promise stands.
+#[derive(Clone, Copy, Debug, PartialEq, Eq)]
+pub enum PromiseState {
+    Pending,
+    Resolved,
+    Rejected(DomError),
+}
+
+/// Which event task a turn ran.
+#[derive(Clone, Copy, Debug, PartialEq, Eq)]
+pub enum TurnWord {
+    Unblock,
+    Process,
+    Desaturate,
+    Output,
+    Flushed,
+    Dequeue,
+    Close(DomError),
+}
+
+/// What an entry shows.
+#[derive(Debug, PartialEq, Drop)]
+pub enum Event {
+    /// The exception with which a call was refused.
+    Refusal(DomError),
+    /// An output; those of a codec are numbered from 0 as they are shown.
+    Output { number: u64, unit: Unit },
+    /// A flush promise, by the place of its call, was resolved.
+    Resolve(u64),
+    /// A flush promise, by the place of its call, was rejected.
+    Reject { promise: u64, error: DomError },
+    /// The event `dequeue` was fired.
+    Dequeue,
+    /// The error callback was called.
+    ErrorCall(DomError),
+}
+
+/// An entry's turn, if it is one, and all that it shows, in order.
+#[derive(Debug, PartialEq, Drop)]
+pub struct Shown {
+    pub turn: Option<TurnWord>,
+    pub events: List<Event>,
+}

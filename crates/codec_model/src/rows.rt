@@ -1,0 +1,24 @@
+// The definitions on whole runs, computed by the checker.
+ghost use Rattle.codec_model.specs.Rows.{OrdinaryEnds, OrdinaryShows, WrongCount, SaturatingShows, ResettingShows, ClosingShows};
+
+/// One configure, one decode, one flush: the state after the run, and what it shows.
+pub fn ordinary_run()
+    ensures ends { OrdinaryEnds }
+    ensures shows { OrdinaryShows }
+    ensures refuses { WrongCount }
+{}
+
+/// Three decodes where two items saturate the codec.
+pub fn saturating_run()
+    ensures { SaturatingShows }
+{}
+
+/// A reset while an item is at work.
+pub fn resetting_run()
+    ensures { ResettingShows }
+{}
+
+/// Two flushes, and then a close.
+pub fn closing_run()
+    ensures { ClosingShows }
+{}
