@@ -1,0 +1,10 @@
+//! The queues of one codec (W3C WebCodecs, "Control Messaging Model" and "Codec Work Parallel Queue"): control messages, work
+//! items, event tasks, promises and outputs, with no coder.
+#![tactic(auto)]
+
+mod machine;
+mod queues;
+#[cfg(test)]
+mod tests;
+
+pub use machine::Machine;
