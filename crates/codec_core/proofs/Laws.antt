@@ -1,0 +1,128 @@
+-- What each entry keeps of the running item, and what the history shows with it.
+use Rattle.std.proofs.Common.{ℕ, ◌≡◌, ◌&&◌, Bool, true, false, eqb, cond, List, [], ◌∷◌, ◌++◌, Option, Some, None, refl, ap, sym, subst, ◌∙◌}
+use Rattle.std.specs.Prelude.{option_and_then, option_map, unwrap_or}
+use Rattle.wc_base.specs.declared.error.DomError.{DomError}
+use Rattle.wc_base.specs.declared.error.DomError.TheVariants as dom
+use Rattle.wc_base.specs.declared.who.Who.{Who}
+use Rattle.codec_model.specs.declared.entry.Call.{Call}
+use Rattle.codec_model.specs.declared.entry.Opening.{Opening}
+use Rattle.codec_model.specs.declared.entry.Running.{Running}
+use Rattle.codec_model.specs.declared.entry.Ended.{Ended}
+use Rattle.codec_model.specs.declared.entry.Outcome.{Outcome}
+use Rattle.codec_model.specs.declared.entry.Shown.{Shown}
+use Rattle.codec_model.specs.declared.entry.Entry.{Entry}
+use Rattle.codec_model.specs.declared.entry.Entry.TheVariants as entry
+use Rattle.codec_model.specs.declared.entry.Task.{Task}
+use Rattle.codec_model.specs.declared.entry.Task.TheVariants as task
+use Rattle.codec_model.specs.Control.{Control, entered, after_reset, after_close, after_reclaim, may_reclaim, turned, done_running}
+use Rattle.codec_model.specs.Replay.{State, opening_state, step, replay_from, with_control, removed, removal_step, removal_error, turn_step, done_step, done_ended, ended_of, entry_of, call_error}
+use Rattle.codec_model.specs.Shown.{shown_at, each_shown, each_shown_from}
+use Rattle.codec_core.specs.Job.{JobValue, DoneValue, IsJobOf, IsEndOf}
+use Rattle.codec_core.specs.Codec.{Codec, state_at, Makes, KeepsRunning}
+use Rattle.codec_core.proofs.Steps.{replay_more, call_keeps, call_steps, run_keeps, done_leaves}
+use Rattle.codec_core.proofs.Told.{cond_is}
+
+some_same : {X : Type 0} (a t : X) → Some a ≡ Some t → a ≡ t
+some_same a t h = cc
+
+keeps_at : (s a t : State) → a ≡ t → a.control.running ≡ s.control.running → a.running_given ≡ s.running_given → KeepsRunning s t
+keeps_at s a t e running given = record {
+  same_running = ap (λ (x : State). x.control.running) (sym e) ∙ running;
+  same_given = ap (λ (x : State). x.running_given) (sym e) ∙ given;
+}
+
+pub call_keeps_running : (who : Who) (x : Call) (s t : State) → step (entry_of who x) s ≡ Some t → KeepsRunning s t
+call_keeps_running who x s t h =
+    let c = call_keeps (call_error x s.control) x s.control in
+    keeps_at s _ t (some_same _ _ (sym (call_steps who x s) ∙ h)) c.running refl
+
+removal_keeps : (o : Option DomError) (made : Control) (s t : State) → Some (removal_step o made s) ≡ Some t → made.running ≡ s.control.running → KeepsRunning s t
+removal_keeps None made s t h r = keeps_at s _ t (some_same _ _ h) r refl
+removal_keeps (Some x) made s t h r = keeps_at s _ t (some_same _ _ h) refl refl
+
+pub reset_keeps_running : (who : Who) (s t : State) → step (entry.Reset who) s ≡ Some t → KeepsRunning s t
+reset_keeps_running who s t h = removal_keeps (removal_error s.control) (after_reset dom.Abort (entered s.control)) s t h refl
+
+pub close_keeps_running : (who : Who) (s t : State) → step (entry.Close who) s ≡ Some t → KeepsRunning s t
+close_keeps_running who s t h = removal_keeps (removal_error s.control) (after_close dom.Abort (entered s.control)) s t h refl
+
+turn_keeps : (ts : List Task) (s t : State) → s.control.tasks ≡ ts → turn_step ts s ≡ Some t → KeepsRunning s t
+turn_keeps [] s t e h = absurd cc
+turn_keeps (task.Close x ∷ ts) s t e h = keeps_at s (removed (turned (entered s.control)) s) t (some_same _ _ h) (rw e refl) refl
+turn_keeps (x ∷ ts) s t e h =
+    let k = run_keeps x (record (entered s.control) { tasks = ts }) refl in
+    keeps_at s (with_control (turned (entered s.control)) s) t (some_same _ _ h) (rw e k.running) refl
+
+pub turn_keeps_running : (s t : State) → step entry.Turn s ≡ Some t → KeepsRunning s t
+turn_keeps_running s t h = turn_keeps s.control.tasks s t refl h
+
+reclaimed : (b : Bool) (s t u : State) → cond b (Some u) None ≡ Some t → u.control.running ≡ s.control.running → u.running_given ≡ s.running_given → KeepsRunning s t
+reclaimed true s t u h r g = keeps_at s u t (some_same _ _ h) r g
+reclaimed false s t u h r g = absurd cc
+
+pub reclaim_keeps_running : (now : ℕ) (s t : State) → step (entry.Reclaim now) s ≡ Some t → KeepsRunning s t
+reclaim_keeps_running now s t h = reclaimed (may_reclaim now s.control) s t (removed (after_reclaim (entered s.control)) s) h refl refl
+
+pub keeps_itself : (s : State) → KeepsRunning s s
+keeps_itself s = record { same_running = refl; same_given = refl }
+
+-- the job of the running item stays its job
+pub job_stays : (s t : State) (job : JobValue) → KeepsRunning s t → IsJobOf s job → IsJobOf t job
+job_stays s t job keeps is = record {
+  running = is.running;
+  is_running = keeps.same_running ∙ is.is_running;
+  same_epoch = is.same_epoch;
+  same_number = is.same_number;
+  same_kind = is.same_kind;
+  given = rw keeps.same_given is.given;
+}
+
+pub end_stays : (s t : State) (d : DoneValue) → KeepsRunning s t → IsEndOf s d → IsEndOf t d
+end_stays s t d keeps is = record {
+  running = is.running;
+  is_running = keeps.same_running ∙ is.is_running;
+  same_epoch = is.same_epoch;
+  same_number = is.same_number;
+  same_kind = is.same_kind;
+  end = rw keeps.same_given is.end;
+}
+
+then_step : (e : Entry) (o : Option State) (t : State) → option_and_then (step e) o ≡ Some t → (u : State) × (o ≡ Some u) × (step e u ≡ Some t)
+then_step e None t h = absurd cc
+then_step e (Some u) t h = (u, refl, h)
+
+then_shows : (x e : Entry) (xs : List Entry) (s u : State) (o : Option State) → step x s ≡ o → option_and_then (replay_from xs) o ≡ Some u → ((v : State) → replay_from xs v ≡ Some u → each_shown_from (xs ++ e ∷ []) v ≡ each_shown_from xs v ++ shown_at e u ∷ []) → each_shown_from (x ∷ xs ++ e ∷ []) s ≡ each_shown_from (x ∷ xs) s ++ shown_at e u ∷ []
+then_shows x e xs s u None h k rest = absurd cc
+then_shows x e xs s u (Some v) h k rest = rw h (ap (λ (l : List Shown). shown_at x s ∷ l) (rest v k))
+
+each_more : (h : List Entry) (s u : State) (e : Entry) → replay_from h s ≡ Some u → each_shown_from (h ++ e ∷ []) s ≡ each_shown_from h s ++ shown_at e u ∷ []
+each_more [] s u e h = let same : s ≡ u = cc in sym (last e s (step e s)) ∙ ap (λ (x : State). shown_at e x ∷ []) same
+  where
+    last : (e : Entry) (s : State) (o : Option State) → shown_at e s ∷ [] ≡ shown_at e s ∷ unwrap_or (option_map (each_shown_from []) o) []
+    last e s None = refl
+    last e s (Some t) = refl
+each_more (x ∷ xs) s u e h = then_shows x e xs s u (step x s) refl h (λ v k. each_more xs v u e k)
+
+-- an entry that is made shows what its step shows, after all that was shown
+pub makes_shows : (old new : Codec) (e : Entry) → Makes old new e → each_shown new.opening new.history ≡ each_shown old.opening old.history ++ shown_at e (state_at old) ∷ []
+makes_shows old new e makes =
+    let again : replay_from (old.history ++ e ∷ []) (opening_state old.opening) ≡ Some (state_at new) = subst (λ (o : Opening). replay_from (old.history ++ e ∷ []) (opening_state o) ≡ Some (state_at new)) makes.same_opening (subst (λ (h : List Entry). replay_from h (opening_state new.opening) ≡ Some (state_at new)) makes.longer makes.legal) in
+    let before = then_step e (replay_from old.history (opening_state old.opening)) (state_at new) (sym (replay_more old.history (opening_state old.opening) e) ∙ again) in
+    let here : state_at old ≡ before.0 = ap (λ (o : Option State). unwrap_or o (opening_state old.opening)) before.1 in
+    let grown = each_more old.history (opening_state old.opening) before.0 e before.1 in
+    let whole : each_shown new.opening new.history ≡ each_shown_from (old.history ++ e ∷ []) (opening_state old.opening) = ap (λ (h : List Entry). each_shown_from h (opening_state new.opening)) makes.longer ∙ ap (λ (o : Opening). each_shown_from (old.history ++ e ∷ []) (opening_state o)) makes.same_opening in
+    whole ∙ (grown ∙ ap (λ (x : State). each_shown_from old.history (opening_state old.opening) ++ shown_at e x ∷ []) (sym here))
+
+ended_idle : (r : Running) (o : Option Ended) (moment : ℕ) (s t : State) → done_ended r o moment s ≡ Some t → t.control.running ≡ None
+ended_idle r None moment s t h = absurd cc
+ended_idle r (Some e) moment s t h =
+    let same : with_control (done_running r e moment (entered s.control)) s ≡ t = cc in
+    ap (λ (x : State). x.control.running) (sym same) ∙ (done_leaves r e moment (entered s.control)).running
+
+done_step_idle : (o : Option Running) (epoch item moment : ℕ) (x : Outcome) (s t : State) → done_step o epoch item moment x s ≡ Some t → t.control.running ≡ None
+done_step_idle None epoch item moment x s t h = absurd cc
+done_step_idle (Some r) epoch item moment x s t h = ended_idle r _ moment s t (cond_is (eqb r.epoch epoch && eqb r.number item) (done_ended r (ended_of r.kind s.running_given x) moment s) t h)
+
+-- after an end no item is running
+pub done_idle : (epoch item moment : ℕ) (x : Outcome) (s t : State) → step (entry.Done epoch item moment x) s ≡ Some t → t.control.running ≡ None
+done_idle epoch item moment x s t h = done_step_idle s.control.running epoch item moment x s t h

@@ -1,0 +1,39 @@
+use Rattle.std.proofs.Common.{◌≡◌, ◌∙◌, ◌++◌, ◌∷◌, [], Some, None, ap, sym, arith}
+use Rattle.codec_model.specs.declared.entry.Entry.TheVariants as entry
+use Rattle.codec_model.specs.Control.{start_item}
+use Rattle.codec_model.specs.Replay.{State, missing_coder, step}
+use Rattle.codec_core.specs.Codec.{Codec, Makes, state_at}
+use Rattle.codec_core.proofs.Steps.{Moved, start_moves, start_job, start_lacks, state_is, kept_more, makes_more, start_reclaims}
+use Rattle.codec_core.proofs.codec.Core.start.Given.{Over}
+use Rattle.codec_core.proofs.codec.Core.start.Goals as goal
+
+item_is : (g : Over) (c : goal.After-push_reserved g) → start_item c.self.inside.machine ≡ Some c.in_ok-item.item
+item_is g c = sym c.start.ensures.item ∙ c.in_ok-item.was
+
+moved : (g : Over) (c : goal.After-push_reserved g) → Moved None (entry.Start c.self.inside.machine.epoch c.in_ok-item.item.number) c.self.invariant.0.state c.start.new.self
+moved g c = start_moves c.self.inside.entries.items c.self.inside.slot c.self.inside.machine c.start.new.self c.in_ok-item.item c.self.invariant.0 (item_is g c) c.start.ensures.after
+
+pub invariant_of-self-2 : goal.invariant_of-self-2
+invariant_of-self-2 g c = (
+  rw (c.push_reserved.ensures.items, c.replace-coder.ensures.after, c.epoch-epoch.ensures) (kept_more c.self.inside.entries.items c.self.inside.slot None c.self.inside.machine c.start.new.self (entry.Start c.self.inside.machine.epoch c.in_ok-item.item.number) c.self.invariant.0 (moved g c)),
+  omega (arith, c.in_ok-item.ensures.left, start_reclaims c.self.inside.machine c.start.new.self c.in_ok-item.item (item_is g c) c.start.ensures.after),
+)
+
+makes : (g : Over) (c : goal.After-push_reserved g) → Makes (record { opening = c.self.inside.machine.opening; history = c.self.inside.entries.items; spare = c.self.inside.spare; slot = c.self.inside.slot }) (record { opening = c.start.new.self.opening; history = c.self.inside.entries.items ++ entry.Start c.self.inside.machine.epoch c.in_ok-item.item.number ∷ []; spare = c.self.inside.spare; slot = None }) (entry.Start c.self.inside.machine.epoch c.in_ok-item.item.number)
+makes g c = makes_more c.self.inside.entries.items c.self.inside.slot None c.self.inside.machine c.start.new.self (entry.Start c.self.inside.machine.epoch c.in_ok-item.item.number) c.self.invariant.0 (moved g c) c.self.inside.spare c.self.inside.spare
+
+pub returns-clause-some : goal.returns-clause-some
+returns-clause-some g c = rw (← c.self.view_is, c.push_reserved.ensures.items, c.replace-coder.ensures.after, c.epoch-epoch.ensures) (makes g c)
+
+pub returns-clause-job : goal.returns-clause-job
+returns-clause-job g c =
+    let is = state_is c.self.inside.entries.items c.self.inside.slot c.self.inside.machine c.self.inside.spare c.self.invariant.0 in
+    rw (c.push_reserved.ensures.items, c.epoch-epoch.ensures, c.replace-coder.ensures.value)
+    (start_job c.self.inside.entries.items c.self.inside.slot c.self.inside.machine c.in_ok-item.item _ _ c.self.invariant.0 (item_is g c) (ap (λ (s : State). step (entry.Start c.self.inside.machine.epoch c.in_ok-item.item.number) s) (sym is) ∙ (makes g c).steps))
+
+pub returns-clause-lacks : goal.returns-clause-lacks
+returns-clause-lacks g c =
+    let is = state_is c.self.inside.entries.items c.self.inside.slot c.self.inside.machine c.self.inside.spare c.self.invariant.0 in
+    rw c.replace-coder.ensures.value
+    (start_lacks c.self.inside.entries.items c.self.inside.slot c.self.inside.machine c.in_ok-item.item c.self.invariant.0 (item_is g c)
+    ∙ (ap (λ (s : State). missing_coder s.given c.in_ok-item.item.work) (sym is) ∙ ap (λ (v : Codec). missing_coder (state_at v).given c.in_ok-item.item.work) c.self.view_is))

@@ -1,0 +1,13 @@
+use Rattle.std.proofs.Common.{refl, sym, subst}
+use Rattle.codec_core.specs.Job.{JobValue, IsJob, IsJobOf, DoneValue}
+use Rattle.codec_core.proofs.Ends.{job_ends, job_answers}
+use Rattle.codec_core.proofs.job.Job.perform.Goals as goal
+
+pub returns-clause-end : goal.returns-clause-end
+returns-clause-end g c = λ s is.
+    job_ends s _ _ (subst (λ (j : JobValue). IsJobOf s j) (sym c.self.view_is) is) refl refl c.kind_of_work-kind.ensures c.work_end-ended.ensures
+
+pub returns-clause-answer : goal.returns-clause-answer
+returns-clause-answer g c = λ given is.
+    subst (λ (j : JobValue). Rattle.codec_core.specs.Job.EndsBy (Rattle.codec_model.specs.Replay.answer_to (Rattle.codec_model.specs.Control.kind_of j.work) given) c.work_end-ended.result) c.self.view_is
+    (job_answers given _ c.work_end-ended.result c.work_end-ended.new.coder (subst (λ (j : JobValue). IsJob given j) (sym c.self.view_is) is) c.work_end-ended.ensures)

@@ -1,0 +1,5 @@
+use Rattle.codec_core.proofs.Ends.{flush_ends}
+use Rattle.codec_core.proofs.work.flush_end.Goals as goal
+
+pub returns-in-Some : goal.returns-in-Some
+returns-in-Some g c = rw c.in-Some.is (flush_ends c.in-Some.b c.drain_end.new.coder c.drain_end.result c.drain_end.ensures)

@@ -1,0 +1,125 @@
+-- A codec as its history.
+use Rattle.std.specs.Prelude.{ℕ, ◌≡◌, ◌≤◌, ◌<◌, Bool, false, List, [], ◌∷◌, ◌++◌, length, Option, Some, None, unwrap_or, if◌then◌else◌}
+use Rattle.wc_base.specs.declared.error.DomError.{DomError}
+use Rattle.wc_base.specs.declared.who.Who.{Who}
+use Rattle.coder_api.specs.Lent.{Lent}
+use Rattle.codec_model.specs.declared.entry.Opening.{Opening}
+use Rattle.codec_model.specs.declared.entry.CodecState.{CodecState}
+use Rattle.codec_model.specs.declared.entry.CodecState.TheVariants.{Unconfigured, Configured, Closed}
+use Rattle.codec_model.specs.declared.entry.Call.{Call}
+use Rattle.codec_model.specs.declared.entry.Call.TheVariants as call
+use Rattle.codec_model.specs.declared.entry.Entry.{Entry}
+use Rattle.codec_model.specs.declared.entry.Work.{Work}
+use Rattle.codec_model.specs.declared.entry.Item.{Item}
+use Rattle.codec_model.specs.declared.entry.Running.{Running}
+use Rattle.codec_model.specs.Control.{Control, turn_closes}
+use Rattle.codec_model.specs.Replay.{State, opening_state, replay, nothing_given, step, entry_of, call_error}
+use Rattle.codec_core.specs.declared.reply.CallFault.{CallFault}
+use Rattle.codec_core.specs.declared.reply.CallFault.TheVariants as fault
+use Rattle.codec_core.specs.Job.{CoderAt, stopped_box}
+
+pub record Codec : Type 0 where
+  pub opening : Opening
+  pub history : List Entry
+  -- so many more entries of callers have a place
+  pub spare : ℕ
+  -- the box that the codec holds
+  pub slot : Option Lent
+
+-- the state after the history
+abbrev pub state_at : Codec → State
+state_at c = unwrap_or (replay c.opening c.history) (opening_state c.opening)
+
+-- The entry was made: it stands last in the history, it is legal there, and the state is its step.
+pub record Makes (old new : Codec) (e : Entry) : Type 0 where
+  pub same_opening : new.opening ≡ old.opening
+  pub longer : new.history ≡ old.history ++ e ∷ []
+  pub steps : step e (state_at old) ≡ Some (state_at new)
+  pub legal : replay new.opening new.history ≡ Some (state_at new)
+
+-- the running item and what it was given stay, so its job stays the job of the running item
+pub record KeepsRunning (old new : State) : Type 0 where
+  pub same_running : new.control.running ≡ old.control.running
+  pub same_given : new.running_given ≡ old.running_given
+
+-- where the box is at home
+pub record CoderHome (slot : Option Lent) (s : State) : Type 0 where
+  pub idle : s.control.running ≡ None → s.control.halted ≡ false → CoderAt slot s.given
+  pub out : (r : Running) → s.control.running ≡ Some r → slot ≡ None
+  pub busy : (r : Running) → s.control.running ≡ Some r → r.epoch ≡ s.control.epoch → s.running_given ≡ s.given
+  pub stale : (r : Running) → s.control.running ≡ Some r → r.epoch < s.control.epoch → s.given ≡ nothing_given
+  pub older : (r : Running) → s.control.running ≡ Some r → r.epoch ≤ s.control.epoch
+
+-- the history's state is the one that is kept
+pub record IsKept (history : List Entry) (slot : Option Lent) (k : Control) : Type 0 where
+  pub state : State
+  pub replays : replay k.opening history ≡ Some state
+  pub is_control : state.control ≡ k
+  pub is_place : k.place ≡ length history
+  pub home : CoderHome slot state
+
+-- a place is kept for the reclaim of a codec that is not closed
+abbrev pub reclaims : CodecState → ℕ
+reclaims Unconfigured = 1
+reclaims Configured = 1
+reclaims Closed = 0
+
+-- a box that stays where it is, or goes
+abbrev pub kept_box : Bool → Option Lent → Option Lent
+kept_box stays coder = if stays then coder else None
+
+-- a box that does not stay is handed back, stopped
+abbrev pub handed_back : Bool → Option Lent → Option Lent
+handed_back stays coder = if stays then None else stopped_box coder
+
+-- a removal hands back the box that is at home
+pub record RemovedValue : Type 0 where
+  pub place : ℕ
+  pub coder : Option Lent
+
+-- the end of an item hands back its box where the codec began a new epoch since
+pub record BackValue : Type 0 where
+  pub place : ℕ
+  pub coder : Option Lent
+
+-- a turn removes where its task closes the codec
+pub record TurnedValue : Type 0 where
+  pub place : ℕ
+  pub removed : Option RemovedValue
+
+abbrev pub removed_if : Bool → ℕ → Option Lent → Option RemovedValue
+removed_if removes at coder = if removes then Some (record { place = at; coder = coder }) else None
+
+-- the front task closes the codec
+abbrev pub closes_now : Control → Bool
+closes_now s = unwrap_or (turn_closes s.tasks) false
+
+-- an item's number and its work
+abbrev pub item_parts : Item → ℕ × Work
+item_parts i = (i.number, i.work)
+
+-- the moment of the last item that ended, of a configured codec
+abbrev pub progress_of : Control → Option ℕ
+progress_of s = elim (s.phase) [ Unconfigured ↦ None | Configured ↦ s.progress | Closed ↦ None ]
+
+-- The exception that a call shows, if it has one. A flush has none: its promise is rejected.
+abbrev pub exception_of : Call → Option DomError → Option DomError
+exception_of (call.Configure config) error = error
+exception_of (call.Decode chunk) error = error
+exception_of call.Flush error = None
+
+-- a flush gives a promise, which is named by its entry's place
+abbrev pub promise_of : Call → ℕ → Option ℕ
+promise_of (call.Configure config) at = None
+promise_of (call.Decode chunk) at = None
+promise_of call.Flush at = Some at
+
+-- the call's entry was made, and this is the exception that it shows
+pub record Replied (old new : Codec) (who : Who) (x : Call) (at : ℕ) (error : Option DomError) : Type 0 where
+  pub made : Makes old new (entry_of who x)
+  pub exception : exception_of x (call_error x (state_at old).control) ≡ error
+  pub is_place : at ≡ length old.history
+
+abbrev pub FaultIs : Codec → Codec → Who → Call → CallFault → Type 0
+FaultIs old new who x (fault.Dom error at) = Replied old new who x at (Some error)
+FaultIs old new who x fault.NoMemory = new ≡ old

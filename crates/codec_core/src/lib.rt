@@ -1,0 +1,14 @@
+//! One codec (W3C WebCodecs): its history, the coder that it holds, and its jobs.
+#![tactic(auto)]
+
+mod codec;
+mod job;
+mod parts;
+mod reply;
+#[cfg(test)]
+mod tests;
+mod work;
+
+pub use codec::Core;
+pub use job::{DoneJob, Job};
+pub use reply::{Back, CallFault, Removed, Reply, Turned};

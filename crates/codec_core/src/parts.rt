@@ -1,0 +1,84 @@
+// Parts of a codec's steps.
+ghost use Rattle.std.specs.Prelude.{◌≡◌, ◌+◌, IfOk};
+ghost use Rattle.codec_model.specs.Replay.{entry_of};
+ghost use Rattle.codec_core.specs.Codec.{kept_box, handed_back, removed_if, exception_of, promise_of};
+
+use crate::reply::Removed;
+use codec_model::{Call, Entry};
+use coder_api::{Coder, SlotBox};
+use wc_base::{DomError, NoMemory, Who};
+
+/// Leaves a box where it stays, and else takes it out, stopped.
+pub(crate) fn hand_back<C: Coder>(slot: &mut Option<SlotBox<C>>, stays: bool) -> Option<SlotBox<C>>
+    ensures left { slot.new ≡ kept_box stays slot.old }
+    ensures taken { result ≡ handed_back stays slot.old }
+{
+    if stays {
+        return None;
+    }
+    let mut coder = slot.take()?;
+    coder.stop();
+    Some(coder)
+}
+
+pub(crate) fn removed_if<C: Coder>(
+    removes: bool,
+    place: u64,
+    coder: Option<SlotBox<C>>,
+) -> Option<Removed<C>>
+    ensures { result ≡ removed_if removes place coder }
+{
+    if removes {
+        Some(Removed { place, coder })
+    } else {
+        None
+    }
+}
+
+/// The places for a call's entry and those of all its later steps, beside what is kept for others.
+pub(crate) fn more_places(room: usize, spare: usize) -> Result<usize, NoMemory>
+    ensures { IfOk result (λ n. n ≡ room + spare + 9) }
+{
+    room.checked_add(spare)
+        .and_then(|n| n.checked_add(9))
+        .ok_or(NoMemory)
+}
+
+/// The exception that a call shows.
+pub(crate) fn exception(call: &Call, error: Option<DomError>) -> Option<DomError>
+    ensures { result ≡ exception_of call.now error }
+{
+    match call {
+        Call::Configure(_) => error,
+        Call::Decode(_) => error,
+        Call::Flush => None,
+    }
+}
+
+/// Whether a call gives a promise.
+pub(crate) fn promise(call: &Call, place: u64) -> Option<u64>
+    ensures { result ≡ promise_of call.now place }
+{
+    match call {
+        Call::Configure(_) => None,
+        Call::Decode(_) => None,
+        Call::Flush => Some(place),
+    }
+}
+
+/// The entry of a call.
+pub(crate) fn entry_of_call(who: Who, call: &Call) -> Result<Entry, NoMemory>
+    ensures { IfOk result (λ e. e ≡ entry_of who call.now) }
+{
+    match call {
+        Call::Configure(config) => Ok(Entry::Configure {
+            who,
+            config: config.copy()?,
+        }),
+        Call::Decode(chunk) => Ok(Entry::Decode {
+            who,
+            chunk: chunk.copy()?,
+        }),
+        Call::Flush => Ok(Entry::Flush { who }),
+    }
+}

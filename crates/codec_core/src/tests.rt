@@ -1,0 +1,146 @@
+ghost use Rattle.std.specs.Prelude.{◌≡◌, unwrap_or, option_map};
+ghost use Rattle.coder_api.specs.Meaning.{Configured, Stopped, new_state};
+ghost use Rattle.wc_config.specs.declared.config.Config.TheVariants.{AudioDecoder};
+ghost use Rattle.wc_config.specs.declared.codec.Role.TheVariants as role;
+ghost use Rattle.wc_config.specs.declared.codec.CodecId.TheVariants as codec;
+ghost use Rattle.codec_model.specs.Replay.{State};
+ghost use Rattle.codec_core.specs.Job.{IsJobOf};
+
+use crate::{Core, Job, Reply};
+use codec_model::{Call, CodecState, Kind, PromiseState};
+use coder_api::{Coder, CoderFault, Input, SlotBox, Unit};
+use std::alloc::{AllocError, Global};
+use std::test::Fail;
+use wc_base::{By, List, NoMemory, Text, Who};
+use wc_config::{AudioDecoderConfig, CodecId, CoderId, Config, Role};
+
+// A decoder of 16-bit PCM that never has memory for a chunk.
+#[derive(Drop)]
+struct Quiet {
+    config: Option<AudioDecoderConfig>,
+}
+
+impl Coder for Quiet {
+    ghost coder = { λ q. record { role = role.Decode; codec = codec.PcmS16 } };
+
+    ghost meaning = { λ q. unwrap_or (option_map (λ c. Configured (AudioDecoder c) new_state) q.config) Stopped };
+
+    fn id(&self) -> CoderId {
+        CoderId {
+            role: Role::Decode,
+            codec: CodecId::PcmS16,
+        }
+    }
+
+    fn supports(&self, config: &Config) -> bool {
+        match config.coder_id() {
+            Some(id) => config.supported() && id == self.id(),
+            None => false,
+        }
+    }
+
+    fn configure(&mut self, _alloc: Global, config: &Config) -> Result<(), NoMemory> {
+        self.config = None;
+        match config {
+            Config::AudioDecoder(c) => {
+                self.config = Some(c.copy()?);
+                Ok(())
+            }
+            _ => Err(NoMemory),
+        }
+    }
+
+    fn setup(&self, _alloc: Global) -> Result<Option<AudioDecoderConfig>, NoMemory> {
+        Err(NoMemory)
+    }
+
+    fn push(
+        &mut self,
+        _alloc: Global,
+        _input: &Input<'_>,
+        _out: &mut Vec<Unit>,
+    ) -> Result<(), CoderFault> {
+        self.config = None;
+        Err(CoderFault::NoMemory)
+    }
+
+    fn drain(&mut self, _alloc: Global, _out: &mut Vec<Unit>) -> Result<(), NoMemory> {
+        match &self.config {
+            Some(_) => Ok(()),
+            None => Err(NoMemory),
+        }
+    }
+
+    fn stop(&mut self) {
+        self.config = None;
+    }
+}
+
+fn pcm(alloc: Global) -> Result<Call, AllocError> {
+    Ok(Call::Configure(Config::AudioDecoder(AudioDecoderConfig {
+        codec: Text::of(String::from_str(alloc, "pcm-s16")?),
+        rate: 8000,
+        channels: 1,
+        description: None,
+    })))
+}
+
+// Gives a job the box that it lacks.
+fn with_box(mut job: Job<Quiet>) -> Job<Quiet>
+    ensures { (s : State) → IsJobOf s job → IsJobOf s result }
+{
+    if job.lacks().is_some() {
+        let _ = job.take_box();
+        let by = By::Codec {
+            codec: 0,
+            place: job.place(),
+        };
+        let coder = SlotBox::new(Quiet { config: None }, 0, by);
+        if job.lacks() == Some(coder.id()) {
+            job.put_box(coder);
+        }
+    }
+    job
+}
+
+// Starts the front item, works on it and ends it; the answer is whether it came to an end with memory.
+fn work(alloc: Global, core: &mut Core<Quiet>, moment: u64) -> bool {
+    let Some(job) = core.start() else {
+        return false;
+    };
+    let job = with_box(job);
+    if job.lacks().is_some() {
+        core.done(job.no_memory(), moment);
+        return false;
+    }
+    let done = job.perform(alloc);
+    let fine = !done.wants_memory();
+    core.done(done, moment);
+    fine
+}
+
+#[test]
+fn ordinary_run(rt: HostRuntime) -> Result<(), Fail> {
+    let alloc = rt.alloc();
+    let who = Who { caller: 0, step: 0 };
+    let mut core = Core::open(alloc, Kind::AudioDecoder, 4, 2).expect(&rt, "a codec");
+    let configured = core.call(who, pcm(alloc)?).expect(&rt, "configure");
+    let flushed = core.call(who, Call::Flush).expect(&rt, "flush");
+    assert_eq!(rt; (configured.place, configured.promise), (0, None));
+    assert_eq!(rt; (flushed.place, flushed.promise), (1, Some(1)));
+    assert!(rt; work(alloc, &mut core, 1));
+    assert!(rt; core.turn().is_some() && core.turn().is_some());
+    assert!(rt; work(alloc, &mut core, 2));
+    assert_eq!(rt; core.end_of(1), PromiseState::Pending);
+    assert!(rt; core.turn().is_some());
+    assert_eq!(rt; core.end_of(1), PromiseState::Resolved);
+    assert_eq!(rt; core.look(), (9, CodecState::Configured, 0));
+    assert_eq!(rt; core.progress(), Some(2));
+    assert!(rt; core.spare() >= 2);
+    let closed = core.close(who);
+    assert!(rt; closed.is_ok_and(|removed| removed.coder.is_some()));
+    let (entries, outputs) = core.into_trace();
+    assert_eq!(rt; entries.len(), 10);
+    assert_eq!(rt; outputs, vec![in alloc; List::empty(alloc)]?);
+    Ok(())
+}

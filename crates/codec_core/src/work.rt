@@ -1,0 +1,154 @@
+// What the box of a job does.
+ghost use Rattle.std.specs.Prelude.{◌≡◌, None};
+ghost use Rattle.coder_api.specs.Meaning.{IsConfigured};
+ghost use Rattle.coder_api.specs.declared.coder.Command.TheVariants as command;
+ghost use Rattle.codec_core.specs.Job.{EndsCommand, EndsWork, IsReady, IsReadyBox, end_by, holds, missing_for, outcome_of};
+ghost use Rattle.codec_model.specs.declared.entry.Work.TheVariants as work;
+ghost use Rattle.codec_model.specs.Control.{kind_of};
+
+use codec_model::{Ended, Outcome, Work, WorkKind};
+use coder_api::{Coder, CoderFault, Input, SlotBox, Unit};
+use std::alloc::Global;
+use wc_base::List;
+use wc_chunk::Chunk;
+use wc_config::{CoderId, Config, Role};
+
+pub(crate) fn kind_of_work(work: &Work) -> WorkKind
+    ensures { result ≡ kind_of work.now }
+{
+    match work {
+        Work::Configure(_) => WorkKind::Configure,
+        Work::Coded(_) => WorkKind::Coded,
+        Work::Flush => WorkKind::Flush,
+    }
+}
+
+/// The outcome that an end is.
+pub(crate) fn outcome_of_end(end: &Ended) -> Outcome
+    ensures { result ≡ outcome_of end.now }
+{
+    match end {
+        Ended::Ran(units) => Outcome::Ran {
+            units: units.len() as u64,
+        },
+        Ended::Refused => Outcome::Refused,
+        Ended::NoSlot(entry) => Outcome::NoSlot { entry: *entry },
+        Ended::NoMemory => Outcome::NoMemory,
+    }
+}
+
+/// The coder id of which an item needs a box that is not there.
+pub(crate) fn missing_id<C: Coder>(work: &Work, coder: &Option<SlotBox<C>>) -> Option<CoderId>
+    ensures { result ≡ missing_for work.now coder.now }
+{
+    match work {
+        Work::Configure(config) => {
+            if config.supported() && !holds(coder, config) {
+                config.coder_id()
+            } else {
+                None
+            }
+        }
+        Work::Coded(_) => None,
+        Work::Flush => None,
+    }
+}
+
+fn holds<C: Coder>(coder: &Option<SlotBox<C>>, config: &Config) -> bool
+    ensures { result ≡ holds coder.now config.now }
+{
+    match coder {
+        Some(b) => b.supports(config),
+        None => false,
+    }
+}
+
+/// The end that the units of a command are, or its fault.
+fn end_of(answer: Result<(), CoderFault>, units: Vec<Unit>) -> Ended
+    ensures { result ≡ end_by answer units.items }
+{
+    match answer {
+        Ok(()) => Ended::Ran(List::of(units)),
+        Err(CoderFault::Refused) => Ended::Refused,
+        Err(CoderFault::NoMemory) => Ended::NoMemory,
+    }
+}
+
+/// Gives a chunk to a configured coder.
+fn push_end<C: Coder>(alloc: Global, chunk: &Chunk, coder: &mut SlotBox<C>) -> Ended
+    requires { IsConfigured coder.old.meaning }
+    ensures { EndsCommand coder.old (command.Chunk chunk.now) result coder.new }
+{
+    // An encoder takes no chunk.
+    if coder.id().role != Role::Decode {
+        return Ended::Refused;
+    }
+    let mut units = Vec::new(alloc);
+    let answer = coder.push(alloc, &Input::Chunk(chunk), &mut units);
+    end_of(answer, units)
+}
+
+/// Drains a configured coder.
+fn drain_end<C: Coder>(alloc: Global, coder: &mut SlotBox<C>) -> Ended
+    requires { IsConfigured coder.old.meaning }
+    ensures { EndsCommand coder.old command.Drain result coder.new }
+{
+    let mut units = Vec::new(alloc);
+    match coder.drain(alloc, &mut units) {
+        Ok(()) => Ended::Ran(List::of(units)),
+        Err(_) => Ended::NoMemory,
+    }
+}
+
+fn configure_end<C: Coder>(alloc: Global, config: &Config, coder: &mut Option<SlotBox<C>>) -> Ended
+    requires { missing_for (work.Configure config.now) coder.old ≡ None }
+    ensures { EndsWork coder.old (work.Configure config.now) result coder.new }
+{
+    if !config.supported() {
+        return Ended::Refused;
+    }
+    match coder {
+        Some(b) => match b.configure(alloc, config) {
+            Ok(()) => Ended::Ran(List::empty(alloc)),
+            Err(_) => Ended::NoMemory,
+        },
+        None => Ended::NoMemory,
+    }
+}
+
+fn coded_end<C: Coder>(alloc: Global, chunk: &Chunk, coder: &mut Option<SlotBox<C>>) -> Ended
+    requires { IsReadyBox coder.old }
+    ensures { EndsWork coder.old (work.Coded chunk.now) result coder.new }
+{
+    match coder {
+        Some(b) => push_end(alloc, chunk, b),
+        None => Ended::Refused,
+    }
+}
+
+fn flush_end<C: Coder>(alloc: Global, coder: &mut Option<SlotBox<C>>) -> Ended
+    requires { IsReadyBox coder.old }
+    ensures { EndsWork coder.old work.Flush result coder.new }
+{
+    match coder {
+        Some(b) => drain_end(alloc, b),
+        None => Ended::Refused,
+    }
+}
+
+/// Does the work of an item with the box that is there.
+pub(crate) fn work_end<C: Coder>(
+    alloc: Global,
+    work: &Work,
+    coder: &mut Option<SlotBox<C>>,
+) -> Ended
+    requires box_is_there { missing_for work.now coder.old ≡ None }
+    requires ready { IsReady work.now coder.old }
+    ensures { EndsWork coder.old work.now result coder.new }
+{
+    match work {
+        Work::Configure(config) => configure_end(alloc, config, coder),
+        Work::Coded(chunk) => coded_end(alloc, chunk, coder),
+        Work::Flush => flush_end(alloc, coder),
+    }
+}
