@@ -1,0 +1,3 @@
+mod CountLaws
+pub mod FormLaws
+mod ValueLaws
