@@ -1,0 +1,3 @@
+pub mod Fits
+pub mod Follow
+pub mod Report

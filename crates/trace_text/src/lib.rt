@@ -1,0 +1,13 @@
+//! What a run recorded, and the report of it.
+#![tactic(auto)]
+
+mod lines;
+mod outputs;
+mod report;
+mod run;
+#[cfg(test)]
+mod tests;
+mod words;
+
+pub use report::{WriteFault, write_report};
+pub use run::{CallerTrace, CodecTrace, Run, StepResult};

@@ -1,0 +1,360 @@
+// The report of one run, of each other line, and of a sink that fails.
+use crate::{CallerTrace, CodecTrace, Run, StepResult, WriteFault, write_report};
+use bytes::Bytes;
+use codec_model::{
+    CodecState, Entry, Event, Kind, Opening, Outcome, PromiseState, Shown, TurnWord,
+};
+use coder_api::{SlotEntry, SlotOp, Unit};
+use std::alloc::Global;
+use std::test::Fail;
+use wc_base::{
+    By, DomError, List, MemSink, Picture, PictureFormat, PictureShape, SampleFormat, Samples,
+    SoundShape, Text, Who,
+};
+use wc_chunk::Chunk;
+use wc_config::{AudioDecoderConfig, CodecId, CoderId, Config, Role};
+use wc_script::{CallerItem, CodecItem, KindWord, Script};
+
+const OPENING: Opening = Opening {
+    kind: Kind::AudioDecoder,
+    saturation: 4,
+};
+
+fn who(step: u32) -> Who {
+    Who { caller: 0, step }
+}
+
+fn script(alloc: Global) -> Result<Script, Fail> {
+    let codec = CodecItem {
+        name: Text::of(String::from_str(alloc, "d")?),
+        kind: KindWord::AudioDecoder,
+        saturation: 4,
+    };
+    let caller = CallerItem {
+        name: Text::of(String::from_str(alloc, "a")?),
+        steps: List::empty(alloc),
+    };
+    Ok(Script {
+        codecs: List::of(vec![in alloc; codec]?),
+        callers: List::of(vec![in alloc; caller]?),
+        order: List::empty(alloc),
+    })
+}
+
+fn call(place: u64) -> StepResult {
+    StepResult::Call {
+        codec: 0,
+        place,
+        error: None,
+    }
+}
+
+fn results(alloc: Global) -> Result<Vec<StepResult>, Fail> {
+    let local = StepResult::Local { error: None };
+    let look = StepResult::Look {
+        codec: 0,
+        length: 14,
+        end: PromiseState::Resolved,
+    };
+    Ok(vec![in alloc; call(0), local, call(1), call(2), look]?)
+}
+
+fn start(item: u64) -> Entry {
+    Entry::Start { epoch: 0, item }
+}
+
+fn done(item: u64, moment: u64, units: u64) -> Entry {
+    Entry::Done {
+        epoch: 0,
+        item,
+        moment,
+        outcome: Outcome::Ran { units },
+    }
+}
+
+fn calls(alloc: Global) -> Result<Vec<Entry>, Fail> {
+    let bytes = Bytes::from_vec(vec![in alloc; 1, 0, 2, 0]?)?;
+    let chunk = Chunk {
+        key: true,
+        timestamp: 0,
+        duration: None,
+        bytes,
+    };
+    let configure = Entry::Configure {
+        who: who(0),
+        config: Config::Bad,
+    };
+    let decode = Entry::Decode { who: who(2), chunk };
+    let flush = Entry::Flush { who: who(3) };
+    Ok(vec![in alloc; configure, decode, flush]?)
+}
+
+fn quiet(alloc: Global) -> Shown {
+    Shown {
+        turn: None,
+        events: List::empty(alloc),
+    }
+}
+
+fn turned(alloc: Global, word: TurnWord) -> Shown {
+    Shown {
+        turn: Some(word),
+        events: List::empty(alloc),
+    }
+}
+
+fn showing(alloc: Global, word: TurnWord, event: Event) -> Result<Shown, Fail> {
+    Ok(Shown {
+        turn: Some(word),
+        events: List::of(vec![in alloc; event]?),
+    })
+}
+
+fn entries(alloc: Global) -> Result<Vec<Entry>, Fail> {
+    let mut entries = calls(alloc)?;
+    for entry in vec![in alloc; start(0), done(0, 1, 0), Entry::Turn, Entry::Turn]? {
+        entries.push(entry)?;
+    }
+    for entry in vec![in alloc; start(1), done(1, 2, 1), Entry::Turn, Entry::Turn]? {
+        entries.push(entry)?;
+    }
+    for entry in vec![in alloc; start(2), done(2, 3, 0), Entry::Turn]? {
+        entries.push(entry)?;
+    }
+    Ok(entries)
+}
+
+fn output(alloc: Global) -> Result<Event, Fail> {
+    let shape = SoundShape {
+        format: SampleFormat::S16,
+        rate: 8000,
+        channels: 1,
+        frames: 2,
+        timestamp: 0,
+    };
+    let bytes = Bytes::from_vec(vec![in alloc; 1, 0, 2, 0]?)?;
+    let unit = Unit::Sound(Samples { shape, bytes });
+    Ok(Event::Output { number: 0, unit })
+}
+
+fn shown(alloc: Global) -> Result<Vec<Shown>, Fail> {
+    let mut shown = Vec::new(alloc);
+    for _ in 0..5 {
+        shown.push(quiet(alloc))?;
+    }
+    shown.push(turned(alloc, TurnWord::Unblock))?;
+    shown.push(turned(alloc, TurnWord::Process))?;
+    shown.push(quiet(alloc))?;
+    shown.push(quiet(alloc))?;
+    shown.push(showing(alloc, TurnWord::Dequeue, Event::Dequeue)?)?;
+    shown.push(showing(alloc, TurnWord::Output, output(alloc)?)?)?;
+    shown.push(quiet(alloc))?;
+    shown.push(quiet(alloc))?;
+    shown.push(showing(alloc, TurnWord::Flushed, Event::Resolve(2))?)?;
+    Ok(shown)
+}
+
+fn ordinary_run(alloc: Global) -> Result<Run, Fail> {
+    let caller = CallerTrace {
+        results: List::of(results(alloc)?),
+    };
+    let codec = CodecTrace {
+        opening: OPENING,
+        entries: List::of(entries(alloc)?),
+        shown: List::of(shown(alloc)?),
+    };
+    let acquire = SlotEntry {
+        by: By::Codec { codec: 0, place: 3 },
+        op: SlotOp::Acquire {
+            id: CoderId {
+                role: Role::Decode,
+                codec: CodecId::PcmS16,
+            },
+            number: 0,
+        },
+    };
+    Ok(Run {
+        callers: List::of(vec![in alloc; caller]?),
+        codecs: List::of(vec![in alloc; codec]?),
+        slots: List::of(vec![in alloc; acquire]?),
+        held: 0,
+    })
+}
+
+const ORDINARY: &str =
+    "wcrun report 1\ncaller a\n0 d.0 ok\n1 ok\n2 d.1 ok\n3 d.2 ok\n4 d:14 resolved\ncodec d audio-decoder 4\n0 a.0 configure = ok\n1 a.2 decode = ok\n2 a.3 flush = ok\n3 start 0.0\n4 done 0.0 1 ran 0\n5 turn unblock\n6 turn process\n7 start 0.1\n8 done 0.1 2 ran 1\n9 turn dequeue\n  dequeue\n10 turn output\n  output audio s16 8000 1 2 0 250 01000200\n11 start 0.2\n12 done 0.2 3 ran 0\n13 turn flushed\n  resolve 2\npool\nslots\n0 d.3 acquire decode:pcm-s16 0\nheld 0\nend\n";
+
+#[test]
+fn the_ordinary_runs_report(rt: HostRuntime) -> Result<(), Fail> {
+    let alloc = rt.alloc();
+    let script = script(alloc)?;
+    let run = ordinary_run(alloc)?;
+    let mut sink = MemSink::open(alloc, 1000, Vec::new(alloc))?;
+    assert_eq!(rt; write_report(alloc, &script, &run, &mut sink), Ok(()));
+    assert_eq!(rt; sink.bytes(), ORDINARY.as_bytes());
+    Ok(())
+}
+
+#[test]
+fn a_sink_that_fails_has_a_beginning(rt: HostRuntime) -> Result<(), Fail> {
+    let alloc = rt.alloc();
+    let script = script(alloc)?;
+    let run = ordinary_run(alloc)?;
+    let mut sink = MemSink::open(alloc, 1000, vec![in alloc; 1]?)?;
+    assert_eq!(rt;
+        write_report(alloc, &script, &run, &mut sink),
+        Err(WriteFault::Failed)
+    );
+    assert_eq!(rt; sink.bytes(), b"wcrun report 1\ncall".as_slice());
+    Ok(())
+}
+
+fn other_results(alloc: Global) -> Result<Vec<StepResult>, Fail> {
+    let refused = StepResult::Call {
+        codec: 0,
+        place: 0,
+        error: Some(DomError::TypeErr),
+    };
+    let local = StepResult::Local {
+        error: Some(DomError::RangeErr),
+    };
+    let look = StepResult::Look {
+        codec: 0,
+        length: 2,
+        end: PromiseState::Rejected(DomError::Abort),
+    };
+    let state = StepResult::State {
+        codec: 0,
+        length: 5,
+        state: CodecState::Configured,
+        size: 1,
+    };
+    Ok(vec![in alloc; refused, local, look, state, StepResult::Absent]?)
+}
+
+fn failed(item: u64, outcome: Outcome) -> Entry {
+    Entry::Done {
+        epoch: 1,
+        item,
+        moment: 5,
+        outcome,
+    }
+}
+
+fn other_entries(alloc: Global) -> Result<Vec<Entry>, Fail> {
+    let reset = Entry::Reset { who: who(0) };
+    let close = Entry::Close { who: who(1) };
+    let refused = failed(0, Outcome::Refused);
+    let none = failed(1, Outcome::NoSlot { entry: 7 });
+    let memory = failed(2, Outcome::NoMemory);
+    let reclaim = Entry::Reclaim { moment: 9 };
+    Ok(vec![in alloc; reset, close, refused, none, memory, Entry::Turn, reclaim]?)
+}
+
+fn picture(alloc: Global) -> Result<Event, Fail> {
+    let shape = PictureShape {
+        format: PictureFormat::Nv12,
+        width: 2,
+        height: 1,
+        timestamp: -3,
+        duration: None,
+    };
+    let bytes = Bytes::from_vec(vec![in alloc; 171, 205]?)?;
+    let unit = Unit::Image(Picture { shape, bytes });
+    Ok(Event::Output { number: 0, unit })
+}
+
+fn coded(alloc: Global) -> Result<Event, Fail> {
+    let chunk = Chunk {
+        key: false,
+        timestamp: 7,
+        duration: Some(125),
+        bytes: Bytes::from_vec(Vec::new(alloc))?,
+    };
+    let config = AudioDecoderConfig {
+        codec: Text::of(String::from_str(alloc, "flac")?),
+        rate: 8000,
+        channels: 1,
+        description: None,
+    };
+    let unit = Unit::Coded {
+        chunk,
+        config: Some(config),
+    };
+    Ok(Event::Output { number: 1, unit })
+}
+
+fn other_shown(alloc: Global) -> Result<Vec<Shown>, Fail> {
+    let refused = Shown {
+        turn: None,
+        events: List::of(vec![in alloc; Event::Refusal(DomError::InvalidState)]?),
+    };
+    let rejected = Shown {
+        turn: None,
+        events: List::of(vec![in alloc;
+            Event::Reject {
+                promise: 1,
+                error: DomError::Abort
+            },
+        ]?),
+    };
+    let error = Event::ErrorCall(DomError::Encoding);
+    let closed = Shown {
+        turn: Some(TurnWord::Close(DomError::Encoding)),
+        events: List::of(vec![in alloc; picture(alloc)?, coded(alloc)?, error]?),
+    };
+    let mut shown = vec![in alloc; refused, rejected]?;
+    for _ in 0..3 {
+        shown.push(quiet(alloc))?;
+    }
+    shown.push(closed)?;
+    shown.push(quiet(alloc))?;
+    Ok(shown)
+}
+
+fn other_run(alloc: Global) -> Result<Run, Fail> {
+    let caller = CallerTrace {
+        results: List::of(other_results(alloc)?),
+    };
+    let codec = CodecTrace {
+        opening: OPENING,
+        entries: List::of(other_entries(alloc)?),
+        shown: List::of(other_shown(alloc)?),
+    };
+    let id = CoderId {
+        role: Role::Encode,
+        codec: CodecId::Flac,
+    };
+    let none = SlotEntry {
+        by: By::Codec { codec: 0, place: 3 },
+        op: SlotOp::Refused {
+            id,
+            out: 8,
+            made: 8,
+        },
+    };
+    let give = SlotEntry {
+        by: By::Caller(who(1)),
+        op: SlotOp::Give { id, number: 2 },
+    };
+    Ok(Run {
+        callers: List::of(vec![in alloc; caller]?),
+        codecs: List::of(vec![in alloc; codec]?),
+        slots: List::of(vec![in alloc; none, give]?),
+        held: 3,
+    })
+}
+
+const OTHER: &str =
+    "wcrun report 1\ncaller a\n0 d.0 TypeError\n1 RangeError\n2 d:2 rejected AbortError\n3 d:5 configured 1\n4 absent\ncodec d audio-decoder 4\n0 a.0 reset = InvalidStateError\n1 a.1 close = ok\n  reject 1 AbortError\n2 done 1.0 5 refused\n3 done 1.1 5 no-slot 7\n4 done 1.2 5 no-memory\n5 turn close EncodingError\n  output video NV12 2 1 -3 - abcd\n  output chunk delta 7 125 -\n  config flac 8000 1 -\n  error EncodingError\n6 reclaim 9\npool\nslots\n0 d.3 acquire encode:flac none 8 8\n1 a.1 give encode:flac 2\nheld 3\nend\n";
+
+#[test]
+fn the_other_lines(rt: HostRuntime) -> Result<(), Fail> {
+    let alloc = rt.alloc();
+    let script = script(alloc)?;
+    let run = other_run(alloc)?;
+    let mut sink = MemSink::open(alloc, 1000, Vec::new(alloc))?;
+    assert_eq!(rt; write_report(alloc, &script, &run, &mut sink), Ok(()));
+    assert_eq!(rt; sink.bytes(), OTHER.as_bytes());
+    Ok(())
+}
