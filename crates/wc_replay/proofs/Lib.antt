@@ -1,0 +1,11 @@
+pub mod Lists
+pub mod Legal
+pub mod Grows
+pub mod Calls
+pub mod Looks
+pub mod Arguments
+pub mod Moves
+pub mod Following
+pub mod Built
+pub mod Runs
+pub mod Desks

@@ -1,0 +1,4 @@
+pub mod Desk
+pub mod Events
+pub mod Player
+pub mod Sound

@@ -1,0 +1,12 @@
+//! Replays a script on one thread: every item of its order in turn, and what it came to.
+#![tactic(auto)]
+
+mod boxes;
+mod desk;
+mod events;
+mod laws;
+mod playing;
+mod steps;
+
+pub use laws::following_fits;
+pub use playing::replay;
