@@ -1,0 +1,89 @@
+-- The headline, from how a call ends and from what its last step writes.
+use Rattle.std.proofs.Common.{◌≡◌, ◌≢◌, ℕ, List, [], ◌++◌, Option, ◌⊎◌, inl, inr, refl, sym, subst, ◌∙◌, arith}
+use Rattle.wc_base.specs.Told.{AppendsPart}
+use Rattle.wc_base.proofs.Parts.{appended_twice, part_after}
+use Rattle.wcrun.specs.declared.refusal.Refusal.{Refusal}
+use Rattle.wcrun.specs.declared.refusal.Refusal.TheVariants as refusal
+use Rattle.wcrun.specs.Refusals.{status_of, line_of, memory_line}
+use Rattle.wcrun.specs.Headline.{Reading, Writing, IsReport, IsCut, Comes, SinkFailed, Headline}
+use Rattle.wcrun.specs.Writing.{WritesText, WritesLine}
+use Rattle.wcrun.specs.declared.stop.Stop.{Stop}
+use Rattle.wcrun.specs.declared.stop.Stop.TheVariants as stop
+use Rattle.wcrun.specs.Stops.{MayStop}
+
+-- no refusal has status 0
+not_zero : (x : Refusal) → status_of x ≢ 0
+not_zero refusal.Usage = λ e. omega arith
+not_zero (refusal.ReadFault name) = λ e. omega arith
+not_zero refusal.TooLong = λ e. omega arith
+not_zero refusal.NotJson = λ e. omega arith
+not_zero refusal.Unbuilt = λ e. omega arith
+
+not_five : (n : ℕ) → n ≡ 0 → n ≢ 5
+not_five n e = λ q. omega arith
+
+not_six : (n : ℕ) → n ≡ 0 → n ≢ 6
+not_six n e = λ q. omega arith
+
+-- the line for want of memory, with no report before it
+cut_nothing : (r : Reading) → IsCut r memory_line
+cut_nothing r = record { part = []; begun = inl refl; whole = refl }
+
+-- that line, after a beginning of a report
+cut_after : (r : Reading) (old : Option (List ℕ)) (text : List ℕ) (mid : Option (List ℕ)) → IsReport r text → (a : AppendsPart old text mid) → IsCut r (a.part ++ memory_line)
+cut_after r old text mid k a = record { part = a.part; begun = inr (record { report = text; rest = a.rest; is_report = k; whole = a.whole }); whole = refl }
+
+pub headline_of_report : (r : Reading) (w : Writing) (text : List ℕ) → IsReport r text → WritesText text w → Headline r w
+headline_of_report r w text k p = record {
+  written = λ e. record { text = text; report = k; told = p.done e };
+  out_of_memory = λ e. let m = p.memory e in record {
+    text = m.1.part ++ memory_line;
+    cut = cut_after r w.before text m.0 k m.1;
+    told = appended_twice w.before m.0 w.after m.1.part memory_line m.1.told m.2;
+  };
+  sink_failed = λ e. let m = p.part e in record {
+    rose = p.failed e;
+    text = m.1.part ++ memory_line;
+    allowed = inr (inl (cut_after r w.before text m.0 k m.1));
+    part = part_after w.before m.0 m.1.part memory_line w.after m.1.told m.2;
+  };
+  refused = λ n0 n5 n6. absurd (n5 (p.only n0 n6));
+}
+
+-- a failed write of a line, or of the line for want of memory
+failed_line : (r : Reading) (w : Writing) (x : Refusal) → Comes r x → WritesLine (status_of x) (line_of x) w → w.answer ≡ 5 → AppendsPart w.before (line_of x) w.after ⊎ AppendsPart w.before memory_line w.after → SinkFailed r w
+failed_line r w x k p e (inl q) = record {
+  rose = p.failed e;
+  text = line_of x;
+  allowed = inr (inr (status_of x, record { refusal = x; comes = k; is_status = refl; is_line = refl }));
+  part = q;
+}
+failed_line r w x k p e (inr q) = record { rose = p.failed e; text = memory_line; allowed = inr (inl (cut_nothing r)); part = q }
+
+pub headline_of_refusal : (r : Reading) (w : Writing) (x : Refusal) → Comes r x → WritesLine (status_of x) (line_of x) w → Headline r w
+headline_of_refusal r w x k p = record {
+  written = λ e. absurd (not_zero x (sym (p.done (not_five w.answer e) (not_six w.answer e)) ∙ e));
+  out_of_memory = λ e. record { text = memory_line; cut = cut_nothing r; told = p.memory e };
+  sink_failed = λ e. failed_line r w x k p e (p.part e);
+  refused = λ n0 n5 n6. record {
+    text = line_of x;
+    line = record { refusal = x; comes = k; is_status = p.done n5 n6; is_line = refl };
+    told = p.whole n5 n6;
+  };
+}
+
+failed_memory : (r : Reading) (w : Writing) → WritesLine 6 memory_line w → w.answer ≡ 5 → AppendsPart w.before memory_line w.after ⊎ AppendsPart w.before memory_line w.after → SinkFailed r w
+failed_memory r w p e (inl q) = record { rose = p.failed e; text = memory_line; allowed = inr (inl (cut_nothing r)); part = q }
+failed_memory r w p e (inr q) = record { rose = p.failed e; text = memory_line; allowed = inr (inl (cut_nothing r)); part = q }
+
+pub headline_of_memory : (r : Reading) (w : Writing) → WritesLine 6 memory_line w → Headline r w
+headline_of_memory r w p = record {
+  written = λ e. let n6 : w.answer ≢ 6 = not_six w.answer e in absurd (n6 (p.done (not_five w.answer e) n6));
+  out_of_memory = λ e. record { text = memory_line; cut = cut_nothing r; told = p.memory e };
+  sink_failed = λ e. failed_memory r w p e (p.part e);
+  refused = λ n0 n5 n6. absurd (n6 (p.done n5 n6));
+}
+
+-- a refusal that stops a replay may come
+pub stop_comes : (r : Reading) (e : Stop) (x : Refusal) → e ≡ stop.Refused x → MayStop r e → Comes r x
+stop_comes r e x q k = subst (λ s. MayStop r s) q k

@@ -1,0 +1,147 @@
+-- What `replay FILE` writes, and with which status it ends.
+--
+-- Status 0 is a whole report, 6 is want of memory, 5 is a failed sink, and 2, 3, 4 and 7 are refusals. What is said of the
+-- bytes of files and of the sink holds where they tell them.
+use Rattle.std.specs.Prelude.{ℕ, ◌≡◌, ◌≢◌, ◌<◌, ◌≤◌, ◌⊎◌, nat_lt, if◌then◌else◌, List, [], ◌++◌, length, Option, Some, None, IfSome, IsSomeAnd, MatchOption, Result, Ok, Err, IsOk}
+use Rattle.wc_base.specs.Causes.{Rose, RoseBy}
+use Rattle.wc_base.specs.Told.{appended, AppendsPart}
+use Rattle.wc_script.specs.declared.script.Script.{Script}
+use Rattle.wc_script.specs.declared.script.ScriptFault.{ScriptFault}
+use Rattle.wc_script.specs.declared.script.ScriptFault.TheVariants as fault
+use Rattle.wc_script.specs.Read.{script_of}
+use Rattle.trace_text.specs.declared.run.Run.{Run}
+use Rattle.trace_text.specs.Fits.{IsLegalRun, Fits}
+use Rattle.trace_text.specs.Report.{report_of}
+use Rattle.wcrun.specs.declared.refusal.Refusal.{Refusal}
+use Rattle.wcrun.specs.declared.refusal.Refusal.TheVariants as refusal
+use Rattle.wcrun.specs.Refusals.{status_of, line_of, memory_line}
+
+-- What a call was told to do, and what it read: the file that the words name, what the files hold, where they tell it, and
+-- their counts of faults and of bytes, before the call and after it.
+pub record Reading : Type 0 where
+  pub command : Option (List ℕ)
+  pub content : Option (List ℕ → Option (List ℕ))
+  pub faults_before : ℕ
+  pub faults_after : ℕ
+  pub bytes_before : ℕ
+  pub bytes_after : ℕ
+
+-- What a call wrote: the sink's bytes, where it tells them, and its count of faults, before the call and after it, and the
+-- status.
+pub record Writing : Type 0 where
+  pub before : Option (List ℕ)
+  pub after : Option (List ℕ)
+  pub faults_before : ℕ
+  pub faults_after : ℕ
+  pub answer : ℕ
+
+abbrev pub reading : Option (List ℕ) → Option (List ℕ → Option (List ℕ)) → ℕ → ℕ → ℕ → ℕ → Reading
+reading command content faults_before faults_after bytes_before bytes_after =
+    record { command = command; content = content; faults_before = faults_before; faults_after = faults_after; bytes_before = bytes_before; bytes_after = bytes_after }
+
+abbrev pub writing : Option (List ℕ) → Option (List ℕ) → ℕ → ℕ → ℕ → Writing
+writing before after faults_before faults_after answer =
+    record { before = before; after = after; faults_before = faults_before; faults_after = faults_after; answer = answer }
+
+-- The words name a file, which is there and within the limit, and P holds of its bytes.
+abbrev pub OfFile : Reading → (List ℕ → Type 0) → Type 0
+OfFile r P = IsSomeAnd r.command (λ name. IfSome r.content (λ files. IsSomeAnd (files name) (λ bytes. (length bytes ≤ 16777216) × P bytes)))
+
+-- P holds of the bytes of the file that the words name, if it is there.
+abbrev pub IfFile : Reading → (List ℕ → Type 0) → Type 0
+IfFile r P = IfSome r.command (λ name. IfSome r.content (λ files. IfSome (files name) P))
+
+-- A run that is legal and fits the script that the file's bytes spell.
+pub record IsRunOf (r : Reading) (script : Script) (run : Run) : Type 0 where
+  pub spelled : OfFile r (λ bytes. script_of bytes ≡ Ok script)
+  pub legal : IsLegalRun script run
+  pub fits : Fits script run
+
+-- The text is the report of such a run.
+pub record IsReport (r : Reading) (text : List ℕ) : Type 0 where
+  pub script : Script
+  pub run : Run
+  pub ran : IsRunOf r script run
+  pub whole : text ≡ report_of script run
+
+-- The text is a beginning of such a report.
+pub record IsBegun (r : Reading) (text : List ℕ) : Type 0 where
+  pub report : List ℕ
+  pub rest : List ℕ
+  pub is_report : IsReport r report
+  pub whole : text ++ rest ≡ report
+
+-- The text is nothing, or a beginning of a report, and then the line for want of memory.
+pub record IsCut (r : Reading) (text : List ℕ) : Type 0 where
+  pub part : List ℕ
+  pub begun : (part ≡ []) ⊎ IsBegun r part
+  pub whole : text ≡ part ++ memory_line
+
+-- When a refusal may come.
+abbrev pub Comes : Reading → Refusal → Type 0
+Comes r refusal.Usage = r.command ≡ None
+Comes r (refusal.ReadFault name) = (r.command ≡ Some name) × Rose r.faults_before r.faults_after
+Comes r refusal.TooLong =
+    IsSomeAnd r.command (λ name. MatchOption r.content (RoseBy 16777217 r.bytes_before r.bytes_after) (λ files.
+    IfSome (files name) (λ bytes. 16777216 < length bytes)))
+Comes r refusal.NotJson = OfFile r (λ bytes. script_of bytes ≡ Err fault.NotJson)
+Comes r refusal.Unbuilt = OfFile r (λ bytes. script_of bytes ≡ Err fault.Unbuilt)
+
+-- The text is the line of a refusal that may come, and the status is its own.
+pub record IsRefusal (r : Reading) (status : ℕ) (text : List ℕ) : Type 0 where
+  pub refusal : Refusal
+  pub comes : Comes r refusal
+  pub is_status : status ≡ status_of refusal
+  pub is_line : text ≡ line_of refusal
+
+-- The four parts. With status 0 the sink's bytes are the earlier ones, followed by the report of a run that is legal and
+-- fits the script.
+pub record Written (r : Reading) (w : Writing) : Type 0 where
+  pub text : List ℕ
+  pub report : IsReport r text
+  pub told : w.after ≡ appended w.before text
+
+-- With status 6 nothing or a beginning of such a report was added, and then the line `out of memory`.
+pub record OutOfMemory (r : Reading) (w : Writing) : Type 0 where
+  pub text : List ℕ
+  pub cut : IsCut r text
+  pub told : w.after ≡ appended w.before text
+
+-- With status 5 a beginning of a text that another status allows was added, and a write failed in this call.
+pub record SinkFailed (r : Reading) (w : Writing) : Type 0 where
+  pub rose : Rose w.faults_before w.faults_after
+  pub text : List ℕ
+  pub allowed : IsReport r text ⊎ (IsCut r text ⊎ ((status : ℕ) × IsRefusal r status text))
+  pub part : AppendsPart w.before text w.after
+
+-- With every other status the line of a refusal was added, which comes only where its cause is.
+pub record Refused (r : Reading) (w : Writing) : Type 0 where
+  pub text : List ℕ
+  pub line : IsRefusal r w.answer text
+  pub told : w.after ≡ appended w.before text
+
+pub record Headline (r : Reading) (w : Writing) : Type 0 where
+  pub written : w.answer ≡ 0 → Written r w
+  pub out_of_memory : w.answer ≡ 6 → OutOfMemory r w
+  pub sink_failed : w.answer ≡ 5 → SinkFailed r w
+  pub refused : w.answer ≢ 0 → w.answer ≢ 5 → w.answer ≢ 6 → Refused r w
+
+-- the status for a script, where nothing fails
+abbrev pub status_for : Result Script ScriptFault → ℕ
+status_for (Ok s) = 0
+status_for (Err e) = 3
+
+-- the status for the bytes of a file, where nothing fails
+abbrev pub expected : List ℕ → ℕ
+expected bytes = if nat_lt 16777216 (length bytes) then 7 else status_for (script_of bytes)
+
+-- Where no read, no write and no memory fails, the words and the file's bytes alone give the status: so 2 comes exactly
+-- where the words are no command, 7 exactly where the file is longer than the limit, and 3 exactly where its bytes spell
+-- no script.
+pub record Decides (r : Reading) (w : Writing) : Type 0 where
+  pub words : r.command ≡ None → w.answer ≢ 5 → w.answer ≢ 6 → w.answer ≡ 2
+  pub file : IfFile r (λ bytes. w.answer ≢ 4 → w.answer ≢ 5 → w.answer ≢ 6 → w.answer ≡ expected bytes)
+
+-- Where the file holds a script within the limit, and no count of faults rose, the status is 0 or want of memory.
+abbrev pub IsComplete : Reading → Writing → Type 0
+IsComplete r w = IfFile r (λ bytes. length bytes ≤ 16777216 → IsOk (script_of bytes) → ¬ Rose r.faults_before r.faults_after → ¬ Rose w.faults_before w.faults_after → w.answer ≢ 6 → w.answer ≡ 0)

@@ -1,0 +1,5 @@
+pub mod Words
+pub mod Refusals
+pub mod Headline
+pub mod Writing
+pub mod Stops

@@ -1,0 +1,166 @@
+// Whole calls on files and sinks in memory.
+use crate::top;
+use coder_api::CoderBox;
+use pcm_coder::PcmCoder;
+use std::alloc::Global;
+use std::test::Fail;
+use wc_base::{MemFiles, MemSink};
+use wc_config::{CodecId, CoderId, Role};
+
+const ORDINARY: &str =
+    "{\"codecs\":[{\"name\":\"d\",\"kind\":\"audio-decoder\"}],\"callers\":[{\"name\":\"a\",\"steps\":[
+{\"do\":\"configure\",\"on\":\"d\",\"config\":{\"codec\":\"pcm-s16\",\"sampleRate\":8000,\"numberOfChannels\":1}},
+{\"do\":\"chunk\",\"as\":\"c\",\"init\":{\"type\":\"key\",\"timestamp\":0,\"data\":\"01000200\"}},
+{\"do\":\"decode\",\"on\":\"d\",\"chunk\":\"c\"},{\"do\":\"flush\",\"on\":\"d\",\"as\":\"p\"},{\"do\":\"await\",\"promise\":\"p\"}]}],
+\"order\":[\"a\",\"a\",\"a\",\"a\",{\"start\":\"d\"},{\"done\":\"d\",\"at\":1},{\"turn\":\"d\"},{\"turn\":\"d\"},
+{\"start\":\"d\"},{\"done\":\"d\",\"at\":2},{\"turn\":\"d\"},{\"turn\":\"d\"},{\"start\":\"d\"},{\"done\":\"d\",\"at\":3},{\"turn\":\"d\"},\"a\"]}";
+
+const ORDINARY_REPORT: &str = "wcrun report 1
+caller a
+0 d.0 ok
+1 ok
+2 d.1 ok
+3 d.2 ok
+4 d:14 resolved
+codec d audio-decoder 4
+0 a.0 configure = ok
+1 a.2 decode = ok
+2 a.3 flush = ok
+3 start 0.0
+4 done 0.0 1 ran 0
+5 turn unblock
+6 turn process
+7 start 0.1
+8 done 0.1 2 ran 1
+9 turn dequeue
+  dequeue
+10 turn output
+  output audio s16 8000 1 2 0 250 01000200
+11 start 0.2
+12 done 0.2 3 ran 0
+13 turn flushed
+  resolve 2
+pool
+slots
+0 d.3 acquire decode:pcm-s16 0
+held 0
+end
+";
+
+const ORDINARY_LINES: u64 = 30;
+
+const UNCONFIGURED: &str =
+    "{\"codecs\":[{\"name\":\"d\",\"kind\":\"audio-decoder\"}],\"callers\":[{\"name\":\"a\",\"steps\":[
+{\"do\":\"chunk\",\"as\":\"c\",\"init\":{\"type\":\"key\",\"timestamp\":0,\"data\":\"0100\"}},
+{\"do\":\"decode\",\"on\":\"d\",\"chunk\":\"c\"},{\"do\":\"flush\",\"on\":\"d\",\"as\":\"p\"},{\"do\":\"await\",\"promise\":\"p\"}]}],
+\"order\":[\"a\",\"a\",\"a\",\"a\"]}";
+
+const UNCONFIGURED_REPORT: &str = "wcrun report 1
+caller a
+0 ok
+1 d.0 InvalidStateError
+2 d.1 ok
+3 d:2 rejected InvalidStateError
+codec d audio-decoder 4
+0 a.1 decode = InvalidStateError
+1 a.2 flush = ok
+  reject 1 InvalidStateError
+pool
+slots
+held 0
+end
+";
+
+// Ends a call on files that hold one script, with these reads and writes failing, and with one coder.
+fn call(
+    alloc: Global,
+    file: Vec<u8>,
+    words: &[&str],
+    reads: Vec<u64>,
+    writes: Vec<u64>,
+) -> Result<(u8, MemSink), Fail> {
+    let mut given = Vec::new(alloc);
+    for word in words {
+        given.push(String::from_str(alloc, word)?)?;
+    }
+    let name = String::from_str(alloc, "s.json")?;
+    let mut files = MemFiles::open(vec![in alloc; (name, file)]?, reads);
+    let mut sink = MemSink::open(alloc, 4096, writes)?;
+    let mut coders = Vec::new(alloc);
+    let id = CoderId {
+        role: Role::Decode,
+        codec: CodecId::PcmS16,
+    };
+    coders.push(CoderBox::of(Box::new(alloc, PcmCoder::new(id))?))?;
+    let status = top(alloc, &given, &mut files, &mut sink, coders);
+    Ok((status, sink))
+}
+
+#[test]
+fn each_call_ends_with_its_status_and_text(rt: HostRuntime) -> Result<(), Fail> {
+    let alloc = rt.alloc();
+    let usage =
+        "usage: wcrun replay FILE | run FILE --workers N | load START N | check SCRIPT REPORT\n";
+    let replay = ["replay", "s.json"];
+    let rows: [(&[&str], &str, u8, &str); 8] = [
+        (&replay, ORDINARY, 0, ORDINARY_REPORT),
+        (&replay, UNCONFIGURED, 0, UNCONFIGURED_REPORT),
+        (&replay, "{", 3, "script: not json\n"),
+        (&replay, "[]", 3, "script: unbuilt\n"),
+        (&["replay", "other"], ORDINARY, 4, "read fault: other\n"),
+        (&["replay", "-s"], ORDINARY, 2, usage),
+        (&["replay"], ORDINARY, 2, usage),
+        (&[], ORDINARY, 2, usage),
+    ];
+    for (words, script, status, text) in rows {
+        let file = Vec::from_slice(alloc, script.as_bytes())?;
+        let (answer, sink) = call(alloc, file, words, Vec::new(alloc), Vec::new(alloc))?;
+        assert_eq!(rt; answer, status, "at {text}");
+        assert_eq!(rt; sink.bytes(), text.as_bytes(), "at {text}");
+    }
+    Ok(())
+}
+
+#[test]
+fn a_script_above_the_limit_is_too_long(rt: HostRuntime) -> Result<(), Fail> {
+    let alloc = rt.alloc();
+    let file = vec![in alloc; b' '; 16_777_217]?;
+    let (answer, sink) = call(
+        alloc,
+        file,
+        &["replay", "s.json"],
+        Vec::new(alloc),
+        Vec::new(alloc),
+    )?;
+    assert_eq!(rt; answer, 7);
+    assert_eq!(rt; sink.bytes(), b"limit: script 16777217\n".as_slice());
+    Ok(())
+}
+
+#[test]
+fn each_failing_write_leaves_a_beginning_of_the_report(rt: HostRuntime) -> Result<(), Fail> {
+    let alloc = rt.alloc();
+    for n in 0..ORDINARY_LINES {
+        let file = Vec::from_slice(alloc, ORDINARY.as_bytes())?;
+        let writes = vec![in alloc; n]?;
+        let (answer, sink) = call(alloc, file, &["replay", "s.json"], Vec::new(alloc), writes)?;
+        assert_eq!(rt; answer, 5, "at {n}");
+        assert!(rt;
+            ORDINARY_REPORT.as_bytes().starts_with(sink.bytes()),
+            "at {n}"
+        );
+        assert!(rt; n != 1 || sink.bytes() == b"wcrun report 1\ncall".as_slice());
+    }
+    Ok(())
+}
+
+#[test]
+fn a_failing_read_is_answered(rt: HostRuntime) -> Result<(), Fail> {
+    let alloc = rt.alloc();
+    let file = Vec::from_slice(alloc, ORDINARY.as_bytes())?;
+    let reads = vec![in alloc; 0]?;
+    let (answer, sink) = call(alloc, file, &["replay", "s.json"], reads, Vec::new(alloc))?;
+    assert_eq!(rt; answer, 4);
+    assert_eq!(rt; sink.bytes(), b"read fault: s.json\n".as_slice());
+    Ok(())
+}
