@@ -2,5 +2,7 @@
 #![tactic(auto)]
 
 mod chunk;
+#[cfg(test)]
+mod tests;
 
 pub use chunk::Chunk;
