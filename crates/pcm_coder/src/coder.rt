@@ -85,6 +85,7 @@ impl Coder for PcmCoder {
         }
     }
 
+    #[tactic(auto, using(coder_api::proofs::Kept::kept_after))]
     fn push(
         &mut self,
         alloc: Global,
