@@ -3,10 +3,12 @@
 #![tactic(auto)]
 
 mod entry;
+mod facts;
 mod rows;
 
 pub use entry::{
     Call, CodecState, Ended, Entry, Event, Item, Kind, Message, Opening, Outcome, PromiseEnd,
     PromiseState, Running, Shown, Task, TurnWord, Work, WorkKind,
 };
+pub use facts::{never_stuck, steps_leave_fewer};
 pub use rows::{closing_run, ordinary_run, resetting_run, saturating_run};

@@ -1,0 +1,21 @@
+// What holds of a codec after every legal history.
+ghost use Rattle.codec_model.specs.Facts.{Always, CountsMessages, HaltsForClose, NumbersItems, BlocksForConfigure, SaturatesForCoded, KeepsSaturation, ProcessesSoon, OwesPromises, EndsQuiet, LeavesFewer};
+
+/// The facts that keep a codec from being stuck, after every legal history of a codec that some coded items saturate.
+pub fn never_stuck()
+    ensures counts { Always CountsMessages }
+    ensures halts { Always HaltsForClose }
+    ensures numbers { Always NumbersItems }
+    ensures blocks { Always BlocksForConfigure }
+    ensures saturates { Always SaturatesForCoded }
+    ensures saturation { Always KeepsSaturation }
+    ensures processes { Always ProcessesSoon }
+    ensures promises { Always OwesPromises }
+    ensures quiet { Always EndsQuiet }
+{}
+
+/// After every legal history each start, end of an item and turn leaves fewer of them, so that a codec that no caller
+/// calls comes to rest.
+pub fn steps_leave_fewer()
+    ensures { LeavesFewer }
+{}
