@@ -118,6 +118,7 @@ kept_more h slot next k k' e kept m = record {
   is_control = m.is_control;
   is_place = m.next_place ∙ (ap (λ (c : Control). c.place + 1) kept.is_control ∙ (ap (λ n. n + 1) kept.is_place ∙ sym (length-append h (e ∷ []))));
   home = m.home;
+  some_saturate = rw (m.same_opening, kept.is_control) kept.some_saturate;
 }
 
 pub state_is : (h : List Entry) (slot : Option Lent) (k : Control) (spare : ℕ) (kept : IsKept h slot k) → state_at (record { opening = k.opening; history = h; spare = spare; slot = slot }) ≡ kept.state

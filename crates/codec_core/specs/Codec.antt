@@ -57,6 +57,7 @@ pub record IsKept (history : List Entry) (slot : Option Lent) (k : Control) : Ty
   pub is_control : state.control ≡ k
   pub is_place : k.place ≡ length history
   pub home : CoderHome slot state
+  pub some_saturate : 1 ≤ k.opening.saturation
 
 -- a place is kept for the reclaim of a codec that is not closed
 abbrev pub reclaims : CodecState → ℕ

@@ -1,9 +1,10 @@
 // One codec, which keeps its history.
-ghost use Rattle.std.specs.Prelude.{◌≡◌, ◌==◌, ◌≤◌, ◌+◌, ◌^◌, IfOk, IfErr, IfNone, IfSome, OnSome, OnOk, OnErr, None, Some, [], length, option_map, not, is_some, true, false};
+ghost use Rattle.std.specs.Prelude.{◌≡◌, ◌==◌, max, ◌≤◌, ◌+◌, ◌^◌, IfOk, IfErr, IfNone, IfSome, OnSome, OnOk, OnErr, None, Some, [], length, option_map, not, is_some, true, false};
 ghost use Rattle.codec_queues.specs.Joined.{joined};
 ghost use Rattle.codec_model.specs.declared.entry.Entry.TheVariants as entry;
 ghost use Rattle.codec_model.specs.Control.{front, start_item, may_reclaim};
 ghost use Rattle.codec_model.specs.Replay.{entry_of, missing_coder, removal_error, IsLegal};
+ghost use Rattle.codec_model.specs.Facts.{IsNeverStuck};
 ghost use Rattle.codec_model.specs.Shown.{shown, outputs_of, ends_in, promise_state};
 ghost use Rattle.codec_core.specs.Job.{IsJobOf, IsEndOf, outcome_of, missing_id, stopped_box};
 ghost use Rattle.codec_core.specs.Codec.{state_at, Makes, KeepsRunning, Replied, FaultIs, promise_of, kept_box, handed_back, removed_if, closes_now, progress_of, item_parts};
@@ -70,11 +71,24 @@ impl<C: Coder> Core<C> {
         self.spare as u64
     }
 
-    /// All entries so far.
+    /// Makes places for at least so many more resets and closes. After want of memory nothing has changed.
+    pub fn reserve(&mut self, calls: u64) -> Result<(), NoMemory>
+        ensures ok { OnOk result (self.new ≡ record self.old { spare = max calls self.old.spare }) }
+        ensures err { OnErr result (self.new ≡ self.old) }
+    {
+        let spare = self.spare.max(calls as usize);
+        let places = more_places(self.machine.room(), spare)?;
+        self.entries.reserve(places)?;
+        self.spare = spare;
+        Ok(())
+    }
+
+    /// All entries so far. The state after them is never stuck.
     pub fn history(&self) -> &[Entry]
         ensures entries { result.now ≡ self.now.history }
         ensures legal { IsLegal self.now.opening self.now.history }
         ensures place { (state_at self.now).control.place ≡ length self.now.history }
+        ensures facts { IsNeverStuck (state_at self.now).control }
     {
         self.entries.as_slice()
     }

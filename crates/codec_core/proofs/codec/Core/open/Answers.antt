@@ -10,6 +10,7 @@ invariant_of-result g c = rw (c.in_ok-entries.ensures.items, c.in_ok-machine.ens
     is_control = refl;
     is_place = refl;
     home = record { idle = λ _ _. refl; out = λ r h. refl; busy = λ r h e. refl; stale = λ r h l. refl; older = λ r h. absurd cc };
+    some_saturate = c.requires.low;
   },
   omega (arith, c.in_ok-entries.ensures.len, c.in_ok-entries.ensures.exact, c.in_ok-places.ensures),
 )

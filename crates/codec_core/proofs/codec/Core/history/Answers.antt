@@ -1,0 +1,9 @@
+use Rattle.codec_model.proofs.FactLaws.{all_facts}
+use Rattle.codec_core.proofs.Steps.{state_is}
+use Rattle.codec_core.proofs.codec.Core.history.Goals as goal
+
+pub returns-clause-facts : goal.returns-clause-facts
+returns-clause-facts g c =
+    let kept = c.self.invariant.0 in
+    rw (← c.self.view_is, state_is c.self.inside.entries.items c.self.inside.slot c.self.inside.machine c.self.inside.spare kept)
+    (all_facts c.self.inside.machine.opening c.self.inside.entries.items kept.state kept.some_saturate kept.replays)
