@@ -1,0 +1,49 @@
+-- Who holds a box after one more entry.
+use Rattle.std.proofs.Common.{ℕ, ◌≡◌, ◌==◌, Bool, true, false, cond, Option, Some, None, is_some, refl, ap, sym, ◌∙◌}
+use Rattle.std.proofs.lemmas.Bool.{false_from_ne_true, false≢true, and_parts, eqb-true}
+use Rattle.wc_base.specs.declared.who.By.{By}
+use Rattle.wc_config.specs.declared.codec.CoderId.{CoderId}
+use Rattle.coder_api.specs.Lent.{Lent}
+use Rattle.coder_api.specs.Meaning.{is_id}
+use Rattle.coder_api.specs.declared.slot.SlotEntry.{SlotEntry}
+use Rattle.coder_api.specs.declared.slot.SlotOp.TheVariants as slot
+use Rattle.slot_registry.specs.Boxes.{is_box, holder_of, is_out, made_of, out_of, least_free}
+use Rattle.slot_registry.specs.Slots.{SlotsValue, recorded, acquired, acquire_op, given_back, IsHeld, KeepsBoxes, KeepsOthers, IsLeastFree}
+use Rattle.slot_registry.proofs.Ids.{id_is}
+use Rattle.slot_registry.proofs.Numbers.{find_fails}
+use Rattle.slot_registry.proofs.Histories.{holder_more, box_same}
+
+-- the box that goes out is held by its cause
+pub acquired_is_held : (s new : SlotsValue) (cause : By) (id : CoderId) (lent : Lent) → IsLeastFree cause id s lent → new ≡ acquired cause id s → IsHeld new lent
+acquired_is_held s new cause id lent least is =
+    let e : SlotEntry = record { by = cause; op = slot.Acquire id lent.number } in
+    let after : SlotsValue = recorded e s in
+    let op : new ≡ after = is ∙ ap (λ (o : Option ℕ). recorded (record { by = cause; op = acquire_op id (out_of id s.made s.history) (made_of id s.made) o }) s) least.number in
+    let here : holder_of id lent.number after.history ≡ Some cause = holder_more id lent.number s.history e ∙ ap (λ (b : Bool). cond b (Some cause) (holder_of id lent.number s.history)) (box_same id lent.number) in
+    ap (λ (v : SlotsValue). holder_of lent.id lent.number v.history) op ∙ ap (λ (x : CoderId). holder_of x lent.number after.history) least.id ∙ here ∙ ap Some (sym least.by)
+
+-- a box that is not out is none of those that are held
+free_apart : (s : SlotsValue) (id : CoderId) (number : ℕ) (lent : Lent) → is_out id number s.history ≡ false → IsHeld s lent → is_box lent.id lent.number id number ≡ false
+free_apart s id number lent free held = false_from_ne_true (is_box lent.id lent.number id number) (λ (same : is_box lent.id lent.number id number ≡ true).
+    let parts = and_parts (is_id lent.id id) (lent.number == number) same in
+    let one = id_is lent.id id parts.0 in
+    let equal = eqb-true lent.number number parts.1 in
+    let out : is_out lent.id lent.number s.history ≡ true = ap is_some held in
+    let out_too : is_out id number s.history ≡ true = ap (λ (x : CoderId). is_out x number s.history) (sym one) ∙ ap (λ (n : ℕ). is_out lent.id n s.history) (sym equal) ∙ out in
+    false≢true (sym free ∙ out_too))
+
+op_keeps_boxes : (s : SlotsValue) (cause : By) (id : CoderId) (out all : ℕ) (free : Option ℕ) → least_free id s.made s.history ≡ free → (lent : Lent) → IsHeld s lent → IsHeld (recorded (record { by = cause; op = acquire_op id out all free }) s) lent
+op_keeps_boxes s cause id out all None free lent held = holder_more lent.id lent.number s.history (record { by = cause; op = slot.Refused id out all }) ∙ held
+op_keeps_boxes s cause id out all (Some number) free lent held =
+    let not_out = find_fails (λ m. is_out id m s.history) (made_of id s.made) number free in
+    let apart = free_apart s id number lent not_out held in
+    holder_more lent.id lent.number s.history (record { by = cause; op = slot.Acquire id number }) ∙ ap (λ (b : Bool). cond b (Some cause) (holder_of lent.id lent.number s.history)) apart ∙ held
+
+-- an acquire leaves the boxes that are out with their holders
+pub acquire_keeps_boxes : (cause : By) (id : CoderId) (s : SlotsValue) → KeepsBoxes s (acquired cause id s)
+acquire_keeps_boxes cause id s = record { stay = op_keeps_boxes s cause id (out_of id s.made s.history) (made_of id s.made) (least_free id s.made s.history) refl }
+
+pub give_keeps_others : (s : SlotsValue) (cause : By) (id : CoderId) (number : ℕ) → KeepsOthers s (given_back cause id number s) id number
+give_keeps_others s cause id number = record {
+  stay = λ lent apart held. holder_more lent.id lent.number s.history (record { by = cause; op = slot.Give id number }) ∙ ap (λ (b : Bool). cond b None (holder_of lent.id lent.number s.history)) apart ∙ held;
+}

@@ -1,0 +1,81 @@
+use Rattle.std.proofs.Common.{◌≡◌, sym, ap, ◌∙◌, arith, subst, List, is_some, ◌+◌, ◌≤◌, ◌∷◌, ◌++◌, [], rules, vec_len, vec_capacity, set}
+use Rattle.std.proofs.lemmas.List.{length-set}
+use Rattle.coder_api.specs.declared.slot.SlotOp.TheVariants as slot
+use Rattle.coder_api.specs.declared.slot.SlotEntry.{SlotEntry}
+use Rattle.std.proofs.lemmas.Bool.{false≢true}
+use Rattle.slot_registry.specs.Places.{ids_of, IsKept, IsFreeAt, AreAllOut}
+use Rattle.slot_registry.proofs.Kept.{away_is_within, refusal_keeps}
+use Rattle.slot_registry.proofs.Changes.{IsPlaceOf, same_id, free_is_home, acquire_keeps, acquire_after, least_inside}
+use Rattle.slot_registry.specs.Slots.{SlotsValue, KeepsBoxes}
+use Rattle.slot_registry.proofs.Holders.{acquired_is_held, acquire_keeps_boxes}
+use Rattle.slot_registry.proofs.slots.Slots.acquire.Goals as goal
+
+pub unreachable-requires : goal.unreachable-requires
+unreachable-requires g c =
+    let places = c.self.inside.places.items in
+    let history = c.reserve.new.self.items in
+    let H : List SlotEntry → Type 0 = λ h. IsKept places h in
+    let kept = subst H (sym c.reserve.ensures.items) c.self.invariant.0 in
+    let free : IsFreeAt c.args.id (record { made = ids_of places; history = history }) c.in-Free.place c.in-Free.number = c.in-Free.ensures in
+    let place : IsPlaceOf places c.args.id c.in-Free.place c.in-Free.number = record { at = free.at; before = free.before } in
+    let home = free_is_home places history c.args.id c.in-Free.place c.in-Free.number c.index_mut.result.now kept place free.least c.index_mut.ensures.value in
+    false≢true (sym (ap is_some c.in_default.is) ∙ c.take.ensures.some ∙ home)
+
+pub invariant_of-self-in-Free : goal.invariant_of-self-in-Free
+invariant_of-self-in-Free g c =
+    let places = c.self.inside.places.items in
+    let history = c.reserve.new.self.items in
+    let H : List SlotEntry → Type 0 = λ h. IsKept places h in
+    let kept = subst H (sym c.reserve.ensures.items) c.self.invariant.0 in
+    let free : IsFreeAt c.args.id (record { made = ids_of places; history = history }) c.in-Free.place c.in-Free.number = c.in-Free.ensures in
+    let place : IsPlaceOf places c.args.id c.in-Free.place c.in-Free.number = record { at = free.at; before = free.before } in
+    let enough : c.in_ok-needed.needed ≡ c.len.result + 1 = search rules in
+    let ok : vec_len c.reserve.new.self + c.in_ok-needed.needed ≤ vec_capacity c.reserve.new.self = c.in_ok-reserve.ensures.ok in
+    (acquire_keeps places history c.push_reserved.new.self.items c.args.id c.in-Free.place c.in-Free.number c.index_mut.result.now c.take.new.self c.args.by kept place free.least c.index_mut.ensures.value c.take.ensures.left c.push_reserved.ensures.items, omega (arith, away_is_within (set places c.in-Free.place c.take.new.self), length-set places c.in-Free.place c.take.new.self, enough, ok, c.push_reserved.ensures.len, c.push_reserved.ensures.capacity))
+
+pub invariant_of-self-in-AllOut : goal.invariant_of-self-in-AllOut
+invariant_of-self-in-AllOut g c =
+    let places = c.self.inside.places.items in
+    let history = c.reserve.new.self.items in
+    let H : List SlotEntry → Type 0 = λ h. IsKept places h in
+    let kept = subst H (sym c.reserve.ensures.items) c.self.invariant.0 in
+    let all : AreAllOut c.args.id (record { made = ids_of places; history = history }) c.in-AllOut.made = c.in-AllOut.ensures in
+    let enough : c.in_ok-needed.needed ≡ c.len.result + 1 = search rules in
+    let ok : vec_len c.reserve.new.self + c.in_ok-needed.needed ≤ vec_capacity c.reserve.new.self = c.in_ok-reserve.ensures.ok in
+    (subst H (sym c.push_reserved-in-AllOut.ensures.items) (refusal_keeps places history c.args.id c.in-AllOut.made c.args.by kept all.out all.made), omega (arith, away_is_within places, enough, ok, c.push_reserved-in-AllOut.ensures.len, c.push_reserved-in-AllOut.ensures.capacity))
+
+pub returns-in-Some-clause-least : goal.returns-in-Some-clause-least
+returns-in-Some-clause-least g c =
+    let places = c.self.inside.places.items in
+    let history = c.self.inside.entries.items in
+    let id = c.args.id in
+    let k = c.in-Free.place in
+    let number = c.in-Free.number in
+    let p = c.index_mut.result.now in
+    let F : List SlotEntry → Type 0 = λ h. IsFreeAt id (record { made = ids_of places; history = h }) k number in
+    let free = subst F c.reserve.ensures.items c.in-Free.ensures in
+    let place : IsPlaceOf places id k number = record { at = free.at; before = free.before } in
+    let told : g.C.Coder.coder c.in-Some.coder ≡ p.id = c.in-Some.ensures.id in
+    least_inside c.args.self.now places history id number c.new.result c.args.by (g.C.Coder.meaning c.in-Some.coder) c.self.view_is free.least (g.C.Coder.coder c.in-Some.coder) (told ∙ sym (same_id places id k number p place c.index_mut.ensures.value)) c.new.ensures
+
+pub returns-in-Some-clause-acquired : goal.returns-in-Some-clause-acquired
+returns-in-Some-clause-acquired g c =
+    let places = c.self.inside.places.items in
+    let history = c.self.inside.entries.items in
+    let id = c.args.id in
+    let k = c.in-Free.place in
+    let number = c.in-Free.number in
+    let p = c.index_mut.result.now in
+    let F : List SlotEntry → Type 0 = λ h. IsFreeAt id (record { made = ids_of places; history = h }) k number in
+    let free = subst F c.reserve.ensures.items c.in-Free.ensures in
+    let place : IsPlaceOf places id k number = record { at = free.at; before = free.before } in
+    let more = c.push_reserved.ensures.items ∙ ap (λ (h : List SlotEntry). h ++ record { by = c.args.by; op = slot.Acquire id number } ∷ []) c.reserve.ensures.items in
+    acquire_after c.args.self.now places history c.push_reserved.new.self.items k id number p c.take.new.self c.args.by c.self.view_is place free.least c.index_mut.ensures.value c.take.ensures.left more
+
+pub returns-in-Some-clause-held : goal.returns-in-Some-clause-held
+returns-in-Some-clause-held g c = acquired_is_held c.args.self.now _ c.args.by c.args.id c.new.result (returns-in-Some-clause-least g c) (returns-in-Some-clause-acquired g c)
+
+pub returns-in-Some-clause-kept : goal.returns-in-Some-clause-kept
+returns-in-Some-clause-kept g c =
+    let K : SlotsValue → Type 0 = λ v. KeepsBoxes c.args.self.now v in
+    subst K (sym (returns-in-Some-clause-acquired g c)) (acquire_keeps_boxes c.args.by c.args.id c.args.self.now)
