@@ -1,6 +1,6 @@
--- The form of the scripts that are built: one `pcm-s16` decoder of one channel, and one caller that configures, makes
--- chunks, decodes, flushes and awaits.
-use Rattle.std.specs.Prelude.{ℕ, ◌+◌, ◌%◌, ◌==◌, ◌&&◌, nat_lt, nat_le, Bool, true, false, List, [], ◌∷◌, length, codes, bytes_eq, Option, Some, None}
+-- The form of the scripts that are built: one decoder of one channel, of linear PCM of 8 or 16 bits or of either law of
+-- G.711, and one caller that configures, makes chunks, decodes, flushes and awaits.
+use Rattle.std.specs.Prelude.{ℕ, ◌+◌, ◌%◌, ◌==◌, ◌&&◌, ◌||◌, nat_lt, nat_le, Bool, true, false, List, [], ◌∷◌, length, codes, bytes_eq, Option, Some, None}
 use Rattle.std.specs.List.{list_all, count_by, slice_get}
 use Rattle.wc_config.specs.declared.config.Config.{Config}
 use Rattle.wc_config.specs.declared.config.Config.TheVariants as config
@@ -22,9 +22,14 @@ abbrev pub is_absent : {A : Type 0} → Option A → Bool
 is_absent None = true
 is_absent (Some a) = false
 
+-- the codec strings of the decoders that scripts may configure
+unfoldable pub is_built_codec : List ℕ → Bool
+is_built_codec codec =
+    bytes_eq codec (codes "pcm-u8") || bytes_eq codec (codes "pcm-s16") || bytes_eq codec (codes "alaw") || bytes_eq codec (codes "ulaw")
+
 abbrev pub is_built_config : Config → Bool
 is_built_config (config.AudioDecoder c) =
-    bytes_eq c.codec (codes "pcm-s16") && nat_le 1 c.rate && (c.channels == 1) && is_absent c.description
+    is_built_codec c.codec && nat_le 1 c.rate && (c.channels == 1) && is_absent c.description
 is_built_config _ = false
 
 abbrev pub is_built_init : Option ChunkInit → Bool

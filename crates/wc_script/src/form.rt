@@ -7,12 +7,19 @@ use crate::top::counts_agree;
 use crate::{CallerItem, ChunkInit, CodecItem, KindWord, OrderItem, Script, Step};
 use wc_config::Config;
 
+#[tactic(auto, unfolding(crate::specs::Form::is_built_codec))]
+fn is_built_codec(codec: &str) -> bool
+    ensures { result ≡ spec.is_built_codec codec.now }
+{
+    codec == "pcm-u8" || codec == "pcm-s16" || codec == "alaw" || codec == "ulaw"
+}
+
 fn is_built_config(config: &Config) -> bool
     ensures { result ≡ spec.is_built_config config.now }
 {
     match config {
         Config::AudioDecoder(c) => {
-            c.codec.as_str() == "pcm-s16"
+            is_built_codec(c.codec.as_str())
                 && c.rate >= 1
                 && c.channels == 1
                 && c.description.is_none()
