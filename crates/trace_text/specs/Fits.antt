@@ -2,8 +2,6 @@
 use Rattle.std.specs.Prelude.{ℕ, ◌≡◌, ◌<◌, ◌≤◌, List, [], ◌∷◌, length, map, take, slice_get, Option, Some, None, option_and_then}
 use Rattle.wc_base.specs.declared.error.DomError.{DomError}
 use Rattle.wc_base.specs.declared.who.Who.{Who}
-use Rattle.codec_model.specs.declared.entry.Event.{Event}
-use Rattle.codec_model.specs.declared.entry.Event.TheVariants.{Refusal}
 use Rattle.codec_model.specs.declared.entry.Opening.{Opening}
 use Rattle.codec_model.specs.declared.entry.Entry.{Entry}
 use Rattle.codec_model.specs.declared.entry.Entry.TheVariants as entry
@@ -18,6 +16,7 @@ use Rattle.trace_text.specs.declared.run.Run.{Run}
 use Rattle.trace_text.specs.declared.run.CodecTrace.{CodecTrace}
 use Rattle.trace_text.specs.declared.run.StepResult.{StepResult}
 use Rattle.trace_text.specs.declared.run.StepResult.TheVariants as result
+pub use Rattle.trace_text.specs.Report.{refusal_in}
 use Rattle.trace_text.specs.Follow.{Recorded, at, opening_of, opening_at, state_after, steps_of, chunk_at, init_error, promise_after, recorded_by}
 
 -- the caller whose call an entry keeps, with its step
@@ -59,10 +58,6 @@ entry_in w k p = slice_get (at k w.codecs) p
 -- a caller's step
 abbrev pub step_in : Script → ℕ → ℕ → Option Step
 step_in s c j = slice_get (steps_of s c) j
-
-abbrev pub refusal_in : List Event → Option DomError
-refusal_in (Refusal error ∷ rest) = Some error
-refusal_in _ = None
 
 -- the exception that an entry shows, if it shows one
 abbrev pub exception_at : Opening → List Entry → ℕ → Option DomError
@@ -145,15 +140,15 @@ abbrev pub ArgumentsAreTheScripts : Script → Run → Type 0
 ArgumentsAreTheScripts s run = ArgumentsAreIn s (recorded_of run)
 
 -- the answer of a step that calls no codec and looks at none; absent is only what lacks its variable
-abbrev pub IsLocalAnswer : Script → Recorded → ℕ → Step → StepResult → Type 0
-IsLocalAnswer s w c (step.Chunk bind init) r = r ≡ result.Local (init_error init)
-IsLocalAnswer s w c (step.Decode on chunk) result.Absent = chunk_at (steps_of s c) chunk.step ≡ None
-IsLocalAnswer s w c x result.Absent = ⊥
-IsLocalAnswer s w c x (result.Local error) = ⊥
-IsLocalAnswer s w c x r = Unit {0}
+abbrev pub IsLocalAnswer : Script → ℕ → Step → StepResult → Type 0
+IsLocalAnswer s c (step.Chunk bind init) r = r ≡ result.Local (init_error init)
+IsLocalAnswer s c (step.Decode on chunk) result.Absent = chunk_at (steps_of s c) chunk.step ≡ None
+IsLocalAnswer s c x result.Absent = ⊥
+IsLocalAnswer s c x (result.Local error) = ⊥
+IsLocalAnswer s c x r = Unit {0}
 
 abbrev pub LocalsAreIn : Script → Recorded → Type 0
-LocalsAreIn s w = (c j : ℕ) (x : Step) (r : StepResult) → step_in s c j ≡ Some x → result_in w c j ≡ Some r → IsLocalAnswer s w c x r
+LocalsAreIn s w = (c j : ℕ) (x : Step) (r : StepResult) → step_in s c j ≡ Some x → result_in w c j ≡ Some r → IsLocalAnswer s c x r
 
 -- Every other step has the answer of its own rule.
 abbrev pub LocalStepsAnswer : Script → Run → Type 0

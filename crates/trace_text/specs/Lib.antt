@@ -1,3 +1,4 @@
 pub mod Fits
 pub mod Follow
 pub mod Report
+pub mod Rows

@@ -195,11 +195,10 @@ caller_lines script n caller = caller_header caller.0.name ++ each_from (result_
 
 -- Entries of codecs.
 
--- the exception with which a call was refused, by what it showed
+-- the exception with which a call was refused, by what it showed: a refusal stands first
 abbrev pub refusal_in : List Event → Option DomError
-refusal_in [] = None
 refusal_in (event.Refusal error ∷ events) = Some error
-refusal_in (_ ∷ events) = refusal_in events
+refusal_in _ = None
 
 -- `A.J configure = R`
 abbrev pub call_text : List CallerItem → Who → List ℕ → Shown → List ℕ

@@ -4,10 +4,12 @@
 mod lines;
 mod outputs;
 mod report;
+mod rows;
 mod run;
 #[cfg(test)]
 mod tests;
 mod words;
 
 pub use report::{WriteFault, write_report};
+pub use rows::ordinary_report;
 pub use run::{CallerTrace, CodecTrace, Run, StepResult};

@@ -185,12 +185,10 @@ pub fn result_line(
 fn refusal_in(events: &[Event]) -> Option<DomError>
     ensures { result ≡ spec.refusal_in events.now }
 {
-    for event in events {
-        if let Event::Refusal(error) = event {
-            return Some(*error);
-        }
+    match events {
+        [Event::Refusal(error), ..] => Some(*error),
+        _ => None,
     }
-    None
 }
 
 // A caller's call, as `a.2 decode = ok`.

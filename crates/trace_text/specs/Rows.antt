@@ -1,0 +1,112 @@
+-- The ordinary run of one decoder, in which a caller configures, makes a chunk, decodes, flushes and awaits: its script,
+-- what was recorded, and the text of its report, as plain data.
+use Rattle.std.specs.Prelude.{ℕ, ◌≡◌, true, pos, List, [], ◌∷◌, ◌++◌, Some, None, codes}
+use Rattle.wc_base.specs.declared.who.By.TheVariants as by
+use Rattle.wc_config.specs.declared.codec.CodecId.TheVariants.{PcmS16}
+use Rattle.wc_config.specs.declared.codec.Role.TheVariants as role
+use Rattle.coder_api.specs.declared.slot.SlotEntry.{SlotEntry}
+use Rattle.coder_api.specs.declared.slot.SlotOp.TheVariants as slot
+use Rattle.codec_model.specs.declared.entry.Event.{Event}
+use Rattle.codec_model.specs.declared.entry.Event.TheVariants as event
+use Rattle.codec_model.specs.declared.entry.PromiseState.TheVariants.{Resolved}
+use Rattle.codec_model.specs.declared.entry.Shown.{Shown}
+use Rattle.codec_model.specs.declared.entry.TurnWord.{TurnWord}
+use Rattle.codec_model.specs.declared.entry.TurnWord.TheVariants as turn
+use Rattle.codec_model.specs.Shown.{each_shown}
+use Rattle.codec_model.specs.Rows.{four, pcm, unit, ordinary}
+use Rattle.wc_script.specs.declared.script.Script.{Script}
+use Rattle.wc_script.specs.declared.script.KindWord.TheVariants as word
+use Rattle.wc_script.specs.declared.script.CodecItem.{CodecItem}
+use Rattle.wc_script.specs.declared.script.ChunkInit.{ChunkInit}
+use Rattle.wc_script.specs.declared.script.Step.{Step}
+use Rattle.wc_script.specs.declared.script.Step.TheVariants as step
+use Rattle.wc_script.specs.declared.script.OrderItem.{OrderItem}
+use Rattle.wc_script.specs.declared.script.OrderItem.TheVariants as item
+use Rattle.trace_text.specs.declared.run.Run.{Run}
+use Rattle.trace_text.specs.declared.run.StepResult.{StepResult}
+use Rattle.trace_text.specs.declared.run.StepResult.TheVariants as result
+use Rattle.trace_text.specs.Fits.{FollowsTheOrder}
+use Rattle.trace_text.specs.Report.{report_of}
+
+-- ---- the script
+
+abbrev pub decoder : CodecItem
+decoder = record { name = codes "d"; kind = word.AudioDecoder; saturation = 4 }
+
+abbrev pub init : ChunkInit
+init = record { key = true; timestamp = pos 0; duration = None; content = 1 ∷ 0 ∷ 2 ∷ 0 ∷ [] }
+
+abbrev pub steps : List Step
+steps =
+    step.Configure 0 pcm ∷ step.Chunk (codes "c") (Some init) ∷ step.Decode 0 (record { name = codes "c"; step = 1 })
+    ∷ step.Flush 0 (codes "p") ∷ step.Await (record { name = codes "p"; step = 3 }) ∷ []
+
+abbrev pub order : List OrderItem
+order =
+    item.Caller 0 ∷ item.Caller 0 ∷ item.Caller 0 ∷ item.Caller 0
+    ∷ item.Start 0 ∷ item.Done 0 1 ∷ item.Turn 0 ∷ item.Turn 0
+    ∷ item.Start 0 ∷ item.Done 0 2 ∷ item.Turn 0 ∷ item.Turn 0
+    ∷ item.Start 0 ∷ item.Done 0 3 ∷ item.Turn 0 ∷ item.Caller 0 ∷ []
+
+abbrev pub ordinary_script : Script
+ordinary_script = record { codecs = decoder ∷ []; callers = record { name = codes "a"; steps = steps } ∷ []; order = order }
+
+-- ---- the run
+
+abbrev pub results : List StepResult
+results = result.Call 0 0 None ∷ result.Local None ∷ result.Call 0 1 None ∷ result.Call 0 2 None ∷ result.Look 0 14 Resolved ∷ []
+
+-- an entry that shows nothing, and a turn
+abbrev pub quiet : Shown
+quiet = record { turn = None; events = [] }
+
+abbrev pub turned : TurnWord → List Event → Shown
+turned word events = record { turn = Some word; events = events }
+
+abbrev pub shown : List Shown
+shown =
+    quiet ∷ quiet ∷ quiet
+    ∷ quiet ∷ quiet ∷ turned turn.Unblock [] ∷ turned turn.Process []
+    ∷ quiet ∷ quiet ∷ turned turn.Dequeue (event.Dequeue ∷ []) ∷ turned turn.Output (event.Output 0 unit ∷ [])
+    ∷ quiet ∷ quiet ∷ turned turn.Flushed (event.Resolve 2 ∷ []) ∷ []
+
+abbrev pub acquired : SlotEntry
+acquired = record { by = by.Codec 0 3; op = slot.Acquire (record { role = role.Decode; codec = PcmS16 }) 0 }
+
+abbrev pub ordinary_run : Run
+ordinary_run = record {
+  callers = record { results = results } ∷ [];
+  codecs = record { opening = four; entries = ordinary; shown = shown } ∷ [];
+  slots = acquired ∷ [];
+  held = 0;
+}
+
+-- ---- the report
+
+abbrev pub caller_part : List ℕ
+caller_part = codes "caller a\n0 d.0 ok\n1 ok\n2 d.1 ok\n3 d.2 ok\n4 d:14 resolved\n"
+
+abbrev pub codec_part : List ℕ
+codec_part =
+    codes "codec d audio-decoder 4\n"
+    ++ codes "0 a.0 configure = ok\n1 a.2 decode = ok\n2 a.3 flush = ok\n"
+    ++ codes "3 start 0.0\n4 done 0.0 1 ran 0\n5 turn unblock\n6 turn process\n"
+    ++ codes "7 start 0.1\n8 done 0.1 2 ran 1\n9 turn dequeue\n  dequeue\n"
+    ++ codes "10 turn output\n  output audio s16 8000 1 2 0 250 01000200\n"
+    ++ codes "11 start 0.2\n12 done 0.2 3 ran 0\n13 turn flushed\n  resolve 2\n"
+
+abbrev pub slot_part : List ℕ
+slot_part = codes "0 d.3 acquire decode:pcm-s16 0\n"
+
+abbrev pub ordinary_text : List ℕ
+ordinary_text = codes "wcrun report 1\n" ++ caller_part ++ codec_part ++ codes "pool\nslots\n" ++ slot_part ++ codes "held 0\nend\n"
+
+-- The script's order makes what was recorded, the entries show what stands beside them, and the report is this text.
+abbrev pub OrdinaryFollows : Type 0
+OrdinaryFollows = FollowsTheOrder ordinary_script ordinary_run
+
+abbrev pub OrdinaryShown : Type 0
+OrdinaryShown = shown ≡ each_shown four ordinary
+
+abbrev pub OrdinaryReport : Type 0
+OrdinaryReport = report_of ordinary_script ordinary_run ≡ ordinary_text
