@@ -114,20 +114,20 @@ close_fits s w c k sound fits is = fits_call s w c k (step.Close k) (entry.Close
 })
 
 -- the earlier flush came to a call
-flush_came : (s : Script) (w v : Recorded) (c j : ℕ) (y : Step) (r : StepResult) → IsFlush y → IsResultOf s w (record { caller = c; step = j }) (called y) r → IsLocalAnswer s v c y r → (k : ℕ) × (p : ℕ) × (error : Option DomError) × (r ≡ result.Call k p error)
-flush_came s w v c j (step.Flush on bind) (result.Call k p error) flush made answers = (k, p, error, refl)
-flush_came s w v c j (step.Flush on bind) result.Absent flush made answers = absurd answers
-flush_came s w v c j (step.Flush on bind) (result.Local error) flush made answers = absurd made
-flush_came s w v c j (step.Flush on bind) (result.Look k n end) flush made answers = absurd made
-flush_came s w v c j (step.Flush on bind) (result.State k n state size) flush made answers = absurd made
-flush_came s w v c j (step.Configure on config) r flush made answers = absurd flush
-flush_came s w v c j (step.Chunk bind init) r flush made answers = absurd flush
-flush_came s w v c j (step.Decode on chunk) r flush made answers = absurd flush
-flush_came s w v c j (step.Poll promise) r flush made answers = absurd flush
-flush_came s w v c j (step.Await promise) r flush made answers = absurd flush
-flush_came s w v c j (step.Reset on) r flush made answers = absurd flush
-flush_came s w v c j (step.Close on) r flush made answers = absurd flush
-flush_came s w v c j (step.State on) r flush made answers = absurd flush
+flush_came : (s : Script) (w : Recorded) (c j : ℕ) (y : Step) (r : StepResult) → IsFlush y → IsResultOf s w (record { caller = c; step = j }) (called y) r → IsLocalAnswer s c y r → (k : ℕ) × (p : ℕ) × (error : Option DomError) × (r ≡ result.Call k p error)
+flush_came s w c j (step.Flush on bind) (result.Call k p error) flush made answers = (k, p, error, refl)
+flush_came s w c j (step.Flush on bind) result.Absent flush made answers = absurd answers
+flush_came s w c j (step.Flush on bind) (result.Local error) flush made answers = absurd made
+flush_came s w c j (step.Flush on bind) (result.Look k n end) flush made answers = absurd made
+flush_came s w c j (step.Flush on bind) (result.State k n state size) flush made answers = absurd made
+flush_came s w c j (step.Configure on config) r flush made answers = absurd flush
+flush_came s w c j (step.Chunk bind init) r flush made answers = absurd flush
+flush_came s w c j (step.Decode on chunk) r flush made answers = absurd flush
+flush_came s w c j (step.Poll promise) r flush made answers = absurd flush
+flush_came s w c j (step.Await promise) r flush made answers = absurd flush
+flush_came s w c j (step.Reset on) r flush made answers = absurd flush
+flush_came s w c j (step.Close on) r flush made answers = absurd flush
+flush_came s w c j (step.State on) r flush made answers = absurd flush
 
 one_step : (s : Script) (c j : ℕ) (x y : Step) → step_in s c j ≡ Some x → step_in s c j ≡ Some y → x ≡ y
 one_step s c j x y a b = cc
@@ -143,7 +143,7 @@ promise_call s w c x promise sound fits is looks =
     let flush = sound.promised c (length (at c w.callers)) x promise is looks in
     let made = fits.calls.made c promise.step there.0 there.1 in
     let same = one_step s c promise.step made.0 flush.0 made.1 flush.1 in
-    let came = flush_came s w w c promise.step flush.0 there.0 flush.2 (subst (λ (y : Step). IsResultOf s w (record { caller = c; step = promise.step }) (called y) there.0) same made.2) (fits.locals c promise.step flush.0 there.0 flush.1 there.1) in
+    let came = flush_came s w c promise.step flush.0 there.0 flush.2 (subst (λ (y : Step). IsResultOf s w (record { caller = c; step = promise.step }) (called y) there.0) same made.2) (fits.locals c promise.step flush.0 there.0 flush.1 there.1) in
     (came.0, came.1, came.2, is_call w c promise.step came.0 came.1 came.2 there.0 there.1 came.3)
 
 -- what a look at a promise comes to

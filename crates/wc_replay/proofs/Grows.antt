@@ -25,7 +25,7 @@ pub record Grows (w v : Recorded) (R : ℕ → ℕ → StepResult → Type 0) (E
 pub record ResultFits (s : Script) (w v : Recorded) (c j : ℕ) (r : StepResult) : Type 0 where
   pub made : (x : Step) × (step_in s c j ≡ Some x) × IsResultOf s v (record { caller = c; step = j }) (called x) r
   pub shows : (x : Step) → step_in s c j ≡ Some x → LookShows s v c x r
-  pub answers : (x : Step) → step_in s c j ≡ Some x → IsLocalAnswer s v c x r
+  pub answers : (x : Step) → step_in s c j ≡ Some x → IsLocalAnswer s c x r
   pub place : (k p : ℕ) (error : Option DomError) → r ≡ result.Call k p error → p ≡ length (at k w.codecs)
   pub look : (k n : ℕ) → look_of r ≡ Some (k, n) → n ≡ length (at k w.codecs)
 

@@ -62,7 +62,7 @@ fits_entry s w k e slots fits none steps =
 pub record IsAnswer (s : Script) (w v : Recorded) (c : ℕ) (x : Step) (r : StepResult) : Type 0 where
   pub made : IsResultOf s v (record { caller = c; step = length (at c w.callers) }) (called x) r
   pub shows : LookShows s v c x r
-  pub answers : IsLocalAnswer s v c x r
+  pub answers : IsLocalAnswer s c x r
   pub no_call : (k p : ℕ) (error : Option DomError) → r ≡ result.Call k p error → ⊥
   pub look : (k n : ℕ) → look_of r ≡ Some (k, n) → n ≡ length (at k w.codecs)
 
@@ -76,7 +76,7 @@ fits_result s w c x r fits is answer =
     let there : ResultFits s w v c (length (at c w.callers)) r = record {
       made = (x, is, answer.made);
       shows = λ y h. same_step s c (length (at c w.callers)) x y (λ z. LookShows s v c z r) is h answer.shows;
-      answers = λ y h. same_step s c (length (at c w.callers)) x y (λ z. IsLocalAnswer s v c z r) is h answer.answers;
+      answers = λ y h. same_step s c (length (at c w.callers)) x y (λ z. IsLocalAnswer s c z r) is h answer.answers;
       place = λ k p error h. absurd (answer.no_call k p error h);
       look = answer.look;
     } in
@@ -95,7 +95,7 @@ pub record IsCall (s : Script) (w : Recorded) (c k : ℕ) (x : Step) (e : Entry)
   pub steps : Steps e (state_at s w k)
   pub shown : error ≡ refusal_in (shows e (state_at s w k))
 
-no_look : (s : Script) (v : Recorded) (c k p : ℕ) (x : Step) (error : Option DomError) → called x ≡ Some k → LookShows s v c x (result.Call k p error) × IsLocalAnswer s v c x (result.Call k p error)
+no_look : (s : Script) (v : Recorded) (c k p : ℕ) (x : Step) (error : Option DomError) → called x ≡ Some k → LookShows s v c x (result.Call k p error) × IsLocalAnswer s c x (result.Call k p error)
 no_look s v c k p (step.Configure on config) error h = (tt, tt)
 no_look s v c k p (step.Decode on chunk) error h = (tt, tt)
 no_look s v c k p (step.Flush on bind) error h = (tt, tt)
@@ -141,7 +141,7 @@ fits_call s w c k x e error fits call =
     let result_there : ResultFits s w v c j r = record {
       made = (x, call.is_step, made_by s v who (called x) k p error call.calls (call_kept s w c k x e error r fits call));
       shows = λ y h. same_step s c j x y (λ z. LookShows s v c z r) call.is_step h shown.0;
-      answers = λ y h. same_step s c j x y (λ z. IsLocalAnswer s v c z r) call.is_step h shown.1;
+      answers = λ y h. same_step s c j x y (λ z. IsLocalAnswer s c z r) call.is_step h shown.1;
       place = λ n q f h. call_places w k n q error f h;
       look = λ n q h. absurd cc;
     } in

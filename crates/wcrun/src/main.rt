@@ -11,6 +11,7 @@ mod tests;
 pub use calls::top;
 use calls::want_memory;
 use coder_api::CoderBox;
+use g711_coder::G711Coder;
 use pcm_coder::PcmCoder;
 pub use refusal::Refusal;
 use std::alloc::Global;
@@ -22,6 +23,16 @@ use wc_config::{CodecId, CoderId, Role};
 
 // How many boxes of each coder there are.
 const BOXES: u32 = 8;
+
+// The codecs whose coders are built.
+const CODECS: [CodecId; 6] = [
+    CodecId::PcmU8,
+    CodecId::PcmS16,
+    CodecId::PcmS24,
+    CodecId::PcmS32,
+    CodecId::Alaw,
+    CodecId::Ulaw,
+];
 
 fn words(rt: &(impl Env + Alloc<A = Global>)) -> io::Result<Vec<String>> {
     let mut words = Vec::new(rt.alloc());
@@ -42,18 +53,34 @@ fn main(rt: HostRuntime) -> ExitCode {
         }
         Err(_) => Vec::new(alloc),
     };
-    let id = CoderId {
-        role: Role::Decode,
-        codec: CodecId::PcmS16,
-    };
-    // Where memory runs out there are fewer boxes, and a replay that lacks one wants memory.
     let mut coders = Vec::new(alloc);
-    for _ in 0..BOXES {
-        let Ok(coder) = Box::new(alloc, PcmCoder::new(id)) else {
-            break;
+    for k in 0..2 * BOXES {
+        let role = if k < BOXES {
+            Role::Decode
+        } else {
+            Role::Encode
         };
-        if coders.push(CoderBox::of(coder)).is_err() {
-            break;
+        for codec in CODECS {
+            let id = CoderId { role, codec };
+            let coder = match codec {
+                CodecId::PcmU8 | CodecId::PcmS16 | CodecId::PcmS24 | CodecId::PcmS32 => {
+                    match Box::new(alloc, PcmCoder::new(id)) {
+                        Ok(coder) => Some(CoderBox::of(coder)),
+                        Err(_) => None,
+                    }
+                }
+                CodecId::Alaw | CodecId::Ulaw => match Box::new(alloc, G711Coder::new(id)) {
+                    Ok(coder) => Some(CoderBox::of(coder)),
+                    Err(_) => None,
+                },
+                _ => None,
+            };
+            let Some(coder) = coder else {
+                return ExitCode::from(want_memory(&mut sink));
+            };
+            if coders.push(coder).is_err() {
+                return ExitCode::from(want_memory(&mut sink));
+            }
         }
     }
     let mut files = SystemFiles::new(&rt);

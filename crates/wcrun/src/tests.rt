@@ -1,6 +1,7 @@
 // Whole calls on files and sinks in memory.
 use crate::top;
 use coder_api::CoderBox;
+use g711_coder::G711Coder;
 use pcm_coder::PcmCoder;
 use std::alloc::Global;
 use std::test::Fail;
@@ -49,6 +50,39 @@ end
 
 const ORDINARY_LINES: u64 = 30;
 
+const ULAW: &str =
+    "{\"codecs\":[{\"name\":\"d\",\"kind\":\"audio-decoder\"}],\"callers\":[{\"name\":\"a\",\"steps\":[
+{\"do\":\"configure\",\"on\":\"d\",\"config\":{\"codec\":\"ulaw\",\"sampleRate\":8000,\"numberOfChannels\":1}},
+{\"do\":\"chunk\",\"as\":\"c\",\"init\":{\"type\":\"key\",\"timestamp\":0,\"data\":\"00807fff\"}},
+{\"do\":\"decode\",\"on\":\"d\",\"chunk\":\"c\"}]}],
+\"order\":[\"a\",\"a\",\"a\",{\"start\":\"d\"},{\"done\":\"d\",\"at\":1},{\"turn\":\"d\"},{\"turn\":\"d\"},
+{\"start\":\"d\"},{\"done\":\"d\",\"at\":2},{\"turn\":\"d\"},{\"turn\":\"d\"}]}";
+
+const ULAW_REPORT: &str = "wcrun report 1
+caller a
+0 d.0 ok
+1 ok
+2 d.1 ok
+codec d audio-decoder 4
+0 a.0 configure = ok
+1 a.2 decode = ok
+2 start 0.0
+3 done 0.0 1 ran 0
+4 turn unblock
+5 turn process
+6 start 0.1
+7 done 0.1 2 ran 1
+8 turn dequeue
+  dequeue
+9 turn output
+  output audio s16 8000 1 4 0 500 84827c7d00000000
+pool
+slots
+0 d.2 acquire decode:ulaw 0
+held 0
+end
+";
+
 const UNCONFIGURED: &str =
     "{\"codecs\":[{\"name\":\"d\",\"kind\":\"audio-decoder\"}],\"callers\":[{\"name\":\"a\",\"steps\":[
 {\"do\":\"chunk\",\"as\":\"c\",\"init\":{\"type\":\"key\",\"timestamp\":0,\"data\":\"0100\"}},
@@ -71,7 +105,7 @@ held 0
 end
 ";
 
-// Ends a call on files that hold one script, with these reads and writes failing, and with one coder.
+// Ends a call on files that hold one script, with these reads and writes failing, and with two coders.
 fn call(
     alloc: Global,
     file: Vec<u8>,
@@ -87,11 +121,17 @@ fn call(
     let mut files = MemFiles::open(vec![in alloc; (name, file)]?, reads);
     let mut sink = MemSink::open(alloc, 4096, writes)?;
     let mut coders = Vec::new(alloc);
-    let id = CoderId {
-        role: Role::Decode,
+    let role = Role::Decode;
+    let pcm = CoderId {
+        role,
         codec: CodecId::PcmS16,
     };
-    coders.push(CoderBox::of(Box::new(alloc, PcmCoder::new(id))?))?;
+    let ulaw = CoderId {
+        role,
+        codec: CodecId::Ulaw,
+    };
+    coders.push(CoderBox::of(Box::new(alloc, PcmCoder::new(pcm))?))?;
+    coders.push(CoderBox::of(Box::new(alloc, G711Coder::new(ulaw))?))?;
     let status = top(alloc, &given, &mut files, &mut sink, coders);
     Ok((status, sink))
 }
@@ -102,8 +142,9 @@ fn each_call_ends_with_its_status_and_text(rt: HostRuntime) -> Result<(), Fail> 
     let usage =
         "usage: wcrun replay FILE | run FILE --workers N | load START N | check SCRIPT REPORT\n";
     let replay = ["replay", "s.json"];
-    let rows: [(&[&str], &str, u8, &str); 8] = [
+    let rows: [(&[&str], &str, u8, &str); 9] = [
         (&replay, ORDINARY, 0, ORDINARY_REPORT),
+        (&replay, ULAW, 0, ULAW_REPORT),
         (&replay, UNCONFIGURED, 0, UNCONFIGURED_REPORT),
         (&replay, "{", 3, "script: not json\n"),
         (&replay, "[]", 3, "script: unbuilt\n"),
