@@ -5,6 +5,8 @@ mod codec;
 mod config;
 mod stream_info;
 mod support;
+#[cfg(test)]
+mod tests;
 
 pub use codec::{CodecId, CoderId, Role};
 pub use config::{AudioDecoderConfig, AudioEncoderConfig, Config, VideoDecoderConfig};
