@@ -1,3 +1,4 @@
+pub mod Copied
 pub mod Narrowed
 pub mod Served
 pub mod Shared

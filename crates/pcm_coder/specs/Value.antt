@@ -1,9 +1,9 @@
 -- A PCM coder as contracts see it.
-use Rattle.std.specs.Prelude.{◌<◌, ◌≤◌, ◌∷◌, [], ◌+◌, ◌%◌, ◌==◌, ◌||◌, length, take, drop, ◌*◌, slice_index, if◌then◌else◌, ℕ, Bool, true, false, Option, None, List}
+use Rattle.std.specs.Prelude.{◌<◌, ◌≤◌, ◌∷◌, [], ◌+◌, ◌%◌, ◌==◌, ◌||◌, ◌&&◌, not, length, take, drop, ◌*◌, slice_index, if◌then◌else◌, ℕ, Bool, true, false, Option, None, List}
 use Rattle.wc_base.specs.declared.media.SampleFormat.{SampleFormat}
 use Rattle.wc_base.specs.declared.media.SampleFormat.TheVariants as format
 use Rattle.wc_base.specs.declared.media.SoundShape.{SoundShape}
-use Rattle.wc_config.specs.Pcm.{format_size, place_of}
+use Rattle.wc_config.specs.Pcm.{format_size, is_planar, place_of}
 use Rattle.wc_config.specs.declared.codec.CodecId.{CodecId}
 use Rattle.wc_config.specs.declared.codec.CodecId.TheVariants as codec
 use Rattle.wc_config.specs.declared.codec.CoderId.{CoderId}
@@ -61,6 +61,10 @@ IsInRange (setting.Encoder c) = (0 < c.rate) × (0 < c.channels) × (c.channels 
 -- a sample of 1, 2 or 4 bytes
 abbrev pub is_format_size : ℕ → Bool
 is_format_size n = (n == 1) || (n == 2) || (n == 4)
+
+-- whether data of a format is coded by its own bytes: frame by frame, in the codec's size
+abbrev pub is_same : CodecId → SampleFormat → Bool
+is_same codec format = not (is_planar format) && (format_size format == codec_size codec)
 
 -- a sample's bytes at the end of four, in two's complement
 abbrev pub padded_of : List ℕ → List ℕ

@@ -3,7 +3,7 @@ ghost use Rattle.std.specs.Prelude.{◌≡◌, ◌<◌, ◌≤◌, ◌*◌, ◌+
 ghost use Rattle.wc_config.specs.Pcm.{resized_at, format_size, is_planar, place_of, frame_of, interleaved, is_whole, spelled, converted, sample_of};
 ghost use Rattle.coder_api.specs.Commands.{pcm_chunk};
 ghost use Rattle.coder_api.specs.Meaning.{Answers};
-ghost use Rattle.pcm_coder.specs.Value.{is_pcm, codec_size, is_format_size, padded_of, cut_of, sample_bytes};
+ghost use Rattle.pcm_coder.specs.Value.{is_pcm, codec_size, is_format_size, is_same, padded_of, cut_of, sample_bytes};
 
 use crate::decode::size_of;
 use bytes::Bytes;
@@ -77,6 +77,9 @@ fn coded(alloc: Global, codec: CodecId, shape: &SoundShape, bytes: &[u8]) -> Res
     requires whole { is_whole shape.now bytes.now ≡ true }
     ensures { IfOk result (λ b. b ≡ interleaved (codec_size codec) shape.now bytes.now) }
 {
+    if is_same(codec, shape.format) {
+        return copied(alloc, codec, shape, bytes);
+    }
     let mut out = Vec::new(alloc);
     for frame in 0..shape.frames {
         push_frame(codec, shape, bytes, frame, &mut out)?;
@@ -86,6 +89,38 @@ fn coded(alloc: Global, codec: CodecId, shape: &SoundShape, bytes: &[u8]) -> Res
         Err(_) => Err(NoMemory),
     }
 }
+
+/// Whether data of a format is coded by its own bytes: frame by frame, in the codec's size.
+fn is_same(codec: CodecId, format: SampleFormat) -> bool
+    ensures { result ≡ is_same codec format }
+{
+    !is_planar(format) && format_size(format) == size_of(codec)
+}
+
+/// Data that is coded by its own bytes.
+fn copied(
+    alloc: Global,
+    codec: CodecId,
+    shape: &SoundShape,
+    bytes: &[u8],
+) -> Result<Bytes, NoMemory>
+    requires same { is_same codec shape.now.format ≡ true }
+    requires whole { is_whole shape.now bytes.now ≡ true }
+    ensures { IfOk result (λ b. b ≡ interleaved (codec_size codec) shape.now bytes.now) }
+{
+    stays(codec, shape, bytes);
+    match Bytes::from_vec(Vec::from_slice(alloc, bytes)?) {
+        Ok(bytes) => Ok(bytes),
+        Err(_) => Err(NoMemory),
+    }
+}
+
+/// In the codec's size and frame by frame, samples are spelled by the bytes that spell them.
+fn stays(codec: CodecId, shape: &SoundShape, bytes: &[u8])
+    requires same { is_same codec shape.now.format ≡ true }
+    requires whole { is_whole shape.now bytes.now ≡ true }
+    ensures { bytes.now ≡ interleaved (codec_size codec) shape.now bytes.now }
+{}
 
 fn push_frame(
     codec: CodecId,
