@@ -1,3 +1,4 @@
+mod BuiltLaws
 mod CountLaws
 pub mod FormLaws
 mod ValueLaws

@@ -56,10 +56,14 @@ kind_of text =
     else if bytes_eq text (codes "video-decoder") then Some kind.VideoDecoder
     else None
 
--- a saturation of the script's own is not built
+-- a saturation number, from 1 to 64
+abbrev pub checked_saturation : ℕ → Option ℕ
+checked_saturation n = if nat_le 1 n && nat_le n 64 then Some n else None
+
+-- 4 where the script says nothing
 abbrev pub saturation_of : Option Data → Result ℕ Wrong
 saturation_of None = Ok 4
-saturation_of (Some d) = Err wrong.Unbuilt
+saturation_of (Some d) = needed (option_and_then checked_saturation (natural_of d))
 
 -- a codec, after those before it
 unfoldable pub codec_of : List CodecItem → Data → Result CodecItem Wrong

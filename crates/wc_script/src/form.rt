@@ -1,67 +1,50 @@
 // Whether a script is of the form that is built.
-ghost use Rattle.std.specs.Prelude.{◌≡◌, Option, option_copied};
-ghost use Rattle.std.specs.List.{list_all, count_by, slice_get};
+ghost use Rattle.std.specs.Prelude.{◌≡◌, Option, option_copied, length};
+ghost use Rattle.std.specs.List.{list_all, slice_get};
 ghost use Rattle.wc_script.specs.Form as spec;
 
 use crate::top::counts_agree;
-use crate::{CallerItem, ChunkInit, CodecItem, KindWord, OrderItem, Script, Step};
+use crate::{CallerItem, CodecItem, KindWord, OrderItem, Script, Step};
 use wc_config::Config;
 
-#[tactic(auto, unfolding(crate::specs::Form::is_built_codec))]
-fn is_built_codec(codec: &str) -> bool
+const MOST_STEPS: usize = 100_000;
+
+fn is_built_kind(kind: KindWord) -> bool
+    ensures { result ≡ spec.is_built_kind kind }
+{
+    kind == KindWord::AudioDecoder
+}
+
+fn is_built_codec(codec: &CodecItem) -> bool
     ensures { result ≡ spec.is_built_codec codec.now }
 {
-    codec == "pcm-u8" || codec == "pcm-s16" || codec == "alaw" || codec == "ulaw"
+    is_built_kind(codec.kind) && codec.saturation >= 1 && codec.saturation <= 64
+}
+
+fn are_built_codecs(codecs: &[CodecItem]) -> bool
+    ensures { result ≡ spec.are_built_codecs codecs.now }
+{
+    codecs.iter().all(|codec| is_built_codec(codec))
 }
 
 fn is_built_config(config: &Config) -> bool
     ensures { result ≡ spec.is_built_config config.now }
 {
-    match config {
-        Config::AudioDecoder(c) => {
-            is_built_codec(c.codec.as_str())
-                && c.rate >= 1
-                && c.channels == 1
-                && c.description.is_none()
-        }
-        _ => false,
-    }
+    matches!(config, Config::AudioDecoder(_) | Config::Bad)
 }
 
-fn is_built_init(init: &Option<ChunkInit>) -> bool
-    ensures { result ≡ spec.is_built_init init.now }
-{
-    match init {
-        Some(chunk) => chunk.key && chunk.duration.is_none() && chunk.content.len() % 2 == 0,
-        None => false,
-    }
-}
-
-fn is_built_step(step: &Step) -> bool
-    ensures { result ≡ spec.is_built_step step.now }
+// Whether the step is one that is built, and the codec that it names is one of so many.
+fn is_built_step(codecs: usize, step: &Step) -> bool
+    ensures { result ≡ spec.is_built_step codecs step.now }
 {
     match step {
-        Step::Configure { on, config } => *on == 0 && is_built_config(config),
-        Step::Chunk { bind: _, init } => is_built_init(init),
-        Step::Decode { on, chunk: _ } => *on == 0,
-        Step::Flush { on, bind: _ } => *on == 0,
-        Step::Await { promise: _ } => true,
-        _ => false,
+        Step::Configure { on, config } => (*on as usize) < codecs && is_built_config(config),
+        Step::Decode { on, chunk: _ } => (*on as usize) < codecs,
+        Step::Flush { on, bind: _ } => (*on as usize) < codecs,
+        Step::Reset { on } | Step::Close { on } | Step::State { on } => (*on as usize) < codecs,
+        Step::Chunk { bind: _, init: _ } => true,
+        Step::Poll { promise: _ } | Step::Await { promise: _ } => true,
     }
-}
-
-#[tactic(auto, unfolding(crate::specs::Form::is_configure))]
-fn is_configure(step: &Step) -> bool
-    ensures { result ≡ spec.is_configure step.now }
-{
-    matches!(step, Step::Configure { on: _, config: _ })
-}
-
-#[tactic(auto, unfolding(crate::specs::Form::is_decode))]
-fn is_decode(step: &Step) -> bool
-    ensures { result ≡ spec.is_decode step.now }
-{
-    matches!(step, Step::Decode { on: _, chunk: _ })
 }
 
 fn makes_chunk(name: &str, step: Option<&Step>) -> bool
@@ -91,7 +74,7 @@ fn is_sound_step(all: &[Step], j: usize, step: &Step) -> bool
             let k = chunk.step as usize;
             k < j && makes_chunk(chunk.name.as_str(), all.get(k))
         }
-        Step::Await { promise } => {
+        Step::Poll { promise } | Step::Await { promise } => {
             let k = promise.step as usize;
             k < j && makes_promise(promise.name.as_str(), all.get(k))
         }
@@ -110,91 +93,58 @@ fn are_sound_steps(steps: &[Step]) -> bool
     true
 }
 
-fn have_built_form(steps: &[Step]) -> bool
-    ensures { result ≡ list_all spec.is_built_step steps.now }
+fn have_built_form(codecs: usize, steps: &[Step]) -> bool
+    ensures { result ≡ list_all (spec.is_built_step codecs) steps.now }
 {
-    steps.iter().all(|step| is_built_step(step))
+    steps.iter().all(|step| is_built_step(codecs, step))
 }
 
-fn count_configures(steps: &[Step]) -> usize
-    ensures { result ≡ count_by spec.is_configure steps.now }
+fn are_built_steps(codecs: usize, steps: &[Step]) -> bool
+    ensures { result ≡ spec.are_built_steps codecs steps.now }
 {
-    let mut count = 0;
-    for step in steps {
-        if is_configure(step) {
-            count += 1;
-        }
-    }
-    count
+    have_built_form(codecs, steps) && are_sound_steps(steps) && steps.len() <= MOST_STEPS
 }
 
-fn count_decodes(steps: &[Step]) -> usize
-    ensures { result ≡ count_by spec.is_decode steps.now }
+fn is_built_caller(codecs: usize, caller: &CallerItem) -> bool
+    ensures { result ≡ spec.is_built_caller codecs caller.now }
 {
-    let mut count = 0;
-    for step in steps {
-        if is_decode(step) {
-            count += 1;
-        }
-    }
-    count
+    are_built_steps(codecs, caller.steps.as_slice())
 }
 
-fn are_built_steps(steps: &[Step]) -> bool
-    ensures { result ≡ spec.are_built_steps steps.now }
+fn are_built_callers(codecs: usize, callers: &[CallerItem]) -> bool
+    ensures { result ≡ spec.are_built_callers codecs callers.now }
 {
-    have_built_form(steps)
-        && count_configures(steps) <= 1
-        && count_decodes(steps) <= 3
-        && are_sound_steps(steps)
+    callers.iter().all(|caller| is_built_caller(codecs, caller))
 }
 
-fn is_built_kind(kind: KindWord) -> bool
-    ensures { result ≡ spec.is_built_kind kind }
-{
-    kind == KindWord::AudioDecoder
-}
-
-fn are_built_codecs(codecs: &[CodecItem]) -> bool
-    ensures { result ≡ spec.are_built_codecs codecs.now }
-{
-    match codecs {
-        [codec] => is_built_kind(codec.kind) && codec.saturation == 4,
-        _ => false,
-    }
-}
-
-fn are_built_callers(callers: &[CallerItem]) -> bool
-    ensures { result ≡ spec.are_built_callers callers.now }
-{
-    match callers {
-        [caller] => are_built_steps(caller.steps.as_slice()) && caller.steps.len() <= 100_000,
-        _ => false,
-    }
-}
-
-fn is_built_item(item: &OrderItem) -> bool
-    ensures { result ≡ spec.is_built_item item.now }
+// Whether the item names one of so many codecs or callers.
+fn is_built_item(codecs: usize, callers: usize, item: &OrderItem) -> bool
+    ensures { result ≡ spec.is_built_item codecs callers item.now }
 {
     match item {
-        OrderItem::Caller(n) | OrderItem::Start(n) | OrderItem::Turn(n) => *n == 0,
-        OrderItem::Done { codec, at: _ } => *codec == 0,
-        OrderItem::Reclaim { codec: _, at: _ } => false,
+        OrderItem::Caller(n) => (*n as usize) < callers,
+        OrderItem::Start(n) | OrderItem::Turn(n) => (*n as usize) < codecs,
+        OrderItem::Done { codec, at: _ } => (*codec as usize) < codecs,
+        OrderItem::Reclaim { codec, at: _ } => (*codec as usize) < codecs,
     }
 }
 
-fn is_built_order(order: &[OrderItem]) -> bool
-    ensures { result ≡ list_all spec.is_built_item order.now }
+fn is_built_order(codecs: usize, callers: usize, order: &[OrderItem]) -> bool
+    ensures { result ≡ list_all (spec.is_built_item codecs callers) order.now }
 {
-    order.iter().all(|item| is_built_item(item))
+    order
+        .iter()
+        .all(|item| is_built_item(codecs, callers, item))
 }
 
 /// Whether the script is of the form that is built.
 pub fn is_built(script: &Script) -> bool
     ensures { result ≡ spec.is_built script.now }
 {
+    let codecs = script.codecs.len();
+    let callers = script.callers.len();
     are_built_codecs(script.codecs.as_slice())
-        && are_built_callers(script.callers.as_slice())
-        && is_built_order(script.order.as_slice())
+        && are_built_callers(codecs, script.callers.as_slice())
+        && is_built_order(codecs, callers, script.order.as_slice())
         && counts_agree(script.callers.as_slice(), script.order.as_slice())
 }

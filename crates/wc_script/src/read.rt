@@ -29,8 +29,9 @@ fn read_built(alloc: Global, value: &Value) -> Result<Script, ScriptFault>
 {
     match read_value(alloc, value) {
         Ok(script) if is_built(&script) => Ok(script),
+        Ok(_) => Err(ScriptFault::Unbuilt),
         Err(Fault::NoMemory) => Err(ScriptFault::NoMemory),
-        _ => Err(ScriptFault::Unbuilt),
+        Err(_) => Err(ScriptFault::Unbuilt),
     }
 }
 

@@ -55,6 +55,19 @@ fn kind_member(value: &Value) -> Option<KindWord>
     read_kind(text_member(value, "kind")?)
 }
 
+// The saturation number of a codec, 4 where the script says nothing. `Shape` outside 1 to 64.
+fn saturation_member(value: &Value) -> Result<u32, Wrong>
+    ensures { result ≡ saturation_of (get (codes "saturation") (view value.now)) }
+{
+    let Some(number) = value.get("saturation") else {
+        return Ok(4);
+    };
+    match number.as_u64() {
+        Some(n) if (1..=64).contains(&n) => Ok(n as u32),
+        _ => Err(Wrong::Shape),
+    }
+}
+
 // A codec, after those before it.
 #[tactic(auto, unfolding(crate::specs::Walk::codec_of))]
 fn read_codec(alloc: Global, before: &[CodecItem], value: &Value) -> Result<CodecItem, Wrong>
@@ -63,9 +76,7 @@ fn read_codec(alloc: Global, before: &[CodecItem], value: &Value) -> Result<Code
 {
     let name = name_member(value, "name")?;
     let kind = kind_member(value).ok_or(Wrong::Shape)?;
-    if has(value, "saturation") {
-        return Err(Wrong::Unbuilt);
-    }
+    let saturation = saturation_member(value)?;
     if is_codec_name(before, name) {
         return Err(Wrong::Twice);
     }
@@ -73,7 +84,7 @@ fn read_codec(alloc: Global, before: &[CodecItem], value: &Value) -> Result<Code
     Ok(CodecItem {
         name,
         kind,
-        saturation: 4,
+        saturation,
     })
 }
 

@@ -1,8 +1,0 @@
-use Rattle.std.proofs.Common.{◌≡◌, ◌+◌, ◌≤◌, drop}
-use Rattle.std.specs.List.{count_by}
-use Rattle.wc_script.specs.Form.{is_decode}
-use Rattle.wc_script.proofs.form.count_decodes.Given as goal
-
-abbrev pub invariant-loop-step : goal.invariant-loop-step
-invariant-loop-step l =
-    (l.count + count_by is_decode (drop l.step-index l.steps) ≡ count_by is_decode l.steps) × (l.count ≤ l.step-index)
