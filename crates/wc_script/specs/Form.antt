@@ -1,4 +1,4 @@
--- The form of the scripts that are built: decoders of audio, and callers that open, drive and look at them.
+-- The form of the scripts that are built: decoders of audio, and callers that drive them and look at them.
 use Rattle.std.specs.Prelude.{ℕ, ◌+◌, ◌&&◌, nat_lt, nat_le, Bool, true, false, List, [], ◌∷◌, length, bytes_eq, Option, Some}
 use Rattle.std.specs.List.{list_all, slice_get}
 use Rattle.wc_config.specs.declared.config.Config.{Config}

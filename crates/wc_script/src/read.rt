@@ -37,10 +37,10 @@ fn read_built(alloc: Global, value: &Value) -> Result<Script, ScriptFault>
 
 /// Reads a script from JSON.
 ///
-/// `NotJson` where the bytes are no JSON value, and `Unbuilt` where the value is not of the form that is built: one
-/// `pcm-s16` decoder of one channel; one caller that configures at most once, makes key chunks of whole samples with no
-/// duration, decodes at most three times, flushes and awaits; and an order of the caller's steps, `start`, `done` and
-/// `turn`.
+/// `NotJson` where the bytes are no JSON value, and `Unbuilt` where the value is no script, or one that is not of the
+/// form that is built: its codecs are decoders of audio, each with a saturation number from 1 to 64, and no step takes
+/// a chunk from a file or is of another word than `configure`, `chunk`, `decode`, `flush`, `poll`, `await`, `reset`,
+/// `close` and `state`. What configs and chunks hold is not judged here.
 pub fn read_script(alloc: Global, bytes: &[u8]) -> Result<Script, ScriptFault>
     ensures ok { IfOk result (λ s. script_of bytes.now ≡ Ok s) }
     ensures err { IfErr result (λ e. e ≢ ScriptFault.NoMemory → script_of bytes.now ≡ Err e) }
