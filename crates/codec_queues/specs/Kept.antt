@@ -2,7 +2,7 @@
 use Rattle.std.specs.Prelude.{◌≡◌, count_by, ◌+◌, ◌≤◌, ◌<◌, ◌^◌, length, vec_len, vec_capacity, None, IfSome}
 use Rattle.std.specs.VecDeque.{deque_capacity}
 use Rattle.codec_model.specs.Control.{Control, is_coded, coded_out, left}
-use Rattle.codec_queues.specs.Joined.{joined}
+use Rattle.codec_queues.specs.Joined.{joined, Counts}
 use Rattle.codec_queues.specs.Places.{HasPlaces}
 use Rattle.codec_queues.specs.declared.machine.Machine.TheInside.{Inside}
 
@@ -31,8 +31,8 @@ control_of m = record {
   progress = m.progress;
 }
 
--- Each queue has a place for all that may still come to it, no number passes the count of entries, and the two counts
--- are those of coded messages and of coded items.
+-- Each queue has a place for all that may still come to it, no number passes the count of entries, and the three counts
+-- are those of coded messages, of coded items and of outputs.
 pub record IsRoomy (m : Inside) : Type 0 where
   pub counted : left (control_of m) ≤ m.room
   pub small : m.room + 1 < 2 ^ 62
@@ -42,3 +42,4 @@ pub record IsRoomy (m : Inside) : Type 0 where
   pub items : m.next_item + length m.messages.items ≤ m.place
   pub sizes : m.size ≡ count_by (λ x. is_coded x.work) m.messages.items
   pub coded : m.coded ≡ coded_out (control_of m)
+  pub total : Counts m.shown_count (length (joined m.outputs.items))

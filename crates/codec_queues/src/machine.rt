@@ -7,8 +7,8 @@ ghost use Rattle.codec_queues.specs.Joined.{joined};
 ghost use Rattle.codec_model.specs.Shown.{promise_state};
 
 use crate::queues::{
-    codes_work, count_units, decodes, desaturates, end_in, end_pending, keep_dequeues,
-    kind_of_work, refusal_error, remove_promise, reserve_places, room_for, schedule_dequeue,
+    codes_work, decodes, desaturates, end_in, end_pending, keep_dequeues, kind_of_work,
+    refusal_error, remove_promise, reserve_places, room_for, schedule_dequeue, show,
 };
 use codec_model::{
     Call, CodecState, Ended, Item, Message, Opening, PromiseEnd, PromiseState, Running, Task, Work,
@@ -49,6 +49,8 @@ pub struct Machine {
     tasks: VecDeque<Task>,
     scheduled: bool,
     outputs: Vec<List<Unit>>,
+    // How many outputs there are; none where they are more than a u64 counts.
+    shown_count: Option<u64>,
     progress: Option<u64>,
     // At most so many starts, ends and turns are left.
     room: usize,
@@ -91,6 +93,7 @@ impl Machine {
             tasks,
             scheduled: false,
             outputs: Vec::new(alloc),
+            shown_count: Some(0),
             progress: None,
             room: 0,
         })
@@ -171,7 +174,7 @@ impl Machine {
         ensures some { IfSome result (λ n. n ≡ length self.now.shown) }
         ensures none { IfNone result (2 ^ 64 ≤ length self.now.shown) }
     {
-        count_units(&self.outputs)
+        self.shown_count
     }
 
     /// The state of the promise of the flush with this place.
@@ -645,12 +648,12 @@ impl Machine {
                     }
                     Task::Output(units) => {
                         self.room -= 1;
-                        self.outputs.push_reserved(units);
+                        show(&mut self.outputs, &mut self.shown_count, units);
                     }
                     Task::Flushed { promise, units } => {
                         self.room -= 1;
                         remove_promise(&mut self.pending, promise);
-                        self.outputs.push_reserved(units);
+                        show(&mut self.outputs, &mut self.shown_count, units);
                         self.ends.push_reserved(PromiseEnd {
                             promise,
                             error: None,

@@ -1,10 +1,10 @@
 // Plain work on the queues, apart from the codec that has them.
-ghost use Rattle.std.specs.Prelude.{◌≡◌, ◌<◌, ◌≤◌, ◌*◌, ◌+◌, ◌^◌, ◌++◌, ◌∷◌, [], length, count_by, filter, not, ◌==◌, ◌&&◌, ◌||◌, if◌then◌else◌, OnOk, IfOk, IfNone, IfSome, Option, vec_len, vec_capacity};
+ghost use Rattle.std.specs.Prelude.{ℕ, ◌≡◌, ◌<◌, ◌≤◌, ◌*◌, ◌+◌, ◌^◌, ◌++◌, ◌∷◌, [], length, count_by, filter, not, ◌==◌, ◌&&◌, ◌||◌, if◌then◌else◌, OnOk, IfOk, IfNone, IfSome, Option, vec_len, vec_capacity};
 ghost use Rattle.std.specs.VecDeque.{deque_len, deque_capacity};
 ghost use Rattle.codec_model.specs.Control.{is_coded, kind_of, is_decoder, is_dequeue, is_desaturate, refusal_of, ends_of};
 ghost use Rattle.codec_queues.specs.Places.{HasPlaces};
 ghost use Rattle.codec_model.specs.Shown.{promise_ended, promise_state};
-ghost use Rattle.codec_queues.specs.Joined.{joined};
+ghost use Rattle.codec_queues.specs.Joined.{joined, Counts};
 
 use codec_model::{Item, Kind, Message, PromiseEnd, PromiseState, Task, Work, WorkKind};
 use coder_api::Unit;
@@ -126,16 +126,24 @@ fn state_of(error: Option<DomError>) -> PromiseState
     }
 }
 
-/// How many outputs there are; none where they are more than a u64 counts.
-pub fn count_units(outputs: &[List<Unit>]) -> Option<u64>
-    ensures some { IfSome result (λ n. n ≡ length (joined outputs.now)) }
-    ensures none { IfNone result (2 ^ 64 ≤ length (joined outputs.now)) }
+/// A count of outputs with those of a list too; none where they are more than a u64 counts.
+fn with_more(count: Option<u64>, units: &List<Unit>) -> Option<u64>
+    ensures { (n : ℕ) → Counts count n → Counts result (n + length units.now) }
 {
-    let mut count = 0u64;
-    for units in outputs {
-        count = count.checked_add(units.len() as u64)?;
-    }
-    Some(count)
+    count?.checked_add(units.len() as u64)
+}
+
+/// One more list of outputs, whose place was taken before, and their count.
+#[tactic(auto, using(crate::proofs::Counted::counts_more))]
+pub fn show(outputs: &mut Vec<List<Unit>>, count: &mut Option<u64>, units: List<Unit>)
+    requires { vec_len outputs.old < vec_capacity outputs.old }
+    ensures items { outputs.new.items ≡ outputs.old.items ++ units ∷ [] }
+    ensures len { vec_len outputs.new ≡ vec_len outputs.old + 1 }
+    ensures capacity { vec_capacity outputs.new ≡ vec_capacity outputs.old }
+    ensures counts { Counts count.old (length (joined outputs.old.items)) → Counts count.new (length (joined outputs.new.items)) }
+{
+    *count = with_more(*count, &units);
+    outputs.push_reserved(units);
 }
 
 /// The state of a promise, by the promises that ended.

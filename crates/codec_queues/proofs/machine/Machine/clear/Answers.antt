@@ -14,6 +14,7 @@ invariant_of-self c =
       items = search rules;
       sizes = rw c.clear.ensures.items refl;
       coded = rw c.clear-2.ensures.items (sym (ap (λ (n : ℕ). 0 + n) (none_coded c.self.inside.epoch c.self.inside.running c.self.invariant.ran)));
+      total = c.self.invariant.total;
     }
 
 pub returns-clause-left : goal.returns-clause-left

@@ -13,4 +13,5 @@ invariant_of-self-2 c = record {
   items = search rules;
   sizes = rw (c.push_back_reserved.ensures.items, c.reserve_places.ensures.messages) (sizes_same c.self.inside.size c.self.inside.place work.Flush c.self.inside.messages.items refl c.self.invariant.sizes);
   coded = rw c.reserve_places.ensures.work c.self.invariant.coded;
+  total = rw c.reserve_places.ensures.outputs c.self.invariant.total;
 }
