@@ -64,6 +64,13 @@ impl<C: Coder> Core<C> {
         })
     }
 
+    /// The kind and the saturation that it was opened with.
+    pub fn opening(&self) -> Opening
+        ensures { result ≡ self.now.opening }
+    {
+        self.machine.opening()
+    }
+
     /// So many more resets and closes have a place.
     pub fn spare(&self) -> u64
         ensures { result ≡ self.now.spare }
