@@ -2,6 +2,7 @@
 use Rattle.std.specs.Prelude.{ℕ, ◌≡◌, ◌<◌, ◌≤◌, List, [], ◌∷◌, length, map, take, slice_get, Option, Some, None, option_and_then}
 use Rattle.wc_base.specs.declared.error.DomError.{DomError}
 use Rattle.wc_base.specs.declared.who.Who.{Who}
+use Rattle.wc_config.specs.declared.codec.CoderId.{CoderId}
 use Rattle.codec_model.specs.declared.entry.Opening.{Opening}
 use Rattle.codec_model.specs.declared.entry.Entry.{Entry}
 use Rattle.codec_model.specs.declared.entry.Entry.TheVariants as entry
@@ -17,7 +18,7 @@ use Rattle.trace_text.specs.declared.run.CodecTrace.{CodecTrace}
 use Rattle.trace_text.specs.declared.run.StepResult.{StepResult}
 use Rattle.trace_text.specs.declared.run.StepResult.TheVariants as result
 pub use Rattle.trace_text.specs.Report.{refusal_in}
-use Rattle.trace_text.specs.Follow.{Recorded, at, opening_of, opening_at, state_after, steps_of, chunk_at, init_error, promise_after, recorded_by}
+use Rattle.trace_text.specs.Follow.{Recorded, at, opening_of, opening_at, state_after, steps_of, chunk_at, init_error, promise_after, Course, Holding, Follows, nothing_yet}
 
 -- the caller whose call an entry keeps, with its step
 abbrev pub who_of : Entry → Option Who
@@ -154,16 +155,19 @@ LocalsAreIn s w = (c j : ℕ) (x : Step) (r : StepResult) → step_in s c j ≡ 
 abbrev pub LocalStepsAnswer : Script → Run → Type 0
 LocalStepsAnswer s run = LocalsAreIn s (recorded_of run)
 
--- All entries, results and slot entries are those that following the script's order makes, item after item.
-abbrev pub FollowsTheOrder : Script → Run → Type 0
-FollowsTheOrder s run = recorded_of run ≡ recorded_by s
+-- All entries, results and slot entries are those that following the script's order makes, item after item. `made` has the
+-- ids of the coders that were handed in.
+pub record FollowsTheOrder (s : Script) (made : List CoderId) (run : Run) : Type 0 where
+  -- what each codec has of the registry in the end
+  pub holdings : List Holding
+  pub follows : Follows s made s.order (nothing_yet s) (record { recorded = recorded_of run; holdings = holdings })
 
-pub record Fits (s : Script) (run : Run) : Type 0 where
+pub record Fits (s : Script) (made : List CoderId) (run : Run) : Type 0 where
   pub calls : CallsStandOnce s run
   pub looks : LooksAreBetween s run
   pub arguments : ArgumentsAreTheScripts s run
   pub locals : LocalStepsAnswer s run
-  pub follows : FollowsTheOrder s run
+  pub follows : FollowsTheOrder s made run
 
 -- A codec's history is legal for the script's opening, and shows what was recorded.
 pub record IsLegalTrace (c : CodecItem) (t : CodecTrace) : Type 0 where

@@ -1,16 +1,18 @@
 -- What a script's order makes, item after item (our choice: the order of a script is the interleaving of its callers, of the
 -- work items and of the event tasks).
-use Rattle.std.specs.Prelude.{ℕ, zero, suc, Bool, false, List, [], ◌∷◌, ◌++◌, length, map, count_by, slice_get, Option, Some, None, option_map, option_and_then, unwrap_or, if◌then◌else◌}
+use Rattle.std.specs.Prelude.{ℕ, zero, suc, ◌≡◌, ◌==◌, Bool, true, false, List, [], ◌∷◌, ◌++◌, length, map, slice_get, slice_set, Option, Some, None, option_map, option_and_then, unwrap_or, if◌then◌else◌}
 use Rattle.wc_base.specs.declared.error.DomError.{DomError}
 use Rattle.wc_base.specs.declared.error.DomError.TheVariants as dom
 use Rattle.wc_base.specs.declared.who.Who.{Who}
+use Rattle.wc_base.specs.declared.who.By.{By}
 use Rattle.wc_base.specs.declared.who.By.TheVariants as by
 use Rattle.wc_config.specs.declared.codec.CoderId.{CoderId}
 use Rattle.wc_chunk.specs.declared.chunk.Chunk.{Chunk}
 use Rattle.coder_api.specs.declared.unit.Unit as media
 use Rattle.coder_api.specs.declared.slot.SlotEntry.{SlotEntry}
 use Rattle.coder_api.specs.declared.slot.SlotOp.TheVariants as slot
-use Rattle.coder_api.specs.Meaning.{is_id}
+use Rattle.slot_registry.specs.Boxes.{least_free}
+use Rattle.slot_registry.specs.Slots.{SlotsValue, acquire_entry}
 use Rattle.codec_model.specs.declared.entry.Kind.{Kind}
 use Rattle.codec_model.specs.declared.entry.Kind.TheVariants as kind
 use Rattle.codec_model.specs.declared.entry.Opening.{Opening}
@@ -24,7 +26,7 @@ use Rattle.codec_model.specs.declared.entry.PromiseState.{PromiseState}
 use Rattle.codec_model.specs.declared.entry.Task.{Task}
 use Rattle.codec_model.specs.declared.entry.Entry.{Entry}
 use Rattle.codec_model.specs.declared.entry.Entry.TheVariants as entry
-use Rattle.codec_model.specs.Control.{start_item, may_reclaim}
+use Rattle.codec_model.specs.Control.{Control, start_item, may_reclaim, is_close}
 use Rattle.codec_model.specs.Replay.{State, Given, missing_coder, opening_state, replay, entry_of, call_error, removal_error, answer_to}
 use Rattle.codec_model.specs.Shown.{shown, ends_in, promise_state}
 use Rattle.wc_script.specs.declared.script.Script.{Script}
@@ -45,6 +47,25 @@ pub record Recorded : Type 0 where
   pub callers : List (List StepResult)
   pub codecs : List (List Entry)
   pub slots : List SlotEntry
+
+-- a box that is out, as the codec that holds it knows it
+pub record BoxOut : Type 0 where
+  pub id : CoderId
+  pub number : ℕ
+  pub by : By
+
+-- what a codec has of the registry: the box that it holds, and the entry that refused its running item one
+pub record Holding : Type 0 where
+  pub box : Option BoxOut
+  pub refusal : Option ℕ
+
+abbrev pub nothing_held : Holding
+nothing_held = record { box = None; refusal = None }
+
+-- how far an order was followed: what was recorded, and what each codec has of the registry
+pub record Course : Type 0 where
+  pub recorded : Recorded
+  pub holdings : List Holding
 
 -- the list with this number, or an empty one
 abbrev pub at : {X : Type 0} → ℕ → List (List X) → List X
@@ -127,10 +148,48 @@ with_call s who k x w =
     with_result who.caller (result.Call k (length (at k w.codecs)) (exception_of x (call_error x (state_at s w k).control)))
     (with_entry k (entry_of who x) w)
 
+-- what the codec with this number has of the registry
+abbrev pub holding_at : ℕ → List Holding → Holding
+holding_at k hs = unwrap_or (slice_get hs k) nothing_held
+
+-- what is recorded changes, and what the codecs have of the registry stays
+abbrev pub recording : (Recorded → Recorded) → Course → Course
+recording f v = record v { recorded = f v.recorded }
+
+-- the cause that the codec's next entry is
+abbrev pub next_cause : ℕ → Course → By
+next_cause k v = by.Codec k (length (at k v.recorded.codecs))
+
+-- the registry has these entries too, and the codec with this number has this of it
+abbrev pub with_slots : ℕ → List SlotEntry → Holding → Course → Course
+with_slots k entries h v = record { recorded = record v.recorded { slots = v.recorded.slots ++ entries }; holdings = slice_set v.holdings k h }
+
+-- the give of the box that a codec holds, if it holds one
+abbrev pub give_of : By → Option BoxOut → List SlotEntry
+give_of cause None = []
+give_of cause (Some b) = record { by = cause; op = slot.Give b.id b.number } ∷ []
+
+-- the codec's box goes back, by its next entry
+abbrev pub gives_back : ℕ → Course → Course
+gives_back k v = with_slots k (give_of (next_cause k v) (holding_at k v.holdings).box) nothing_held v
+
+-- a removal lets the codec's box go, unless an item is at work with it
+abbrev pub lets_go : ℕ → Option Running → Course → Course
+lets_go k None v = gives_back k v
+lets_go k (Some r) v = v
+
+abbrev pub lets_go_unless : Option DomError → ℕ → Option Running → Course → Course
+lets_go_unless None k running v = lets_go k running v
+lets_go_unless (Some error) k running v = v
+
 -- a caller's reset or close, which this entry keeps
-abbrev pub with_removal : Script → Who → ℕ → Entry → Recorded → Recorded
-with_removal s who k e w =
+abbrev pub removes : Script → Who → ℕ → Entry → Recorded → Recorded
+removes s who k e w =
     with_result who.caller (result.Call k (length (at k w.codecs)) (removal_error (state_at s w k).control)) (with_entry k e w)
+
+abbrev pub with_removal : Script → Who → ℕ → Entry → Course → Course
+with_removal s who k e v =
+    let c = (state_at s v.recorded k).control in recording (removes s who k e) (lets_go_unless (removal_error c) k c.running v)
 
 abbrev pub with_decode : Script → Who → ℕ → Option Chunk → Recorded → Recorded
 with_decode s who k None w = with_result who.caller result.Absent w
@@ -153,66 +212,96 @@ init_error None = Some dom.TypeErr
 init_error (Some i) = None
 
 -- the step of a caller
-abbrev pub follow_step : Script → Who → Step → Recorded → Recorded
-follow_step s who (step.Configure on config) w = with_call s who on (call.Configure config) w
-follow_step s who (step.Chunk bind init) w = with_result who.caller (result.Local (init_error init)) w
-follow_step s who (step.Decode on chunk) w = with_decode s who on (chunk_at (steps_of s who.caller) chunk.step) w
-follow_step s who (step.Flush on bind) w = with_call s who on call.Flush w
-follow_step s who (step.Poll promise) w = with_look s who (slice_get (at who.caller w.callers) promise.step) w
-follow_step s who (step.Await promise) w = with_look s who (slice_get (at who.caller w.callers) promise.step) w
-follow_step s who (step.Reset on) w = with_removal s who on (entry.Reset who) w
-follow_step s who (step.Close on) w = with_removal s who on (entry.Close who) w
-follow_step s who (step.State on) w = with_state s who on w
+abbrev pub follow_step : Script → Who → Step → Course → Course
+follow_step s who (step.Configure on config) v = recording (with_call s who on (call.Configure config)) v
+follow_step s who (step.Chunk bind init) v = recording (with_result who.caller (result.Local (init_error init))) v
+follow_step s who (step.Decode on chunk) v = recording (with_decode s who on (chunk_at (steps_of s who.caller) chunk.step)) v
+follow_step s who (step.Flush on bind) v = recording (with_call s who on call.Flush) v
+follow_step s who (step.Poll promise) v = recording (with_look s who (slice_get (at who.caller v.recorded.callers) promise.step)) v
+follow_step s who (step.Await promise) v = recording (with_look s who (slice_get (at who.caller v.recorded.callers) promise.step)) v
+follow_step s who (step.Reset on) v = with_removal s who on (entry.Reset who) v
+follow_step s who (step.Close on) v = with_removal s who on (entry.Close who) v
+follow_step s who (step.State on) v = recording (with_state s who on) v
 
-abbrev pub follow_next : Script → Who → Option Step → Recorded → Recorded
-follow_next s who None w = w
-follow_next s who (Some x) w = follow_step s who x w
+abbrev pub follow_next : Script → Who → Option Step → Course → Course
+follow_next s who None v = v
+follow_next s who (Some x) v = follow_step s who x v
 
--- whether an entry is the acquire of a box of this id
-abbrev pub acquires : CoderId → SlotEntry → Bool
-acquires id e = elim (e.op) [ slot.Acquire other number ↦ is_id id other | slot.Refused other out made ↦ false | slot.Give other number ↦ false ]
+-- what a codec has of the registry after an acquire: the box of this number, or the entry that refused one
+abbrev pub holding_by : By → CoderId → ℕ → Option ℕ → Holding
+holding_by cause id entry (Some number) = record { box = Some (record { id = id; number = number; by = cause }); refusal = None }
+holding_by cause id entry None = record { box = None; refusal = Some entry }
 
--- the acquire of the first box of an id that has not gone out
-abbrev pub acquisition : ℕ → ℕ → List SlotEntry → Option CoderId → List SlotEntry
-acquisition k place slots None = []
-acquisition k place slots (Some id) = record { by = by.Codec k place; op = slot.Acquire id (count_by (acquires id) slots) } ∷ []
+-- the free box of least number of this id goes out by the codec's next entry, or is refused where none is free
+abbrev pub asks_for_box : List CoderId → ℕ → CoderId → Course → Course
+asks_for_box made k id v =
+    let s : SlotsValue = record { made = made; history = v.recorded.slots } in
+    with_slots k (acquire_entry (next_cause k v) id s ∷ []) (holding_by (next_cause k v) id (length v.recorded.slots) (least_free id made v.recorded.slots)) v
+
+-- an item that lacks a box gives the codec's box back, and asks for one of its id
+abbrev pub with_box : List CoderId → ℕ → Option CoderId → Course → Course
+with_box made k None v = v
+with_box made k (Some id) v = asks_for_box made k id (gives_back k v)
 
 -- a start of the codec with this number, to which this was given before, where it finds an item
-abbrev pub with_start : ℕ → ℕ → Given → Option Item → Recorded → Recorded
-with_start k epoch g None w = w
-with_start k epoch g (Some i) w =
-    with_entry k (entry.Start epoch i.number) (record w { slots = w.slots ++ acquisition k (length (at k w.codecs)) w.slots (missing_coder g i.work) })
+abbrev pub with_start : List CoderId → ℕ → ℕ → Given → Option Item → Course → Course
+with_start made k epoch g None v = v
+with_start made k epoch g (Some i) v = recording (with_entry k (entry.Start epoch i.number)) (with_box made k (missing_coder g i.work) v)
 
 abbrev pub outcome_by : Option (List media.Unit) → Outcome
 outcome_by None = outcome.Refused
 outcome_by (Some units) = outcome.Ran (length units)
 
--- the end of the running item, by the codec's definition
-abbrev pub with_done : ℕ → ℕ → State → Option Running → Recorded → Recorded
-with_done k moment s None w = w
-with_done k moment s (Some r) w = with_entry k (entry.Done r.epoch r.number moment (outcome_by (answer_to r.kind s.running_given))) w
+-- the outcome of an item: want of memory; or that no box was free; or the codec's definition
+abbrev pub outcome_for : Bool → Option ℕ → Option (List media.Unit) → Outcome
+outcome_for true refusal answer = outcome.NoMemory
+outcome_for false (Some e) answer = outcome.NoSlot e
+outcome_for false None answer = outcome_by answer
 
-abbrev pub with_turn : ℕ → List Task → Recorded → Recorded
-with_turn k [] w = w
-with_turn k (t ∷ ts) w = with_entry k entry.Turn w
+-- after the end of an item its codec keeps the box, unless a new epoch began since
+abbrev pub keeps_box : Bool → ℕ → Course → Course
+keeps_box true k v = record v { holdings = slice_set v.holdings k (record (holding_at k v.holdings) { refusal = None }) }
+keeps_box false k v = gives_back k v
 
--- One item of the order; one that finds nothing to do changes nothing.
-abbrev pub follow_item : Script → OrderItem → Recorded → Recorded
-follow_item s (item.Caller c) w =
-    let j = length (at c w.callers) in follow_next s (record { caller = c; step = j }) (slice_get (steps_of s c) j) w
-follow_item s (item.Start k) w = let x = state_at s w k in with_start k x.control.epoch x.given (start_item x.control) w
-follow_item s (item.Done k moment) w = let x = state_at s w k in with_done k moment x x.control.running w
-follow_item s (item.Turn k) w = with_turn k (state_at s w k).control.tasks w
-follow_item s (item.Reclaim k moment) w = if may_reclaim moment (state_at s w k).control then with_entry k (entry.Reclaim moment) w else w
+-- the end of the running item; `wants` says that memory was wanted
+abbrev pub with_done : Bool → ℕ → ℕ → State → Option Running → Course → Course
+with_done wants k moment s None v = v
+with_done wants k moment s (Some r) v =
+    recording (with_entry k (entry.Done r.epoch r.number moment (outcome_for wants (holding_at k v.holdings).refusal (answer_to r.kind s.running_given))))
+    (keeps_box (r.epoch == s.control.epoch) k v)
 
-abbrev pub follow : Script → List OrderItem → Recorded → Recorded
-follow s [] w = w
-follow s (x ∷ xs) w = follow s xs (follow_item s x w)
+abbrev pub lets_go_if : Bool → ℕ → Option Running → Course → Course
+lets_go_if true k running v = lets_go k running v
+lets_go_if false k running v = v
 
--- nothing is recorded yet
-abbrev pub nothing_recorded : Script → Recorded
-nothing_recorded s = record { callers = map (λ c. []) s.callers; codecs = map (λ c. []) s.codecs; slots = [] }
+-- the front task of a codec runs, if there is one
+abbrev pub with_turn : ℕ → Option Running → List Task → Course → Course
+with_turn k running [] v = v
+with_turn k running (t ∷ ts) v = recording (with_entry k entry.Turn) (lets_go_if (is_close t) k running v)
 
--- what a script's order makes
-abbrev pub recorded_by : Script → Recorded
-recorded_by s = follow s s.order (nothing_recorded s)
+abbrev pub with_reclaim : ℕ → ℕ → Control → Course → Course
+with_reclaim k moment c v = if may_reclaim moment c then recording (with_entry k (entry.Reclaim moment)) (lets_go k c.running v) else v
+
+-- One item of the order; one that finds nothing to do changes nothing. `made` has the id of each coder that was handed in,
+-- and `wants` says that an end wants memory.
+abbrev pub follow_item : Script → List CoderId → Bool → OrderItem → Course → Course
+follow_item s made wants (item.Caller c) v =
+    let j = length (at c v.recorded.callers) in follow_next s (record { caller = c; step = j }) (slice_get (steps_of s c) j) v
+follow_item s made wants (item.Start k) v =
+    let x = state_at s v.recorded k in with_start made k x.control.epoch x.given (start_item x.control) v
+follow_item s made wants (item.Done k moment) v = let x = state_at s v.recorded k in with_done wants k moment x x.control.running v
+follow_item s made wants (item.Turn k) v =
+    let c = (state_at s v.recorded k).control in with_turn k c.running c.tasks v
+follow_item s made wants (item.Reclaim k moment) v = with_reclaim k moment (state_at s v.recorded k).control v
+
+-- The order leads from one course to another, item after item; each end may want memory or not.
+abbrev pub Follows : Script → List CoderId → List OrderItem → Course → Course → Type 0
+Follows s made [] v u = u ≡ v
+Follows s made (x ∷ xs) v u = (wants : Bool) × Follows s made xs (follow_item s made wants x v) u
+
+-- nothing is recorded yet, and no codec has anything of the registry
+abbrev pub nothing_yet : Script → Course
+nothing_yet s = record {
+  recorded = record { callers = map (λ c. []) s.callers; codecs = map (λ c. []) s.codecs; slots = [] };
+  holdings = map (λ c. nothing_held) s.codecs;
+}

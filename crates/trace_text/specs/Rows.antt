@@ -2,6 +2,7 @@
 -- what was recorded, and the text of its report, as plain data.
 use Rattle.std.specs.Prelude.{ℕ, ◌≡◌, true, pos, List, [], ◌∷◌, ◌++◌, Some, None, codes}
 use Rattle.wc_base.specs.declared.who.By.TheVariants as by
+use Rattle.wc_config.specs.declared.codec.CoderId.{CoderId}
 use Rattle.wc_config.specs.declared.codec.CodecId.TheVariants.{PcmS16}
 use Rattle.wc_config.specs.declared.codec.Role.TheVariants as role
 use Rattle.coder_api.specs.declared.slot.SlotEntry.{SlotEntry}
@@ -70,8 +71,12 @@ shown =
     ∷ quiet ∷ quiet ∷ turned turn.Dequeue (event.Dequeue ∷ []) ∷ turned turn.Output (event.Output 0 unit ∷ [])
     ∷ quiet ∷ quiet ∷ turned turn.Flushed (event.Resolve 2 ∷ []) ∷ []
 
+-- the coder that was handed in
+abbrev pub coder : CoderId
+coder = record { role = role.Decode; codec = PcmS16 }
+
 abbrev pub acquired : SlotEntry
-acquired = record { by = by.Codec 0 3; op = slot.Acquire (record { role = role.Decode; codec = PcmS16 }) 0 }
+acquired = record { by = by.Codec 0 3; op = slot.Acquire coder 0 }
 
 abbrev pub ordinary_run : Run
 ordinary_run = record {
@@ -103,7 +108,7 @@ ordinary_text = codes "wcrun report 1\n" ++ caller_part ++ codec_part ++ codes "
 
 -- The script's order makes what was recorded, the entries show what stands beside them, and the report is this text.
 abbrev pub OrdinaryFollows : Type 0
-OrdinaryFollows = FollowsTheOrder ordinary_script ordinary_run
+OrdinaryFollows = FollowsTheOrder ordinary_script (coder ∷ []) ordinary_run
 
 abbrev pub OrdinaryShown : Type 0
 OrdinaryShown = shown ≡ each_shown four ordinary
