@@ -1,15 +1,15 @@
 -- What a desk keeps as its codec's history grows.
-use Rattle.std.proofs.Common.{ℕ, ◌≡◌, Bool, true, false, List, [], ◌∷◌, ◌++◌, length, Option, Some, None, refl, ap, sym, subst, ◌∙◌, Result, Ok, Err, option_map, is_some}
+use Rattle.std.proofs.Common.{ℕ, ◌≡◌, Bool, true, false, not, cond, eqb, List, [], ◌∷◌, ◌++◌, length, Option, Some, None, refl, ap, sym, subst, ◌∙◌, Result, Ok, Err, option_map, is_some}
+use Rattle.std.specs.Prelude.{◌==◌}
 use Rattle.std.specs.Result.{OnOk, IfOk}
-use Rattle.wc_script.specs.declared.script.OrderItem.{OrderItem}
-use Rattle.wc_script.specs.declared.script.CodecItem.{CodecItem}
-use Rattle.wc_script.specs.declared.script.CallerItem.{CallerItem}
-use Rattle.trace_text.specs.declared.run.Run.{Run}
-use Rattle.trace_text.specs.declared.run.StepResult.{StepResult}
-use Rattle.trace_text.specs.Fits.{FollowsTheOrder}
 use Rattle.wc_base.specs.declared.error.DomError.{DomError}
 use Rattle.wc_base.specs.declared.who.Who.{Who}
+use Rattle.wc_base.specs.declared.who.By.{By}
+use Rattle.wc_base.specs.declared.who.By.TheVariants as by
+use Rattle.wc_config.specs.declared.codec.CoderId.{CoderId}
+use Rattle.coder_api.specs.Lent.{Lent}
 use Rattle.coder_api.specs.declared.unit.Unit as media
+use Rattle.coder_api.specs.declared.slot.SlotEntry.{SlotEntry}
 use Rattle.codec_model.specs.declared.entry.Call.{Call}
 use Rattle.codec_model.specs.declared.entry.Call.TheVariants as call
 use Rattle.codec_model.specs.declared.entry.CodecState.{CodecState}
@@ -19,38 +19,55 @@ use Rattle.codec_model.specs.declared.entry.Ended.TheVariants as ended
 use Rattle.codec_model.specs.declared.entry.Entry.{Entry}
 use Rattle.codec_model.specs.declared.entry.Entry.TheVariants as entry
 use Rattle.codec_model.specs.declared.entry.Event.{Event}
-use Rattle.codec_model.specs.declared.entry.Outcome.{Outcome}
-use Rattle.codec_model.specs.declared.entry.Shown.{Shown}
 use Rattle.codec_model.specs.declared.entry.Item.{Item}
-use Rattle.codec_model.specs.declared.entry.Work.{Work}
-use Rattle.coder_api.specs.declared.slot.SlotEntry.{SlotEntry}
+use Rattle.codec_model.specs.declared.entry.Opening.{Opening}
+use Rattle.codec_model.specs.declared.entry.Outcome.{Outcome}
+use Rattle.codec_model.specs.declared.entry.Outcome.TheVariants as outcome
+use Rattle.codec_model.specs.declared.entry.Running.{Running}
+use Rattle.codec_model.specs.declared.entry.Shown.{Shown}
 use Rattle.codec_model.specs.declared.entry.Task.{Task}
 use Rattle.codec_model.specs.declared.entry.Task.TheVariants as task
-use Rattle.codec_model.specs.Control.{Control, kind_of, front}
-use Rattle.codec_model.specs.Replay.{State, Given, missing_coder, entry_of, call_error, flush_error, decode_error, configure_error, answer_to}
-use Rattle.codec_model.specs.Shown.{each_shown, shown_at, shows, word_of_task, turn_word, task_shows, refusal, rejection}
-use Rattle.codec_core.specs.Codec.{Codec, item_parts, state_at, Makes, KeepsRunning}
-use Rattle.codec_core.specs.Job.{JobValue, DoneValue, IsJob, IsJobOf, EndsBy, outcome_of, wants}
+use Rattle.codec_model.specs.declared.entry.Work.{Work}
+use Rattle.codec_model.specs.Control.{Control, kind_of, front, start_item, may_start, is_close, may_reclaim}
+use Rattle.codec_model.specs.Replay.{State, Given, missing_coder, entry_of, call_error, flush_error, decode_error, configure_error, removal_error, answer_to}
+use Rattle.codec_model.specs.Shown.{each_shown, shown_at, shows, word_of_task, turn_word, task_shows, removal_shows, refusal, rejection}
+use Rattle.codec_core.specs.Codec.{Codec, item_parts, state_at, Makes, KeepsRunning, kept_box, handed_back, closes_now}
+use Rattle.codec_core.specs.Job.{JobValue, DoneValue, IsJob, IsJobOf, EndsBy, outcome_of, stopped_box, missing_id}
 use Rattle.codec_core.proofs.Laws.{makes_shows, job_stays}
-use Rattle.trace_text.specs.Follow.{Recorded, exception_of, outcome_by, acquisition, follow_step, follow_next, follow, with_call, with_decode, chunk_at, steps_of}
-use Rattle.wc_replay.specs.Desk.{DeskValue, JobMatches, IsDesk, entries_of_start, slots_of_start, done_entries, turn_entries, shown_where, shown_by_turn}
-use Rattle.wc_replay.proofs.Built.{first}
-use Rattle.std.proofs.lemmas.Bool.{eqb-true}
-use Rattle.std.specs.Prelude.{eqb, slice_get}
-use Rattle.codec_model.specs.declared.entry.Opening.{Opening}
-use Rattle.wc_script.specs.declared.script.Script.{Script}
-use Rattle.wc_script.specs.declared.script.Step.{Step}
-use Rattle.wc_script.specs.declared.script.Step.TheVariants as step
-use Rattle.wc_script.specs.Form.{is_built_step}
-use Rattle.wc_replay.specs.Player.{whose, one, follow_one, IsRunOf}
-use Rattle.wc_replay.specs.Events.{task_events, flush_rejection, call_event, events_of}
+use Rattle.trace_text.specs.Follow.{BoxOut, Holding, nothing_held, exception_of, outcome_by, outcome_for}
+use Rattle.wc_replay.specs.Boxes.{IsRefused, filled_slots, filled_holding}
+use Rattle.wc_replay.specs.Desk.{DeskValue, JobMatches, IsDesk, moved, state_of, next_by, box_out, box_of, holding_of, holding_with, left_by, let_go, left_unless, let_go_unless, left_if, let_go_if, kept_by, back_by, after_start, start_slots, started_with, slots_with, after_removal, removal_box, turned_by, after_turn, box_by_turn, turn_box, after_reclaim, reclaim_box, done_by, after_done, box_by_done, done_box, shown_where, shown_by_turn}
+use Rattle.wc_replay.specs.Events.{task_events, removal_events, reclaim_events, flush_rejection, call_event, events_of}
 
-pub desk_more : (old new : Codec) (e : Entry) (job job' : Option JobValue) (shown : List Shown) (x : Shown) → IsDesk old job shown → Makes old new e → x ≡ shown_at e (state_at old) → JobMatches (state_at new) job' → IsDesk new job' (shown ++ x ∷ [])
-desk_more old new e job job' shown x desk made is matches = record {
+pub record HasBox (job : Option JobValue) (refusal : Option ℕ) (slot : Option Lent) : Type 0 where
+  pub refused : IsRefused job refusal
+  pub away : is_some job ≡ true → slot ≡ None
+
+pub desk_more : (old new : Codec) (e : Entry) (job job' : Option JobValue) (refusal refusal' : Option ℕ) (shown : List Shown) (x : Shown) → IsDesk old job refusal shown → Makes old new e → x ≡ shown_at e (state_at old) → JobMatches (state_at new) job' → HasBox job' refusal' new.slot → IsDesk new job' refusal' (shown ++ x ∷ [])
+desk_more old new e job job' refusal refusal' shown x desk made is matches box = record {
   shows = ap (λ (y : Shown). shown ++ y ∷ []) is ∙ (ap (λ (ys : List Shown). ys ++ shown_at e (state_at old) ∷ []) desk.shows ∙ sym (makes_shows old new e made));
   legal = made.legal;
   matches = matches;
+  refused = box.refused;
+  away = box.away;
 }
+
+-- what is known of the box that a desk holds
+pub has_box : (core : Codec) (job : Option JobValue) (refusal : Option ℕ) (shown : List Shown) → IsDesk core job refusal shown → HasBox job refusal core.slot
+has_box core job refusal shown desk = record { refused = desk.refused; away = desk.away }
+
+-- a slot that was kept or emptied is still away while an item is running
+pub kept_away : (stays : Bool) (slot : Option Lent) (job : Option JobValue) → (is_some job ≡ true → slot ≡ None) → is_some job ≡ true → kept_box stays slot ≡ None
+kept_away true slot job away out = away out
+kept_away false slot job away out = refl
+
+pub box_stays : (stays : Bool) (slot new : Option Lent) (job : Option JobValue) (refusal : Option ℕ) → HasBox job refusal slot → new ≡ kept_box stays slot → HasBox job refusal new
+box_stays stays slot new job refusal box is = record { refused = box.refused; away = λ out. is ∙ kept_away stays slot job box.away out }
+
+-- places for more calls change nothing that a desk speaks of
+pub desk_reserved : (old mid : Codec) (n : ℕ) (job : Option JobValue) (refusal : Option ℕ) (shown : List Shown) → mid ≡ record old { spare = n } → IsDesk old job refusal shown → IsDesk mid job refusal shown
+desk_reserved old mid n job refusal shown is desk =
+    subst (λ (c : Codec). IsDesk c job refusal shown) (sym is) (record { shows = desk.shows; legal = desk.legal; matches = desk.matches; refused = desk.refused; away = desk.away })
 
 pub job_matches : (s t : State) (job : Option JobValue) → KeepsRunning s t → JobMatches s job → JobMatches t job
 job_matches s t None keeps matches = keeps.same_running ∙ matches
@@ -88,31 +105,152 @@ call_shown s who (call.Decode chunk) p place error rejected at phase is none =
 call_shown s who call.Flush p place error rejected at phase is none =
     rw (is, none, flush_by p s.control phase) (ap (λ (xs : List Event). record { turn = None; events = xs }) (rejected_events place (flush_error s.control) ∙ ap (λ (n : ℕ). rejection n (flush_error s.control)) (sym at)))
 
--- an end by the definition's answer is the outcome of that answer, unless memory was wanted
-pub outcome_is : (answer : Option (List media.Unit)) (e : Ended) → EndsBy answer e → wants e ≡ false → outcome_of e ≡ outcome_by answer
-outcome_is answer (ended.Ran units) is wanted = rw is refl
-outcome_is answer ended.Refused is wanted = rw is refl
-outcome_is answer (ended.NoSlot entry) is wanted = absurd is
-outcome_is answer ended.NoMemory is wanted = absurd cc
+-- what a reset or close shows
+removal_by : (p : CodecState) (c : Control) (pending : List ℕ) → c.phase ≡ p → removal_events p pending ≡ removal_shows (removal_error c) pending
+removal_by Unconfigured c pending is = rw is refl
+removal_by Configured c pending is = rw is refl
+removal_by Closed c pending is = rw is refl
 
--- the entry of the running item's end, of which the job is done by the definition
-pub done_entry : (s : State) (job : JobValue) (d : DoneValue) (moment : ℕ) → IsJobOf s job → d.epoch ≡ job.epoch → d.number ≡ job.number → wants d.ended ≡ false → ((g : Given) → IsJob g job → EndsBy (answer_to (kind_of job.work) g) d.ended) → entry.Done d.epoch d.number moment (outcome_of d.ended) ∷ [] ≡ done_entries moment s
-done_entry s job d moment is epoch number wanted answers =
-    rw (is.is_running, is.same_epoch, is.same_number, is.same_kind, epoch, number)
-    (ap (λ (o : Outcome). entry.Done job.epoch job.number moment o ∷ []) (outcome_is _ d.ended (answers s.running_given is.given) wanted))
+pub reset_shown : (s : State) (who : Who) (p : CodecState) → s.control.phase ≡ p → record { turn = None; events = removal_events p s.control.pending } ≡ shown_at (entry.Reset who) s
+reset_shown s who p is = ap (λ (xs : List Event). record { turn = None; events = xs }) (removal_by p s.control s.control.pending is)
 
--- the entry and the acquire of a start that found this item
-pub start_entry : (o : Option Item) (epoch n : ℕ) (w : Work) → option_map item_parts o ≡ Some (n, w) → entry.Start epoch n ∷ [] ≡ entries_of_start epoch o
-start_entry None epoch n w is = absurd cc
-start_entry (Some i) epoch n w is = let pair : (i.number, i.work) ≡ (n, w) = cc in ap (λ (x : ℕ × Work). entry.Start epoch x.0 ∷ []) (sym pair)
+pub close_shown : (s : State) (who : Who) (p : CodecState) → s.control.phase ≡ p → record { turn = None; events = removal_events p s.control.pending } ≡ shown_at (entry.Close who) s
+close_shown s who p is = ap (λ (xs : List Event). record { turn = None; events = xs }) (removal_by p s.control s.control.pending is)
 
-pub start_slot : (o : Option Item) (k place n : ℕ) (w : Work) (slots : List SlotEntry) (g : Given) → option_map item_parts o ≡ Some (n, w) → acquisition k place slots (missing_coder g w) ≡ slots_of_start k place slots g o
-start_slot None k place n w slots g is = absurd cc
-start_slot (Some i) k place n w slots g is = let pair : (i.number, i.work) ≡ (n, w) = cc in ap (λ (x : ℕ × Work). acquisition k place slots (missing_coder g x.1)) (sym pair)
+-- an end by the definition's answer is the outcome of that answer, or memory was wanted
+pub outcome_is : (answer : Option (List media.Unit)) (e : Ended) → EndsBy answer e → (wants : Bool) × (outcome_of e ≡ outcome_for wants None answer)
+outcome_is answer (ended.Ran units) is = (false, rw is refl)
+outcome_is answer ended.Refused is = (false, rw is refl)
+outcome_is answer (ended.NoSlot entry) is = absurd is
+outcome_is answer ended.NoMemory is = (true, refl)
 
-pub turn_entry : (ts : List Task) (x : Shown) → is_some (shown_where ts x) ≡ true → entry.Turn ∷ [] ≡ turn_entries ts
-turn_entry [] x is = absurd cc
-turn_entry (t ∷ ts) x is = refl
+-- ---- boxes
+
+pub stopped_out : (slot : Option Lent) → option_map box_out (stopped_box slot) ≡ option_map box_out slot
+stopped_out None = refl
+stopped_out (Some lent) = refl
+
+-- a box that stays or goes, as its codec's holding has it
+pub parted : (stays : Bool) (slot : Option Lent) (job : Option JobValue) (refusal : Option ℕ) (s : State) → JobMatches s job → HasBox job refusal slot → holding_of (kept_box stays slot) job refusal ≡ cond stays (holding_of slot job refusal) (left_by s.control.running (holding_of slot job refusal))
+parted true slot job refusal s matches box = refl
+parted false slot None refusal s matches box = rw (matches, box.refused) refl
+parted false slot (Some job) refusal s matches box = rw matches.is_running refl
+
+pub parted_box : (stays : Bool) (slot : Option Lent) (job : Option JobValue) (refusal : Option ℕ) (s : State) → JobMatches s job → HasBox job refusal slot → option_map box_out (handed_back stays slot) ≡ cond stays None (let_go s.control.running (holding_of slot job refusal))
+parted_box true slot job refusal s matches box = refl
+parted_box false slot None refusal s matches box = rw matches (stopped_out slot)
+parted_box false slot (Some job) refusal s matches box = rw (matches.is_running, box.away refl) refl
+
+unless : (error : Option DomError) (running : Option Running) (h : Holding) → cond (is_some error) h (left_by running h) ≡ left_unless error running h
+unless None running h = refl
+unless (Some error) running h = refl
+
+unless_box : (error : Option DomError) (running : Option Running) (h : Holding) → cond (is_some error) None (let_go running h) ≡ let_go_unless error running h
+unless_box None running h = refl
+unless_box (Some error) running h = refl
+
+if_closes : (b : Bool) (running : Option Running) (h : Holding) → cond (not b) h (left_by running h) ≡ left_if b running h
+if_closes true running h = refl
+if_closes false running h = refl
+
+if_closes_box : (b : Bool) (running : Option Running) (h : Holding) → cond (not b) None (let_go running h) ≡ let_go_if b running h
+if_closes_box true running h = refl
+if_closes_box false running h = refl
+
+-- ---- what contracts see
+
+abbrev pub seen : Codec → Option JobValue → Option ℕ → DeskValue
+seen core job refusal = record { opening = core.opening; history = core.history; holding = holding_of core.slot job refusal }
+
+pub seen_reserved : (old mid : Codec) (n : ℕ) (job : Option JobValue) (refusal : Option ℕ) → mid ≡ record old { spare = n } → seen mid job refusal ≡ seen old job refusal
+seen_reserved old mid n job refusal is = ap (λ (c : Codec). seen c job refusal) is
+
+same_desk : (o p : Opening) (h i : List Entry) (x y : Holding) → o ≡ p → h ≡ i → x ≡ y → ◌≡◌ {A = DeskValue} (record { opening = o; history = h; holding = x }) (record { opening = p; history = i; holding = y })
+same_desk o p h i x y a b c = cc
+
+-- one more entry
+pub seen_moved : (old new : Codec) (e : Entry) (job job' : Option JobValue) (refusal refusal' : Option ℕ) (h : Holding) → Makes old new e → holding_of new.slot job' refusal' ≡ h → seen new job' refusal' ≡ moved e h (seen old job refusal)
+seen_moved old new e job job' refusal refusal' h made is = same_desk _ _ _ _ _ _ made.same_opening made.longer is
+
+-- a caller's reset or close
+pub seen_removed : (old new : Codec) (e : Entry) (job : Option JobValue) (refusal : Option ℕ) → JobMatches (state_at old) job → HasBox job refusal old.slot → Makes old new e → new.slot ≡ kept_box (is_some (removal_error (state_at old).control)) old.slot → seen new job refusal ≡ after_removal e (seen old job refusal)
+seen_removed old new e job refusal matches box made slot =
+    let s = state_at old in
+    seen_moved old new e job job refusal refusal _ made
+    (ap (λ (x : Option Lent). holding_of x job refusal) slot ∙ (parted (is_some (removal_error s.control)) old.slot job refusal s matches box ∙ unless (removal_error s.control) s.control.running (holding_of old.slot job refusal)))
+
+pub removed_box : (old : Codec) (job : Option JobValue) (refusal : Option ℕ) → JobMatches (state_at old) job → HasBox job refusal old.slot → option_map box_out (handed_back (is_some (removal_error (state_at old).control)) old.slot) ≡ removal_box (seen old job refusal)
+removed_box old job refusal matches box =
+    let s = state_at old in
+    parted_box (is_some (removal_error s.control)) old.slot job refusal s matches box ∙ unless_box (removal_error s.control) s.control.running (holding_of old.slot job refusal)
+
+-- a turn
+turned_on : (old new : Codec) (job : Option JobValue) (refusal : Option ℕ) (ts : List Task) (x : Shown) → (state_at old).control.tasks ≡ ts → is_some (shown_where ts x) ≡ true → JobMatches (state_at old) job → HasBox job refusal old.slot → Makes old new entry.Turn → new.slot ≡ kept_box (not (closes_now (state_at old).control)) old.slot → seen new job refusal ≡ turned_by ts (seen old job refusal)
+turned_on old new job refusal [] x is there matches box made slot = absurd cc
+turned_on old new job refusal (t ∷ ts) x is there matches box made slot =
+    let s = state_at old in
+    let closes : closes_now s.control ≡ is_close t = rw is refl in
+    seen_moved old new entry.Turn job job refusal refusal _ made
+    (ap (λ (y : Option Lent). holding_of y job refusal) (slot ∙ ap (λ (b : Bool). kept_box (not b) old.slot) closes)
+    ∙ (parted (not (is_close t)) old.slot job refusal s matches box ∙ if_closes (is_close t) s.control.running (holding_of old.slot job refusal)))
+
+pub seen_turned : (old new : Codec) (job : Option JobValue) (refusal : Option ℕ) → is_some (shown_by_turn (state_at old)) ≡ true → JobMatches (state_at old) job → HasBox job refusal old.slot → Makes old new entry.Turn → new.slot ≡ kept_box (not (closes_now (state_at old).control)) old.slot → seen new job refusal ≡ after_turn (seen old job refusal)
+seen_turned old new job refusal there matches box made slot = turned_on old new job refusal (state_at old).control.tasks (shown_at entry.Turn (state_at old)) refl there matches box made slot
+
+turned_box_on : (old : Codec) (job : Option JobValue) (refusal : Option ℕ) (ts : List Task) (x : Shown) → (state_at old).control.tasks ≡ ts → is_some (shown_where ts x) ≡ true → JobMatches (state_at old) job → HasBox job refusal old.slot → option_map box_out (handed_back (not (closes_now (state_at old).control)) old.slot) ≡ box_by_turn ts (seen old job refusal)
+turned_box_on old job refusal [] x is there matches box = absurd cc
+turned_box_on old job refusal (t ∷ ts) x is there matches box =
+    let s = state_at old in
+    let closes : closes_now s.control ≡ is_close t = rw is refl in
+    ap (λ (b : Bool). option_map box_out (handed_back (not b) old.slot)) closes
+    ∙ (parted_box (not (is_close t)) old.slot job refusal s matches box ∙ if_closes_box (is_close t) s.control.running (holding_of old.slot job refusal))
+
+pub turned_box : (old : Codec) (job : Option JobValue) (refusal : Option ℕ) → is_some (shown_by_turn (state_at old)) ≡ true → JobMatches (state_at old) job → HasBox job refusal old.slot → option_map box_out (handed_back (not (closes_now (state_at old).control)) old.slot) ≡ turn_box (seen old job refusal)
+turned_box old job refusal there matches box = turned_box_on old job refusal (state_at old).control.tasks (shown_at entry.Turn (state_at old)) refl there matches box
+
+no_turn_on : (d : DeskValue) (ts : List Task) (x : Shown) → None ≡ shown_where ts x → (turned_by ts d ≡ d) × (box_by_turn ts d ≡ None)
+no_turn_on d [] x is = (refl, refl)
+no_turn_on d (t ∷ ts) x is = absurd cc
+
+pub not_turned : (d : DeskValue) → None ≡ shown_by_turn (state_of d) → (after_turn d ≡ d) × (turn_box d ≡ None)
+not_turned d is = no_turn_on d (state_of d).control.tasks (shown_at entry.Turn (state_of d)) is
+
+-- a reclaim
+pub seen_reclaimed : (old new : Codec) (moment : ℕ) (job : Option JobValue) (refusal : Option ℕ) → may_reclaim moment (state_at old).control ≡ true → JobMatches (state_at old) job → HasBox job refusal old.slot → Makes old new (entry.Reclaim moment) → new.slot ≡ None → seen new job refusal ≡ after_reclaim moment (seen old job refusal)
+seen_reclaimed old new moment job refusal may matches box made slot =
+    let d = seen old job refusal in
+    seen_moved old new (entry.Reclaim moment) job job refusal refusal _ made
+    (ap (λ (x : Option Lent). holding_of x job refusal) slot ∙ parted false old.slot job refusal (state_at old) matches box)
+    ∙ sym (ap (λ (b : Bool). cond b (moved (entry.Reclaim moment) (left_by (state_at old).control.running d.holding) d) d) may)
+
+pub reclaimed_box : (old : Codec) (moment : ℕ) (job : Option JobValue) (refusal : Option ℕ) → may_reclaim moment (state_at old).control ≡ true → JobMatches (state_at old) job → HasBox job refusal old.slot → option_map box_out (stopped_box old.slot) ≡ reclaim_box moment (seen old job refusal)
+reclaimed_box old moment job refusal may matches box =
+    let d = seen old job refusal in
+    parted_box false old.slot job refusal (state_at old) matches box
+    ∙ sym (ap (λ (b : Bool). cond b (let_go (state_at old).control.running d.holding) None) may)
+
+-- a reclaim that was made was lawful
+may_by : (b : Bool) (s t : State) → cond b (Some s) None ≡ Some t → b ≡ true
+may_by true s t h = refl
+may_by false s t h = absurd cc
+
+pub reclaim_may : (old new : Codec) (moment : ℕ) → Makes old new (entry.Reclaim moment) → may_reclaim moment (state_at old).control ≡ true
+reclaim_may old new moment made = may_by (may_reclaim moment (state_at old).control) _ (state_at new) made.steps
+
+pub not_reclaimed : (d : DeskValue) (moment : ℕ) → may_reclaim moment (state_of d).control ≡ false → (after_reclaim moment d ≡ d) × (reclaim_box moment d ≡ None)
+not_reclaimed d moment may = (rw may refl, rw may refl)
+
+-- an end
+pub kept_as : (b : Bool) (slot coder : Option Lent) (job : JobValue) (refusal : Option ℕ) → option_map box_out coder ≡ option_map box_out job.coder → holding_of (kept_box b coder) None None ≡ kept_by b (holding_of slot (Some job) refusal)
+kept_as true slot coder job refusal is = with_none (option_map box_out coder) (option_map box_out job.coder) is
+  where
+    with_none : (x y : Option BoxOut) → x ≡ y → ◌≡◌ {A = Holding} (record { box = x; refusal = None }) (record { box = y; refusal = None })
+    with_none x y is = cc
+kept_as false slot coder job refusal is = refl
+
+pub back_as : (b : Bool) (slot coder : Option Lent) (job : JobValue) (refusal : Option ℕ) → option_map box_out coder ≡ option_map box_out job.coder → option_map box_out (handed_back b coder) ≡ back_by b (holding_of slot (Some job) refusal)
+back_as true slot coder job refusal is = refl
+back_as false slot coder job refusal is = stopped_out coder ∙ is
 
 pub shown_there : (ts : List Task) (x y : Shown) → shown_where ts x ≡ Some y → y ≡ x
 shown_there [] x y is = absurd cc
@@ -138,52 +276,100 @@ pub on_ok_map : {T E : Type 0} (r : Result T E) (P Q : Type 0) → (P → Q) →
 on_ok_map (Ok x) P Q f p = f p
 on_ok_map (Err e) P Q f p = tt
 
--- a step of the form that is built is one on the one codec
-eqb_zero : (n : ℕ) → eqb n 0 ≡ true → n ≡ 0
-eqb_zero n is = eqb-true n 0 is
-
-pub step_one : (s : Script) (j : ℕ) (x : Step) (w : Recorded) → is_built_step x ≡ true → follow_step s (whose j) x w ≡ follow_one s j x w
-step_one s j (step.Configure on config) w is = ap (λ (k : ℕ). with_call s (whose j) k (call.Configure config) w) (eqb_zero on (first _ _ is))
-step_one s j (step.Chunk bind init) w is = refl
-step_one s j (step.Decode on chunk) w is = ap (λ (k : ℕ). with_decode s (whose j) k (chunk_at (steps_of s 0) chunk.step) w) (eqb_zero on is)
-step_one s j (step.Flush on bind) w is = ap (λ (k : ℕ). with_call s (whose j) k call.Flush w) (eqb_zero on is)
-step_one s j (step.Await promise) w is = refl
-step_one s j (step.Poll promise) w is = absurd cc
-step_one s j (step.Reset on) w is = absurd cc
-step_one s j (step.Close on) w is = absurd cc
-step_one s j (step.State on) w is = absurd cc
-
--- the caller's next step
-pub next_one : (s : Script) (steps : List Step) (n m : ℕ) (x : Step) (w : Recorded) → steps_of s 0 ≡ steps → slice_get steps n ≡ Some x → is_built_step x ≡ true → n ≡ m → follow_one s n x w ≡ follow_next s (whose m) (slice_get (steps_of s 0) m) w
-next_one s steps n m x w same is built number =
-    sym (step_one s n x w built)
-    ∙ (sym (ap (λ (o : Option Step). follow_next s (whose n) o w) (ap (λ (xs : List Step). slice_get xs n) same ∙ is))
-    ∙ ap (λ (k : ℕ). follow_next s (whose k) (slice_get (steps_of s 0) k) w) number)
-
-pub on_err : {T E : Type 0} (r : Result T E) (e : E) (P : Type 0) → r ≡ Err e → OnOk r P
-on_err (Ok x) e P is = absurd cc
-on_err (Err x) e P is = tt
-
-same_desk : (o p : Opening) (h i : List Entry) → o ≡ p → h ≡ i → ◌≡◌ {A = DeskValue} (record { opening = o; history = h }) (record { opening = p; history = i })
-same_desk o p h i a b = cc
-
--- what contracts see of a desk whose history is longer by this entry
-pub desk_longer : (old new : Codec) (e : Entry) (d : DeskValue) (f : DeskValue → List Entry) → ◌≡◌ {A = DeskValue} (record { opening = old.opening; history = old.history }) d → Makes old new e → e ∷ [] ≡ f (record { opening = old.opening; history = old.history }) → ◌≡◌ {A = DeskValue} (record { opening = new.opening; history = new.history }) (record { opening = d.opening; history = d.history ++ f d })
-desk_longer old new e d f is made there =
-    subst (λ (x : DeskValue). ◌≡◌ {A = DeskValue} (record { opening = new.opening; history = new.history }) (record { opening = x.opening; history = x.history ++ f x })) is
-    (same_desk new.opening old.opening new.history (old.history ++ f (record { opening = old.opening; history = old.history })) made.same_opening (made.longer ∙ ap (λ (es : List Entry). old.history ++ es) there))
-
 pub if_ok_map : {T E : Type 0} (r : Result T E) (P Q : T → Type 0) → ((x : T) → P x → Q x) → IfOk r P → IfOk r Q
 if_ok_map (Ok x) P Q f p = f x p
 if_ok_map (Err e) P Q f p = tt
 
--- a run of one caller and one codec that recorded what the order makes
-pub follows_of : (s : Script) (codec : CodecItem) (caller : CallerItem) (run : Run) (answers : List StepResult) (d : DeskValue) (boxes : List SlotEntry) → s.codecs ≡ codec ∷ [] → s.callers ≡ caller ∷ [] → IsRunOf run answers d boxes → one answers d.history boxes ≡ follow s s.order (one [] [] []) → FollowsTheOrder s run
-follows_of s codec caller run answers d boxes codecs callers is made =
-    rw (is.callers, is.codecs, is.slots) (made ∙ ap (λ (w : Recorded). follow s s.order w) (sym (rw (codecs, callers) refl)))
+pub seen_done : (old new : Codec) (job : JobValue) (d : DoneValue) (refusal : Option ℕ) (moment : ℕ) (wants : Bool) → IsJobOf (state_at old) job → d.epoch ≡ job.epoch → d.number ≡ job.number → outcome_of d.ended ≡ outcome_for wants refusal (answer_to (kind_of job.work) (state_at old).running_given) → option_map box_out d.coder ≡ option_map box_out job.coder → Makes old new (entry.Done d.epoch d.number moment (outcome_of d.ended)) → new.slot ≡ kept_box (d.epoch == (state_at old).control.epoch) d.coder → seen new None None ≡ after_done wants moment (seen old (Some job) refusal)
+seen_done old new job d refusal moment wants is epoch number ends box made slot =
+    let s = state_at old in
+    let h = holding_of old.slot (Some job) refusal in
+    let there = seen_moved old new (entry.Done d.epoch d.number moment (outcome_of d.ended)) (Some job) None refusal None (kept_by (d.epoch == s.control.epoch) h) made
+    (ap (λ (x : Option Lent). holding_of x None None) slot ∙ kept_as (d.epoch == s.control.epoch) old.slot d.coder job refusal box) in
+    there ∙ rw (is.is_running, is.same_epoch, is.same_number, is.same_kind, epoch, number)
+    (ap (λ (o : Outcome). moved (entry.Done job.epoch job.number moment o) (kept_by (job.epoch == s.control.epoch) h) (seen old (Some job) refusal)) ends)
 
--- the order was followed from nothing on
-pub from_nothing : (s : Script) (order : List OrderItem) (w : Recorded) (answers : List StepResult) (d : DeskValue) (o : Opening) (boxes : List SlotEntry) → w ≡ follow s order (one answers d.history boxes) → order ≡ s.order → answers ≡ [] → d ≡ record { opening = o; history = [] } → boxes ≡ [] → w ≡ follow s s.order (one [] [] [])
-from_nothing s order w answers d o boxes made same none opened free =
-    let history : d.history ≡ [] = ap (λ (x : DeskValue). x.history) opened in
-    made ∙ rw (same, none, history, free) refl
+pub done_box_of : (old : Codec) (job : JobValue) (d : DoneValue) (refusal : Option ℕ) → IsJobOf (state_at old) job → d.epoch ≡ job.epoch → option_map box_out d.coder ≡ option_map box_out job.coder → option_map box_out (handed_back (d.epoch == (state_at old).control.epoch) d.coder) ≡ done_box (seen old (Some job) refusal)
+done_box_of old job d refusal is epoch box =
+    let s = state_at old in
+    back_as (d.epoch == s.control.epoch) old.slot d.coder job refusal box
+    ∙ rw (is.is_running, is.same_epoch, epoch) refl
+
+pub not_done : (d : DeskValue) (moment : ℕ) → (state_of d).control.running ≡ None → (d ≡ after_done false moment d) × (None ≡ done_box d)
+not_done d moment is = (rw is refl, rw is refl)
+
+-- ---- starts
+
+pub idle_job : (s : State) (job : Option JobValue) (i : Item) → JobMatches s job → start_item s.control ≡ Some i → job ≡ None
+idle_job s None i matches is = refl
+idle_job s (Some job) i matches is =
+    let may = may_of (may_start s.control) (front s.control.work) i is in
+    absurd (busy s.control matches.running matches.is_running may)
+  where
+    may_of : (b : Bool) (o : Option Item) (x : Item) → cond b o None ≡ Some x → b ≡ true
+    may_of true o x h = refl
+    may_of false o x h = absurd cc
+
+    busy : (c : Control) (r : Running) → c.running ≡ Some r → may_start c ≡ true → ⊥
+    busy c r is may = let no : false ≡ true = sym (rw is refl) ∙ may in absurd cc
+
+-- what a start's job is, as its codec tells
+pub record IsStarted (old : Codec) (job : JobValue) : Type 0 where
+  pub epoch : job.epoch ≡ (state_at old).control.epoch
+  pub place : job.place ≡ length old.history
+  pub item : option_map item_parts (start_item (state_at old).control) ≡ Some (job.number, job.work)
+  pub coder : job.coder ≡ old.slot
+  pub lacks : missing_id job ≡ missing_coder (state_at old).given job.work
+
+started_on : (o : Option Item) (made : List CoderId) (k : ℕ) (slots : List SlotEntry) (d : DeskValue) (n : ℕ) (w : Work) → option_map item_parts o ≡ Some (n, w) → (moved (entry.Start (state_of d).control.epoch n) (filled_holding made (next_by k d) (missing_coder (state_of d).given w) d.holding.box slots) d ≡ started_with made k slots o d) × (filled_slots made (next_by k d) (missing_coder (state_of d).given w) d.holding.box slots ≡ slots_with made k slots o d)
+started_on None made k slots d n w is = absurd cc
+started_on (Some i) made k slots d n w is =
+    let pair : (i.number, i.work) ≡ (n, w) = cc in (
+      ap (λ (x : ℕ × Work). moved (entry.Start (state_of d).control.epoch x.0) (filled_holding made (next_by k d) (missing_coder (state_of d).given x.1) d.holding.box slots) d) (sym pair),
+      ap (λ (x : ℕ × Work). filled_slots made (next_by k d) (missing_coder (state_of d).given x.1) d.holding.box slots) (sym pair),
+    )
+
+some_item : (o : Option Item) (n : ℕ) (w : Work) → option_map item_parts o ≡ Some (n, w) → (i : Item) × (o ≡ Some i)
+some_item None n w is = absurd cc
+some_item (Some i) n w is = (i, refl)
+
+-- no job is out where a start finds an item
+pub none_out : (old : Codec) (job0 : Option JobValue) (job : JobValue) → JobMatches (state_at old) job0 → IsStarted old job → job0 ≡ None
+none_out old job0 job matches st =
+    let i = some_item (start_item (state_at old).control) job.number job.work st.item in
+    idle_job (state_at old) job0 i.0 matches i.1
+
+-- the box that the job came with is the codec's
+pub came_with : (old : Codec) (job0 : Option JobValue) (refusal : Option ℕ) (job : JobValue) → JobMatches (state_at old) job0 → IsStarted old job → option_map box_out job.coder ≡ (seen old job0 refusal).holding.box
+came_with old job0 refusal job matches st =
+    ap (λ (x : Option Lent). option_map box_out x) st.coder ∙ sym (ap (λ (x : Option JobValue). box_of old.slot x) (none_out old job0 job matches st))
+
+pub seen_started : (old new : Codec) (job0 : Option JobValue) (refusal r : Option ℕ) (job job' : JobValue) (made : List CoderId) (k : ℕ) (slots : List SlotEntry) → JobMatches (state_at old) job0 → IsStarted old job → Makes old new (entry.Start job.epoch job.number) → holding_with job'.coder r ≡ filled_holding made (by.Codec k job.place) (missing_id job) (option_map box_out job.coder) slots → seen new (Some job') r ≡ after_start made k slots (seen old job0 refusal)
+seen_started old new job0 refusal r job job' made k slots matches st makes is =
+    let d = seen old job0 refusal in
+    let s = state_at old in
+    let box = came_with old job0 refusal job matches st in
+    let holding : holding_with job'.coder r ≡ filled_holding made (next_by k d) (missing_coder s.given job.work) d.holding.box slots =
+    is ∙ rw (st.place, st.lacks, box) refl in
+    seen_moved old new (entry.Start job.epoch job.number) job0 (Some job') refusal r _ makes holding
+    ∙ (ap (λ (n : ℕ). moved (entry.Start n job.number) (filled_holding made (next_by k d) (missing_coder s.given job.work) d.holding.box slots) d) st.epoch
+    ∙ (started_on (start_item s.control) made k slots d job.number job.work st.item).0)
+
+pub slots_started : (old : Codec) (job0 : Option JobValue) (refusal : Option ℕ) (job : JobValue) (made : List CoderId) (k : ℕ) (slots : List SlotEntry) → JobMatches (state_at old) job0 → IsStarted old job → filled_slots made (by.Codec k job.place) (missing_id job) (option_map box_out job.coder) slots ≡ start_slots made k slots (seen old job0 refusal)
+slots_started old job0 refusal job made k slots matches st =
+    let d = seen old job0 refusal in
+    let s = state_at old in
+    let box = came_with old job0 refusal job matches st in
+    rw (st.place, st.lacks, box) refl
+    ∙ (started_on (start_item s.control) made k slots d job.number job.work st.item).1
+
+pub not_started : (made : List CoderId) (k : ℕ) (slots : List SlotEntry) (d : DeskValue) → start_item (state_of d).control ≡ None → (d ≡ after_start made k slots d) × (slots ≡ start_slots made k slots d)
+not_started made k slots d is = (rw is refl, rw is refl)
+
+pub if_ok_at : {T E : Type 0} (r : Result T E) (x : T) (P : T → Type 0) → r ≡ Ok x → IfOk r P → P x
+if_ok_at (Ok y) x P is p = let same : y ≡ x = cc in subst P same p
+if_ok_at (Err e) x P is p = absurd cc
+
+pub on_ok_at : {T E : Type 0} (r : Result T E) (x : T) (P : Type 0) → r ≡ Ok x → OnOk r P → P
+on_ok_at (Ok y) x P is p = p
+on_ok_at (Err e) x P is p = absurd cc

@@ -1,11 +1,12 @@
 -- Following a script's order makes a run that fits the script.
-use Rattle.std.proofs.Common.{ℕ, zero, suc, ◌≡◌, ◌<◌, Bool, true, false, cond, List, [], ◌∷◌, ◌++◌, ◌+◌, take, length, Option, Some, None, refl, ap, sym, subst, ◌∙◌, arith}
+use Rattle.std.proofs.Common.{ℕ, zero, suc, ◌≡◌, ◌<◌, ◌≤◌, Bool, true, false, cond, List, [], ◌∷◌, ◌++◌, ◌+◌, take, length, map, Option, Some, None, refl, ap, sym, subst, ◌∙◌, arith}
 use Rattle.std.proofs.Math.Seq.{take-length}
-use Rattle.std.proofs.lemmas.List.{length-map}
+use Rattle.std.proofs.lemmas.List.{length-map, take_all}
 use Rattle.std.proofs.lemmas.Option.{some_pair_parts}
-use Rattle.std.specs.Prelude.{slice_get}
+use Rattle.std.specs.Prelude.{◌==◌, slice_get}
 use Rattle.wc_base.specs.declared.error.DomError.{DomError}
 use Rattle.wc_base.specs.declared.who.Who.{Who}
+use Rattle.wc_config.specs.declared.codec.CoderId.{CoderId}
 use Rattle.wc_config.specs.declared.config.Config.{Config}
 use Rattle.wc_chunk.specs.declared.chunk.Chunk.{Chunk}
 use Rattle.codec_model.specs.declared.entry.Entry.{Entry}
@@ -14,10 +15,11 @@ use Rattle.codec_model.specs.declared.entry.Item.{Item}
 use Rattle.codec_model.specs.declared.entry.Running.{Running}
 use Rattle.codec_model.specs.declared.entry.Task.{Task}
 use Rattle.codec_model.specs.declared.entry.Call.TheVariants as call
-use Rattle.codec_model.specs.Control.{start_item, may_reclaim}
-use Rattle.codec_model.specs.Replay.{IsLegal, removal_error, answer_to}
+use Rattle.codec_model.specs.Control.{start_item, may_reclaim, is_close}
+use Rattle.codec_model.specs.Replay.{IsLegal, removal_error, answer_to, missing_coder}
 use Rattle.wc_script.specs.declared.script.Script.{Script}
 use Rattle.wc_script.specs.declared.script.CallerItem.{CallerItem}
+use Rattle.wc_script.specs.declared.script.CodecItem.{CodecItem}
 use Rattle.wc_script.specs.declared.script.ChunkInit.{ChunkInit}
 use Rattle.wc_script.specs.declared.script.Variable.{Variable}
 use Rattle.wc_script.specs.declared.script.Step.{Step}
@@ -27,12 +29,14 @@ use Rattle.wc_script.specs.declared.script.OrderItem.TheVariants as item
 use Rattle.trace_text.specs.declared.run.Run.{Run}
 use Rattle.trace_text.specs.declared.run.StepResult.{StepResult}
 use Rattle.trace_text.specs.declared.run.StepResult.TheVariants as result
-use Rattle.trace_text.specs.Follow.{Recorded, at, with_result, with_entry, opening_at, state_after, state_at, promise_after, steps_in, steps_of, chunk_at, init_error, with_call, with_removal, with_decode, with_look, with_state, with_start, with_done, with_turn, outcome_by, follow_step, follow_next, follow_item, follow, nothing_recorded, recorded_by}
-use Rattle.trace_text.specs.Fits.{result_in, step_in, called, IsResultOf, IsLocalAnswer, CallsAreIn, LooksAreIn, ArgumentsAreIn, LocalsAreIn, FollowsTheOrder, Fits}
+use Rattle.trace_text.specs.Follow.{Recorded, Course, Holding, at, append_at, with_result, with_entry, opening_at, state_after, state_at, promise_after, steps_in, steps_of, chunk_at, init_error, with_call, removes, with_removal, with_decode, with_look, with_state, lets_go, lets_go_unless, with_start, with_done, with_turn, recording, holding_at, nothing_held, outcome_for, follow_step, follow_next, follow_item, Follows, nothing_yet}
+use Rattle.trace_text.specs.Fits.{result_in, step_in, called, recorded_of, IsResultOf, IsLocalAnswer, FollowsTheOrder, Fits}
 use Rattle.wc_replay.specs.Sound.{IsSound, promise_of, IsFlush}
 use Rattle.wc_replay.proofs.Lists.{at_empty, get_some, result_kept}
 use Rattle.wc_replay.proofs.Legal.{start_legal, done_legal, turn_legal, reclaim_legal}
-use Rattle.wc_replay.proofs.Moves.{FitsSoFar, fits_call, fits_result, fits_entry, call_shows, removal_is_shown}
+use Rattle.wc_replay.proofs.Courses.{SameParts, with_box_parts, keeps_box_eases, lets_go_eases, lets_go_if_eases, lets_go_unless_eases, RefusalsStand}
+use Rattle.wc_replay.proofs.Refusals.{step_stands, start_stands, done_stands, turn_stands, reclaim_stands, may_be_refused}
+use Rattle.wc_replay.proofs.Moves.{FitsSoFar, fits_call, fits_result, fits_entry, fits_same, call_shows, removal_is_shown}
 
 steps_within : (cs : List CallerItem) (c j : ℕ) (x : Step) → slice_get (steps_in cs c) j ≡ Some x → c < length cs
 steps_within [] c j x h = absurd cc
@@ -89,7 +93,7 @@ decode_fits s w c k chunk (Some value) sound fits is some = fits_call s w c k (s
   shown = call_shows (next_who w c) (call.Decode value) (state_at s w k);
 })
 
-reset_fits : (s : Script) (w : Recorded) (c k : ℕ) → IsSound s → FitsSoFar s w → IsNext s w c (step.Reset k) → FitsSoFar s (with_removal s (next_who w c) k (entry.Reset (next_who w c)) w)
+reset_fits : (s : Script) (w : Recorded) (c k : ℕ) → IsSound s → FitsSoFar s w → IsNext s w c (step.Reset k) → FitsSoFar s (removes s (next_who w c) k (entry.Reset (next_who w c)) w)
 reset_fits s w c k sound fits is = fits_call s w c k (step.Reset k) (entry.Reset (next_who w c)) _ fits (record {
   is_step = is;
   calls = refl;
@@ -101,7 +105,7 @@ reset_fits s w c k sound fits is = fits_call s w c k (step.Reset k) (entry.Reset
   shown = removal_is_shown (removal_error (state_at s w k).control) (state_at s w k).control.pending;
 })
 
-close_fits : (s : Script) (w : Recorded) (c k : ℕ) → IsSound s → FitsSoFar s w → IsNext s w c (step.Close k) → FitsSoFar s (with_removal s (next_who w c) k (entry.Close (next_who w c)) w)
+close_fits : (s : Script) (w : Recorded) (c k : ℕ) → IsSound s → FitsSoFar s w → IsNext s w c (step.Close k) → FitsSoFar s (removes s (next_who w c) k (entry.Close (next_who w c)) w)
 close_fits s w c k sound fits is = fits_call s w c k (step.Close k) (entry.Close (next_who w c)) _ fits (record {
   is_step = is;
   calls = refl;
@@ -202,51 +206,102 @@ chunk_step_fits s w c bind init fits is = fits_result s w c (step.Chunk bind ini
   look = λ k n h. absurd cc;
 })
 
-step_fits : (s : Script) (w : Recorded) (c : ℕ) (x : Step) → IsSound s → FitsSoFar s w → IsNext s w c x → FitsSoFar s (follow_step s (next_who w c) x w)
-step_fits s w c (step.Configure on config) sound fits is = configure_fits s w c on config sound fits is
-step_fits s w c (step.Chunk bind init) sound fits is = chunk_step_fits s w c bind init fits is
-step_fits s w c (step.Decode on chunk) sound fits is = decode_fits s w c on chunk (chunk_at (steps_of s c) chunk.step) sound fits is refl
-step_fits s w c (step.Flush on bind) sound fits is = flush_fits s w c on bind sound fits is
-step_fits s w c (step.Poll promise) sound fits is = poll_fits s w c promise sound fits is
-step_fits s w c (step.Await promise) sound fits is = await_fits s w c promise sound fits is
-step_fits s w c (step.Reset on) sound fits is = reset_fits s w c on sound fits is
-step_fits s w c (step.Close on) sound fits is = close_fits s w c on sound fits is
-step_fits s w c (step.State on) sound fits is = state_fits s w c on fits is
+-- a removal's entry and result are the same after what its codec lets go
+removes_same : (s : Script) (who : Who) (k : ℕ) (e : Entry) (w u : Recorded) → SameParts w u → SameParts (removes s who k e w) (removes s who k e u)
+removes_same s who k e w u same =
+    let shown : List (List Entry) → StepResult = λ cs. result.Call k (length (at k cs)) (removal_error (state_after (opening_at s k) (at k cs)).control) in
+    record {
+      callers = ap (λ cs. append_at who.caller (shown cs) u.callers) same.codecs ∙ ap (λ rs. append_at who.caller (shown w.codecs) rs) same.callers;
+      codecs = ap (λ cs. append_at k e cs) same.codecs;
+    }
 
-next_fits : (s : Script) (w : Recorded) (c : ℕ) (o : Option Step) → IsSound s → FitsSoFar s w → step_in s c (length (at c w.callers)) ≡ o → FitsSoFar s (follow_next s (next_who w c) o w)
-next_fits s w c None sound fits is = fits
-next_fits s w c (Some x) sound fits is = step_fits s w c x sound fits is
+entry_same : (k : ℕ) (e : Entry) (w u : Recorded) → SameParts w u → SameParts (with_entry k e w) (with_entry k e u)
+entry_same k e w u same = record { callers = same.callers; codecs = ap (λ cs. append_at k e cs) same.codecs }
 
-start_fits : (s : Script) (w : Recorded) (k : ℕ) (o : Option Item) → FitsSoFar s w → start_item (state_at s w k).control ≡ o → FitsSoFar s (with_start k (state_at s w k).control.epoch (state_at s w k).given o w)
-start_fits s w k None fits is = fits
-start_fits s w k (Some i) fits is = fits_entry s w k (entry.Start (state_at s w k).control.epoch i.number) _ fits refl (start_legal (state_at s w k) i is)
+removal_fits : (s : Script) (who : Who) (k : ℕ) (e : Entry) (v : Course) → FitsSoFar s (removes s who k e v.recorded) → FitsSoFar s (with_removal s who k e v).recorded
+removal_fits s who k e v fits =
+    let c = (state_at s v.recorded k).control in
+    let u = lets_go_unless (removal_error c) k c.running v in
+    fits_same s _ _ (removes_same s who k e v.recorded u.recorded (lets_go_unless_eases (removal_error c) k c.running v).parts) fits
 
-done_fits : (s : Script) (w : Recorded) (k moment : ℕ) (o : Option Running) → FitsSoFar s w → (state_at s w k).control.running ≡ o → FitsSoFar s (with_done k moment (state_at s w k) o w)
-done_fits s w k moment None fits is = fits
-done_fits s w k moment (Some r) fits is = fits_entry s w k (entry.Done r.epoch r.number moment (outcome_by (answer_to r.kind (state_at s w k).running_given))) w.slots fits refl (done_legal (state_at s w k) r moment is)
+step_fits : (s : Script) (v : Course) (c : ℕ) (x : Step) → IsSound s → FitsSoFar s v.recorded → IsNext s v.recorded c x → FitsSoFar s (follow_step s (next_who v.recorded c) x v).recorded
+step_fits s v c (step.Configure on config) sound fits is = configure_fits s v.recorded c on config sound fits is
+step_fits s v c (step.Chunk bind init) sound fits is = chunk_step_fits s v.recorded c bind init fits is
+step_fits s v c (step.Decode on chunk) sound fits is = decode_fits s v.recorded c on chunk (chunk_at (steps_of s c) chunk.step) sound fits is refl
+step_fits s v c (step.Flush on bind) sound fits is = flush_fits s v.recorded c on bind sound fits is
+step_fits s v c (step.Poll promise) sound fits is = poll_fits s v.recorded c promise sound fits is
+step_fits s v c (step.Await promise) sound fits is = await_fits s v.recorded c promise sound fits is
+step_fits s v c (step.Reset on) sound fits is = removal_fits s (next_who v.recorded c) on (entry.Reset (next_who v.recorded c)) v (reset_fits s v.recorded c on sound fits is)
+step_fits s v c (step.Close on) sound fits is = removal_fits s (next_who v.recorded c) on (entry.Close (next_who v.recorded c)) v (close_fits s v.recorded c on sound fits is)
+step_fits s v c (step.State on) sound fits is = state_fits s v.recorded c on fits is
 
-turn_fits : (s : Script) (w : Recorded) (k : ℕ) (ts : List Task) → FitsSoFar s w → (state_at s w k).control.tasks ≡ ts → FitsSoFar s (with_turn k ts w)
-turn_fits s w k [] fits is = fits
-turn_fits s w k (t ∷ ts) fits is = fits_entry s w k entry.Turn w.slots fits refl (turn_legal (state_at s w k) t ts is)
+-- What was recorded fits the script, and each codec that was refused a box needs one.
+pub record CourseFits (s : Script) (v : Course) : Type 0 where
+  pub recorded_fits : FitsSoFar s v.recorded
+  pub refusals : RefusalsStand s v
 
-reclaim_fits : (s : Script) (w : Recorded) (k moment : ℕ) (b : Bool) → FitsSoFar s w → may_reclaim moment (state_at s w k).control ≡ b → FitsSoFar s (cond b (with_entry k (entry.Reclaim moment) w) w)
-reclaim_fits s w k moment true fits is = fits_entry s w k (entry.Reclaim moment) w.slots fits refl (reclaim_legal (state_at s w k) moment is)
-reclaim_fits s w k moment false fits is = fits
+next_fits : (s : Script) (v : Course) (c : ℕ) (o : Option Step) → IsSound s → CourseFits s v → step_in s c (length (at c v.recorded.callers)) ≡ o → CourseFits s (follow_next s (next_who v.recorded c) o v)
+next_fits s v c None sound fits is = fits
+next_fits s v c (Some x) sound fits is = record {
+  recorded_fits = step_fits s v c x sound fits.recorded_fits is;
+  refusals = step_stands s (next_who v.recorded c) x v fits.recorded_fits.legal fits.refusals;
+}
 
-pub item_fits : (s : Script) (x : OrderItem) (w : Recorded) → IsSound s → FitsSoFar s w → FitsSoFar s (follow_item s x w)
-item_fits s (item.Caller c) w sound fits = next_fits s w c (step_in s c (length (at c w.callers))) sound fits refl
-item_fits s (item.Start k) w sound fits = start_fits s w k (start_item (state_at s w k).control) fits refl
-item_fits s (item.Done k moment) w sound fits = done_fits s w k moment (state_at s w k).control.running fits refl
-item_fits s (item.Turn k) w sound fits = turn_fits s w k (state_at s w k).control.tasks fits refl
-item_fits s (item.Reclaim k moment) w sound fits = reclaim_fits s w k moment (may_reclaim moment (state_at s w k).control) fits refl
+start_fits : (s : Script) (made : List CoderId) (v : Course) (k : ℕ) (o : Option Item) → CourseFits s v → start_item (state_at s v.recorded k).control ≡ o → CourseFits s (with_start made k (state_at s v.recorded k).control.epoch (state_at s v.recorded k).given o v)
+start_fits s made v k None fits is = fits
+start_fits s made v k (Some i) fits is =
+    let x = state_at s v.recorded k in
+    let e = entry.Start x.control.epoch i.number in
+    record {
+      recorded_fits = fits_same s (with_entry k e v.recorded) _ (entry_same k e v.recorded _ (with_box_parts made k (missing_coder x.given i.work) v)) (fits_entry s v.recorded k e fits.recorded_fits refl (start_legal x i is));
+      refusals = start_stands s made k i v fits.recorded_fits.legal fits.refusals is;
+    }
 
-pub order_fits : (s : Script) (xs : List OrderItem) (w : Recorded) → IsSound s → FitsSoFar s w → FitsSoFar s (follow s xs w)
-order_fits s [] w sound fits = fits
-order_fits s (x ∷ xs) w sound fits = order_fits s xs (follow_item s x w) sound (item_fits s x w sound fits)
+done_fits : (s : Script) (wants : Bool) (v : Course) (k moment : ℕ) (o : Option Running) → CourseFits s v → (state_at s v.recorded k).control.running ≡ o → CourseFits s (with_done wants k moment (state_at s v.recorded k) o v)
+done_fits s wants v k moment None fits is = fits
+done_fits s wants v k moment (Some r) fits is =
+    let x = state_at s v.recorded k in
+    let refusal = (holding_at k v.holdings).refusal in
+    let e = entry.Done r.epoch r.number moment (outcome_for wants refusal (answer_to r.kind x.running_given)) in
+    let may = may_be_refused s v k r refusal refl is fits.refusals in
+    record {
+      recorded_fits = fits_same s (with_entry k e v.recorded) _ (entry_same k e v.recorded _ (keeps_box_eases (r.epoch == x.control.epoch) k v).parts) (fits_entry s v.recorded k e fits.recorded_fits refl (done_legal x r moment wants refusal is may));
+      refusals = done_stands s wants k moment r v fits.recorded_fits.legal fits.refusals is;
+    }
+
+turn_fits : (s : Script) (v : Course) (k : ℕ) (ts : List Task) → CourseFits s v → (state_at s v.recorded k).control.tasks ≡ ts → CourseFits s (with_turn k (state_at s v.recorded k).control.running ts v)
+turn_fits s v k [] fits is = fits
+turn_fits s v k (t ∷ ts) fits is =
+    let x = state_at s v.recorded k in
+    record {
+      recorded_fits = fits_same s (with_entry k entry.Turn v.recorded) _ (entry_same k entry.Turn v.recorded _ (lets_go_if_eases (is_close t) k x.control.running v).parts) (fits_entry s v.recorded k entry.Turn fits.recorded_fits refl (turn_legal x t ts is));
+      refusals = turn_stands s k t ts v fits.recorded_fits.legal fits.refusals is;
+    }
+
+reclaim_fits : (s : Script) (v : Course) (k moment : ℕ) (b : Bool) → CourseFits s v → may_reclaim moment (state_at s v.recorded k).control ≡ b → CourseFits s (cond b (recording (with_entry k (entry.Reclaim moment)) (lets_go k (state_at s v.recorded k).control.running v)) v)
+reclaim_fits s v k moment false fits is = fits
+reclaim_fits s v k moment true fits is =
+    let x = state_at s v.recorded k in
+    let e = entry.Reclaim moment in
+    record {
+      recorded_fits = fits_same s (with_entry k e v.recorded) _ (entry_same k e v.recorded _ (lets_go_eases k x.control.running v).parts) (fits_entry s v.recorded k e fits.recorded_fits refl (reclaim_legal x moment is));
+      refusals = reclaim_stands s k moment v fits.recorded_fits.legal fits.refusals is;
+    }
+
+pub item_fits : (s : Script) (made : List CoderId) (wants : Bool) (x : OrderItem) (v : Course) → IsSound s → CourseFits s v → CourseFits s (follow_item s made wants x v)
+item_fits s made wants (item.Caller c) v sound fits = next_fits s v c (step_in s c (length (at c v.recorded.callers))) sound fits refl
+item_fits s made wants (item.Start k) v sound fits = start_fits s made v k (start_item (state_at s v.recorded k).control) fits refl
+item_fits s made wants (item.Done k moment) v sound fits = done_fits s wants v k moment (state_at s v.recorded k).control.running fits refl
+item_fits s made wants (item.Turn k) v sound fits = turn_fits s v k (state_at s v.recorded k).control.tasks fits refl
+item_fits s made wants (item.Reclaim k moment) v sound fits = reclaim_fits s v k moment (may_reclaim moment (state_at s v.recorded k).control) fits refl
+
+pub order_fits : (s : Script) (made : List CoderId) (xs : List OrderItem) (v u : Course) → IsSound s → CourseFits s v → Follows s made xs v u → CourseFits s u
+order_fits s made [] v u sound fits follows = subst (CourseFits s) (sym follows) fits
+order_fits s made (x ∷ xs) v u sound fits follows = order_fits s made xs (follow_item s made follows.0 x v) u sound (item_fits s made follows.0 x v sound fits) follows.1
 
 -- nothing is recorded yet
-pub nothing_fits : (s : Script) → FitsSoFar s (nothing_recorded s)
-nothing_fits s = record {
+recorded_nothing : (s : Script) → FitsSoFar s (nothing_yet s).recorded
+recorded_nothing s = record {
   callers = length-map s.callers _;
   codecs = length-map s.codecs _;
   legal = λ k. subst (λ (h : List Entry). IsLegal (opening_at s k) h) (sym (at_empty k s.codecs)) refl;
@@ -266,16 +321,27 @@ nothing_fits s = record {
   locals = λ c j x r is h. absurd (no_result c j r h);
 }
   where
-    no_result : (c j : ℕ) (r : StepResult) → result_in (nothing_recorded s) c j ≡ Some r → ⊥
+    no_result : (c j : ℕ) (r : StepResult) → result_in (nothing_yet s).recorded c j ≡ Some r → ⊥
     no_result c j r h = let none : None ≡ Some r = sym (ap (λ xs. slice_get xs j) (at_empty c s.callers)) ∙ h in cc
 
-    no_entry : (k p : ℕ) (e : Entry) → slice_get (at k (nothing_recorded s).codecs) p ≡ Some e → ⊥
+    no_entry : (k p : ℕ) (e : Entry) → slice_get (at k (nothing_yet s).recorded.codecs) p ≡ Some e → ⊥
     no_entry k p e h = let none : None ≡ Some e = sym (ap (λ xs. slice_get xs p) (at_empty k s.codecs)) ∙ h in cc
 
+pub none_held : (k : ℕ) (cs : List CodecItem) → holding_at k (map (λ c. nothing_held) cs) ≡ nothing_held
+none_held k [] = refl
+none_held zero (c ∷ cs) = refl
+none_held (suc k) (c ∷ cs) = none_held k cs
+
+pub nothing_fits : (s : Script) → CourseFits s (nothing_yet s)
+nothing_fits s = record {
+  recorded_fits = recorded_nothing s;
+  refusals = λ k e h. absurd (let bad : None ≡ Some e = sym (ap (λ (x : Holding). x.refusal) (none_held k s.codecs)) ∙ h in cc);
+}
+
 -- one more item of an order
-pub follow_more : (s : Script) (xs : List OrderItem) (x : OrderItem) (w : Recorded) → follow s (xs ++ x ∷ []) w ≡ follow_item s x (follow s xs w)
-follow_more s [] x w = refl
-follow_more s (y ∷ ys) x w = follow_more s ys x (follow_item s y w)
+pub follows_more : (s : Script) (made : List CoderId) (xs : List OrderItem) (x : OrderItem) (wants : Bool) (v u : Course) → Follows s made xs v u → Follows s made (xs ++ x ∷ []) v (follow_item s made wants x u)
+follows_more s made [] x wants v u follows = (wants, ap (follow_item s made wants x) follows)
+follows_more s made (y ∷ ys) x wants v u follows = (follows.0, follows_more s made ys x wants (follow_item s made follows.0 y v) u follows.1)
 
 take_one : {X : Type 0} (xs : List X) (i : ℕ) (x : X) → slice_get xs i ≡ Some x → take (suc i) xs ≡ take i xs ++ x ∷ []
 take_one [] i x h = absurd cc
@@ -285,30 +351,38 @@ take_one (y ∷ ys) (suc i) x h = ap (λ zs. y ∷ zs) (take_one ys i x h)
 pub take_next : {X : Type 0} (xs : List X) (i : ℕ) (x : X) → slice_get xs i ≡ Some x → take (i + 1) xs ≡ take i xs ++ x ∷ []
 take_next xs i x h = let one : i + 1 ≡ suc i = omega arith in ap (λ (n : ℕ). take n xs) one ∙ take_one xs i x h
 
--- what is recorded before the item with this number, and after it
-pub follow_next_item : (s : Script) (i : ℕ) (x : OrderItem) → slice_get s.order i ≡ Some x → follow s (take (i + 1) s.order) (nothing_recorded s) ≡ follow_item s x (follow s (take i s.order) (nothing_recorded s))
-follow_next_item s i x h = ap (λ (xs : List OrderItem). follow s xs (nothing_recorded s)) (take_next s.order i x h) ∙ follow_more s (take i s.order) x (nothing_recorded s)
+-- what is followed before the item with this number, and after it
+pub follows_next : (s : Script) (made : List CoderId) (i : ℕ) (x : OrderItem) (wants : Bool) (v u : Course) → slice_get s.order i ≡ Some x → Follows s made (take i s.order) v u → Follows s made (take (i + 1) s.order) v (follow_item s made wants x u)
+follows_next s made i x wants v u h follows = subst (λ (xs : List OrderItem). Follows s made xs v (follow_item s made wants x u)) (sym (take_next s.order i x h)) (follows_more s made (take i s.order) x wants v u follows)
 
--- what is recorded before the item with this number fits the script
-pub fits_before : (s : Script) (i : ℕ) → IsSound s → FitsSoFar s (follow s (take i s.order) (nothing_recorded s))
-fits_before s i sound = order_fits s (take i s.order) (nothing_recorded s) sound (nothing_fits s)
+-- the item with this number leads to this course
+pub follows_to : (s : Script) (made : List CoderId) (i : ℕ) (x : OrderItem) (wants : Bool) (v u next : Course) → slice_get s.order i ≡ Some x → Follows s made (take i s.order) v u → next ≡ follow_item s made wants x u → Follows s made (take (i + 1) s.order) v next
+follows_to s made i x wants v u next h follows is = subst (λ (c : Course). Follows s made (take (i + 1) s.order) v c) (sym is) (follows_next s made i x wants v u h follows)
 
--- what a script's order makes fits the script
-pub order_makes : (s : Script) → IsSound s → FitsSoFar s (recorded_by s)
-order_makes s sound = order_fits s s.order (nothing_recorded s) sound (nothing_fits s)
+-- all items are followed
+pub follows_all : (s : Script) (made : List CoderId) (i : ℕ) (v u : Course) → length s.order ≤ i → Follows s made (take i s.order) v u → Follows s made s.order v u
+follows_all s made i v u all follows = subst (λ (xs : List OrderItem). Follows s made xs v u) (take_all i s.order all) follows
+
+-- a course that follows a front of the order fits the script
+pub fits_before : (s : Script) (made : List CoderId) (i : ℕ) (u : Course) → IsSound s → Follows s made (take i s.order) (nothing_yet s) u → CourseFits s u
+fits_before s made i u sound follows = order_fits s made (take i s.order) (nothing_yet s) u sound (nothing_fits s) follows
+
+-- what a run that follows a sound script's order recorded fits the script
+pub order_makes : (s : Script) → IsSound s → (made : List CoderId) (run : Run) → FollowsTheOrder s made run → FitsSoFar s (recorded_of run)
+order_makes s sound made run follows = (order_fits s made s.order (nothing_yet s) (record { recorded = recorded_of run; holdings = follows.holdings }) sound (nothing_fits s) follows.follows).recorded_fits
 
 -- A run that follows the order of a sound script fits it.
-pub fits_of : (s : Script) → IsSound s → (run : Run) → FollowsTheOrder s run → Fits s run
-fits_of s sound run follows =
-    let all = order_makes s sound in
+pub fits_of : (s : Script) → IsSound s → (made : List CoderId) (run : Run) → FollowsTheOrder s made run → Fits s made run
+fits_of s sound made run follows =
+    let all = order_makes s sound made run follows in
     record {
-      calls = subst (CallsAreIn s) (sym follows) all.calls;
-      looks = subst (LooksAreIn s) (sym follows) all.looks;
-      arguments = subst (ArgumentsAreIn s) (sym follows) all.arguments;
-      locals = subst (LocalsAreIn s) (sym follows) all.locals;
+      calls = all.calls;
+      looks = all.looks;
+      arguments = all.arguments;
+      locals = all.locals;
       follows = follows;
     }
 
--- Each history that following the order of a sound script makes is legal.
-pub legal_of : (s : Script) → IsSound s → (k : ℕ) → IsLegal (opening_at s k) (at k (recorded_by s).codecs)
-legal_of s sound k = (order_makes s sound).legal k
+-- Each codec's history in a run that follows the order of a sound script is legal.
+pub legal_of : (s : Script) → IsSound s → (made : List CoderId) (run : Run) → FollowsTheOrder s made run → (k : ℕ) → IsLegal (opening_at s k) (at k (recorded_of run).codecs)
+legal_of s sound made run follows k = (order_makes s sound made run follows).legal k

@@ -1,15 +1,15 @@
 -- What is recorded grows: what was there stays, and what is new stands at the end.
 use Rattle.std.proofs.Common.{ℕ, ◌≡◌, ◌<◌, ◌++◌, ◌⊎◌, inl, List, []}
-use Rattle.std.proofs.Common.{length, Option, Some, sym, append-nil, subst}
+use Rattle.std.proofs.Common.{length, Option, Some, ap, sym, ◌∙◌, append-nil, subst}
+use Rattle.std.specs.Prelude.{slice_get}
 use Rattle.wc_base.specs.declared.who.Who.{Who}
 use Rattle.wc_base.specs.declared.error.DomError.{DomError}
-use Rattle.coder_api.specs.declared.slot.SlotEntry.{SlotEntry}
 use Rattle.codec_model.specs.declared.entry.Entry.{Entry}
 use Rattle.wc_script.specs.declared.script.Script.{Script}
 use Rattle.wc_script.specs.declared.script.Step.{Step}
 use Rattle.trace_text.specs.declared.run.StepResult.{StepResult}
 use Rattle.trace_text.specs.declared.run.StepResult.TheVariants as result
-use Rattle.trace_text.specs.Follow.{Recorded, at, append_at, with_result, with_entry}
+use Rattle.trace_text.specs.Follow.{Recorded, at, with_result, with_entry}
 use Rattle.trace_text.specs.Fits.{result_in, entry_in, step_in, who_of, called, look_of, IsResultOf, LookShows, IsLocalAnswer, HasArguments}
 use Rattle.wc_replay.proofs.Lists.{IsNew, result_kept, result_more, new_last, at_grows}
 
@@ -60,13 +60,23 @@ grows_result w c r = record {
   entries = λ n p f h. inl h;
 }
 
-pub grows_entry : (w : Recorded) (k : ℕ) (e : Entry) (slots : List SlotEntry) → Grows w (record { callers = w.callers; codecs = append_at k e w.codecs; slots = slots }) Nothing (IsNew k e w.codecs)
-grows_entry w k e slots = record {
+pub grows_entry : (w : Recorded) (k : ℕ) (e : Entry) → Grows w (with_entry k e w) Nothing (IsNew k e w.codecs)
+grows_entry w k e = record {
   result_stays = λ b j q h. h;
   results = λ b j q h. inl h;
   last = λ b i j q p new h lt. new;
   more = λ n. at_grows n k e w.codecs;
   entries = λ n p f h. result_more n k p e f w.codecs h;
+}
+
+-- the same callers and codecs
+pub grows_same : (w v : Recorded) → v.callers ≡ w.callers → v.codecs ≡ w.codecs → Grows w v Nothing Nothing
+grows_same w v callers codecs = record {
+  result_stays = λ b j q h. ap (λ ls. slice_get (at b ls) j) callers ∙ h;
+  results = λ b j q h. inl (ap (λ ls. slice_get (at b ls) j) (sym callers) ∙ h);
+  last = λ b i j q p new h lt. new;
+  more = λ n. ([], ap (at n) codecs ∙ sym (append-nil (at n w.codecs)));
+  entries = λ n p f h. inl (ap (λ ls. slice_get (at n ls) p) (sym codecs) ∙ h);
 }
 
 -- what holds of the new one

@@ -2,12 +2,14 @@
 use Rattle.std.proofs.Common.{ℕ, ◌≡◌, ◌<◌, Bool, true, false, eq-eqb, cond, List, [], ◌∷◌, ◌++◌, length, Option, Some, None, is_some, refl, ap, sym, subst, ◌∙◌, arith}
 use Rattle.std.specs.Prelude.{unwrap_or, slice_get}
 use Rattle.wc_base.specs.declared.who.Who.{Who}
+use Rattle.wc_config.specs.Configs.{is_supported}
 use Rattle.coder_api.specs.declared.unit.Unit as media
 use Rattle.codec_model.specs.declared.entry.Opening.{Opening}
 use Rattle.codec_model.specs.declared.entry.Call.{Call}
 use Rattle.codec_model.specs.declared.entry.Call.TheVariants as call
 use Rattle.codec_model.specs.declared.entry.Item.{Item}
 use Rattle.codec_model.specs.declared.entry.Running.{Running}
+use Rattle.codec_model.specs.declared.entry.WorkKind.TheVariants as kind
 use Rattle.codec_model.specs.declared.entry.Task.{Task}
 use Rattle.codec_model.specs.declared.entry.Task.TheVariants as task
 use Rattle.codec_model.specs.declared.entry.Entry.{Entry}
@@ -17,7 +19,7 @@ use Rattle.codec_model.specs.Replay.{State, step, opening_state, replay, answer_
 use Rattle.codec_model.specs.Shown.{shown_at, each_shown, each_shown_from}
 use Rattle.codec_model.proofs.ShownLaws.{replay_append, each_append, each_more, each_length}
 use Rattle.wc_script.specs.declared.script.Script.{Script}
-use Rattle.trace_text.specs.Follow.{Recorded, at, opening_at, state_after, state_at, with_entry, outcome_by}
+use Rattle.trace_text.specs.Follow.{Recorded, at, opening_at, state_after, state_at, with_entry, outcome_by, outcome_for}
 use Rattle.wc_replay.proofs.Lists.{Same, Longer, growth, get_within, get_end}
 
 -- each codec's history is legal
@@ -66,7 +68,7 @@ call_legal who (call.Configure config) s = refl
 call_legal who (call.Decode chunk) s = refl
 call_legal who call.Flush s = refl
 
-cond_some : {X : Type 0} (b : Bool) (o : Option X) (x : X) → cond b o None ≡ Some x → (b ≡ true) × (o ≡ Some x)
+pub cond_some : {X : Type 0} (b : Bool) (o : Option X) (x : X) → cond b o None ≡ Some x → (b ≡ true) × (o ≡ Some x)
 cond_some true o x h = (refl, h)
 cond_some false o x h = absurd cc
 
@@ -85,10 +87,24 @@ answered : (r : Running) (s : State) (moment : ℕ) (a : Option (List media.Unit
 answered r s moment None e = rw e refl
 answered r s moment (Some us) e = rw (e, eq-eqb (length us) (length us) refl) refl
 
-pub done_legal : (s : State) (r : Running) (moment : ℕ) → s.control.running ≡ Some r → Steps (entry.Done r.epoch r.number moment (outcome_by (answer_to r.kind s.running_given))) s
-done_legal s r moment h =
-    subst (λ (o : Option Running). is_some (done_step o r.epoch r.number moment (outcome_by (answer_to r.kind s.running_given)) s) ≡ true) (sym h)
-    (rw (eq-eqb r.epoch r.epoch refl, eq-eqb r.number r.number refl) (answered r s moment (answer_to r.kind s.running_given) refl))
+-- an end by the codec's definition
+answer_legal : (r : Running) (s : State) (moment : ℕ) → is_some (done_ended r (ended_of r.kind s.running_given (outcome_by (answer_to r.kind s.running_given))) moment s) ≡ true
+answer_legal r s moment = answered r s moment (answer_to r.kind s.running_given) refl
+
+-- what is known of the running item where its end says that it was refused a box
+abbrev pub MayBeRefused : Running → State → Option ℕ → Type 0
+MayBeRefused r s None = Unit {0}
+MayBeRefused r s (Some e) = (r.kind ≡ kind.Configure) × (is_supported s.running_given.config ≡ true)
+
+outcome_legal : (r : Running) (s : State) (moment : ℕ) (wants : Bool) (refusal : Option ℕ) → MayBeRefused r s refusal → is_some (done_ended r (ended_of r.kind s.running_given (outcome_for wants refusal (answer_to r.kind s.running_given))) moment s) ≡ true
+outcome_legal r s moment true refusal may = refl
+outcome_legal r s moment false None may = answer_legal r s moment
+outcome_legal r s moment false (Some e) may = rw (may.0, may.1) refl
+
+pub done_legal : (s : State) (r : Running) (moment : ℕ) (wants : Bool) (refusal : Option ℕ) → s.control.running ≡ Some r → MayBeRefused r s refusal → Steps (entry.Done r.epoch r.number moment (outcome_for wants refusal (answer_to r.kind s.running_given))) s
+done_legal s r moment wants refusal h may =
+    subst (λ (o : Option Running). is_some (done_step o r.epoch r.number moment (outcome_for wants refusal (answer_to r.kind s.running_given)) s) ≡ true) (sym h)
+    (rw (eq-eqb r.epoch r.epoch refl, eq-eqb r.number r.number refl) (outcome_legal r s moment wants refusal may))
 
 pub turn_legal : (s : State) (x : Task) (ts : List Task) → s.control.tasks ≡ x ∷ ts → Steps entry.Turn s
 turn_legal s (task.Close error) ts h = rw h refl

@@ -4,8 +4,16 @@ pub mod Grows
 pub mod Calls
 pub mod Looks
 pub mod Arguments
+pub mod Courses
 pub mod Moves
+pub mod Refusals
 pub mod Following
-pub mod Built
+pub mod Held
 pub mod Runs
+pub mod Places
 pub mod Desks
+pub mod Among
+pub mod Plays
+pub mod Players
+pub mod Built
+pub mod Ends

@@ -106,6 +106,12 @@ take_kept c d n x ls h =
     let g = at_grows c d x ls in
     ap (take n) g.1 ∙ take-append-le n (at c ls) g.0 h
 
+-- a list is there, or it is empty
+pub there : {X : Type 0} (k : ℕ) (ls : List (List X)) → (k < length ls) ⊎ (at k ls ≡ [])
+there k [] = inr refl
+there zero (l ∷ ls) = inl (omega arith)
+there (suc k) (l ∷ ls) = elim (there k ls) [ inl lt ↦ inl (omega arith) | inr e ↦ inr e ]
+
 -- lists that are all empty
 pub at_empty : {X Y : Type 0} (c : ℕ) (ys : List Y) → at {X = X} c (map (λ y. []) ys) ≡ []
 at_empty c [] = refl

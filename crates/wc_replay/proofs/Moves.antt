@@ -4,23 +4,23 @@ use Rattle.std.specs.Prelude.{option_and_then}
 use Rattle.wc_base.specs.declared.error.DomError.{DomError}
 use Rattle.wc_base.specs.declared.error.DomError.TheVariants as dom
 use Rattle.wc_base.specs.declared.who.Who.{Who}
-use Rattle.coder_api.specs.declared.slot.SlotEntry.{SlotEntry}
 use Rattle.codec_model.specs.declared.entry.Entry.{Entry}
 use Rattle.codec_model.specs.declared.entry.Call.{Call}
 use Rattle.codec_model.specs.declared.entry.Call.TheVariants as call
 use Rattle.codec_model.specs.declared.entry.Shown.{Shown}
-use Rattle.codec_model.specs.Replay.{State, entry_of, call_error}
+use Rattle.codec_model.specs.Replay.{State, entry_of, call_error, IsLegal}
 use Rattle.codec_model.specs.Shown.{shows, refusal, rejection, rejections, removal_shows}
 use Rattle.wc_script.specs.declared.script.Script.{Script}
 use Rattle.wc_script.specs.declared.script.Step.{Step}
 use Rattle.wc_script.specs.declared.script.Step.TheVariants as step
 use Rattle.trace_text.specs.declared.run.StepResult.{StepResult}
 use Rattle.trace_text.specs.declared.run.StepResult.TheVariants as result
-use Rattle.trace_text.specs.Follow.{Recorded, at, append_at, with_result, with_entry, opening_at, state_at, exception_of}
+use Rattle.trace_text.specs.Follow.{Recorded, at, with_result, with_entry, opening_at, state_at, exception_of}
 use Rattle.trace_text.specs.Fits.{result_in, step_in, who_of, called, look_of, refusal_in, exception_at, KeepsCall, IsResultOf, CallsAreIn, LooksAreIn, ArgumentsAreIn, LocalsAreIn, LookShows, IsLocalAnswer, HasArguments}
 use Rattle.wc_replay.proofs.Lists.{append_at_length, at_same, result_new}
 use Rattle.wc_replay.proofs.Legal.{Legals, Steps, legals_more, shown_last}
-use Rattle.wc_replay.proofs.Grows.{Grows, ResultFits, EntryFits, NewFits, Nothing, grows_call, grows_result, grows_entry, of_new}
+use Rattle.wc_replay.proofs.Grows.{Grows, ResultFits, EntryFits, NewFits, Nothing, grows_call, grows_result, grows_entry, grows_same, of_new}
+use Rattle.wc_replay.proofs.Courses.{SameParts}
 use Rattle.wc_replay.proofs.Calls.{calls_more}
 use Rattle.wc_replay.proofs.Looks.{looks_more}
 use Rattle.wc_replay.proofs.Arguments.{arguments_more, locals_more}
@@ -46,15 +46,22 @@ fits_more s w v R E fits g new callers codecs legal = record {
   locals = locals_more s w v R E g new fits.locals;
 }
 
+-- the same callers and codecs fit too
+pub fits_same : (s : Script) (w v : Recorded) → SameParts w v → FitsSoFar s w → FitsSoFar s v
+fits_same s w v same fits = fits_more s w v Nothing Nothing fits (grows_same w v same.callers same.codecs)
+    (record { result = λ c j r new. absurd new; entry = λ k p e new. absurd new })
+    (ap length same.callers) (ap length same.codecs)
+    (λ k. subst (λ (cs : List (List Entry)). IsLegal (opening_at s k) (at k cs)) (sym same.codecs) (fits.legal k))
+
 -- an entry of no caller
-pub fits_entry : (s : Script) (w : Recorded) (k : ℕ) (e : Entry) (slots : List SlotEntry) → FitsSoFar s w → who_of e ≡ None → Steps e (state_at s w k) → FitsSoFar s (record { callers = w.callers; codecs = append_at k e w.codecs; slots = slots })
-fits_entry s w k e slots fits none steps =
-    let v : Recorded = record { callers = w.callers; codecs = append_at k e w.codecs; slots = slots } in
+pub fits_entry : (s : Script) (w : Recorded) (k : ℕ) (e : Entry) → FitsSoFar s w → who_of e ≡ None → Steps e (state_at s w k) → FitsSoFar s (with_entry k e w)
+fits_entry s w k e fits none steps =
+    let v : Recorded = with_entry k e w in
     let there : EntryFits s v k (length (at k w.codecs)) e = record {
       call = λ who names. absurd (let h = sym none ∙ names in cc);
       arguments = λ who names. absurd (let h = sym none ∙ names in cc);
     } in
-    fits_more s w v Nothing _ fits (grows_entry w k e slots)
+    fits_more s w v Nothing _ fits (grows_entry w k e)
     (record { result = λ c j r new. absurd new; entry = of_new (EntryFits s v) k e w.codecs there })
     refl (append_at_length k e w.codecs) (legals_more s w k e fits.legal steps)
 

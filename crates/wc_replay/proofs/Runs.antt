@@ -1,28 +1,20 @@
 -- A run that follows the order of a sound script is legal.
-use Rattle.std.proofs.Common.{ℕ, zero, suc, ◌≡◌, List, [], ◌∷◌, map, length, ap, sym, subst, ◌∙◌}
+use Rattle.std.proofs.Common.{ℕ, zero, suc, ◌≡◌, List, [], ◌∷◌, map, sym, subst, ◌∙◌}
 use Rattle.std.proofs.lemmas.List.{length-map}
 use Rattle.codec_model.specs.declared.entry.Opening.{Opening}
 use Rattle.codec_model.specs.Replay.{IsLegal}
 use Rattle.codec_model.specs.Shown.{each_shown}
+use Rattle.wc_config.specs.declared.codec.CoderId.{CoderId}
 use Rattle.wc_script.specs.declared.script.Script.{Script}
 use Rattle.wc_script.specs.declared.script.CodecItem.{CodecItem}
 use Rattle.trace_text.specs.declared.run.Run.{Run}
 use Rattle.trace_text.specs.declared.run.CodecTrace.{CodecTrace}
 use Rattle.trace_text.specs.declared.run.CallerTrace.{CallerTrace}
-use Rattle.trace_text.specs.Follow.{Recorded, at, opening_of, opening_in, opening_at}
+use Rattle.trace_text.specs.Follow.{at, opening_of, opening_in}
 use Rattle.trace_text.specs.Fits.{FollowsTheOrder, AreLegalTraces, IsLegalRun}
 use Rattle.wc_replay.specs.Sound.{IsSound}
+use Rattle.wc_replay.specs.Player.{IsShownTrace, AreShownTraces}
 use Rattle.wc_replay.proofs.Following.{order_makes, legal_of}
-
--- a trace is opened as the script says, and shows what its entries show
-pub record IsShownTrace (c : CodecItem) (t : CodecTrace) : Type 0 where
-  pub opening : t.opening ≡ opening_of c
-  pub shown : t.shown ≡ each_shown t.opening t.entries
-
-abbrev pub AreShownTraces : List CodecItem → List CodecTrace → Type 0
-AreShownTraces [] [] = Unit {0}
-AreShownTraces (c ∷ cs) (t ∷ ts) = IsShownTrace c t × AreShownTraces cs ts
-AreShownTraces _ _ = ⊥
 
 legal_traces : (cs : List CodecItem) (ts : List CodecTrace) → AreShownTraces cs ts → ((k : ℕ) → IsLegal (opening_in cs k) (at k (map (λ (t : CodecTrace). t.entries) ts))) → AreLegalTraces cs ts
 legal_traces [] [] shown legal = tt
@@ -38,9 +30,9 @@ legal_traces (c ∷ cs) (t ∷ ts) shown legal = (
 )
 
 -- A run that follows the order of a sound script, with traces that show what they must and nothing held, is legal.
-pub legal_run_of : (s : Script) → IsSound s → (run : Run) → FollowsTheOrder s run → AreShownTraces s.codecs run.codecs → run.held ≡ 0 → IsLegalRun s run
-legal_run_of s sound run follows shown held = record {
-  callers = sym (length-map run.callers (λ (c : CallerTrace). c.results)) ∙ (ap (λ (w : Recorded). length w.callers) follows ∙ (order_makes s sound).callers);
-  codecs = legal_traces s.codecs run.codecs shown (λ k. subst (λ (w : Recorded). IsLegal (opening_at s k) (at k w.codecs)) (sym follows) (legal_of s sound k));
+pub legal_run_of : (s : Script) → IsSound s → (made : List CoderId) (run : Run) → FollowsTheOrder s made run → AreShownTraces s.codecs run.codecs → run.held ≡ 0 → IsLegalRun s run
+legal_run_of s sound made run follows shown held = record {
+  callers = sym (length-map run.callers (λ (c : CallerTrace). c.results)) ∙ (order_makes s sound made run follows).callers;
+  codecs = legal_traces s.codecs run.codecs shown (λ k. legal_of s sound made run follows k);
   held = held;
 }

@@ -22,6 +22,16 @@ task_events (task.Flushed promise units) first pending = outputs_from first unit
 task_events task.Dequeue first pending = Dequeue ∷ []
 task_events (task.Close error) first pending = rejections error pending ++ ErrorCall error ∷ []
 
+-- what a reset or close shows in a state, with these promises pending
+abbrev pub removal_events : CodecState → List ℕ → List Event
+removal_events Unconfigured pending = rejections dom.Abort pending
+removal_events Configured pending = rejections dom.Abort pending
+removal_events Closed pending = Refusal dom.InvalidState ∷ []
+
+-- what a reclaim shows, with these promises pending
+abbrev pub reclaim_events : List ℕ → List Event
+reclaim_events pending = rejections dom.QuotaExceeded pending ++ ErrorCall dom.QuotaExceeded ∷ []
+
 -- the error with which a flush is rejected at once in a state
 abbrev pub flush_rejection : Call → CodecState → Option DomError
 flush_rejection (call.Configure config) state = None

@@ -1,4 +1,6 @@
+pub mod Boxes
 pub mod Desk
 pub mod Events
 pub mod Player
 pub mod Sound
+pub mod Refusals

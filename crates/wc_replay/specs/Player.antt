@@ -1,46 +1,132 @@
--- A replay of one codec and one caller.
-use Rattle.std.specs.Prelude.{ℕ, ◌≡◌, List, [], ◌∷◌, length, slice_get, Option, Some, None}
-use Rattle.wc_base.specs.declared.who.Who.{Who}
+-- A replay: its codecs, its callers and its registry.
+use Rattle.std.specs.Prelude.{ℕ, ◌≡◌, ◌<◌, List, [], ◌∷◌, map, length, slice_get, unwrap_or, Option, Some, None}
+use Rattle.codec_model.specs.declared.entry.Kind.TheVariants as kind
+use Rattle.codec_model.specs.declared.entry.Opening.{Opening}
 use Rattle.coder_api.specs.declared.slot.SlotEntry.{SlotEntry}
-use Rattle.codec_model.specs.declared.entry.Call.TheVariants as call
-use Rattle.codec_model.specs.declared.entry.Entry.{Entry}
-use Rattle.codec_model.specs.Replay.{IsLegal}
-use Rattle.codec_model.specs.Shown.{each_shown}
+use Rattle.slot_registry.specs.Slots.{SlotsValue}
+use Rattle.wc_script.specs.declared.script.OrderItem.{OrderItem}
+use Rattle.wc_script.specs.declared.script.OrderItem.TheVariants as item
+use Rattle.wc_script.specs.declared.script.CallerItem.{CallerItem}
+use Rattle.wc_script.specs.declared.script.CodecItem.{CodecItem}
 use Rattle.wc_script.specs.declared.script.Script.{Script}
 use Rattle.wc_script.specs.declared.script.Step.{Step}
 use Rattle.wc_script.specs.declared.script.Step.TheVariants as step
+use Rattle.codec_model.specs.Shown.{each_shown}
+use Rattle.trace_text.specs.declared.run.CallerTrace.{CallerTrace}
+use Rattle.trace_text.specs.declared.run.CodecTrace.{CodecTrace}
 use Rattle.trace_text.specs.declared.run.Run.{Run}
 use Rattle.trace_text.specs.declared.run.StepResult.{StepResult}
 use Rattle.trace_text.specs.declared.run.StepResult.TheVariants as result
-use Rattle.wc_replay.specs.Desk.{DeskValue}
-use Rattle.trace_text.specs.Follow.{Recorded, follow_step, with_call, with_decode, with_look, with_result, at, steps_of, opening_at, chunk_at, init_error, promise_after}
+use Rattle.trace_text.specs.Fits.{step_in, called}
+use Rattle.trace_text.specs.Follow.{Course, nothing_held, holding_at, next_cause, opening_of, opening_at, promise_after}
+use Rattle.wc_replay.specs.Boxes.{IsGivable}
+use Rattle.wc_replay.specs.Desk.{DeskValue, state_of}
 
--- what was recorded of the one caller, the one codec and the registry
-abbrev pub one : List StepResult → List Entry → List SlotEntry → Recorded
-one results history slots = record { callers = results ∷ []; codecs = history ∷ []; slots = slots }
+-- the codecs, each caller's results so far, and the registry
+pub record PlayerValue : Type 0 where
+  pub desks : List DeskValue
+  pub callers : List (List StepResult)
+  pub slots : SlotsValue
 
--- the step with this number of the one caller
-abbrev pub whose : ℕ → Who
-whose j = record { caller = 0; step = j }
+-- how far the order was followed, with these results of the callers, these codecs, and this history of the registry
+abbrev pub course_of : List (List StepResult) → List DeskValue → List SlotEntry → Course
+course_of callers desks slots = record {
+  recorded = record { callers = callers; codecs = map (λ d. d.history) desks; slots = slots };
+  holdings = map (λ d. d.holding) desks;
+}
+
+abbrev pub course : PlayerValue → Course
+course p = course_of p.callers p.desks p.slots.history
+
+-- the codec with this number
+abbrev pub desk_at : ℕ → List DeskValue → DeskValue
+desk_at k desks = unwrap_or (slice_get desks k) (record { opening = record { kind = kind.AudioDecoder; saturation = 4 }; history = []; holding = nothing_held })
+
+abbrev pub openings_of : List DeskValue → List Opening
+openings_of desks = map (λ d. d.opening) desks
+
+-- the codecs are opened as the script says
+abbrev pub AreOpened : Script → List DeskValue → Type 0
+AreOpened s desks = openings_of desks ≡ map opening_of s.codecs
+
+-- the same codecs, and a registry of the same boxes
+pub record KeepsShape (old new : PlayerValue) : Type 0 where
+  pub openings : openings_of new.desks ≡ openings_of old.desks
+  pub made : new.slots.made ≡ old.slots.made
+
+-- each box that a codec holds is out, and its next entry may give it back
+abbrev pub AreHeld : Course → Type 0
+AreHeld v = (k : ℕ) → IsGivable v.recorded.slots (next_cause k v) (holding_at k v.holdings).box
+
+-- an item names one of so many codecs, if it names one
+abbrev pub IsInRange : ℕ → OrderItem → Type 0
+IsInRange n (item.Caller c) = Unit {0}
+IsInRange n (item.Start k) = k < n
+IsInRange n (item.Done k moment) = k < n
+IsInRange n (item.Turn k) = k < n
+IsInRange n (item.Reclaim k moment) = k < n
+
+-- a step that looks at a codec's state looks at one of so many
+abbrev pub LooksInRange : ℕ → Step → Type 0
+LooksInRange n (step.State k) = k < n
+LooksInRange n x = Unit {0}
+
+-- Each step of the callers names codecs of the script, and its number fits in 32 bits.
+pub record IsPlayable (s : Script) : Type 0 where
+  pub calls : (c j k : ℕ) (x : Step) → step_in s c j ≡ Some x → called x ≡ Some k → k < length s.codecs
+  pub looks : (c j : ℕ) (x : Step) → step_in s c j ≡ Some x → LooksInRange (length s.codecs) x
+  pub few : (c j : ℕ) (x : Step) → step_in s c j ≡ Some x → j < 4294967296
+
+-- the codec and the place of a call, if the result is one
+abbrev pub call_in : Option StepResult → Option (ℕ × ℕ)
+call_in (Some (result.Call k place error)) = Some (k, place)
+call_in _ = None
+
+abbrev pub look_after : Script → List DeskValue → Option (ℕ × ℕ) → StepResult
+look_after s desks None = result.Absent
+look_after s desks (Some (k, place)) = result.Look k (length (desk_at k desks).history) (promise_after (opening_at s k) (desk_at k desks).history place)
 
 -- what a look shows at the promise of the flush that came to this result
-abbrev pub look_at : Script → List Entry → Option StepResult → StepResult
-look_at s h (Some (result.Call k place error)) = result.Look k (length (at k (h ∷ []))) (promise_after (opening_at s k) (at k (h ∷ [])) place)
-look_at s h _ = result.Absent
+abbrev pub look_at : Script → List DeskValue → Option StepResult → StepResult
+look_at s desks flush = look_after s desks (call_in flush)
 
--- what a step of the one caller does to the one codec
-abbrev pub follow_one : Script → ℕ → Step → Recorded → Recorded
-follow_one s j (step.Configure on config) w = with_call s (whose j) 0 (call.Configure config) w
-follow_one s j (step.Chunk bind init) w = with_result 0 (result.Local (init_error init)) w
-follow_one s j (step.Decode on chunk) w = with_decode s (whose j) 0 (chunk_at (steps_of s 0) chunk.step) w
-follow_one s j (step.Flush on bind) w = with_call s (whose j) 0 call.Flush w
-follow_one s j (step.Await promise) w = with_look s (whose j) (slice_get (at 0 w.callers) promise.step) w
-follow_one s j _ w = w
+-- what a look shows of a codec's state
+abbrev pub state_look : ℕ → List DeskValue → StepResult
+state_look k desks = let c = (state_of (desk_at k desks)).control in result.State k (length (desk_at k desks).history) c.phase c.size
 
--- The run holds these results, this codec's history with what it showed, and these slot entries.
-pub record IsRunOf (run : Run) (answers : List StepResult) (d : DeskValue) (boxes : List SlotEntry) : Type 0 where
-  pub callers : run.callers ≡ record { results = answers } ∷ []
-  pub codecs : run.codecs ≡ record { opening = d.opening; entries = d.history; shown = each_shown d.opening d.history } ∷ []
-  pub legal : IsLegal d.opening d.history
-  pub slots : run.slots ≡ boxes
+-- ---- the beginning and the end of a replay
+
+-- a codec of the script, with an empty history
+abbrev pub new_desk : CodecItem → DeskValue
+new_desk c = record { opening = opening_of c; history = []; holding = nothing_held }
+
+-- a caller of the script, none of whose steps is made
+abbrev pub new_results : CallerItem → List StepResult
+new_results c = []
+
+-- every item of the order names one of the script's codecs, if it names one
+abbrev pub AreInRange : Script → Type 0
+AreInRange s = (i : ℕ) (x : OrderItem) → slice_get s.order i ≡ Some x → IsInRange (length s.codecs) x
+
+abbrev pub trace_of : DeskValue → CodecTrace
+trace_of d = record { opening = d.opening; entries = d.history; shown = each_shown d.opening d.history }
+
+abbrev pub caller_trace : List StepResult → CallerTrace
+caller_trace results = record { results = results }
+
+-- The run holds what was recorded, and no media resource.
+pub record IsRunOf (p : PlayerValue) (run : Run) : Type 0 where
+  pub callers : run.callers ≡ map caller_trace p.callers
+  pub codecs : run.codecs ≡ map trace_of p.desks
+  pub slots : run.slots ≡ p.slots.history
   pub held : run.held ≡ 0
+
+-- a trace is opened as the script says, and shows what its entries show
+pub record IsShownTrace (c : CodecItem) (t : CodecTrace) : Type 0 where
+  pub opening : t.opening ≡ opening_of c
+  pub shown : t.shown ≡ each_shown t.opening t.entries
+
+abbrev pub AreShownTraces : List CodecItem → List CodecTrace → Type 0
+AreShownTraces [] [] = Unit {0}
+AreShownTraces (c ∷ cs) (t ∷ ts) = IsShownTrace c t × AreShownTraces cs ts
+AreShownTraces _ _ = ⊥

@@ -1,103 +1,91 @@
-// The boxes of coders, and the history of those that went out.
-ghost use Rattle.std.specs.Prelude.{◌≡◌, [], ◌++◌, IfSome, IfOk, OnOk, OnErr, length, map, Some, count_by};
-ghost use Rattle.trace_text.specs.Follow.{acquires, acquisition};
+// The boxes that codecs take from the registry and give back.
+ghost use Rattle.std.specs.Prelude.{◌≡◌, ◌++◌, IfOk, OnOk, option_map, is_some, true, Some, None, length};
+ghost use Rattle.codec_core.specs.Job.{IsJobOf, missing_id};
+ghost use Rattle.codec_model.specs.Replay.{State};
+ghost use Rattle.slot_registry.specs.Boxes.{least_free};
+ghost use Rattle.slot_registry.specs.Slots.{acquired};
+ghost use Rattle.trace_text.specs.Follow.{Holding, give_of, holding_by};
+ghost use Rattle.wc_replay.specs.Boxes.{IsGivable, IsRefused, filled_slots, filled_holding};
+ghost use Rattle.wc_replay.specs.Desk.{box_out, holding_with};
 
-use coder_api::{Coder, SlotBox, SlotEntry, SlotOp};
-use std::alloc::Global;
-use std::marker::Model;
+use codec_core::Job;
+use coder_api::{Coder, SlotBox};
+use slot_registry::{AcquireFault, Slots};
 use wc_base::{By, NoMemory};
 use wc_config::CoderId;
 
-/// Boxes that are free, in the order in which they were handed in, and the entries of those that went out.
-#[derive(Drop)]
-pub(crate) struct Boxes<C: Coder> {
-    free: Vec<C>,
-    entries: Vec<SlotEntry>,
-}
-
-impl<C: Coder> Model for Boxes<C> {
-    ghost use Rattle.std.specs.Prelude.{List};
-    ghost use Rattle.coder_api.specs.declared.slot.SlotEntry.{SlotEntry};
-
-    ghost Value = { List SlotEntry };
-
-    ghost view = { λ b. b.entries.items };
-}
-
-fn acquires_box(id: CoderId, entry: &SlotEntry) -> bool
-    ensures { result ≡ acquires id entry.now }
+/// A box goes back, if there is one.
+pub(crate) fn give<C: Coder>(slots: &mut Slots<C>, by: By, slot: Option<SlotBox<C>>)
+    requires givable { IsGivable slots.old.history by (option_map box_out slot) }
+    ensures { slots.new ≡ record slots.old { history = slots.old.history ++ give_of by (option_map box_out slot) } }
 {
-    match entry.op {
-        SlotOp::Acquire {
-            id: other,
-            number: _,
-        } => id == other,
-        SlotOp::Refused { .. } => false,
-        SlotOp::Give { .. } => false,
+    match slot {
+        Some(slot) => slots.give_back(by, slot),
+        None => {}
     }
 }
 
-fn count_acquired(id: CoderId, entries: &[SlotEntry]) -> u64
-    ensures { result ≡ count_by (acquires id) entries.now }
+/// A job without the box that it came with.
+fn emptied<C: Coder>(mut job: Job<C>) -> (Job<C>, Option<SlotBox<C>>)
+    requires { is_some (missing_id job) ≡ true }
+    ensures stays { (s : State) → IsJobOf s job → IsJobOf s result.0 }
+    ensures none { result.0.coder ≡ None }
+    ensures lacks { missing_id result.0 ≡ missing_id job }
+    ensures slot { option_map box_out result.1 ≡ option_map box_out job.coder }
 {
-    let mut count = 0;
-    for entry in entries {
-        if acquires_box(id, entry) {
-            count += 1;
-        }
-    }
-    count
+    let slot = job.take_box();
+    (job, slot)
 }
 
-// Takes the first coder of an id out, if there is one.
-fn take_first<C: Coder>(free: &mut Vec<C>, id: CoderId) -> Option<C>
-    ensures { IfSome result (λ c. C.coder c ≡ id) }
+/// The free box of least number goes to a job that lacks one, or an entry of the registry refuses it.
+fn lend<C: Coder>(
+    mut job: Job<C>,
+    slots: &mut Slots<C>,
+    by: By,
+    id: CoderId,
+) -> (Job<C>, Result<Option<u64>, NoMemory>)
+    requires lacks { missing_id job ≡ Some id }
+    requires none { job.coder ≡ None }
+    ensures stays { (s : State) → IsJobOf s job → IsJobOf s result.0 }
+    ensures refused { IfOk result.1 (λ refusal. IsRefused (Some result.0) refusal) }
+    ensures slots { OnOk result.1 (slots.new ≡ acquired by id slots.old) }
+    ensures holding { IfOk result.1 (λ refusal. holding_with result.0.coder refusal ≡ holding_by by id (length slots.old.history) (least_free id slots.old.made slots.old.history)) }
 {
-    for i in 0..free.len() {
-        if free[i].id() == id {
-            return Some(free.remove(i));
+    match slots.acquire(by, id) {
+        Ok(slot) => {
+            job.put_box(slot);
+            (job, Ok(None))
         }
+        Err(
+            AcquireFault::NoSlot {
+                entry,
+                out: _,
+                made: _,
+            },
+        ) => (job, Ok(Some(entry))),
+        Err(AcquireFault::NoMemory) => (job, Err(NoMemory)),
     }
-    None
 }
 
-impl<C: Coder> Boxes<C> {
-    pub(crate) fn of(alloc: Global, free: Vec<C>) -> Boxes<C>
-        ensures { result ≡ [] }
-    {
-        Boxes {
-            free,
-            entries: Vec::new(alloc),
+/// A job that lacks a box gives back the one that it came with, and asks for one of its id. The answer is the entry of the
+/// registry that refused it, if none was free.
+pub(crate) fn fill<C: Coder>(
+    job: Job<C>,
+    slots: &mut Slots<C>,
+    by: By,
+) -> (Job<C>, Result<Option<u64>, NoMemory>)
+    requires givable { IsGivable slots.old.history by (option_map box_out job.coder) }
+    ensures stays { (s : State) → IsJobOf s job → IsJobOf s result.0 }
+    ensures refused { IfOk result.1 (λ refusal. IsRefused (Some result.0) refusal) }
+    ensures slots { OnOk result.1 (slots.new ≡ record slots.old { history = filled_slots slots.old.made by (missing_id job) (option_map box_out job.coder) slots.old.history }) }
+    ensures holding { IfOk result.1 (λ refusal. holding_with result.0.coder refusal ≡ filled_holding slots.old.made by (missing_id job) (option_map box_out job.coder) slots.old.history) }
+{
+    match job.lacks() {
+        None => (job, Ok(None)),
+        Some(id) => {
+            let (job, slot) = emptied(job);
+            give(slots, by, slot);
+            lend(job, slots, by, id)
         }
-    }
-
-    /// The first free box of an id goes out by a codec's entry. Where none is free nothing changes.
-    pub(crate) fn acquire(
-        &mut self,
-        codec: u32,
-        place: u64,
-        id: CoderId,
-    ) -> Result<SlotBox<C>, NoMemory>
-        ensures id { IfOk result (λ b. b.id ≡ id) }
-        ensures ok { OnOk result (self.new ≡ self.old ++ acquisition codec place self.old (Some id)) }
-        ensures err { OnErr result (self.new ≡ self.old) }
-    {
-        self.entries.reserve(1)?;
-        let number = count_acquired(id, &self.entries);
-        let Some(coder) = take_first(&mut self.free, id) else {
-            return Err(NoMemory);
-        };
-        let by = By::Codec { codec, place };
-        self.entries.push_reserved(SlotEntry {
-            by,
-            op: SlotOp::Acquire { id, number },
-        });
-        Ok(SlotBox::new(coder, number, by))
-    }
-
-    pub(crate) fn into_entries(self) -> Vec<SlotEntry>
-        ensures { result.items ≡ self }
-    {
-        self.entries
     }
 }

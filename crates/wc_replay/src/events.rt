@@ -2,7 +2,7 @@
 ghost use Rattle.std.specs.Prelude.{◌≡◌, [], ◌∷◌, ◌++◌, Some, None, IfOk, OnOk};
 ghost use Rattle.codec_model.specs.Control.{is_decoder};
 ghost use Rattle.codec_model.specs.Shown.{outputs_from, rejections, word_of_task};
-ghost use Rattle.wc_replay.specs.Events.{task_events, flush_rejection, call_event};
+ghost use Rattle.wc_replay.specs.Events.{task_events, removal_events, reclaim_events, flush_rejection, call_event};
 
 use codec_model::{Call, CodecState, Event, Task, TurnWord};
 use coder_api::Unit;
@@ -90,6 +90,40 @@ pub(crate) fn events_of_task(
             append(&mut events, Event::ErrorCall(*error))?;
         }
     }
+    Ok(List::of(events))
+}
+
+/// What a reset or close shows, in this state and with these promises pending.
+pub(crate) fn events_of_removal(
+    alloc: Global,
+    state: CodecState,
+    pending: &[u64],
+) -> Result<List<Event>, NoMemory>
+    ensures { IfOk result (λ l. l ≡ removal_events state pending.now) }
+{
+    let mut events = Vec::new(alloc);
+    match state {
+        CodecState::Unconfigured => {
+            push_rejections(DomError::Abort, pending, &mut events)?;
+        }
+        CodecState::Configured => {
+            push_rejections(DomError::Abort, pending, &mut events)?;
+        }
+        CodecState::Closed => {
+            append(&mut events, Event::Refusal(DomError::InvalidState))?;
+        }
+    }
+    Ok(List::of(events))
+}
+
+/// What a reclaim shows, with these promises pending.
+pub(crate) fn events_of_reclaim(alloc: Global, pending: &[u64]) -> Result<List<Event>, NoMemory>
+    ensures { IfOk result (λ l. l ≡ reclaim_events pending.now) }
+{
+    let error = DomError::QuotaExceeded;
+    let mut events = Vec::new(alloc);
+    push_rejections(error, pending, &mut events)?;
+    append(&mut events, Event::ErrorCall(error))?;
     Ok(List::of(events))
 }
 

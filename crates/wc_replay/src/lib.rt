@@ -5,7 +5,9 @@ mod boxes;
 mod desk;
 mod events;
 mod laws;
+mod moving;
 mod playing;
+mod results;
 mod steps;
 
 pub use laws::following_fits;

@@ -1,20 +1,23 @@
 // Replays a script.
-ghost use Rattle.std.specs.Prelude.{◌≡◌, ◌≤◌, [], ◌∷◌, IfOk, OnOk, length, true};
+ghost use Rattle.std.specs.Prelude.{◌≡◌, ◌≤◌, [], IfOk, OnOk, map, length, true};
 ghost use Rattle.std.specs.List.{list_all};
 ghost use Rattle.trace_text.specs.Fits.{IsLegalRun, Fits, FollowsTheOrder};
-ghost use Rattle.trace_text.specs.Follow.{follow, opening_of, opening_at, steps_of, kind_of_word};
-ghost use Rattle.wc_replay.specs.Player.{one, IsRunOf};
-ghost use Rattle.wc_script.specs.Form.{is_built, is_built_step, is_built_item};
+ghost use Rattle.trace_text.specs.Follow.{Follows, nothing_yet, opening_of, kind_of_word};
+ghost use Rattle.wc_replay.specs.Player.{course, AreOpened, KeepsShape, IsPlayable, AreInRange, new_desk, new_results, trace_of, caller_trace, IsRunOf, AreShownTraces};
+ghost use Rattle.wc_replay.specs.Sound.{IsSound};
+ghost use Rattle.wc_script.specs.Form.{is_built, is_built_codec};
 
-use crate::boxes::Boxes;
 use crate::desk::Desk;
-use crate::steps::{Player, take_item};
+use crate::events::append;
+use crate::results::Results;
+use crate::steps::Player;
 use codec_model::{Kind, Opening};
 use coder_api::Coder;
+use slot_registry::Slots;
 use std::alloc::Global;
 use trace_text::{CallerTrace, CodecTrace, Run};
 use wc_base::{List, NoMemory};
-use wc_script::{CallerItem, CodecItem, KindWord, OrderItem, Script, Step};
+use wc_script::{CallerItem, CodecItem, KindWord, Script};
 
 fn kind_of_word(word: KindWord) -> Kind
     ensures { result ≡ kind_of_word word }
@@ -35,92 +38,151 @@ fn opening_of(codec: &CodecItem) -> Opening
     }
 }
 
+/// A codec of the script, with an empty history.
+fn open_desk<C: Coder>(alloc: Global, codec: &CodecItem) -> Result<Desk<C>, NoMemory>
+    requires { is_built_codec codec.now ≡ true }
+    ensures { IfOk result (λ d. d ≡ new_desk codec.now) }
+{
+    Desk::open(alloc, opening_of(codec))
+}
+
+/// The codecs of a script, each with an empty history.
+fn open_desks<C: Coder>(alloc: Global, codecs: &[CodecItem]) -> Result<Vec<Desk<C>>, NoMemory>
+    requires { list_all is_built_codec codecs.now ≡ true }
+    ensures { IfOk result (λ desks. desks.items ≡ map new_desk codecs.now) }
+{
+    let mut desks = Vec::new(alloc);
+    for codec in codecs {
+        let desk = open_desk(alloc, codec)?;
+        append(&mut desks, desk)?;
+    }
+    Ok(desks)
+}
+
+/// The callers of a script, none of whose steps is made.
+fn open_callers(alloc: Global, callers: &[CallerItem]) -> Result<Vec<Results>, NoMemory>
+    ensures { IfOk result (λ results. results.items ≡ map new_results callers.now) }
+{
+    let mut results = Vec::new(alloc);
+    for _caller in callers {
+        append(&mut results, Results::new(alloc))?;
+    }
+    Ok(results)
+}
+
 /// Takes the items of the order, one after another.
 fn take_items<C: Coder>(
     player: &mut Player<C>,
     alloc: Global,
     script: &Script,
-    steps: &[Step],
-    order: &[OrderItem],
 ) -> Result<(), NoMemory>
-    requires opening { opening_at script.now 0 ≡ player.old.desk.opening }
-    requires steps { steps_of script.now 0 ≡ steps.now }
-    requires built { list_all is_built_step steps.now ≡ true }
-    requires few { length steps.now ≤ 100000 }
-    requires items { list_all is_built_item order.now ≡ true }
-    ensures made { OnOk result (one player.new.results.items player.new.desk.history player.new.boxes ≡ follow script.now order.now (one player.old.results.items player.old.desk.history player.old.boxes)) }
-    ensures opening { player.new.desk.opening ≡ player.old.desk.opening }
+    requires opened { AreOpened script.now player.old.desks }
+    requires playable { IsPlayable script.now }
+    requires sound { IsSound script.now }
+    requires range { AreInRange script.now }
+    requires nothing { course player.old ≡ nothing_yet script.now }
+    ensures made { OnOk result (Follows script.now player.old.slots.made script.now.order (course player.old) (course player.new)) }
+    ensures shape { OnOk result (KeepsShape player.old player.new) }
 {
-    for item in order {
-        take_item(player, alloc, script, steps, *item)?;
+    for item in script.order.as_slice() {
+        player.take(alloc, script, *item)?;
     }
     Ok(())
 }
 
-/// What was recorded, as a run of one codec and one caller.
-fn run_of<C: Coder>(alloc: Global, opening: Opening, player: Player<C>) -> Result<Run, NoMemory>
-    requires { opening ≡ player.desk.opening }
-    ensures { IfOk result (λ run. IsRunOf run player.results.items player.desk player.boxes) }
+fn codec_trace<C: Coder>(desk: Desk<C>) -> CodecTrace
+    ensures { result ≡ trace_of desk }
 {
-    let (entries, shown) = player.desk.into_trace();
-    let mut callers = Vec::with_capacity(alloc, 1)?;
-    let mut codecs = Vec::with_capacity(alloc, 1)?;
-    callers.push_reserved(CallerTrace {
-        results: List::of(player.results),
-    });
-    codecs.push_reserved(CodecTrace {
+    let opening = desk.opening();
+    let (entries, shown) = desk.into_trace();
+    CodecTrace {
         opening,
         entries: List::of(entries),
         shown: List::of(shown),
-    });
+    }
+}
+
+/// What was recorded of the codecs.
+fn codec_traces<C: Coder>(alloc: Global, desks: Vec<Desk<C>>) -> Result<Vec<CodecTrace>, NoMemory>
+    ensures { IfOk result (λ traces. traces.items ≡ map trace_of desks.items) }
+{
+    let mut traces = Vec::new(alloc);
+    for desk in desks {
+        let trace = codec_trace(desk);
+        append(&mut traces, trace)?;
+    }
+    Ok(traces)
+}
+
+/// What was recorded of the callers.
+fn caller_traces(alloc: Global, callers: Vec<Results>) -> Result<Vec<CallerTrace>, NoMemory>
+    ensures { IfOk result (λ traces. traces.items ≡ map caller_trace callers.items) }
+{
+    let mut traces = Vec::new(alloc);
+    for results in callers {
+        let results = List::of(results.into_steps());
+        append(&mut traces, CallerTrace { results })?;
+    }
+    Ok(traces)
+}
+
+/// A replay of a script that has nothing recorded yet.
+fn open_player<C: Coder>(
+    alloc: Global,
+    script: &Script,
+    coders: Vec<C>,
+) -> Result<Player<C>, NoMemory>
+    requires { list_all is_built_codec script.now.codecs ≡ true }
+    ensures opened { IfOk result (λ p. AreOpened script.now p.desks) }
+    ensures nothing { IfOk result (λ p. course p ≡ nothing_yet script.now) }
+    ensures made { IfOk result (λ p. p.slots.made ≡ map C.coder coders.items) }
+{
+    Ok(Player {
+        desks: open_desks(alloc, script.codecs.as_slice())?,
+        callers: open_callers(alloc, script.callers.as_slice())?,
+        slots: Slots::open(alloc, coders)?,
+    })
+}
+
+/// What a replay recorded.
+fn run_of<C: Coder>(alloc: Global, player: Player<C>) -> Result<Run, NoMemory>
+    ensures { IfOk result (IsRunOf player) }
+{
+    let Player {
+        desks,
+        callers,
+        slots,
+    } = player;
     Ok(Run {
-        callers: List::of(callers),
-        codecs: List::of(codecs),
-        slots: List::of(player.boxes.into_entries()),
+        callers: List::of(caller_traces(alloc, callers)?),
+        codecs: List::of(codec_traces(alloc, desks)?),
+        slots: List::of(slots.into_entries()),
         held: 0,
     })
 }
 
-/// Replays a script of one codec and one caller.
-fn play<C: Coder>(
-    alloc: Global,
-    script: &Script,
-    codec: &CodecItem,
-    caller: &CallerItem,
-    coders: Vec<C>,
-) -> Result<Run, NoMemory>
-    requires codecs { script.now.codecs ≡ codec.now ∷ [] }
-    requires callers { script.now.callers ≡ caller.now ∷ [] }
-    requires built { is_built script.now ≡ true }
-    ensures legal { IfOk result (λ run. IsLegalRun script.now run) }
-    ensures follows { IfOk result (λ run. FollowsTheOrder script.now run) }
+/// Follows the script's order item after item.
+fn play<C: Coder>(alloc: Global, script: &Script, coders: Vec<C>) -> Result<Run, NoMemory>
+    requires codecs { list_all is_built_codec script.now.codecs ≡ true }
+    requires playable { IsPlayable script.now }
+    requires sound { IsSound script.now }
+    requires range { AreInRange script.now }
+    ensures follows { IfOk result (λ run. FollowsTheOrder script.now (map C.coder coders.items) run) }
+    ensures shows { IfOk result (λ run. AreShownTraces script.now.codecs run.codecs) }
+    ensures held { IfOk result (λ run. run.held ≡ 0) }
 {
-    let opening = opening_of(codec);
-    let mut player = Player {
-        desk: Desk::open(alloc, opening)?,
-        results: Vec::new(alloc),
-        boxes: Boxes::of(alloc, coders),
-    };
-    take_items(
-        &mut player,
-        alloc,
-        script,
-        caller.steps.as_slice(),
-        script.order.as_slice(),
-    )?;
-    run_of(alloc, opening, player)
+    let mut player = open_player(alloc, script, coders)?;
+    take_items(&mut player, alloc, script)?;
+    run_of(alloc, player)
 }
 
-/// Follows the script's order item after item, with these coders for its codecs: each item is the caller's next step, the
-/// start or end of a work item, or the turn of an event task; one that finds nothing to do is passed over. The answer is
-/// a legal run that fits the script.
+/// Follows the script's order item after item, with these coders for its codecs: each item is a caller's next step, the
+/// start or end of a work item, the turn of an event task, or a reclaim; one that finds nothing to do is passed over. The
+/// answer is a legal run that fits the script.
 pub fn replay<C: Coder>(alloc: Global, script: &Script, coders: Vec<C>) -> Result<Run, NoMemory>
     requires { is_built script.now ≡ true }
     ensures legal { IfOk result (λ run. IsLegalRun script.now run) }
-    ensures fits { IfOk result (λ run. Fits script.now run) }
+    ensures fits { IfOk result (λ run. Fits script.now (map C.coder coders.items) run) }
 {
-    match (script.codecs.as_slice(), script.callers.as_slice()) {
-        ([codec], [caller]) => play(alloc, script, codec, caller, coders),
-        _ => unreachable!(),
-    }
+    play(alloc, script, coders)
 }

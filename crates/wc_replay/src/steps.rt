@@ -1,54 +1,40 @@
-// The steps of the caller, and the items of the order.
-ghost use Rattle.std.specs.Prelude.{◌≡◌, ◌≤◌, IfOk, OnOk, length, slice_get, true, option_copied};
-ghost use Rattle.std.specs.List.{list_all};
-ghost use Rattle.codec_model.specs.declared.entry.Call.TheVariants as call;
-ghost use Rattle.trace_text.specs.Follow.{with_call, with_decode, with_look, with_result, follow_step, follow_next, follow_item, steps_of, chunk_at, opening_at, init_error, chunk_of, chunk_by, promise_after};
-ghost use Rattle.trace_text.specs.declared.run.StepResult.TheVariants as answer;
+// The steps of the callers, and the items of the order.
+ghost use Rattle.std.specs.Prelude.{◌≡◌, ◌≤◌, ◌<◌, Bool, false, Some, OnOk, IfOk, length, slice_get, option_copied};
+ghost use Rattle.codec_model.specs.declared.entry.Entry.TheVariants as entry;
+ghost use Rattle.trace_text.specs.Fits.{called};
+ghost use Rattle.trace_text.specs.Follow.{recording, with_call, with_decode, with_look, with_state, with_result, with_removal, follow_step, follow_item, steps_of, chunk_at, init_error, chunk_of, chunk_by};
+ghost use Rattle.trace_text.specs.declared.run.StepResult.TheVariants as came;
 ghost use Rattle.wc_script.specs.declared.script.OrderItem.TheVariants as item;
-ghost use Rattle.wc_replay.specs.Player.{one, whose, look_at, follow_one};
-ghost use Rattle.wc_script.specs.Form.{is_built_step, is_built_item};
+ghost use Rattle.wc_replay.specs.Player.{course, AreOpened, KeepsShape, AreHeld, IsInRange, IsPlayable, call_in, look_at};
+ghost use Rattle.wc_replay.specs.Refusals.{RefusalsStand};
 
-use crate::boxes::Boxes;
 use crate::desk::Desk;
-use crate::events::append;
-use codec_model::{Call, PromiseState};
+use crate::moving::{call_at, close_at, done_at, reclaim_at, reset_at, start_at, turn_at};
+use crate::results::{Results, made_by, note, result_of};
+use codec_model::{Call, CodecState, PromiseState};
 use coder_api::Coder;
+use slot_registry::Slots;
 use std::alloc::Global;
+use std::marker::Model;
 use trace_text::StepResult;
 use wc_base::{DomError, NoMemory, Who};
 use wc_chunk::Chunk;
 use wc_script::{ChunkInit, OrderItem, Script, Step};
 
-/// The one codec, the one caller's results so far, and the boxes.
+/// The codecs, each caller's results so far, and the registry of the boxes.
 #[derive(Drop)]
 pub(crate) struct Player<C: Coder> {
-    pub(crate) desk: Desk<C>,
-    pub(crate) results: Vec<StepResult>,
-    pub(crate) boxes: Boxes<C>,
+    pub(crate) desks: Vec<Desk<C>>,
+    pub(crate) callers: Vec<Results>,
+    pub(crate) slots: Slots<C>,
 }
 
-/// A configure, decode or flush of the caller's step with this number.
-fn make_call<C: Coder>(
-    player: &mut Player<C>,
-    alloc: Global,
-    script: &Script,
-    step: u32,
-    call: Call,
-) -> Result<(), NoMemory>
-    requires { opening_at script.now 0 ≡ player.old.desk.opening }
-    ensures made { OnOk result (one player.new.results.items player.new.desk.history player.new.boxes ≡ with_call script.now (whose step) 0 call (one player.old.results.items player.old.desk.history player.old.boxes)) }
-    ensures opening { player.new.desk.opening ≡ player.old.desk.opening }
-{
-    let who = Who { caller: 0, step };
-    let answer = player.desk.call(alloc, who, call)?;
-    append(
-        &mut player.results,
-        StepResult::Call {
-            codec: 0,
-            place: answer.place,
-            error: answer.error,
-        },
-    )
+impl<C: Coder> Model for Player<C> {
+    ghost use Rattle.wc_replay.specs.Player.{PlayerValue};
+
+    ghost Value = { PlayerValue };
+
+    ghost view = { λ p. record { desks = p.desks.items; callers = p.callers.items; slots = p.slots } };
 }
 
 /// The chunk that an init makes.
@@ -86,51 +72,9 @@ fn find_chunk(steps: &[Step], step: u32) -> Result<Option<Chunk>, NoMemory>
     }
 }
 
-/// What a look shows at the promise of the flush that came to this result.
-fn look_result<C: Coder>(desk: &Desk<C>, script: &Script, flush: Option<StepResult>) -> StepResult
-    requires { opening_at script.now 0 ≡ desk.now.opening }
-    ensures { result ≡ look_at script.now desk.now.history flush }
-{
-    let Some(
-        StepResult::Call {
-            codec,
-            place,
-            error: _,
-        },
-    ) = flush
-    else {
-        return StepResult::Absent;
-    };
-    if codec == 0 {
-        StepResult::Look {
-            codec,
-            length: desk.len(),
-            end: desk.end_of(place),
-        }
-    } else {
-        // A codec that is not there has no entry.
-        StepResult::Look {
-            codec,
-            length: 0,
-            end: PromiseState::Pending,
-        }
-    }
-}
-
-/// A look at the promise of the flush that is the step with this number.
-fn look<C: Coder>(player: &mut Player<C>, script: &Script, flush: u32) -> Result<(), NoMemory>
-    requires { opening_at script.now 0 ≡ player.old.desk.opening }
-    ensures made { OnOk result (one player.new.results.items player.new.desk.history player.new.boxes ≡ with_result 0 (look_at script.now player.old.desk.history (slice_get player.old.results.items flush)) (one player.old.results.items player.old.desk.history player.old.boxes)) }
-    ensures opening { player.new.desk.opening ≡ player.old.desk.opening }
-{
-    let flush = player.results.get(flush as usize).copied();
-    let seen = look_result(&player.desk, script, flush);
-    append(&mut player.results, seen)
-}
-
 /// The exception of a chunk's init.
 fn local_result(init: &Option<ChunkInit>) -> StepResult
-    ensures { result ≡ answer.Local (init_error init.now) }
+    ensures { result ≡ came.Local (init_error init.now) }
 {
     let error = match init {
         Some(_) => None,
@@ -139,55 +83,61 @@ fn local_result(init: &Option<ChunkInit>) -> StepResult
     StepResult::Local { error }
 }
 
-/// A decode of the chunk that the variable holds, unless it is absent.
-fn decode<C: Coder>(
-    player: &mut Player<C>,
-    alloc: Global,
-    script: &Script,
-    step: u32,
-    chunk: Option<Chunk>,
-) -> Result<(), NoMemory>
-    requires { opening_at script.now 0 ≡ player.old.desk.opening }
-    ensures made { OnOk result (one player.new.results.items player.new.desk.history player.new.boxes ≡ with_decode script.now (whose step) 0 chunk (one player.old.results.items player.old.desk.history player.old.boxes)) }
-    ensures opening { player.new.desk.opening ≡ player.old.desk.opening }
+/// The codec and the place of a call, if the result is one.
+fn call_in(flush: Option<StepResult>) -> Option<(u32, u64)>
+    ensures { result ≡ call_in flush }
 {
-    match chunk {
-        Some(chunk) => make_call(player, alloc, script, step, Call::Decode(chunk)),
-        None => append(&mut player.results, StepResult::Absent),
+    match flush {
+        Some(
+            StepResult::Call {
+                codec,
+                place,
+                error: _,
+            },
+        ) => Some((codec, place)),
+        _ => None,
     }
 }
 
-/// The caller's step with this number.
-fn make_step<C: Coder>(
-    player: &mut Player<C>,
-    alloc: Global,
+/// What a look shows at the promise of the flush that came to this result.
+fn look_result<C: Coder>(
+    desks: &[Desk<C>],
     script: &Script,
-    steps: &[Step],
-    number: u32,
-    step: &Step,
-) -> Result<(), NoMemory>
-    requires opening { opening_at script.now 0 ≡ player.old.desk.opening }
-    requires steps { steps_of script.now 0 ≡ steps.now }
-    requires built { is_built_step step.now ≡ true }
-    ensures made { OnOk result (one player.new.results.items player.new.desk.history player.new.boxes ≡ follow_one script.now number step.now (one player.old.results.items player.old.desk.history player.old.boxes)) }
-    ensures opening { player.new.desk.opening ≡ player.old.desk.opening }
+    flush: Option<StepResult>,
+) -> StepResult
+    requires { AreOpened script.now desks.now }
+    ensures { result ≡ look_at script.now desks.now flush }
 {
-    match step {
-        Step::Configure { on: _, config } => {
-            let call = Call::Configure(config.copy()?);
-            make_call(player, alloc, script, number, call)
+    let Some((codec, place)) = call_in(flush) else {
+        return StepResult::Absent;
+    };
+    let (length, end) = match desks.get(codec as usize) {
+        Some(desk) => {
+            let (length, _, _) = desk.look();
+            (length, desk.end_of(place))
         }
-        Step::Chunk { bind: _, init } => append(&mut player.results, local_result(init)),
-        Step::Decode { on: _, chunk } => {
-            let chunk = find_chunk(steps, chunk.step)?;
-            decode(player, alloc, script, number, chunk)
+        // A codec that is not there has no entry.
+        None => (0, PromiseState::Pending),
+    };
+    StepResult::Look { codec, length, end }
+}
+
+/// What a look shows of a codec's state.
+fn state_result<C: Coder>(desks: &[Desk<C>], codec: u32) -> StepResult
+    requires { codec < length desks.now }
+    ensures { result ≡ Rattle.wc_replay.specs.Player.state_look codec desks.now }
+{
+    match desks.get(codec as usize) {
+        Some(desk) => {
+            let (length, state, size) = desk.look();
+            StepResult::State {
+                codec,
+                length,
+                state,
+                size,
+            }
         }
-        Step::Flush { .. } => make_call(player, alloc, script, number, Call::Flush),
-        Step::Await { promise } => look(player, script, promise.step),
-        Step::Poll { .. } => unreachable!(),
-        Step::Reset { .. } => unreachable!(),
-        Step::Close { .. } => unreachable!(),
-        Step::State { .. } => unreachable!(),
+        None => unreachable!(),
     }
 }
 
@@ -197,48 +147,219 @@ fn step_at(steps: &[Step], number: usize) -> Option<&Step>
     steps.get(number)
 }
 
-/// The caller's next step, if it has one.
-fn take_step<C: Coder>(
-    player: &mut Player<C>,
-    alloc: Global,
-    script: &Script,
-    steps: &[Step],
-) -> Result<(), NoMemory>
-    requires opening { opening_at script.now 0 ≡ player.old.desk.opening }
-    requires steps { steps_of script.now 0 ≡ steps.now }
-    requires built { list_all is_built_step steps.now ≡ true }
-    requires few { length steps.now ≤ 100000 }
-    ensures made { OnOk result (one player.new.results.items player.new.desk.history player.new.boxes ≡ follow_item script.now (item.Caller 0) (one player.old.results.items player.old.desk.history player.old.boxes)) }
-    ensures opening { player.new.desk.opening ≡ player.old.desk.opening }
+/// The steps of a caller.
+fn steps_of(script: &Script, caller: u32) -> &[Step]
+    ensures { result.now ≡ steps_of script.now caller }
 {
-    let number = player.results.as_slice().len();
-    match step_at(steps, number) {
-        Some(step) => make_step(player, alloc, script, steps, number as u32, step),
-        None => Ok(()),
+    match script.callers.as_slice().get(caller as usize) {
+        Some(caller) => caller.steps.as_slice(),
+        None => &[],
     }
 }
 
-/// One item of the order.
-pub(crate) fn take_item<C: Coder>(
-    player: &mut Player<C>,
-    alloc: Global,
-    script: &Script,
-    steps: &[Step],
-    item: OrderItem,
-) -> Result<(), NoMemory>
-    requires opening { opening_at script.now 0 ≡ player.old.desk.opening }
-    requires steps { steps_of script.now 0 ≡ steps.now }
-    requires built { list_all is_built_step steps.now ≡ true }
-    requires few { length steps.now ≤ 100000 }
-    requires item { is_built_item item ≡ true }
-    ensures made { OnOk result (one player.new.results.items player.new.desk.history player.new.boxes ≡ follow_item script.now item (one player.old.results.items player.old.desk.history player.old.boxes)) }
-    ensures opening { player.new.desk.opening ≡ player.old.desk.opening }
-{
-    match item {
-        OrderItem::Caller(_) => take_step(player, alloc, script, steps),
-        OrderItem::Start(_) => player.desk.start(alloc, 0, &mut player.boxes),
-        OrderItem::Done { codec: _, at } => player.desk.done(alloc, at),
-        OrderItem::Turn(_) => player.desk.turn(alloc),
-        OrderItem::Reclaim { .. } => unreachable!(),
+impl<C: Coder> Player<C> {
+    /// A configure, decode or flush of a caller.
+    fn call(
+        &mut self,
+        alloc: Global,
+        script: &Script,
+        who: Who,
+        codec: u32,
+        call: Call,
+    ) -> Result<(), NoMemory>
+        requires opened { AreOpened script.now self.old.desks }
+        requires codec { codec < length self.old.desks }
+        ensures made { OnOk result (course self.new ≡ recording (with_call script.now who codec call) (course self.old)) }
+        ensures shape { OnOk result (KeepsShape self.old self.new) }
+    {
+        let answer = call_at(&mut self.desks, codec, alloc, who, call)?;
+        let came = StepResult::Call {
+            codec,
+            place: answer.place,
+            error: answer.error,
+        };
+        note(&mut self.callers, who.caller, came)
+    }
+
+    /// A step that calls no codec.
+    fn came_to(&mut self, who: Who, came: StepResult) -> Result<(), NoMemory>
+        ensures made { OnOk result (course self.new ≡ recording (with_result who.caller came) (course self.old)) }
+        ensures shape { OnOk result (KeepsShape self.old self.new) }
+    {
+        note(&mut self.callers, who.caller, came)
+    }
+
+    /// A decode of the chunk that the variable holds, unless it is absent.
+    fn decode(
+        &mut self,
+        alloc: Global,
+        script: &Script,
+        who: Who,
+        codec: u32,
+        chunk: Option<Chunk>,
+    ) -> Result<(), NoMemory>
+        requires opened { AreOpened script.now self.old.desks }
+        requires codec { codec < length self.old.desks }
+        ensures made { OnOk result (course self.new ≡ recording (with_decode script.now who codec chunk) (course self.old)) }
+        ensures shape { OnOk result (KeepsShape self.old self.new) }
+    {
+        match chunk {
+            Some(chunk) => self.call(alloc, script, who, codec, Call::Decode(chunk)),
+            None => self.came_to(who, StepResult::Absent),
+        }
+    }
+
+    /// A look at the promise of the flush that is the caller's step with this number.
+    fn look(&mut self, script: &Script, who: Who, flush: u32) -> Result<(), NoMemory>
+        requires { AreOpened script.now self.old.desks }
+        ensures made { OnOk result (course self.new ≡ recording (with_look script.now who (slice_get (Rattle.trace_text.specs.Follow.at who.caller self.old.callers) flush)) (course self.old)) }
+        ensures shape { OnOk result (KeepsShape self.old self.new) }
+    {
+        let flush = result_of(&self.callers, who.caller, flush);
+        let came = look_result(&self.desks, script, flush);
+        self.came_to(who, came)
+    }
+
+    /// A look at a codec's state.
+    fn look_at_state(&mut self, script: &Script, who: Who, codec: u32) -> Result<(), NoMemory>
+        requires opened { AreOpened script.now self.old.desks }
+        requires codec { codec < length self.old.desks }
+        ensures made { OnOk result (course self.new ≡ recording (with_state script.now who codec) (course self.old)) }
+        ensures shape { OnOk result (KeepsShape self.old self.new) }
+    {
+        let came = state_result(&self.desks, codec);
+        self.came_to(who, came)
+    }
+
+    /// A reset of a caller.
+    fn reset(
+        &mut self,
+        alloc: Global,
+        script: &Script,
+        who: Who,
+        codec: u32,
+    ) -> Result<(), NoMemory>
+        requires opened { AreOpened script.now self.old.desks }
+        requires codec { codec < length self.old.desks }
+        requires held { AreHeld (course self.old) }
+        ensures made { OnOk result (course self.new ≡ with_removal script.now who codec (entry.Reset who) (course self.old)) }
+        ensures shape { OnOk result (KeepsShape self.old self.new) }
+    {
+        let answer = reset_at(&mut self.desks, &mut self.slots, codec, alloc, who)?;
+        let came = StepResult::Call {
+            codec,
+            place: answer.place,
+            error: answer.error,
+        };
+        note(&mut self.callers, who.caller, came)
+    }
+
+    /// A close of a caller.
+    fn close(
+        &mut self,
+        alloc: Global,
+        script: &Script,
+        who: Who,
+        codec: u32,
+    ) -> Result<(), NoMemory>
+        requires opened { AreOpened script.now self.old.desks }
+        requires codec { codec < length self.old.desks }
+        requires held { AreHeld (course self.old) }
+        ensures made { OnOk result (course self.new ≡ with_removal script.now who codec (entry.Close who) (course self.old)) }
+        ensures shape { OnOk result (KeepsShape self.old self.new) }
+    {
+        let answer = close_at(&mut self.desks, &mut self.slots, codec, alloc, who)?;
+        let came = StepResult::Call {
+            codec,
+            place: answer.place,
+            error: answer.error,
+        };
+        note(&mut self.callers, who.caller, came)
+    }
+
+    /// A step of a caller, one of these steps of its own.
+    fn step(
+        &mut self,
+        alloc: Global,
+        script: &Script,
+        steps: &[Step],
+        who: Who,
+        step: &Step,
+    ) -> Result<(), NoMemory>
+        requires opened { AreOpened script.now self.old.desks }
+        requires steps { steps_of script.now who.caller ≡ steps.now }
+        requires range { (k : Rattle.std.specs.Prelude.ℕ) → called step.now ≡ Some k → k < length self.old.desks }
+        requires state { Rattle.wc_replay.specs.Player.LooksInRange (length self.old.desks) step.now }
+        requires held { AreHeld (course self.old) }
+        ensures made { OnOk result (course self.new ≡ follow_step script.now who step.now (course self.old)) }
+        ensures shape { OnOk result (KeepsShape self.old self.new) }
+    {
+        match step {
+            Step::Configure { on, config } => {
+                let call = Call::Configure(config.copy()?);
+                self.call(alloc, script, who, *on, call)
+            }
+            Step::Chunk { bind: _, init } => self.came_to(who, local_result(init)),
+            Step::Decode { on, chunk } => {
+                let chunk = find_chunk(steps, chunk.step)?;
+                self.decode(alloc, script, who, *on, chunk)
+            }
+            Step::Flush { on, bind: _ } => self.call(alloc, script, who, *on, Call::Flush),
+            Step::Poll { promise } => self.look(script, who, promise.step),
+            Step::Await { promise } => self.look(script, who, promise.step),
+            Step::Reset { on } => self.reset(alloc, script, who, *on),
+            Step::Close { on } => self.close(alloc, script, who, *on),
+            Step::State { on } => self.look_at_state(script, who, *on),
+        }
+    }
+
+    /// The next step of a caller, if it has one.
+    fn next(&mut self, alloc: Global, script: &Script, caller: u32) -> Result<(), NoMemory>
+        requires opened { AreOpened script.now self.old.desks }
+        requires playable { IsPlayable script.now }
+        requires held { AreHeld (course self.old) }
+        ensures made { OnOk result (course self.new ≡ follow_item script.now self.old.slots.made false (item.Caller caller) (course self.old)) }
+        ensures shape { OnOk result (KeepsShape self.old self.new) }
+    {
+        let steps = steps_of(script, caller);
+        let number = made_by(&self.callers, caller);
+        match step_at(steps, number) {
+            Some(step) => {
+                let who = Who {
+                    caller,
+                    step: number as u32,
+                };
+                self.step(alloc, script, steps, who, step)
+            }
+            None => Ok(()),
+        }
+    }
+
+    /// One item of the order.
+    pub(crate) fn take(
+        &mut self,
+        alloc: Global,
+        script: &Script,
+        item: OrderItem,
+    ) -> Result<(), NoMemory>
+        requires opened { AreOpened script.now self.old.desks }
+        requires playable { IsPlayable script.now }
+        requires range { IsInRange (length self.old.desks) item }
+        requires held { AreHeld (course self.old) }
+        requires stands { RefusalsStand script.now (course self.old) }
+        ensures made { OnOk result ((wants : Bool) × (course self.new ≡ follow_item script.now self.old.slots.made wants item (course self.old))) }
+        ensures shape { OnOk result (KeepsShape self.old self.new) }
+    {
+        match item {
+            OrderItem::Caller(caller) => self.next(alloc, script, caller),
+            OrderItem::Start(codec) => start_at(&mut self.desks, &mut self.slots, codec, alloc),
+            OrderItem::Done { codec, at } => {
+                done_at(&mut self.desks, &mut self.slots, codec, alloc, at)
+            }
+            OrderItem::Turn(codec) => turn_at(&mut self.desks, &mut self.slots, codec, alloc),
+            OrderItem::Reclaim { codec, at } => {
+                reclaim_at(&mut self.desks, &mut self.slots, codec, alloc, at)
+            }
+        }
     }
 }

@@ -1,0 +1,23 @@
+use Rattle.std.proofs.Common.{◌≡◌, ◌++◌, ◌∷◌, [], List, length, refl, ap, ◌∙◌}
+use Rattle.std.proofs.lemmas.Option.{slice_get_read}
+use Rattle.wc_script.specs.Form.{is_built_codec}
+use Rattle.wc_replay.specs.Desk.{DeskValue}
+use Rattle.wc_replay.specs.Player.{new_desk}
+use Rattle.wc_replay.proofs.Built.{all_at}
+use Rattle.wc_replay.proofs.Ends.{next_made, whole_made}
+use Rattle.wc_replay.proofs.playing.open_desks.Goals as goal
+
+pub open_desk-requires-after_bounds : goal.open_desk-requires-after_bounds
+open_desk-requires-after_bounds g c κs within =
+    let xs = c.args.codecs.now in
+    let x = c.codec-item.result in
+    all_at is_built_codec xs c.loop-codec.codec-index x c.requires (slice_get_read xs (length xs) c.loop-codec.codec-index x refl c.loop-codec-test.true c.codec-item.is)
+
+pub loop-codec-preserved : goal.loop-codec-preserved
+loop-codec-preserved g c =
+    let made = c.loop-codec.desks.items in
+    next_made new_desk c.args.codecs.now c.loop-codec.codec-index c.codec-item.result made c.append.new.items.items c.loop-codec-test.true c.codec-item.is c.loop-codec.invariant
+    (c.in_ok-append.ensures ∙ ap (λ (d : DeskValue). made ++ d ∷ []) c.in_ok-desk.ensures)
+
+pub returns : goal.returns
+returns g c = whole_made new_desk c.args.codecs.now c.loop-codec.codec-index c.loop-codec.desks.items c.loop-codec-test.false c.loop-codec.invariant

@@ -1,0 +1,92 @@
+// What the callers' steps came to.
+ghost use Rattle.std.specs.Prelude.{◌≡◌, [], ◌∷◌, ◌++◌, OnOk, IfOk, length, slice_get, map};
+ghost use Rattle.trace_text.specs.Follow.{at, append_at};
+
+use crate::events::append;
+use std::alloc::Global;
+use std::marker::Model;
+use trace_text::StepResult;
+use wc_base::NoMemory;
+
+/// The results of one caller's steps so far.
+#[derive(Drop)]
+pub(crate) struct Results {
+    steps: Vec<StepResult>,
+}
+
+impl Model for Results {
+    ghost use Rattle.std.specs.Prelude.{List};
+    ghost use Rattle.trace_text.specs.declared.run.StepResult.{StepResult};
+
+    ghost Value = { List StepResult };
+
+    ghost view = { λ r. r.steps.items };
+}
+
+impl Results {
+    pub(crate) fn new(alloc: Global) -> Results
+        ensures { result ≡ [] }
+    {
+        Results {
+            steps: Vec::new(alloc),
+        }
+    }
+
+    pub(crate) fn push(&mut self, came: StepResult) -> Result<(), NoMemory>
+        ensures { OnOk result (self.new ≡ self.old ++ came ∷ []) }
+    {
+        append(&mut self.steps, came)
+    }
+
+    pub(crate) fn len(&self) -> usize
+        ensures { result ≡ length self.now }
+    {
+        self.steps.len()
+    }
+
+    pub(crate) fn get(&self, step: u32) -> Option<StepResult>
+        ensures { result ≡ slice_get self.now step }
+    {
+        self.steps.get(step as usize).copied()
+    }
+
+    pub(crate) fn into_steps(self) -> Vec<StepResult>
+        ensures { result.items ≡ self }
+    {
+        self.steps
+    }
+}
+
+/// One more result of a caller.
+pub(crate) fn note(
+    callers: &mut Vec<Results>,
+    caller: u32,
+    came: StepResult,
+) -> Result<(), NoMemory>
+    ensures { OnOk result (callers.new.items ≡ append_at caller came callers.old.items) }
+{
+    match callers.get_mut(caller as usize) {
+        Some(results) => results.push(came),
+        None => Ok(()),
+    }
+}
+
+/// How many steps a caller made.
+pub(crate) fn made_by(callers: &[Results], caller: u32) -> usize
+    ensures { result ≡ length (at caller callers.now) }
+{
+    match callers.get(caller as usize) {
+        Some(results) => results.len(),
+        None => 0,
+    }
+}
+
+/// What a step of a caller came to, if it was made.
+pub(crate) fn result_of(callers: &[Results], caller: u32, step: u32) -> Option<StepResult>
+    ensures { result ≡ slice_get (at caller callers.now) step }
+{
+    match callers.get(caller as usize) {
+        Some(results) => results.get(step),
+        None => None,
+    }
+}
