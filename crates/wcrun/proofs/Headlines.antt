@@ -2,6 +2,7 @@
 use Rattle.std.proofs.Common.{◌≡◌, ◌≢◌, ℕ, List, [], ◌++◌, Option, ◌⊎◌, inl, inr, refl, sym, subst, ◌∙◌, arith}
 use Rattle.wc_base.specs.Told.{AppendsPart}
 use Rattle.wc_base.proofs.Parts.{appended_twice, part_after}
+use Rattle.wc_config.specs.declared.codec.CoderId.{CoderId}
 use Rattle.wcrun.specs.declared.refusal.Refusal.{Refusal}
 use Rattle.wcrun.specs.declared.refusal.Refusal.TheVariants as refusal
 use Rattle.wcrun.specs.Refusals.{status_of, line_of, memory_line}
@@ -26,45 +27,45 @@ not_six : (n : ℕ) → n ≡ 0 → n ≢ 6
 not_six n e = λ q. omega arith
 
 -- the line for want of memory, with no report before it
-cut_nothing : (r : Reading) → IsCut r memory_line
-cut_nothing r = record { part = []; begun = inl refl; whole = refl }
+cut_nothing : (r : Reading) (ids : List CoderId) → IsCut r ids memory_line
+cut_nothing r ids = record { part = []; begun = inl refl; whole = refl }
 
 -- that line, after a beginning of a report
-cut_after : (r : Reading) (old : Option (List ℕ)) (text : List ℕ) (mid : Option (List ℕ)) → IsReport r text → (a : AppendsPart old text mid) → IsCut r (a.part ++ memory_line)
-cut_after r old text mid k a = record { part = a.part; begun = inr (record { report = text; rest = a.rest; is_report = k; whole = a.whole }); whole = refl }
+cut_after : (r : Reading) (ids : List CoderId) (old : Option (List ℕ)) (text : List ℕ) (mid : Option (List ℕ)) → IsReport r ids text → (a : AppendsPart old text mid) → IsCut r ids (a.part ++ memory_line)
+cut_after r ids old text mid k a = record { part = a.part; begun = inr (record { report = text; rest = a.rest; is_report = k; whole = a.whole }); whole = refl }
 
-pub headline_of_report : (r : Reading) (w : Writing) (text : List ℕ) → IsReport r text → WritesText text w → Headline r w
-headline_of_report r w text k p = record {
+pub headline_of_report : (r : Reading) (ids : List CoderId) (w : Writing) (text : List ℕ) → IsReport r ids text → WritesText text w → Headline r ids w
+headline_of_report r ids w text k p = record {
   written = λ e. record { text = text; report = k; told = p.done e };
   out_of_memory = λ e. let m = p.memory e in record {
     text = m.1.part ++ memory_line;
-    cut = cut_after r w.before text m.0 k m.1;
+    cut = cut_after r ids w.before text m.0 k m.1;
     told = appended_twice w.before m.0 w.after m.1.part memory_line m.1.told m.2;
   };
   sink_failed = λ e. let m = p.part e in record {
     rose = p.failed e;
     text = m.1.part ++ memory_line;
-    allowed = inr (inl (cut_after r w.before text m.0 k m.1));
+    allowed = inr (inl (cut_after r ids w.before text m.0 k m.1));
     part = part_after w.before m.0 m.1.part memory_line w.after m.1.told m.2;
   };
   refused = λ n0 n5 n6. absurd (n5 (p.only n0 n6));
 }
 
 -- a failed write of a line, or of the line for want of memory
-failed_line : (r : Reading) (w : Writing) (x : Refusal) → Comes r x → WritesLine (status_of x) (line_of x) w → w.answer ≡ 5 → AppendsPart w.before (line_of x) w.after ⊎ AppendsPart w.before memory_line w.after → SinkFailed r w
-failed_line r w x k p e (inl q) = record {
+failed_line : (r : Reading) (ids : List CoderId) (w : Writing) (x : Refusal) → Comes r x → WritesLine (status_of x) (line_of x) w → w.answer ≡ 5 → AppendsPart w.before (line_of x) w.after ⊎ AppendsPart w.before memory_line w.after → SinkFailed r ids w
+failed_line r ids w x k p e (inl q) = record {
   rose = p.failed e;
   text = line_of x;
   allowed = inr (inr (status_of x, record { refusal = x; comes = k; is_status = refl; is_line = refl }));
   part = q;
 }
-failed_line r w x k p e (inr q) = record { rose = p.failed e; text = memory_line; allowed = inr (inl (cut_nothing r)); part = q }
+failed_line r ids w x k p e (inr q) = record { rose = p.failed e; text = memory_line; allowed = inr (inl (cut_nothing r ids)); part = q }
 
-pub headline_of_refusal : (r : Reading) (w : Writing) (x : Refusal) → Comes r x → WritesLine (status_of x) (line_of x) w → Headline r w
-headline_of_refusal r w x k p = record {
+pub headline_of_refusal : (r : Reading) (ids : List CoderId) (w : Writing) (x : Refusal) → Comes r x → WritesLine (status_of x) (line_of x) w → Headline r ids w
+headline_of_refusal r ids w x k p = record {
   written = λ e. absurd (not_zero x (sym (p.done (not_five w.answer e) (not_six w.answer e)) ∙ e));
-  out_of_memory = λ e. record { text = memory_line; cut = cut_nothing r; told = p.memory e };
-  sink_failed = λ e. failed_line r w x k p e (p.part e);
+  out_of_memory = λ e. record { text = memory_line; cut = cut_nothing r ids; told = p.memory e };
+  sink_failed = λ e. failed_line r ids w x k p e (p.part e);
   refused = λ n0 n5 n6. record {
     text = line_of x;
     line = record { refusal = x; comes = k; is_status = p.done n5 n6; is_line = refl };
@@ -72,15 +73,15 @@ headline_of_refusal r w x k p = record {
   };
 }
 
-failed_memory : (r : Reading) (w : Writing) → WritesLine 6 memory_line w → w.answer ≡ 5 → AppendsPart w.before memory_line w.after ⊎ AppendsPart w.before memory_line w.after → SinkFailed r w
-failed_memory r w p e (inl q) = record { rose = p.failed e; text = memory_line; allowed = inr (inl (cut_nothing r)); part = q }
-failed_memory r w p e (inr q) = record { rose = p.failed e; text = memory_line; allowed = inr (inl (cut_nothing r)); part = q }
+failed_memory : (r : Reading) (ids : List CoderId) (w : Writing) → WritesLine 6 memory_line w → w.answer ≡ 5 → AppendsPart w.before memory_line w.after ⊎ AppendsPart w.before memory_line w.after → SinkFailed r ids w
+failed_memory r ids w p e (inl q) = record { rose = p.failed e; text = memory_line; allowed = inr (inl (cut_nothing r ids)); part = q }
+failed_memory r ids w p e (inr q) = record { rose = p.failed e; text = memory_line; allowed = inr (inl (cut_nothing r ids)); part = q }
 
-pub headline_of_memory : (r : Reading) (w : Writing) → WritesLine 6 memory_line w → Headline r w
-headline_of_memory r w p = record {
+pub headline_of_memory : (r : Reading) (ids : List CoderId) (w : Writing) → WritesLine 6 memory_line w → Headline r ids w
+headline_of_memory r ids w p = record {
   written = λ e. let n6 : w.answer ≢ 6 = not_six w.answer e in absurd (n6 (p.done (not_five w.answer e) n6));
-  out_of_memory = λ e. record { text = memory_line; cut = cut_nothing r; told = p.memory e };
-  sink_failed = λ e. failed_memory r w p e (p.part e);
+  out_of_memory = λ e. record { text = memory_line; cut = cut_nothing r ids; told = p.memory e };
+  sink_failed = λ e. failed_memory r ids w p e (p.part e);
   refused = λ n0 n5 n6. absurd (n6 (p.done n5 n6));
 }
 

@@ -5,6 +5,7 @@
 use Rattle.std.specs.Prelude.{ℕ, ◌≡◌, ◌≢◌, ◌<◌, ◌≤◌, ◌⊎◌, nat_lt, if◌then◌else◌, List, [], ◌++◌, length, Option, Some, None, IfSome, IsSomeAnd, MatchOption, Result, Ok, Err, IsOk}
 use Rattle.wc_base.specs.Causes.{Rose, RoseBy}
 use Rattle.wc_base.specs.Told.{appended, AppendsPart}
+use Rattle.wc_config.specs.declared.codec.CoderId.{CoderId}
 use Rattle.wc_script.specs.declared.script.Script.{Script}
 use Rattle.wc_script.specs.declared.script.ScriptFault.{ScriptFault}
 use Rattle.wc_script.specs.declared.script.ScriptFault.TheVariants as fault
@@ -51,30 +52,31 @@ OfFile r P = IsSomeAnd r.command (λ name. IfSome r.content (λ files. IsSomeAnd
 abbrev pub IfFile : Reading → (List ℕ → Type 0) → Type 0
 IfFile r P = IfSome r.command (λ name. IfSome r.content (λ files. IfSome (files name) P))
 
--- A run that is legal and fits the script that the file's bytes spell.
-pub record IsRunOf (r : Reading) (script : Script) (run : Run) : Type 0 where
+-- A run that is legal and fits the script that the file's bytes spell; `coders` has the ids of the coders that were handed
+-- in.
+pub record IsRunOf (r : Reading) (coders : List CoderId) (script : Script) (run : Run) : Type 0 where
   pub spelled : OfFile r (λ bytes. script_of bytes ≡ Ok script)
   pub legal : IsLegalRun script run
-  pub fits : Fits script run
+  pub fits : Fits script coders run
 
 -- The text is the report of such a run.
-pub record IsReport (r : Reading) (text : List ℕ) : Type 0 where
+pub record IsReport (r : Reading) (coders : List CoderId) (text : List ℕ) : Type 0 where
   pub script : Script
   pub run : Run
-  pub ran : IsRunOf r script run
+  pub ran : IsRunOf r coders script run
   pub whole : text ≡ report_of script run
 
 -- The text is a beginning of such a report.
-pub record IsBegun (r : Reading) (text : List ℕ) : Type 0 where
+pub record IsBegun (r : Reading) (coders : List CoderId) (text : List ℕ) : Type 0 where
   pub report : List ℕ
   pub rest : List ℕ
-  pub is_report : IsReport r report
+  pub is_report : IsReport r coders report
   pub whole : text ++ rest ≡ report
 
 -- The text is nothing, or a beginning of a report, and then the line for want of memory.
-pub record IsCut (r : Reading) (text : List ℕ) : Type 0 where
+pub record IsCut (r : Reading) (coders : List CoderId) (text : List ℕ) : Type 0 where
   pub part : List ℕ
-  pub begun : (part ≡ []) ⊎ IsBegun r part
+  pub begun : (part ≡ []) ⊎ IsBegun r coders part
   pub whole : text ≡ part ++ memory_line
 
 -- When a refusal may come.
@@ -96,22 +98,22 @@ pub record IsRefusal (r : Reading) (status : ℕ) (text : List ℕ) : Type 0 whe
 
 -- The four parts. With status 0 the sink's bytes are the earlier ones, followed by the report of a run that is legal and
 -- fits the script.
-pub record Written (r : Reading) (w : Writing) : Type 0 where
+pub record Written (r : Reading) (coders : List CoderId) (w : Writing) : Type 0 where
   pub text : List ℕ
-  pub report : IsReport r text
+  pub report : IsReport r coders text
   pub told : w.after ≡ appended w.before text
 
 -- With status 6 nothing or a beginning of such a report was added, and then the line `out of memory`.
-pub record OutOfMemory (r : Reading) (w : Writing) : Type 0 where
+pub record OutOfMemory (r : Reading) (coders : List CoderId) (w : Writing) : Type 0 where
   pub text : List ℕ
-  pub cut : IsCut r text
+  pub cut : IsCut r coders text
   pub told : w.after ≡ appended w.before text
 
 -- With status 5 a beginning of a text that another status allows was added, and a write failed in this call.
-pub record SinkFailed (r : Reading) (w : Writing) : Type 0 where
+pub record SinkFailed (r : Reading) (coders : List CoderId) (w : Writing) : Type 0 where
   pub rose : Rose w.faults_before w.faults_after
   pub text : List ℕ
-  pub allowed : IsReport r text ⊎ (IsCut r text ⊎ ((status : ℕ) × IsRefusal r status text))
+  pub allowed : IsReport r coders text ⊎ (IsCut r coders text ⊎ ((status : ℕ) × IsRefusal r status text))
   pub part : AppendsPart w.before text w.after
 
 -- With every other status the line of a refusal was added, which comes only where its cause is.
@@ -120,10 +122,10 @@ pub record Refused (r : Reading) (w : Writing) : Type 0 where
   pub line : IsRefusal r w.answer text
   pub told : w.after ≡ appended w.before text
 
-pub record Headline (r : Reading) (w : Writing) : Type 0 where
-  pub written : w.answer ≡ 0 → Written r w
-  pub out_of_memory : w.answer ≡ 6 → OutOfMemory r w
-  pub sink_failed : w.answer ≡ 5 → SinkFailed r w
+pub record Headline (r : Reading) (coders : List CoderId) (w : Writing) : Type 0 where
+  pub written : w.answer ≡ 0 → Written r coders w
+  pub out_of_memory : w.answer ≡ 6 → OutOfMemory r coders w
+  pub sink_failed : w.answer ≡ 5 → SinkFailed r coders w
   pub refused : w.answer ≢ 0 → w.answer ≢ 5 → w.answer ≢ 6 → Refused r w
 
 -- the status for a script, where nothing fails

@@ -1,5 +1,5 @@
 // The top call.
-ghost use Rattle.std.specs.Prelude.{◌≡◌, ◌⊎◌, true, IfOk, IfErr, Some};
+ghost use Rattle.std.specs.Prelude.{◌≡◌, ◌⊎◌, true, map, IfOk, IfErr, Some};
 ghost use Rattle.wc_script.specs.Form.{is_built};
 ghost use Rattle.wc_script.specs.Read.{script_of};
 ghost use Rattle.trace_text.specs.Report.{report_of};
@@ -56,7 +56,7 @@ fn replayed<F: Files, C: Coder>(
     coders: Vec<C>,
 ) -> Result<Replayed, Stop>
     ensures ok { IfOk result (λ d. IsRunOf (reading (command_of (words_of words.now)) (F.content files.old) (F.faults files.old)
-        (F.faults files.new) (F.bytes_read files.old) (F.bytes_read files.new)) d.script d.run) }
+        (F.faults files.new) (F.bytes_read files.old) (F.bytes_read files.new)) (map C.coder coders.items) d.script d.run) }
     ensures stop { IfErr result (λ e. MayStop (reading (command_of (words_of words.now)) (F.content files.old) (F.faults files.old)
         (F.faults files.new) (F.bytes_read files.old) (F.bytes_read files.new)) e) }
 {
@@ -124,7 +124,7 @@ pub fn top<F: Files, S: Sink, C: Coder>(
 ) -> u8
     ensures headline { Headline
         (reading (command_of (words_of words.now)) (F.content files.old) (F.faults files.old) (F.faults files.new)
-        (F.bytes_read files.old) (F.bytes_read files.new))
+        (F.bytes_read files.old) (F.bytes_read files.new)) (map C.coder coders.items)
         (writing (S.told sink.old) (S.told sink.new) (S.faults sink.old) (S.faults sink.new) result) }
     ensures decided { Decides
         (reading (command_of (words_of words.now)) (F.content files.old) (F.faults files.old) (F.faults files.new)

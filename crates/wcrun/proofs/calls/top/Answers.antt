@@ -6,14 +6,14 @@ use Rattle.wcrun.proofs.Headlines.{headline_of_report, headline_of_refusal, head
 use Rattle.wcrun.proofs.calls.top.Goals as goal
 
 pub returns-in-Ok-clause-headline : goal.returns-in-Ok-clause-headline
-returns-in-Ok-clause-headline g c = headline_of_report _ _ _ (record { script = c.in-Ok.done.script; run = c.in-Ok.done.run; ran = c.in-Ok.ensures.ok; whole = refl }) c.report.ensures
+returns-in-Ok-clause-headline g c = headline_of_report _ _ _ _ (record { script = c.in-Ok.done.script; run = c.in-Ok.done.run; ran = c.in-Ok.ensures.ok; whole = refl }) c.report.ensures
 
 pub returns-in-Err-Refused-clause-headline : goal.returns-in-Err-Refused-clause-headline
 returns-in-Err-Refused-clause-headline g c =
     let h = c.in-Err-Refused.field-0-is in
     let q : c.in-Err-Refused.field-0 ≡ stop.Refused c.in-Err-Refused.refusal = cc in
     let r : Reading = reading (command_of (words_of c.args.words.now)) (g.F.Files.content c.args.files.now) (g.F.Files.faults c.args.files.now) (g.F.Files.faults c.replayed.new.files) (g.F.Files.bytes_read c.args.files.now) (g.F.Files.bytes_read c.replayed.new.files) in
-    headline_of_refusal r _ c.in-Err-Refused.refusal (stop_comes r c.in-Err-Refused.field-0 c.in-Err-Refused.refusal q c.in-Err-Refused.ensures.stop) c.refuse.ensures
+    headline_of_refusal r _ _ c.in-Err-Refused.refusal (stop_comes r c.in-Err-Refused.field-0 c.in-Err-Refused.refusal q c.in-Err-Refused.ensures.stop) c.refuse.ensures
 
 pub returns-in-Err-NoMemory-clause-headline : goal.returns-in-Err-NoMemory-clause-headline
-returns-in-Err-NoMemory-clause-headline g c = headline_of_memory _ _ c.want_memory.ensures
+returns-in-Err-NoMemory-clause-headline g c = headline_of_memory _ _ _ c.want_memory.ensures
