@@ -2,3 +2,5 @@ pub mod Fits
 pub mod Follow
 pub mod Report
 pub mod Rows
+pub mod Accounts
+pub mod AccountsRows

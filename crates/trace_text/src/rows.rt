@@ -1,4 +1,5 @@
-// The report of a whole run, computed by the checker.
+// The report of a whole run and the boxes of whole histories, computed by the checker.
+ghost use Rattle.trace_text.specs.AccountsRows.{KeepsOne, LeavesAtTheEnd, LeavesForAnother};
 ghost use Rattle.trace_text.specs.Rows.{OrdinaryFollows, OrdinaryShown, OrdinaryReport};
 
 /// One configure, one chunk, one decode, one flush and one look at its promise: what the script's order makes, what the
@@ -7,4 +8,12 @@ pub fn ordinary_report()
     ensures follows { OrdinaryFollows }
     ensures shown { OrdinaryShown }
     ensures report { OrdinaryReport }
+{}
+
+/// Which entries ask for a box, and by which it leaves: in an ordinary run, in one with a reset while an item is at work,
+/// and in one of two coders.
+pub fn boxes_of_histories()
+    ensures keeps { KeepsOne }
+    ensures leaves_at_the_end { LeavesAtTheEnd }
+    ensures leaves_for_another { LeavesForAnother }
 {}
