@@ -9,6 +9,13 @@ pub mod Moves
 pub mod Refusals
 pub mod Following
 pub mod Held
+pub mod Accounts
+pub mod AccountsMoves
+pub mod AccountsSteps
+pub mod AccountsItems
+pub mod AccountsRefusals
+pub mod AccountsEnds
+pub mod AccountsOrder
 pub mod Runs
 pub mod Places
 pub mod Desks

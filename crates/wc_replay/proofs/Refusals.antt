@@ -94,7 +94,7 @@ start_is_there s w k i is = elim (there k w.codecs) [
   | inr e ↦ absurd (let bad : None ≡ Some i = ap (λ h. start_item (state_after (opening_at s k) h).control) (sym e) ∙ is in cc)
 ]
 
-started_by : (is : List Item) (i : Item) (epoch number : ℕ) (x y : State) → x.control.work ≡ is → front is ≡ Some i → start_step is epoch number x ≡ Some y
+pub started_by : (is : List Item) (i : Item) (epoch number : ℕ) (x y : State) → x.control.work ≡ is → front is ≡ Some i → start_step is epoch number x ≡ Some y
     → (y.control.running ≡ Some (record { epoch = x.control.epoch; number = i.number; place = i.place; kind = kind_of i.work })) × (y.running_given ≡ given_more i.work x.given)
 started_by [] i epoch number x y queue f h = absurd cc
 started_by (j ∷ rest) i epoch number x y queue f h =
@@ -118,7 +118,7 @@ lacks_box (work.Coded chunk) g id h = absurd cc
 lacks_box work.Flush g id h = absurd cc
 
 -- nothing runs where a start finds an item
-idle_at_start : (s : State) (i : Item) → start_item s.control ≡ Some i → s.control.running ≡ None
+pub idle_at_start : (s : State) (i : Item) → start_item s.control ≡ Some i → s.control.running ≡ None
 idle_at_start s i h =
     let may = cond_some (may_start s.control) (front s.control.work) i h in
     none_is s.control.running (and_parts (is_none s.control.running) (not s.control.halted) may.0).0
