@@ -18,6 +18,7 @@ use Rattle.trace_text.specs.declared.run.CodecTrace.{CodecTrace}
 use Rattle.trace_text.specs.declared.run.StepResult.{StepResult}
 use Rattle.trace_text.specs.declared.run.StepResult.TheVariants as result
 pub use Rattle.trace_text.specs.Report.{refusal_in}
+use Rattle.trace_text.specs.Accounts.{BoxesAccounted}
 use Rattle.trace_text.specs.Follow.{Recorded, at, opening_of, opening_at, state_after, steps_of, chunk_at, init_error, promise_after, Course, Holding, Follows, nothing_yet}
 
 -- the caller whose call an entry keeps, with its step
@@ -155,6 +156,11 @@ LocalsAreIn s w = (c j : ℕ) (x : Step) (r : StepResult) → step_in s c j ≡ 
 abbrev pub LocalStepsAnswer : Script → Run → Type 0
 LocalStepsAnswer s run = LocalsAreIn s (recorded_of run)
 
+-- Each box that went out was asked for, and went back by the entry that let it go. `made` has the ids of the coders that
+-- were handed in.
+abbrev pub BoxesAreAccounted : Script → List CoderId → Run → Type 0
+BoxesAreAccounted s made run = BoxesAccounted s made (recorded_of run)
+
 -- All entries, results and slot entries are those that following the script's order makes, item after item. `made` has the
 -- ids of the coders that were handed in.
 pub record FollowsTheOrder (s : Script) (made : List CoderId) (run : Run) : Type 0 where
@@ -167,6 +173,7 @@ pub record Fits (s : Script) (made : List CoderId) (run : Run) : Type 0 where
   pub looks : LooksAreBetween s run
   pub arguments : ArgumentsAreTheScripts s run
   pub locals : LocalStepsAnswer s run
+  pub boxes : BoxesAreAccounted s made run
   pub follows : FollowsTheOrder s made run
 
 -- A codec's history is legal for the script's opening, and shows what was recorded.

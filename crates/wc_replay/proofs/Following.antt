@@ -371,18 +371,6 @@ fits_before s made i u sound follows = order_fits s made (take i s.order) (nothi
 pub order_makes : (s : Script) → IsSound s → (made : List CoderId) (run : Run) → FollowsTheOrder s made run → FitsSoFar s (recorded_of run)
 order_makes s sound made run follows = (order_fits s made s.order (nothing_yet s) (record { recorded = recorded_of run; holdings = follows.holdings }) sound (nothing_fits s) follows.follows).recorded_fits
 
--- A run that follows the order of a sound script fits it.
-pub fits_of : (s : Script) → IsSound s → (made : List CoderId) (run : Run) → FollowsTheOrder s made run → Fits s made run
-fits_of s sound made run follows =
-    let all = order_makes s sound made run follows in
-    record {
-      calls = all.calls;
-      looks = all.looks;
-      arguments = all.arguments;
-      locals = all.locals;
-      follows = follows;
-    }
-
 -- Each codec's history in a run that follows the order of a sound script is legal.
 pub legal_of : (s : Script) → IsSound s → (made : List CoderId) (run : Run) → FollowsTheOrder s made run → (k : ℕ) → IsLegal (opening_at s k) (at k (recorded_of run).codecs)
 legal_of s sound made run follows k = (order_makes s sound made run follows).legal k

@@ -24,3 +24,4 @@ pub mod Plays
 pub mod Players
 pub mod Built
 pub mod Ends
+pub mod Fitting

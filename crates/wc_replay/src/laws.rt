@@ -5,14 +5,12 @@ ghost use Rattle.trace_text.specs.Fits.{Fits, FollowsTheOrder, recorded_of};
 ghost use Rattle.trace_text.specs.Follow.{at, opening_at};
 ghost use Rattle.trace_text.specs.declared.run.Run.{Run};
 ghost use Rattle.wc_config.specs.declared.codec.CoderId.{CoderId};
-ghost use Rattle.trace_text.specs.Accounts.{BoxesAccounted};
 ghost use Rattle.wc_replay.specs.Sound.{IsSound};
 ghost use Rattle.wc_script.specs.declared.script.Script.{Script};
 
-/// A law: a run that follows the order of a sound script fits the script, each codec's history in such a run is legal, and
-/// its boxes are accounted for.
+/// A law: a run that follows the order of a sound script fits the script, and each codec's history in such a run is
+/// legal.
 pub fn following_fits()
     ensures fits { (script : Script) (made : List CoderId) (run : Run) → IsSound script → FollowsTheOrder script made run → Fits script made run }
     ensures legal { (script : Script) (made : List CoderId) (run : Run) (k : ℕ) → IsSound script → FollowsTheOrder script made run → IsLegal (opening_at script k) (at k (recorded_of run).codecs) }
-    ensures boxes { (script : Script) (made : List CoderId) (run : Run) → IsSound script → FollowsTheOrder script made run → BoxesAccounted script made (recorded_of run) }
 {}

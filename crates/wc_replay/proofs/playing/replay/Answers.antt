@@ -5,7 +5,7 @@ use Rattle.wc_replay.specs.Player.{AreShownTraces}
 use Rattle.wc_replay.proofs.Built.{sound_of, playable_of, in_range_of}
 use Rattle.wc_replay.proofs.Desks.{if_ok_map}
 use Rattle.wc_replay.proofs.Ends.{if_ok_three}
-use Rattle.wc_replay.proofs.Following.{fits_of}
+use Rattle.wc_replay.proofs.Fitting.{fits_of}
 use Rattle.wc_replay.proofs.Runs.{legal_run_of}
 use Rattle.wc_replay.proofs.playing.replay.Goals as goal
 
