@@ -4,6 +4,8 @@
 mod calls;
 mod command;
 mod refusal;
+#[cfg(test)]
+mod rows;
 mod stop;
 #[cfg(test)]
 mod tests;

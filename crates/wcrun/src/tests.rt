@@ -106,7 +106,7 @@ end
 ";
 
 // Ends a call on files that hold one script, with these reads and writes failing, and with two coders.
-fn call(
+pub(crate) fn call(
     alloc: Global,
     file: Vec<u8>,
     words: &[&str],
