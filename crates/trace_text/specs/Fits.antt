@@ -19,7 +19,7 @@ use Rattle.trace_text.specs.declared.run.StepResult.{StepResult}
 use Rattle.trace_text.specs.declared.run.StepResult.TheVariants as result
 pub use Rattle.trace_text.specs.Report.{refusal_in}
 use Rattle.trace_text.specs.Accounts.{BoxesAccounted}
-use Rattle.trace_text.specs.Follow.{Recorded, at, opening_of, opening_at, state_after, steps_of, chunk_at, init_error, promise_after, Course, Holding, Follows, nothing_yet}
+use Rattle.trace_text.specs.Follow.{Recorded, at, opening_of, opening_at, state_after, steps_of, chunk_at, init_error, promise_after, Holding, Follows, nothing_yet}
 
 -- the caller whose call an entry keeps, with its step
 abbrev pub who_of : Entry → Option Who

@@ -1,5 +1,5 @@
 -- One codec among all: where it stands, and the boxes that it may give back.
-use Rattle.std.proofs.Common.{ℕ, ◌≡◌, ◌<◌, Bool, true, false, cond, List, [], ◌∷◌, ◌++◌, length, get_or, Option, Some, None, refl, ap, sym, subst, ◌∙◌}
+use Rattle.std.proofs.Common.{ℕ, ◌≡◌, ◌<◌, Bool, true, false, cond, List, [], ◌∷◌, ◌++◌, length, get_or, Option, Some, None, refl, ap, sym, ◌∙◌}
 use Rattle.std.specs.Prelude.{◌==◌, slice_get, slice_set}
 use Rattle.std.proofs.lemmas.Option.{slice_get_read}
 use Rattle.wc_base.specs.declared.error.DomError.{DomError}
@@ -11,7 +11,7 @@ use Rattle.codec_model.specs.declared.entry.Task.{Task}
 use Rattle.codec_model.specs.Control.{is_close, may_reclaim}
 use Rattle.codec_model.specs.Replay.{State, removal_error}
 use Rattle.slot_registry.specs.Slots.{SlotsValue}
-use Rattle.trace_text.specs.Follow.{BoxOut, Holding, nothing_held, give_of}
+use Rattle.trace_text.specs.Follow.{BoxOut, Holding, give_of}
 use Rattle.wc_replay.specs.Boxes.{IsGivable}
 use Rattle.wc_replay.specs.Desk.{DeskValue, state_of, next_by, let_go, let_go_unless, let_go_if, back_by, removal_box, box_by_turn, turn_box, reclaim_box, box_by_done, done_box}
 use Rattle.wc_replay.specs.Player.{desk_at}

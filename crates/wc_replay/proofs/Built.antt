@@ -1,6 +1,6 @@
 -- A script of the form that is built is sound, and can be played.
 use Rattle.std.proofs.Common.{ℕ, zero, suc, ◌≡◌, ◌+◌, ◌<◌, ◌≤◌, ◌&&◌, Bool, true, false, List, [], ◌∷◌, length, Option, Some, None, refl, ap, sym, subst, ◌∙◌, arith}
-use Rattle.std.specs.Prelude.{slice_get, nat_lt, nat_le}
+use Rattle.std.specs.Prelude.{slice_get, nat_lt}
 use Rattle.std.specs.List.{list_all}
 use Rattle.std.proofs.lemmas.Bool.{leb-true, ltb-true}
 use Rattle.std.proofs.lemmas.Option.{slice_get_within}
@@ -12,7 +12,7 @@ use Rattle.wc_script.specs.declared.script.OrderItem.TheVariants as item
 use Rattle.wc_script.specs.declared.script.Variable.{Variable}
 use Rattle.wc_script.specs.declared.script.Step.{Step}
 use Rattle.wc_script.specs.declared.script.Step.TheVariants as step
-use Rattle.wc_script.specs.Form.{is_built, is_built_step, is_built_caller, is_built_item, are_built_codecs, is_built_codec, are_built_callers, are_built_steps, are_sound_steps, is_sound_step, makes_promise, are_few}
+use Rattle.wc_script.specs.Form.{is_built, is_built_step, is_built_caller, is_built_item, is_built_codec, are_built_callers, are_built_steps, are_sound_steps, is_sound_step, makes_promise}
 use Rattle.trace_text.specs.Follow.{steps_in, steps_of}
 use Rattle.trace_text.specs.Fits.{step_in, called}
 use Rattle.wc_replay.specs.Sound.{IsSound, promise_of, IsFlush}

@@ -6,7 +6,6 @@ use Rattle.wc_config.specs.declared.codec.CoderId.{CoderId}
 use Rattle.wc_config.specs.Configs.{is_supported}
 use Rattle.codec_model.specs.declared.entry.Entry.{Entry}
 use Rattle.codec_model.specs.declared.entry.Running.{Running}
-use Rattle.codec_model.specs.declared.entry.WorkKind.TheVariants as kind
 use Rattle.codec_model.specs.Replay.{State, step}
 use Rattle.codec_model.proofs.ShownLaws.{replay_append}
 use Rattle.codec_core.specs.Codec.{KeepsRunning}

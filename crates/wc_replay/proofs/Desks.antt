@@ -1,10 +1,9 @@
 -- What a desk keeps as its codec's history grows.
-use Rattle.std.proofs.Common.{ℕ, ◌≡◌, Bool, true, false, not, cond, eqb, List, [], ◌∷◌, ◌++◌, length, Option, Some, None, refl, ap, sym, subst, ◌∙◌, Result, Ok, Err, option_map, is_some}
+use Rattle.std.proofs.Common.{ℕ, ◌≡◌, Bool, true, false, not, cond, List, [], ◌∷◌, ◌++◌, length, Option, Some, None, refl, ap, sym, subst, ◌∙◌, Result, Ok, Err, option_map, is_some}
 use Rattle.std.specs.Prelude.{◌==◌}
 use Rattle.std.specs.Result.{OnOk, IfOk}
 use Rattle.wc_base.specs.declared.error.DomError.{DomError}
 use Rattle.wc_base.specs.declared.who.Who.{Who}
-use Rattle.wc_base.specs.declared.who.By.{By}
 use Rattle.wc_base.specs.declared.who.By.TheVariants as by
 use Rattle.wc_config.specs.declared.codec.CoderId.{CoderId}
 use Rattle.coder_api.specs.Lent.{Lent}
@@ -22,22 +21,21 @@ use Rattle.codec_model.specs.declared.entry.Event.{Event}
 use Rattle.codec_model.specs.declared.entry.Item.{Item}
 use Rattle.codec_model.specs.declared.entry.Opening.{Opening}
 use Rattle.codec_model.specs.declared.entry.Outcome.{Outcome}
-use Rattle.codec_model.specs.declared.entry.Outcome.TheVariants as outcome
 use Rattle.codec_model.specs.declared.entry.Running.{Running}
 use Rattle.codec_model.specs.declared.entry.Shown.{Shown}
 use Rattle.codec_model.specs.declared.entry.Task.{Task}
 use Rattle.codec_model.specs.declared.entry.Task.TheVariants as task
 use Rattle.codec_model.specs.declared.entry.Work.{Work}
 use Rattle.codec_model.specs.Control.{Control, kind_of, front, start_item, may_start, is_close, may_reclaim}
-use Rattle.codec_model.specs.Replay.{State, Given, missing_coder, entry_of, call_error, flush_error, decode_error, configure_error, removal_error, answer_to}
-use Rattle.codec_model.specs.Shown.{each_shown, shown_at, shows, word_of_task, turn_word, task_shows, removal_shows, refusal, rejection}
+use Rattle.codec_model.specs.Replay.{State, missing_coder, entry_of, call_error, flush_error, decode_error, configure_error, removal_error, answer_to}
+use Rattle.codec_model.specs.Shown.{shown_at, word_of_task, removal_shows, refusal, rejection}
 use Rattle.codec_core.specs.Codec.{Codec, item_parts, state_at, Makes, KeepsRunning, kept_box, handed_back, closes_now}
-use Rattle.codec_core.specs.Job.{JobValue, DoneValue, IsJob, IsJobOf, EndsBy, outcome_of, stopped_box, missing_id}
+use Rattle.codec_core.specs.Job.{JobValue, DoneValue, IsJobOf, EndsBy, outcome_of, stopped_box, missing_id}
 use Rattle.codec_core.proofs.Laws.{makes_shows, job_stays}
-use Rattle.trace_text.specs.Follow.{BoxOut, Holding, nothing_held, exception_of, outcome_by, outcome_for}
+use Rattle.trace_text.specs.Follow.{BoxOut, Holding, exception_of, outcome_for}
 use Rattle.wc_replay.specs.Boxes.{IsRefused, filled_slots, filled_holding}
-use Rattle.wc_replay.specs.Desk.{DeskValue, JobMatches, IsDesk, moved, state_of, next_by, box_out, box_of, holding_of, holding_with, left_by, let_go, left_unless, let_go_unless, left_if, let_go_if, kept_by, back_by, after_start, start_slots, started_with, slots_with, after_removal, removal_box, turned_by, after_turn, box_by_turn, turn_box, after_reclaim, reclaim_box, done_by, after_done, box_by_done, done_box, shown_where, shown_by_turn}
-use Rattle.wc_replay.specs.Events.{task_events, removal_events, reclaim_events, flush_rejection, call_event, events_of}
+use Rattle.wc_replay.specs.Desk.{DeskValue, JobMatches, IsDesk, moved, state_of, next_by, box_out, box_of, holding_of, holding_with, left_by, let_go, left_unless, let_go_unless, left_if, let_go_if, kept_by, back_by, after_start, start_slots, started_with, slots_with, after_removal, removal_box, turned_by, after_turn, box_by_turn, turn_box, after_reclaim, reclaim_box, after_done, done_box, shown_where, shown_by_turn}
+use Rattle.wc_replay.specs.Events.{task_events, removal_events, flush_rejection, call_event, events_of}
 
 pub record HasBox (job : Option JobValue) (refusal : Option ℕ) (slot : Option Lent) : Type 0 where
   pub refused : IsRefused job refusal

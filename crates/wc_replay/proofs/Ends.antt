@@ -1,14 +1,12 @@
 -- The beginning and the end of a replay.
-use Rattle.std.proofs.Common.{ℕ, zero, suc, ◌≡◌, ◌+◌, ◌<◌, ◌≤◌, List, [], ◌∷◌, ◌++◌, map, length, get_or, append-nil, refl, ap, sym, subst, ◌∙◌}
+use Rattle.std.proofs.Common.{ℕ, ◌≡◌, ◌+◌, ◌<◌, ◌≤◌, List, [], ◌∷◌, ◌++◌, map, length, get_or, append-nil, refl, ap, sym, subst, ◌∙◌}
 use Rattle.std.specs.Prelude.{take, slice_get, Some, Result, Ok, Err, IfOk}
 use Rattle.std.proofs.lemmas.List.{length-map, map-append, take_all}
 use Rattle.std.proofs.lemmas.Option.{slice_get_read, slice_get-get_or}
 use Rattle.coder_api.specs.declared.slot.SlotEntry.{SlotEntry}
 use Rattle.codec_model.specs.declared.entry.Entry.{Entry}
 use Rattle.codec_model.specs.declared.entry.Opening.{Opening}
-use Rattle.codec_model.specs.Shown.{each_shown}
 use Rattle.wc_config.specs.declared.codec.CoderId.{CoderId}
-use Rattle.wc_script.specs.declared.script.CallerItem.{CallerItem}
 use Rattle.wc_script.specs.declared.script.CodecItem.{CodecItem}
 use Rattle.wc_script.specs.declared.script.Script.{Script}
 use Rattle.trace_text.specs.declared.run.CallerTrace.{CallerTrace}
@@ -19,7 +17,7 @@ use Rattle.trace_text.specs.Fits.{FollowsTheOrder, recorded_of}
 use Rattle.trace_text.specs.Follow.{Recorded, Holding, Course, Follows, nothing_yet, nothing_held, opening_of}
 use Rattle.wc_replay.specs.Desk.{DeskValue}
 use Rattle.wc_replay.proofs.Following.{take_next}
-use Rattle.wc_replay.specs.Player.{PlayerValue, course, course_of, openings_of, AreOpened, KeepsShape, new_desk, new_results, trace_of, caller_trace, IsRunOf, IsShownTrace, AreShownTraces}
+use Rattle.wc_replay.specs.Player.{PlayerValue, course, course_of, openings_of, AreOpened, KeepsShape, new_desk, new_results, trace_of, caller_trace, IsRunOf, AreShownTraces}
 
 -- ---- lists that are made one after another
 

@@ -1,6 +1,6 @@
 -- What a move of a player does to its course.
-use Rattle.std.proofs.Common.{ℕ, ◌≡◌, ◌<◌, ◌≤◌, Bool, true, false, cond, List, [], ◌∷◌, ◌++◌, length, get_or, Option, Some, None, Result, Ok, Err, refl, ap, sym, subst, ◌∙◌}
-use Rattle.std.specs.Prelude.{slice_get, slice_set, OnOk}
+use Rattle.std.proofs.Common.{ℕ, ◌≡◌, ◌≤◌, Bool, true, false, cond, List, [], ◌∷◌, ◌++◌, length, Option, Some, None, Result, Ok, Err, refl, ap, sym, subst, ◌∙◌}
+use Rattle.std.specs.Prelude.{slice_set, OnOk}
 use Rattle.wc_base.specs.declared.error.DomError.{DomError}
 use Rattle.wc_base.specs.declared.who.Who.{Who}
 use Rattle.wc_base.specs.declared.who.By.{By}
@@ -11,7 +11,6 @@ use Rattle.codec_model.specs.declared.entry.Call.{Call}
 use Rattle.codec_model.specs.declared.entry.Entry.{Entry}
 use Rattle.codec_model.specs.declared.entry.Entry.TheVariants as entry
 use Rattle.codec_model.specs.declared.entry.Item.{Item}
-use Rattle.codec_model.specs.declared.entry.Opening.{Opening}
 use Rattle.codec_model.specs.declared.entry.Running.{Running}
 use Rattle.codec_model.specs.declared.entry.Task.{Task}
 use Rattle.codec_model.specs.Control.{start_item, may_reclaim}
@@ -25,11 +24,11 @@ use Rattle.wc_script.specs.declared.script.OrderItem.TheVariants as item
 use Rattle.wc_script.specs.declared.script.Script.{Script}
 use Rattle.trace_text.specs.declared.run.StepResult.{StepResult}
 use Rattle.trace_text.specs.declared.run.StepResult.TheVariants as result
-use Rattle.trace_text.specs.Follow.{Course, Holding, BoxOut, at, append_at, recording, with_call, with_look, with_state, with_result, with_removal, exception_of, give_of, holding_at, next_cause, opening_at, state_at, promise_after, follow_item}
+use Rattle.trace_text.specs.Follow.{Course, Holding, BoxOut, at, append_at, recording, with_call, with_look, with_state, with_result, with_removal, exception_of, give_of, next_cause, opening_at, promise_after, follow_item}
 use Rattle.wc_replay.specs.Boxes.{IsGivable, filled_slots}
 use Rattle.wc_replay.specs.Desk.{DeskValue, more, state_of, next_by, after_removal, removal_box, left_by, started_with, after_start, start_slots, done_by, after_done, done_box, turned_by, after_turn, turn_box, after_reclaim, reclaim_box}
 use Rattle.wc_replay.specs.Refusals.{RefusalsStand}
-use Rattle.wc_replay.specs.Player.{PlayerValue, course, course_of, desk_at, openings_of, AreOpened, AreHeld, KeepsShape, call_in, look_after, look_at, state_look}
+use Rattle.wc_replay.specs.Player.{PlayerValue, course, course_of, desk_at, AreOpened, AreHeld, KeepsShape, call_in, look_after, look_at, state_look}
 use Rattle.wc_replay.proofs.Plays.{at_desk, holding_desk, opening_desk, state_desk, put_opening, call_course, removal_course, start_course, done_course, turn_course, reclaim_course}
 
 -- an item that lacked a box: the older one went back, and the registry was asked for one
@@ -132,18 +131,18 @@ start_shape p k desks slots moved went =
     let d = desk_at k p.desks in
     shape_moved p k (after_start p.slots.made k p.slots.history d) desks p.callers slots (start_opens p.slots.made k p.slots.history (start_item (state_of d).control) d) moved (ap (λ (x : SlotsValue). x.made) went)
 
-pub done_shape : (p : PlayerValue) (wants : Bool) (k moment : ℕ) (desks : List DeskValue) (slots : SlotsValue) (gone : Option BoxOut) → desks ≡ slice_set p.desks k (after_done wants moment (desk_at k p.desks)) → slots ≡ record p.slots { history = p.slots.history ++ give_of (next_by k (desk_at k p.desks)) gone } → KeepsShape p (record { desks = desks; callers = p.callers; slots = slots })
-done_shape p wants k moment desks slots gone moved went =
+pub done_shape : (p : PlayerValue) (wants : Bool) (k moment : ℕ) (desks : List DeskValue) (slots : SlotsValue) (handed : Option BoxOut) → desks ≡ slice_set p.desks k (after_done wants moment (desk_at k p.desks)) → slots ≡ record p.slots { history = p.slots.history ++ give_of (next_by k (desk_at k p.desks)) handed } → KeepsShape p (record { desks = desks; callers = p.callers; slots = slots })
+done_shape p wants k moment desks slots handed moved went =
     let d = desk_at k p.desks in
     shape_moved p k (after_done wants moment d) desks p.callers slots (done_opens wants moment (state_of d) (state_of d).control.running d) moved (ap (λ (x : SlotsValue). x.made) went)
 
-pub turn_shape : (p : PlayerValue) (k : ℕ) (desks : List DeskValue) (slots : SlotsValue) (gone : Option BoxOut) → desks ≡ slice_set p.desks k (after_turn (desk_at k p.desks)) → slots ≡ record p.slots { history = p.slots.history ++ give_of (next_by k (desk_at k p.desks)) gone } → KeepsShape p (record { desks = desks; callers = p.callers; slots = slots })
-turn_shape p k desks slots gone moved went =
+pub turn_shape : (p : PlayerValue) (k : ℕ) (desks : List DeskValue) (slots : SlotsValue) (handed : Option BoxOut) → desks ≡ slice_set p.desks k (after_turn (desk_at k p.desks)) → slots ≡ record p.slots { history = p.slots.history ++ give_of (next_by k (desk_at k p.desks)) handed } → KeepsShape p (record { desks = desks; callers = p.callers; slots = slots })
+turn_shape p k desks slots handed moved went =
     let d = desk_at k p.desks in
     shape_moved p k (after_turn d) desks p.callers slots (turn_opens (state_of d).control.tasks d) moved (ap (λ (x : SlotsValue). x.made) went)
 
-pub reclaim_shape : (p : PlayerValue) (k moment : ℕ) (desks : List DeskValue) (slots : SlotsValue) (gone : Option BoxOut) → desks ≡ slice_set p.desks k (after_reclaim moment (desk_at k p.desks)) → slots ≡ record p.slots { history = p.slots.history ++ give_of (next_by k (desk_at k p.desks)) gone } → KeepsShape p (record { desks = desks; callers = p.callers; slots = slots })
-reclaim_shape p k moment desks slots gone moved went =
+pub reclaim_shape : (p : PlayerValue) (k moment : ℕ) (desks : List DeskValue) (slots : SlotsValue) (handed : Option BoxOut) → desks ≡ slice_set p.desks k (after_reclaim moment (desk_at k p.desks)) → slots ≡ record p.slots { history = p.slots.history ++ give_of (next_by k (desk_at k p.desks)) handed } → KeepsShape p (record { desks = desks; callers = p.callers; slots = slots })
+reclaim_shape p k moment desks slots handed moved went =
     let d = desk_at k p.desks in
     let c = (state_of d).control in
     shape_moved p k (after_reclaim moment d) desks p.callers slots (reclaim_opens (may_reclaim moment c) (moved_desk d) d refl) moved (ap (λ (x : SlotsValue). x.made) went)

@@ -1,12 +1,11 @@
 -- What a codec's move does to the course of a replay.
-use Rattle.std.proofs.Common.{ℕ, zero, suc, ◌≡◌, Bool, true, false, cond, List, [], ◌∷◌, ◌++◌, map, length, append-nil, Option, Some, None, refl, ap, sym, subst, ◌∙◌}
-use Rattle.std.specs.Prelude.{◌==◌, slice_get, slice_set, unwrap_or}
+use Rattle.std.proofs.Common.{ℕ, zero, suc, ◌≡◌, Bool, true, false, cond, List, [], ◌∷◌, ◌++◌, map, length, append-nil, Option, Some, None, refl, ap, sym, ◌∙◌}
+use Rattle.std.specs.Prelude.{◌==◌, slice_set}
 use Rattle.wc_base.specs.declared.error.DomError.{DomError}
 use Rattle.wc_base.specs.declared.who.Who.{Who}
 use Rattle.wc_base.specs.declared.who.By.{By}
 use Rattle.wc_base.specs.declared.who.By.TheVariants as by
 use Rattle.wc_config.specs.declared.codec.CoderId.{CoderId}
-use Rattle.wc_chunk.specs.declared.chunk.Chunk.{Chunk}
 use Rattle.coder_api.specs.declared.slot.SlotEntry.{SlotEntry}
 use Rattle.codec_model.specs.declared.entry.Call.{Call}
 use Rattle.codec_model.specs.declared.entry.Entry.{Entry}
@@ -17,17 +16,16 @@ use Rattle.codec_model.specs.declared.entry.Running.{Running}
 use Rattle.codec_model.specs.declared.entry.Task.{Task}
 use Rattle.codec_model.specs.Control.{Control, start_item, may_start, front, may_reclaim, is_close}
 use Rattle.codec_model.specs.Replay.{State, entry_of, call_error, removal_error, missing_coder, answer_to}
-use Rattle.slot_registry.specs.Slots.{SlotsValue}
 use Rattle.wc_script.specs.declared.script.CodecItem.{CodecItem}
 use Rattle.wc_script.specs.declared.script.Script.{Script}
 use Rattle.trace_text.specs.declared.run.StepResult.{StepResult}
 use Rattle.trace_text.specs.declared.run.StepResult.TheVariants as result
-use Rattle.trace_text.specs.Follow.{Recorded, Holding, nothing_held, Course, BoxOut, at, append_at, with_entry, with_result, holding_at, recording, next_cause, with_slots, give_of, gives_back, lets_go, lets_go_unless, lets_go_if, removes, with_removal, with_call, with_box, with_start, with_done, keeps_box, with_turn, with_reclaim, opening_of, opening_in, opening_at, state_after, state_at, exception_of, outcome_for, follow_item}
+use Rattle.trace_text.specs.Follow.{Holding, nothing_held, Course, BoxOut, at, append_at, with_entry, with_result, holding_at, recording, next_cause, with_slots, give_of, gives_back, lets_go, lets_go_unless, lets_go_if, removes, with_removal, with_call, with_box, with_start, with_done, keeps_box, with_turn, with_reclaim, opening_of, opening_in, opening_at, state_after, state_at, exception_of, outcome_for, follow_item}
 use Rattle.wc_script.specs.declared.script.OrderItem.TheVariants as item
 use Rattle.wc_replay.specs.Boxes.{filled_slots, filled_holding}
 use Rattle.wc_replay.specs.Desk.{DeskValue, more, moved, state_of, next_by, left_by, let_go, left_unless, let_go_unless, left_if, let_go_if, kept_by, back_by, started_with, slots_with, after_start, start_slots, after_removal, removal_box, turned_by, after_turn, box_by_turn, turn_box, after_reclaim, reclaim_box, done_by, after_done, box_by_done, done_box}
 use Rattle.wc_replay.specs.Player.{course_of, desk_at, AreOpened, openings_of}
-use Rattle.wc_replay.proofs.Courses.{RefusalsStand, NeedsBox}
+use Rattle.wc_replay.proofs.Courses.{RefusalsStand}
 
 -- ---- a codec by its number
 

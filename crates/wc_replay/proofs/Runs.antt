@@ -3,17 +3,16 @@ use Rattle.std.proofs.Common.{ℕ, zero, suc, ◌≡◌, List, [], ◌∷◌, ma
 use Rattle.std.proofs.lemmas.List.{length-map}
 use Rattle.codec_model.specs.declared.entry.Opening.{Opening}
 use Rattle.codec_model.specs.Replay.{IsLegal}
-use Rattle.codec_model.specs.Shown.{each_shown}
 use Rattle.wc_config.specs.declared.codec.CoderId.{CoderId}
 use Rattle.wc_script.specs.declared.script.Script.{Script}
 use Rattle.wc_script.specs.declared.script.CodecItem.{CodecItem}
 use Rattle.trace_text.specs.declared.run.Run.{Run}
 use Rattle.trace_text.specs.declared.run.CodecTrace.{CodecTrace}
 use Rattle.trace_text.specs.declared.run.CallerTrace.{CallerTrace}
-use Rattle.trace_text.specs.Follow.{at, opening_of, opening_in}
+use Rattle.trace_text.specs.Follow.{at, opening_in}
 use Rattle.trace_text.specs.Fits.{FollowsTheOrder, AreLegalTraces, IsLegalRun}
 use Rattle.wc_replay.specs.Sound.{IsSound}
-use Rattle.wc_replay.specs.Player.{IsShownTrace, AreShownTraces}
+use Rattle.wc_replay.specs.Player.{AreShownTraces}
 use Rattle.wc_replay.proofs.Following.{order_makes, legal_of}
 
 legal_traces : (cs : List CodecItem) (ts : List CodecTrace) → AreShownTraces cs ts → ((k : ℕ) → IsLegal (opening_in cs k) (at k (map (λ (t : CodecTrace). t.entries) ts))) → AreLegalTraces cs ts

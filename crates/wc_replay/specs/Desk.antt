@@ -1,11 +1,7 @@
 -- A codec at work in a replay.
 use Rattle.std.specs.Prelude.{ℕ, ◌≡◌, ◌==◌, Bool, true, false, cond, List, [], ◌∷◌, ◌++◌, length, Option, Some, None, is_some, option_map}
 use Rattle.wc_base.specs.declared.error.DomError.{DomError}
-use Rattle.wc_base.specs.declared.error.DomError.TheVariants as dom
 use Rattle.coder_api.specs.Lent.{Lent}
-use Rattle.codec_model.specs.declared.entry.CodecState.{CodecState}
-use Rattle.codec_model.specs.declared.entry.CodecState.TheVariants.{Unconfigured, Configured, Closed}
-use Rattle.codec_model.specs.declared.entry.Event.{Event}
 use Rattle.codec_model.specs.declared.entry.Opening.{Opening}
 use Rattle.codec_model.specs.declared.entry.Item.{Item}
 use Rattle.codec_model.specs.declared.entry.Running.{Running}
@@ -13,7 +9,7 @@ use Rattle.codec_model.specs.declared.entry.Task.{Task}
 use Rattle.codec_model.specs.declared.entry.Shown.{Shown}
 use Rattle.codec_model.specs.declared.entry.Entry.{Entry}
 use Rattle.codec_model.specs.declared.entry.Entry.TheVariants as entry
-use Rattle.codec_model.specs.Control.{Control, start_item, may_reclaim, is_close}
+use Rattle.codec_model.specs.Control.{start_item, may_reclaim, is_close}
 use Rattle.codec_model.specs.Replay.{State, replay, answer_to, removal_error}
 use Rattle.codec_model.specs.Shown.{each_shown, shown_at}
 use Rattle.codec_core.specs.Codec.{Codec, state_at}

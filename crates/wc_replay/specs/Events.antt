@@ -7,7 +7,7 @@ use Rattle.codec_model.specs.declared.entry.Call.TheVariants as call
 use Rattle.codec_model.specs.declared.entry.CodecState.{CodecState}
 use Rattle.codec_model.specs.declared.entry.CodecState.TheVariants.{Unconfigured, Configured, Closed}
 use Rattle.codec_model.specs.declared.entry.Event.{Event}
-use Rattle.codec_model.specs.declared.entry.Event.TheVariants.{Refusal, Output, Resolve, Reject, Dequeue, ErrorCall}
+use Rattle.codec_model.specs.declared.entry.Event.TheVariants.{Refusal, Resolve, Reject, Dequeue, ErrorCall}
 use Rattle.codec_model.specs.declared.entry.Task.{Task}
 use Rattle.codec_model.specs.declared.entry.Task.TheVariants as task
 use Rattle.codec_model.specs.Shown.{outputs_from, rejections}

@@ -1,5 +1,5 @@
 -- Codecs that were refused a box.
-use Rattle.std.specs.Prelude.{ℕ, ◌≡◌, Bool, true, Option, Some}
+use Rattle.std.specs.Prelude.{ℕ, ◌≡◌, true, Some}
 use Rattle.codec_model.specs.declared.entry.Running.{Running}
 use Rattle.codec_model.specs.declared.entry.WorkKind.TheVariants as kind
 use Rattle.codec_model.specs.Replay.{State}

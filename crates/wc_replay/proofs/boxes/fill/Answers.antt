@@ -1,7 +1,5 @@
-use Rattle.std.proofs.Common.{◌≡◌, sym, ◌∙◌, option_map}
-use Rattle.slot_registry.specs.Slots.{acquired}
+use Rattle.std.proofs.Common.{sym, ◌∙◌, option_map}
 use Rattle.wc_replay.specs.Desk.{box_out}
-use Rattle.wc_replay.specs.Boxes.{filled_slots}
 use Rattle.codec_core.specs.Job.{missing_id}
 use Rattle.wc_replay.proofs.Desks.{on_ok_map}
 use Rattle.wc_replay.proofs.Players.{filled_by}

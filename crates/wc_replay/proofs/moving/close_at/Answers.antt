@@ -1,4 +1,4 @@
-use Rattle.std.proofs.Common.{length, ap, sym, ◌∙◌, option_map}
+use Rattle.std.proofs.Common.{option_map}
 use Rattle.codec_model.specs.declared.entry.Entry.TheVariants as entry
 use Rattle.wc_replay.specs.Desk.{DeskValue, next_by, box_out, after_removal, removal_box}
 use Rattle.wc_replay.specs.Player.{desk_at}

@@ -1,4 +1,4 @@
-use Rattle.std.proofs.Common.{length, ap, sym, ◌∙◌, option_map}
+use Rattle.std.proofs.Common.{option_map}
 use Rattle.wc_replay.specs.Desk.{DeskValue, next_by, box_out, after_done, done_box}
 use Rattle.wc_replay.specs.Player.{desk_at}
 use Rattle.wc_replay.proofs.Among.{desk_is, moved_at, givable_done, may_give_at, given_at}

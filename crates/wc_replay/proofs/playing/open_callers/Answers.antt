@@ -1,4 +1,4 @@
-use Rattle.std.proofs.Common.{◌≡◌, ◌++◌, ◌∷◌, [], List, ap, ◌∙◌}
+use Rattle.std.proofs.Common.{◌++◌, ◌∷◌, [], List, ap, ◌∙◌}
 use Rattle.trace_text.specs.declared.run.StepResult.{StepResult}
 use Rattle.wc_replay.specs.Player.{new_results}
 use Rattle.wc_replay.proofs.Ends.{next_made, whole_made}

@@ -1,5 +1,4 @@
 use Rattle.std.proofs.Common.{List, map, ap, ◌∙◌}
-use Rattle.coder_api.specs.declared.slot.SlotEntry.{SlotEntry}
 use Rattle.slot_registry.specs.Slots.{SlotsValue}
 use Rattle.wc_script.specs.declared.script.CallerItem.{CallerItem}
 use Rattle.wc_script.specs.declared.script.CodecItem.{CodecItem}

@@ -1,11 +1,10 @@
-use Rattle.std.proofs.Common.{ℕ, ◌≡◌, ◌<◌, ◌≤◌, List, length, refl, ap, sym, subst, ◌∙◌, Some}
-use Rattle.std.specs.Prelude.{slice_get, slice_index_or}
-use Rattle.std.proofs.lemmas.Option.{slice_get-get_or}
+use Rattle.std.proofs.Common.{ℕ, ◌≤◌, List, length, ap, sym, subst, ◌∙◌}
+use Rattle.std.specs.Prelude.{slice_index_or}
 use Rattle.wc_config.specs.declared.codec.CoderId.{CoderId}
 use Rattle.wc_script.specs.declared.script.OrderItem.{OrderItem}
 use Rattle.wc_script.specs.declared.script.OrderItem.TheVariants as item
 use Rattle.trace_text.specs.Follow.{Course, Follows, nothing_yet, follow_item}
-use Rattle.wc_replay.specs.Player.{PlayerValue, course, KeepsShape, IsInRange}
+use Rattle.wc_replay.specs.Player.{course, IsInRange}
 use Rattle.wc_replay.proofs.Ends.{as_many, item_at, shape_more}
 use Rattle.wc_replay.proofs.Following.{follows_to, follows_all, fits_before}
 use Rattle.wc_replay.proofs.Held.{held_before}

@@ -1,4 +1,4 @@
-use Rattle.std.proofs.Common.{◌≡◌, sym, ◌∙◌}
+use Rattle.std.proofs.Common.{sym, ◌∙◌}
 use Rattle.wc_replay.proofs.Among.{desk_is}
 use Rattle.wc_replay.proofs.Players.{look_read, look_past, look_of_call}
 use Rattle.wc_replay.proofs.steps.look_result.Goals as goal

@@ -1,4 +1,4 @@
-use Rattle.std.proofs.Common.{◌≡◌, sym, ◌∙◌}
+use Rattle.std.proofs.Common.{sym, ◌∙◌}
 use Rattle.codec_model.specs.Replay.{entry_of}
 use Rattle.codec_core.specs.Codec.{state_at}
 use Rattle.wc_replay.proofs.Desks.{desk_more, job_matches, call_shown}

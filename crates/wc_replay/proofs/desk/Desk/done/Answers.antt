@@ -1,4 +1,4 @@
-use Rattle.std.proofs.Common.{◌≡◌, ◌==◌, sym, ◌∙◌, refl, ap, subst, Option, Some, None, option_map, Bool, ℕ}
+use Rattle.std.proofs.Common.{◌≡◌, sym, ◌∙◌, refl, ap, subst, Option, Some, None, option_map, ℕ}
 use Rattle.codec_model.specs.Control.{kind_of}
 use Rattle.codec_model.specs.Replay.{answer_to}
 use Rattle.trace_text.specs.Follow.{outcome_for}

@@ -1,9 +1,8 @@
-use Rattle.std.proofs.Common.{◌≡◌, false, refl, ap, sym, ◌∙◌, Option, None, option_map}
-use Rattle.coder_api.specs.Lent.{Lent}
+use Rattle.std.proofs.Common.{false, refl, ap, ◌∙◌, option_map}
 use Rattle.codec_model.specs.declared.entry.Entry.TheVariants as entry
 use Rattle.codec_core.specs.Codec.{RemovedValue, state_at}
 use Rattle.wc_replay.specs.Desk.{DeskValue, box_out, after_reclaim, reclaim_box}
-use Rattle.wc_replay.proofs.Desks.{desk_more, job_matches, has_box, box_stays, reclaim_may, seen_reclaimed, reclaimed_box, not_reclaimed}
+use Rattle.wc_replay.proofs.Desks.{desk_more, job_matches, has_box, box_stays, reclaim_may, seen_reclaimed, reclaimed_box}
 use Rattle.wc_replay.proofs.desk.Desk.reclaim.Goals as goal
 
 pub invariant_of-self-2 : goal.invariant_of-self-2

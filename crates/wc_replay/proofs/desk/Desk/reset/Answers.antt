@@ -1,4 +1,4 @@
-use Rattle.std.proofs.Common.{◌≡◌, ap, sym, ◌∙◌, Option, is_some, option_map}
+use Rattle.std.proofs.Common.{ap, sym, ◌∙◌, Option, is_some, option_map}
 use Rattle.coder_api.specs.Lent.{Lent}
 use Rattle.codec_model.specs.declared.entry.Entry.TheVariants as entry
 use Rattle.codec_model.specs.Replay.{removal_error}

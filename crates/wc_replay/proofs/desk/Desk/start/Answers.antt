@@ -1,8 +1,7 @@
-use Rattle.std.proofs.Common.{◌≡◌, ap, sym, ◌∙◌, refl, Some, None, List, subst}
+use Rattle.std.proofs.Common.{ap, sym, ◌∙◌, refl, Some, None, List, subst}
 use Rattle.coder_api.specs.declared.slot.SlotEntry.{SlotEntry}
 use Rattle.codec_model.specs.declared.entry.Entry.TheVariants as entry
 use Rattle.codec_core.specs.Codec.{state_at}
-use Rattle.codec_core.specs.Job.{JobValue}
 use Rattle.wc_replay.specs.Boxes.{IsGivable}
 use Rattle.wc_replay.specs.Desk.{DeskValue, next_by, after_start, start_slots}
 use Rattle.wc_replay.proofs.Desks.{IsStarted, came_with, desk_more, seen_started, slots_started, if_ok_at, on_ok_at}

@@ -1,11 +1,11 @@
-use Rattle.std.proofs.Common.{◌≡◌, true, not, refl, ap, sym, ◌∙◌, Option, Some, is_some, option_map}
+use Rattle.std.proofs.Common.{◌≡◌, true, not, ap, sym, ◌∙◌, Option, is_some, option_map}
 use Rattle.coder_api.specs.Lent.{Lent}
 use Rattle.codec_model.specs.declared.entry.Shown.{Shown}
 use Rattle.codec_model.specs.declared.entry.Entry.TheVariants as entry
 use Rattle.codec_model.specs.Shown.{shown_at}
 use Rattle.codec_core.specs.Codec.{state_at, closes_now}
 use Rattle.wc_replay.specs.Desk.{DeskValue, box_out, after_turn, turn_box, shown_by_turn}
-use Rattle.wc_replay.proofs.Desks.{desk_more, job_matches, shown_there, has_box, box_stays, seen_turned, turned_box, not_turned}
+use Rattle.wc_replay.proofs.Desks.{desk_more, job_matches, shown_there, has_box, box_stays, seen_turned, turned_box}
 use Rattle.wc_replay.proofs.desk.Desk.turn.Goals as goal
 
 pub invariant_of-self-2 : goal.invariant_of-self-2

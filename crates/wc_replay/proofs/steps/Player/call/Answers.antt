@@ -1,4 +1,4 @@
-use Rattle.std.proofs.Common.{◌≡◌, refl, sym, subst, ◌∙◌}
+use Rattle.std.proofs.Common.{refl, sym, subst, ◌∙◌}
 use Rattle.codec_model.specs.Replay.{entry_of}
 use Rattle.wc_replay.specs.Desk.{more}
 use Rattle.wc_replay.specs.Player.{PlayerValue, desk_at, AreOpened}

@@ -1,8 +1,7 @@
-use Rattle.std.proofs.Common.{◌≡◌, refl, sym, subst, ap, ◌∙◌}
+use Rattle.std.proofs.Common.{refl, sym, subst, ap, ◌∙◌}
 use Rattle.codec_model.specs.declared.entry.Entry.TheVariants as entry
 use Rattle.slot_registry.specs.Slots.{SlotsValue}
-use Rattle.wc_replay.specs.Desk.{after_removal, next_by}
-use Rattle.wc_replay.specs.Boxes.{IsGivable}
+use Rattle.wc_replay.specs.Desk.{after_removal}
 use Rattle.wc_replay.specs.Player.{PlayerValue, desk_at, course, AreOpened, AreHeld}
 use Rattle.wc_replay.proofs.Desks.{on_ok_map}
 use Rattle.wc_replay.proofs.Players.{held_desk, removed_made, shape_moved}

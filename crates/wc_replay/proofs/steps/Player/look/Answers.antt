@@ -1,7 +1,7 @@
-use Rattle.std.proofs.Common.{◌≡◌, refl, sym, subst, ap, ◌∙◌, Option}
+use Rattle.std.proofs.Common.{refl, sym, ap, ◌∙◌}
 use Rattle.trace_text.specs.declared.run.StepResult.{StepResult}
 use Rattle.trace_text.specs.Follow.{recording, with_result}
-use Rattle.wc_replay.specs.Player.{PlayerValue, course, AreOpened, look_at}
+use Rattle.wc_replay.specs.Player.{course}
 use Rattle.wc_replay.proofs.Desks.{on_ok_map}
 use Rattle.wc_replay.proofs.Players.{looked_made}
 use Rattle.wc_replay.proofs.steps.Player.look.Goals as goal

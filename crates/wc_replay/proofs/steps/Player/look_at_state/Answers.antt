@@ -1,7 +1,7 @@
-use Rattle.std.proofs.Common.{◌≡◌, refl, sym, subst, ap, ◌∙◌}
+use Rattle.std.proofs.Common.{refl, sym, ap, ◌∙◌}
 use Rattle.trace_text.specs.declared.run.StepResult.{StepResult}
 use Rattle.trace_text.specs.Follow.{recording, with_result}
-use Rattle.wc_replay.specs.Player.{PlayerValue, course}
+use Rattle.wc_replay.specs.Player.{course}
 use Rattle.wc_replay.proofs.Desks.{on_ok_map}
 use Rattle.wc_replay.proofs.Players.{state_made}
 use Rattle.wc_replay.proofs.steps.Player.look_at_state.Goals as goal

@@ -1,4 +1,4 @@
-use Rattle.std.proofs.Common.{◌≡◌, Bool, false, refl, sym, subst, ◌∙◌}
+use Rattle.std.proofs.Common.{false, sym, subst}
 use Rattle.wc_script.specs.declared.script.OrderItem.TheVariants as item
 use Rattle.wc_replay.specs.Desk.{done_box, turn_box, reclaim_box}
 use Rattle.wc_replay.specs.Player.{PlayerValue, course, desk_at, AreOpened, AreHeld, KeepsShape}
