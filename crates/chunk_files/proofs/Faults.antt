@@ -1,0 +1,121 @@
+-- Bytes that begin with a chunk have no fault there.
+use Rattle.std.proofs.Common.{◌≡◌, ◌≤◌, ◌+◌, ◌==◌, ℕ, Bool, true, false, nat_lt, List, [], ◌∷◌, ◌++◌, length, drop, take, zero, suc, slice_index, Option, Some, None, if◌then◌else◌, codes, refl, sym, ap, ◌∙◌, arith, length-append, length-drop}
+use Rattle.std.proofs.lemmas.Bool.Decides.{nat_tests}
+use Rattle.std.proofs.lemmas.List.{take-append-drop, drop-drop, length-take}
+use Rattle.byteorder.specs.Endian.{big_number}
+use Rattle.wc_chunk.specs.declared.chunk.Chunk.{Chunk}
+use Rattle.chunk_files.specs.declared.fault.ChunkFault.{ChunkFault}
+use Rattle.chunk_files.specs.declared.fault.ChunkFault.TheVariants as fault
+use Rattle.chunk_files.specs.Layout.{type_byte, IsDuration, BeginsWith}
+use Rattle.chunk_files.specs.Grammar.{agreeing, chunk_fault, marked, BeginsWithAll, IsFirstFault}
+use Rattle.chunk_files.proofs.Chunks.{IsEnd}
+
+-- the fields of a chunk are whole, and its two bytes with a meaning are 0 or 1
+pub record IsWhole (bytes : List ℕ) : Type 0 where
+  pub header : 22 ≤ length bytes
+  pub chunk_type : slice_index bytes 0 ≤ 1
+  pub flag : slice_index bytes 9 ≤ 1
+  pub content : 22 + big_number 4 (drop 18 bytes) ≤ length bytes
+
+type_small : (key : Bool) → type_byte key ≤ 1
+type_small true = omega arith
+type_small false = omega arith
+
+flag_small : (duration : Option ℕ) (bytes : List ℕ) → IsDuration duration bytes → slice_index bytes 9 ≤ 1
+flag_small None bytes p = omega arith
+flag_small (Some d) bytes p = omega arith
+
+pub begun_is_whole : (chunk : Chunk) (bytes rest : List ℕ) → BeginsWith chunk bytes rest → IsWhole bytes
+begun_is_whole chunk bytes rest p =
+    let small = type_small chunk.key in
+    let lengths : length bytes ≡ 22 + (length chunk.bytes + length rest) = let e = ap length p.content in omega (arith, p.header, length-drop 22 bytes, length-append chunk.bytes rest) in
+    record {
+      header = p.header;
+      chunk_type = omega (arith, p.chunk_type);
+      flag = flag_small chunk.duration bytes p.duration;
+      content = omega (arith, p.count);
+    }
+
+not_less : (a b : ℕ) → b ≤ a → nat_lt a b ≡ false
+not_less a b h = grind (arith, nat_tests)
+
+not_empty : (n : ℕ) → 1 ≤ n → (n == 0) ≡ false
+not_empty n h = grind (arith, nat_tests)
+
+-- the tests of a chunk's fault, one after the other
+pub whole_has_no_fault : (place : ℕ) (bytes : List ℕ) → IsWhole bytes → chunk_fault place bytes ≡ None
+whole_has_no_fault place bytes h =
+    let some = not_empty (length bytes) (omega (arith, h.header)) in
+    let first = not_less 1 (slice_index bytes 0) h.chunk_type in
+    let nine = not_less (length bytes) 9 (omega (arith, h.header)) in
+    let ten = not_less (length bytes) 10 (omega (arith, h.header)) in
+    let flag = not_less 1 (slice_index bytes 9) h.flag in
+    let eighteen = not_less (length bytes) 18 (omega (arith, h.header)) in
+    let header = not_less (length bytes) 22 h.header in
+    let content = not_less (length bytes) (22 + big_number 4 (drop 18 bytes)) h.content in
+    rw (some, first, nine, ten, flag, eighteen, header, content) refl
+
+pub fault_ends : (place : ℕ) (bytes : List ℕ) (found : ChunkFault) → chunk_fault place bytes ≡ Some found → IsEnd bytes
+fault_ends place bytes found e = record { none = λ chunk rest p. let none = whole_has_no_fault place bytes (begun_is_whole chunk bytes rest p) in cc }
+
+-- a chunk's fault is none of the mark, and no want of memory
+record IsOfChunk (fault_of : Option ChunkFault) : Type 0 where
+  mark : (at : ℕ) → fault_of ≡ Some (fault.BadMark at) → ⊥
+  memory : fault_of ≡ Some fault.NoMemory → ⊥
+
+tested : (b : Bool) (x y : Option ChunkFault) → IsOfChunk x → IsOfChunk y → IsOfChunk (if b then x else y)
+tested true x y p q = p
+tested false x y p q = q
+
+no_fault : IsOfChunk None
+no_fault = record { mark = λ at e. absurd cc; memory = λ e. absurd cc }
+
+kind : (at found : ℕ) → IsOfChunk (Some (fault.BadKind at found))
+kind at found = record { mark = λ at e. absurd cc; memory = λ e. absurd cc }
+
+short : (at : ℕ) → IsOfChunk (Some (fault.Short at))
+short at = record { mark = λ at e. absurd cc; memory = λ e. absurd cc }
+
+of_chunk : (place : ℕ) (bytes : List ℕ) → IsOfChunk (chunk_fault place bytes)
+of_chunk place bytes =
+    tested (length bytes == 0) _ _ no_fault (
+    tested (nat_lt 1 (slice_index bytes 0)) _ _ (kind place (slice_index bytes 0)) (
+    tested (nat_lt (length bytes) 9) _ _ (short (place + 1)) (
+    tested (nat_lt (length bytes) 10) _ _ (short (place + 9)) (
+    tested (nat_lt 1 (slice_index bytes 9)) _ _ (kind (place + 9) (slice_index bytes 9)) (
+    tested (nat_lt (length bytes) 18) _ _ (short (place + 10)) (
+    tested (nat_lt (length bytes) 22) _ _ (short (place + 18)) (
+    tested (nat_lt (length bytes) (22 + big_number 4 (drop 18 bytes))) _ _ (short (place + 22)) no_fault)))))))
+
+pub fault_is_first : (bytes : List ℕ) (chunks : List Chunk) (at : ℕ) (found : ChunkFault) → marked bytes ≡ 4 → at ≤ length bytes → BeginsWithAll chunks (drop 4 bytes) (drop at bytes) → chunk_fault at (drop at bytes) ≡ Some found → IsFirstFault bytes found
+fault_is_first bytes chunks at (fault.BadMark p) mark le before e = absurd ((of_chunk at (drop at bytes)).mark p e)
+fault_is_first bytes chunks at (fault.BadKind p x) mark le before e =
+    record { mark = mark; chunks = chunks; rest = drop at bytes; before = before; place = at; is_place = omega (arith, length-drop at bytes); fault = e }
+fault_is_first bytes chunks at (fault.Short p) mark le before e =
+    record { mark = mark; chunks = chunks; rest = drop at bytes; before = before; place = at; is_place = omega (arith, length-drop at bytes); fault = e }
+fault_is_first bytes chunks at fault.NoMemory mark le before e = absurd ((of_chunk at (drop at bytes)).memory e)
+
+pub type_back : (n : ℕ) → n ≤ 1 → n ≡ type_byte (n == 0)
+type_back zero h = refl
+type_back (suc zero) h = refl
+type_back (suc (suc n)) h = absurd (omega arith)
+
+-- the bytes that stand behind a header of 22 bytes
+pub content_of : (bytes content : List ℕ) (n : ℕ) → content ≡ take n (drop 22 bytes) → 22 + n ≤ length bytes → (length content ≡ n) × (drop 22 bytes ≡ content ++ drop (22 + length content) bytes)
+content_of bytes content n is within =
+    let count : length content ≡ n = ap length is ∙ omega (arith, length-take n (drop 22 bytes), length-drop 22 bytes) in
+    let whole : drop 22 bytes ≡ content ++ drop n (drop 22 bytes) = sym (take-append-drop n (drop 22 bytes)) ∙ ap (λ (l : List ℕ). l ++ drop n (drop 22 bytes)) (sym is) in
+    (count, whole ∙ ap (λ (l : List ℕ). content ++ l) (drop-drop n 22 bytes ∙ ap (λ (k : ℕ). drop (22 + k) bytes) (sym count)))
+
+agreed : (b : Bool) (n k : ℕ) → n ≤ k → (if b then n + 1 else 0) ≤ k + 1
+agreed true n k h = omega arith
+agreed false n k h = omega arith
+
+agreeing_within : (ms bs : List ℕ) → agreeing ms bs ≤ length ms
+agreeing_within [] bs = omega arith
+agreeing_within (m ∷ ms) [] = omega arith
+agreeing_within (m ∷ ms) (b ∷ bs) = let more = agreed (b == m) (agreeing ms bs) (length ms) (agreeing_within ms bs) in omega (arith, more)
+
+-- no more bytes agree than the mark has
+pub marks_agree : (bytes : List ℕ) → 4 ≤ marked bytes → marked bytes ≡ 4
+marks_agree bytes h = let within : marked bytes ≤ 4 = agreeing_within (codes "WCC1") bytes in omega arith

@@ -1,0 +1,4 @@
+pub mod Chunks
+pub mod Faults
+pub mod OneReading
+pub mod WrittenLaws

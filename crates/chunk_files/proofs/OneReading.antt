@@ -1,0 +1,71 @@
+-- Bytes are the file of one list of chunks, or have one first fault.
+use Rattle.std.proofs.Common.{Result, Ok, Err, IfOk, IfErr, IsErr, ◌≢◌, ◌≡◌, ℕ, List, [], length, drop, Some, refl, sym, ap, ◌∙◌, arith}
+use Rattle.wc_chunk.specs.declared.chunk.Chunk.{Chunk}
+use Rattle.chunk_files.specs.declared.fault.ChunkFault.{ChunkFault}
+use Rattle.chunk_files.specs.declared.fault.ChunkFault.TheVariants as fault
+use Rattle.chunk_files.specs.Grammar.{IsChunkFile, FollowsChunks, IsFirstFault, chunk_fault}
+use Rattle.chunk_files.proofs.Chunks.{empty_ends, same_chunks}
+use Rattle.chunk_files.proofs.Faults.{fault_ends}
+
+pub one_list : (bytes : List ℕ) (cs ds : List Chunk) → IsChunkFile cs bytes → IsChunkFile ds bytes → cs ≡ ds
+one_list bytes cs ds p q = (same_chunks cs ds (drop 4 bytes) [] [] p.content empty_ends q.content empty_ends).0
+
+one_follows : (bytes : List ℕ) (e f : ChunkFault) → FollowsChunks bytes e → FollowsChunks bytes f → e ≡ f
+one_follows bytes e f p q =
+    let same : (p.chunks ≡ q.chunks) × (p.rest ≡ q.rest) = same_chunks p.chunks q.chunks (drop 4 bytes) p.rest q.rest p.before (fault_ends p.place p.rest e p.fault) q.before (fault_ends q.place q.rest f q.fault) in
+    let lengths = ap length same.1 in
+    let place : p.place ≡ q.place = omega (arith, p.is_place, q.is_place, lengths) in
+    let faults : Some e ≡ Some f = sym p.fault ∙ (ap (chunk_fault p.place) same.1 ∙ (ap (λ (n : ℕ). chunk_fault n q.rest) place ∙ q.fault)) in
+    cc
+
+pub one_fault : (bytes : List ℕ) (e f : ChunkFault) → IsFirstFault bytes e → IsFirstFault bytes f → e ≡ f
+one_fault bytes (fault.BadMark a) (fault.BadMark b) p q = ap fault.BadMark (p.1 ∙ sym q.1)
+one_fault bytes (fault.BadMark a) (fault.BadKind b x) p q = absurd (omega (arith, p.0, p.1, q.mark))
+one_fault bytes (fault.BadMark a) (fault.Short b) p q = absurd (omega (arith, p.0, p.1, q.mark))
+one_fault bytes (fault.BadKind a x) (fault.BadMark b) p q = absurd (omega (arith, q.0, q.1, p.mark))
+one_fault bytes (fault.BadKind a x) (fault.BadKind b y) p q = one_follows bytes _ _ p q
+one_fault bytes (fault.BadKind a x) (fault.Short b) p q = one_follows bytes _ _ p q
+one_fault bytes (fault.Short a) (fault.BadMark b) p q = absurd (omega (arith, q.0, q.1, p.mark))
+one_fault bytes (fault.Short a) (fault.BadKind b y) p q = one_follows bytes _ _ p q
+one_fault bytes (fault.Short a) (fault.Short b) p q = one_follows bytes _ _ p q
+one_fault bytes fault.NoMemory f p q = absurd p
+one_fault bytes e fault.NoMemory p q = absurd q
+
+not_following : (bytes : List ℕ) (cs : List Chunk) (e : ChunkFault) → IsChunkFile cs bytes → FollowsChunks bytes e → ⊥
+not_following bytes cs e p q =
+    let same = same_chunks cs q.chunks (drop 4 bytes) [] q.rest p.content empty_ends q.before (fault_ends q.place q.rest e q.fault) in
+    let faults : chunk_fault q.place [] ≡ Some e = ap (chunk_fault q.place) same.1 ∙ q.fault in
+    absurd cc
+
+pub not_both : (bytes : List ℕ) (cs : List Chunk) (e : ChunkFault) → IsChunkFile cs bytes → IsFirstFault bytes e → ⊥
+not_both bytes cs (fault.BadMark a) p q = absurd (omega (arith, q.0, q.1, p.mark))
+not_both bytes cs (fault.BadKind a x) p q = not_following bytes cs _ p q
+not_both bytes cs (fault.Short a) p q = not_following bytes cs _ p q
+not_both bytes cs fault.NoMemory p q = q
+
+-- an answer that tells a file's chunks or its first fault, or wants memory, is the only one
+pub record Answers {A : Type 0} (items : A → List Chunk) (bytes : List ℕ) (answer : Result A ChunkFault) : Type 0 where
+  pub chunks : IfOk answer (λ v. IsChunkFile (items v) bytes)
+  pub fault : IfErr answer (λ e. e ≢ fault.NoMemory → IsFirstFault bytes e)
+
+memory_alone : (e : ChunkFault) → (e ≢ fault.NoMemory → ⊥) → e ≡ fault.NoMemory
+memory_alone (fault.BadMark at) h = absurd (h (λ x. absurd cc))
+memory_alone (fault.BadKind at found) h = absurd (h (λ x. absurd cc))
+memory_alone (fault.Short at) h = absurd (h (λ x. absurd cc))
+memory_alone fault.NoMemory h = refl
+
+pub file_is_read : {A : Type 0} (items : A → List Chunk) (bytes : List ℕ) (answer : Result A ChunkFault) → Answers items bytes answer → (chunks : List Chunk) → IsChunkFile chunks bytes → IfErr answer (λ e. e ≡ fault.NoMemory)
+file_is_read items bytes (Ok v) a chunks h = tt
+file_is_read items bytes (Err e) a chunks h = memory_alone e (λ n. not_both bytes chunks e h (a.fault n))
+
+pub fault_is_told : {A : Type 0} (items : A → List Chunk) (bytes : List ℕ) (answer : Result A ChunkFault) → Answers items bytes answer → (e : ChunkFault) → IsFirstFault bytes e → IfErr answer (λ f. f ≢ fault.NoMemory → f ≡ e)
+fault_is_told items bytes (Ok v) a e h = tt
+fault_is_told items bytes (Err f) a e h = λ n. one_fault bytes f e (a.fault n) h
+
+pub faulty_is_refused : {A : Type 0} (items : A → List Chunk) (bytes : List ℕ) (answer : Result A ChunkFault) → Answers items bytes answer → (e : ChunkFault) → IsFirstFault bytes e → IsErr answer
+faulty_is_refused items bytes (Ok v) a e h = absurd (not_both bytes (items v) e a.chunks h)
+faulty_is_refused items bytes (Err f) a e h = refl
+
+pub same_items : {A : Type 0} (items : A → List Chunk) (bytes : List ℕ) (answer : Result A ChunkFault) → Answers items bytes answer → (chunks : List Chunk) → IsChunkFile chunks bytes → IfOk answer (λ v. items v ≡ chunks)
+same_items items bytes (Ok v) a chunks h = one_list bytes (items v) chunks a.chunks h
+same_items items bytes (Err f) a chunks h = tt
