@@ -1,0 +1,29 @@
+// What is written as a field is read again, whatever stands behind it.
+ghost use Rattle.report_fields.specs.Laws.{BytesBeforeAMark, PrefixAgain, PrefixOnly, WordAgain, NameAgain, NumberAgain, ShortAgain, SignedAgain, NumberOrDashAgain, BytesAgain};
+
+/// Laws: bytes without the mark are read again up to it; a prefix comes off, and only where it stands; and a word is read
+/// again with the byte that ends it.
+pub fn words_are_read_again()
+    ensures upto { BytesBeforeAMark }
+    ensures after { PrefixAgain }
+    ensures after_only { PrefixOnly }
+    ensures word { WordAgain }
+{}
+
+/// A law: among names that differ, each is found at its own place.
+pub fn names_are_read_again()
+    ensures { NameAgain }
+{}
+
+/// Laws: a number in decimal is read again up to a mark that is no digit, and so is `-`.
+pub fn numbers_are_read_again()
+    ensures number { NumberAgain }
+    ensures short { ShortAgain }
+    ensures signed { SignedAgain }
+    ensures number_or_dash { NumberOrDashAgain }
+{}
+
+/// A law: bytes in lower case hex, or `-` for none, are read again up to a mark that is no digit of hex.
+pub fn bytes_are_read_again()
+    ensures { BytesAgain }
+{}

@@ -1,0 +1,16 @@
+//! Single fields of a report, read from the front of its bytes, and the laws that what is written is read again.
+#![tactic(auto)]
+
+mod fields;
+mod laws;
+#[cfg(test)]
+mod tests;
+mod words;
+
+pub use fields::{
+    FieldFault, bytes_upto, number_or_dash_upto, number_upto, short_upto, signed_upto,
+};
+pub use laws::{
+    bytes_are_read_again, names_are_read_again, numbers_are_read_again, words_are_read_again,
+};
+pub use words::{after, are_digits, place_of_name, upto, word_at};
