@@ -1,0 +1,410 @@
+-- What is written as a line is read again.
+use Rattle.std.proofs.Common.{◌≡◌, ℕ, ◌*◌, ◌/◌, ◌<◌, ◌≤◌, ◌^◌, Bool, true, cond, ◌||◌, List, [], ◌∷◌, ◌++◌, length, get_or, Option, Some, None, refl, sym, ap, subst, ◌∙◌, arith, decimal, codes, append_assoc, position, ℤ}
+use Rattle.std.specs.List.{list_all, position_or_len}
+use Rattle.std.specs.Str.{bytes_eq}
+use Rattle.std.specs.Fmt.{signed_decimal}
+use Rattle.std.specs.Int.Signed.{mag}
+use Rattle.std.proofs.lemmas.Bool.{lt-ltb, le-ltb}
+use Rattle.std.proofs.lemmas.List.Sums.{position_or_len_is}
+use Rattle.std.proofs.lemmas.Option.{slice_get-get_or}
+use Rattle.hex.specs.Hex.{IsBytes}
+use Rattle.wc_base.specs.declared.error.DomError.{DomError}
+use Rattle.wc_base.specs.declared.error.DomError.TheVariants as dom
+use Rattle.wc_base.specs.declared.who.Who.{Who}
+use Rattle.wc_base.specs.declared.who.By.{By}
+use Rattle.wc_base.specs.declared.who.By.TheVariants as by
+use Rattle.wc_base.specs.declared.media.SoundShape.{SoundShape}
+use Rattle.wc_base.specs.declared.media.PictureShape.{PictureShape}
+use Rattle.wc_config.specs.declared.codec.CoderId.{CoderId}
+use Rattle.coder_api.specs.declared.slot.SlotOp.{SlotOp}
+use Rattle.coder_api.specs.declared.slot.SlotOp.TheVariants as slot
+use Rattle.codec_model.specs.declared.entry.CodecState.{CodecState}
+use Rattle.codec_model.specs.declared.entry.PromiseState.{PromiseState}
+use Rattle.codec_model.specs.declared.entry.PromiseState.TheVariants as promise
+use Rattle.codec_model.specs.declared.entry.Outcome.{Outcome}
+use Rattle.codec_model.specs.declared.entry.Outcome.TheVariants as outcome
+use Rattle.codec_model.specs.declared.entry.TurnWord.{TurnWord}
+use Rattle.codec_model.specs.declared.entry.TurnWord.TheVariants as turn
+use Rattle.wc_script.specs.declared.script.Script.{Script}
+use Rattle.wc_script.specs.declared.script.KindWord.TheVariants as word
+use Rattle.wc_script.specs.declared.script.CodecItem.{CodecItem}
+use Rattle.wc_script.specs.declared.script.CallerItem.{CallerItem}
+use Rattle.trace_text.specs.declared.run.StepResult.{StepResult}
+use Rattle.trace_text.specs.declared.run.StepResult.TheVariants as result
+use Rattle.trace_text.specs.Report as text
+use Rattle.trace_text.specs.Report.{error_name, answer_text, kind_text, state_text, sample_format_text, picture_format_text, codec_text, role_text, chunk_type_text, caller_name, codec_name, promise_text, outcome_text, turn_text, slot_text, by_text, result_text, result_line, numbered_line, sound_duration, sound_line, picture_line, chunk_line, config_line, slot_line}
+use Rattle.report_fields.specs.Words.{◌>>=◌, after, is_word_byte}
+use Rattle.report_fields.specs.Fields as fields
+use Rattle.report_fields.specs.Fields.{short, number_upto, short_upto, signed_upto, number_or_dash_upto, bytes_upto}
+use Rattle.report_fields.specs.Laws.{Lacks, FitsOrAbsent}
+use Rattle.report_fields.proofs.WordLaws.{upto_again, after_again, after_only, word_again, same_bytes, not_same}
+use Rattle.report_fields.proofs.FieldLaws.{number_again, short_again, signed_again, number_or_dash_again, bytes_again, decimal_digits, decimal_word, decimal_not_nil}
+use Rattle.report_lines.specs.declared.line.CallWord.{CallWord}
+use Rattle.report_lines.specs.declared.line.CallWord.TheVariants as call
+use Rattle.report_lines.specs.declared.line.Told.{Told}
+use Rattle.report_lines.specs.declared.line.Told.TheVariants as told
+use Rattle.report_lines.specs.declared.line.Seen.{Seen}
+use Rattle.report_lines.specs.declared.line.Seen.TheVariants as seen
+use Rattle.report_lines.specs.declared.line.Line.{Line}
+use Rattle.report_lines.specs.declared.line.Line.TheVariants as line
+use Rattle.report_lines.specs.Text.{call_word, told_text, seen_line, line_text}
+use Rattle.report_lines.specs.Reading.{caller_of, codec_of, error_at, answer_at, promise_at, look_at, looked, call_result, outcome_at, turn_at, start_at, done_at, call_at, by_of, coder_at, refused_at, acquired_at, given_at, op_at, slot_at, dotted, worded, numbered, sound_at, image_at, chunk_at, output_at, config_at, reject_at, seen_at, shown_at, codec_at, caller_at, headed, parsed, line_at}
+use Rattle.report_lines.specs.Fits.{AreNames, IsCaller, IsCodec, FitsWho, FitsResult, FitsOutcome, FitsTold, FitsSound, FitsImage, FitsSeen, FitsBy, FitsOp, FitsLine}
+use Rattle.report_lines.proofs.Vocabulary.{error_is_word, error_again, answer_is_word, answer_again, kind_is_word, kind_again, state_is_word, state_again, call_is_word, call_again, sample_format_is_word, sample_format_again, picture_format_is_word, picture_format_again, codec_id_is_word, codec_id_again, role_is_word, role_again, key_is_word, key_again}
+
+-- ---- names
+
+place_again : {X : Type 0} (name : X → List ℕ) (xs : List X) (i : ℕ) (d : X) (w : List ℕ) → i < length xs → name (get_or xs i d) ≡ w
+    → ((k : ℕ) → k < i → name (get_or xs k d) ≡ w → ⊥) → position (λ x. bytes_eq (name x) w) xs ≡ Some i
+place_again name xs i d w lt here before =
+    let at : position_or_len (λ x. bytes_eq (name x) w) xs ≡ i =
+    position_or_len_is (λ x. bytes_eq (name x) w) xs i d (omega arith)
+    (λ k below. not_same (name (get_or xs k d)) w (before k below))
+    (λ below. rw here (same_bytes w)) in
+    rw (at, lt-ltb _ _ lt) refl
+
+place_none : {X : Type 0} (name : X → List ℕ) (xs : List X) (d : X) (w : List ℕ)
+    → ((k : ℕ) → k < length xs → name (get_or xs k d) ≡ w → ⊥) → position (λ x. bytes_eq (name x) w) xs ≡ None
+place_none name xs d w before =
+    let at : position_or_len (λ x. bytes_eq (name x) w) xs ≡ length xs =
+    position_or_len_is (λ x. bytes_eq (name x) w) xs (length xs) d (omega arith)
+    (λ k below. not_same (name (get_or xs k d)) w (before k below))
+    (λ below. absurd (omega arith)) in
+    rw (at, le-ltb (length xs) (length xs) (omega arith)) refl
+
+short_is : (n : ℕ) → n < 2 ^ 32 → short n ≡ Some n
+short_is n lt = rw (lt-ltb _ _ lt) refl
+
+no_caller : CallerItem
+no_caller = record { name = []; steps = [] }
+
+no_codec : CodecItem
+no_codec = record { name = []; kind = word.AudioDecoder; saturation = 0 }
+
+caller_name_is : (callers : List CallerItem) (i : ℕ) → i < length callers → caller_name callers i ≡ (get_or callers i no_caller).name
+caller_name_is callers i lt = rw (slice_get-get_or callers i no_caller lt) refl
+
+codec_name_is : (codecs : List CodecItem) (i : ℕ) → i < length codecs → codec_name codecs i ≡ (get_or codecs i no_codec).name
+codec_name_is codecs i lt = rw (slice_get-get_or codecs i no_codec lt) refl
+
+caller_again : (script : Script) (n : ℕ) → AreNames script → IsCaller script n → caller_of script.callers (caller_name script.callers n) ≡ Some n
+caller_again script n names fits =
+    let place : position (λ c. bytes_eq c.name (caller_name script.callers n)) script.callers ≡ Some n =
+    place_again (λ (c : CallerItem). c.name) script.callers n no_caller (caller_name script.callers n) fits.0 (sym (caller_name_is script.callers n fits.0))
+    (λ k below same. absurd (omega (arith, names.callers_differ k n (omega (arith, fits.0)) fits.0 (caller_name_is script.callers k (omega (arith, fits.0)) ∙ same)))) in
+    rw place (short_is n fits.1)
+
+codec_again : (script : Script) (n : ℕ) → AreNames script → IsCodec script n → codec_of script.codecs (codec_name script.codecs n) ≡ Some n
+codec_again script n names fits =
+    let place : position (λ c. bytes_eq c.name (codec_name script.codecs n)) script.codecs ≡ Some n =
+    place_again (λ (c : CodecItem). c.name) script.codecs n no_codec (codec_name script.codecs n) fits.0 (sym (codec_name_is script.codecs n fits.0))
+    (λ k below same. absurd (omega (arith, names.codecs_differ k n (omega (arith, fits.0)) fits.0 (codec_name_is script.codecs k (omega (arith, fits.0)) ∙ same)))) in
+    rw place (short_is n fits.1)
+
+no_caller_of : (script : Script) (n : ℕ) → AreNames script → IsCodec script n → caller_of script.callers (codec_name script.codecs n) ≡ None
+no_caller_of script n names fits =
+    let place : position (λ c. bytes_eq c.name (codec_name script.codecs n)) script.callers ≡ None =
+    place_none (λ (c : CallerItem). c.name) script.callers no_caller (codec_name script.codecs n)
+    (λ k below same. names.apart k n below fits.0 (caller_name_is script.callers k below ∙ same)) in
+    rw place refl
+
+by_again : (script : Script) (who : Who) → AreNames script → FitsWho script who → by_of script (caller_name script.callers who.caller) who.step ≡ Some (by.Caller who)
+by_again script who names fits = rw (caller_again script who.caller names fits.0, short_is who.step fits.1) refl
+
+by_codec_again : (script : Script) (n place : ℕ) → AreNames script → IsCodec script n → by_of script (codec_name script.codecs n) place ≡ Some (by.Codec n place)
+by_codec_again script n place names fits = rw (no_caller_of script n names fits, codec_again script n names fits) refl
+
+-- ---- words at the end of a line
+
+error_at_again : (e : DomError) (rest : List ℕ) → error_at (error_name e ++ 10 ∷ rest) ≡ Some e
+unfolding error_at
+error_at_again e rest = rw (word_again 10 (error_name e) rest (error_is_word e) refl, error_again e) refl
+
+answer_at_again : (a : Option DomError) (rest : List ℕ) → answer_at (answer_text a ++ 10 ∷ rest) ≡ Some a
+unfolding answer_at
+answer_at_again a rest = rw (word_again 10 (answer_text a) rest (answer_is_word a) refl, answer_again a) refl
+
+promise_at_again : (p : PromiseState) (rest : List ℕ) → promise_at (promise_text p ++ 10 ∷ rest) ≡ Some p
+unfolding promise_at
+promise_at_again promise.Pending rest = refl
+promise_at_again promise.Resolved rest = refl
+promise_at_again (promise.Rejected e) rest = rw (error_at_again e rest) refl
+
+look_again : (n len : ℕ) (p : PromiseState) (rest : List ℕ) → look_at n len (promise_text p ++ 10 ∷ rest) ≡ Some (result.Look n len p)
+unfolding look_at promise_at
+look_again n len promise.Pending rest = refl
+look_again n len promise.Resolved rest = refl
+look_again n len (promise.Rejected e) rest = rw (error_at_again e rest) refl
+
+state_look_again : (n len size : ℕ) (s : CodecState) (rest : List ℕ) → size < 2 ^ 64 → look_at n len (state_text s ++ 32 ∷ (decimal size ++ 10 ∷ rest)) ≡ Some (result.State n len s size)
+unfolding look_at
+state_look_again n len size s rest lt = rw (word_again 32 (state_text s) (decimal size ++ 10 ∷ rest) (state_is_word s) refl, state_again s, number_again 10 size rest lt refl) refl
+
+outcome_again : (o : Outcome) (rest : List ℕ) → FitsOutcome o → outcome_at (outcome_text o ++ 10 ∷ rest) ≡ Some o
+unfolding outcome_at
+outcome_again (outcome.Ran n) rest fits = rw (number_again 10 n rest fits refl) refl
+outcome_again outcome.Refused rest fits = refl
+outcome_again (outcome.NoSlot n) rest fits = rw (number_again 10 n rest fits refl) refl
+outcome_again outcome.NoMemory rest fits = refl
+
+turn_again : (t : Option TurnWord) (rest : List ℕ) → turn_at (turn_text t ++ 10 ∷ rest) ≡ Some t
+unfolding turn_at
+turn_again None rest = refl
+turn_again (Some turn.Unblock) rest = refl
+turn_again (Some turn.Process) rest = refl
+turn_again (Some turn.Desaturate) rest = refl
+turn_again (Some turn.Output) rest = refl
+turn_again (Some turn.Flushed) rest = refl
+turn_again (Some turn.Dequeue) rest = refl
+turn_again (Some (turn.Close e)) rest = rw (error_at_again e rest) refl
+
+-- ---- lines with a number
+
+-- a number comes first, and what follows is read by the mark behind its word
+numbered_first : (script : Script) (n : ℕ) (rest : List ℕ) → n < 2 ^ 64 → parsed script (decimal n ++ 32 ∷ rest) ≡ numbered script (decimal n ++ 32 ∷ rest)
+unfolding parsed
+numbered_first script n rest lt = rw (word_again 32 (decimal n) rest (decimal_word n lt) refl, decimal_not_nil n lt, decimal_digits n lt) refl
+
+dotted_next : (script : Script) (n : ℕ) (name rest : List ℕ) → n < 2 ^ 64 → list_all is_word_byte name ≡ true
+    → parsed script (decimal n ++ 32 ∷ (name ++ 46 ∷ rest)) ≡ dotted script n name rest
+unfolding numbered
+dotted_next script n name rest lt word =
+    numbered_first script n (name ++ 46 ∷ rest) lt ∙ rw (number_again 32 n (name ++ 46 ∷ rest) lt refl, word_again 46 name rest word refl) refl
+
+looked_next : (script : Script) (n : ℕ) (name rest : List ℕ) → n < 2 ^ 64 → list_all is_word_byte name ≡ true
+    → parsed script (decimal n ++ 32 ∷ (name ++ 58 ∷ rest)) ≡ looked script n name rest
+unfolding numbered
+looked_next script n name rest lt word =
+    numbered_first script n (name ++ 58 ∷ rest) lt ∙ rw (number_again 32 n (name ++ 58 ∷ rest) lt refl, word_again 58 name rest word refl) refl
+
+worded_answer : (n : ℕ) (a : Option DomError) (rest : List ℕ) → worded n (answer_text a) rest ≡ Some (line.Result n (result.Local a))
+unfolding worded
+worded_answer n None rest = refl
+worded_answer n (Some dom.Abort) rest = refl
+worded_answer n (Some dom.InvalidState) rest = refl
+worded_answer n (Some dom.NotSupported) rest = refl
+worded_answer n (Some dom.Encoding) rest = refl
+worded_answer n (Some dom.Data) rest = refl
+worded_answer n (Some dom.DataClone) rest = refl
+worded_answer n (Some dom.QuotaExceeded) rest = refl
+worded_answer n (Some dom.TypeErr) rest = refl
+worded_answer n (Some dom.RangeErr) rest = refl
+worded_answer n (Some dom.OutOfMemory) rest = refl
+
+result_again : (script : Script) (step : ℕ) (r : StepResult) (rest : List ℕ) → AreNames script → step < 2 ^ 64 → FitsResult script r → parsed script (result_line script.codecs step r ++ rest) ≡ Some (line.Result step r)
+unfolding dotted looked numbered call_result worded
+result_again script step (result.Call n place error) rest names lt fits = simp append_assoc (
+    dotted_next script step (codec_name script.codecs n) (decimal place ++ 32 ∷ (answer_text error ++ 10 ∷ rest)) lt (names.codecs_are_words n fits.0.0)
+    ∙ rw (number_again 32 place _ fits.1 refl, word_again 10 (answer_text error) rest (answer_is_word error) refl, codec_again script n names fits.0, answer_again error) refl)
+result_again script step (result.Local error) rest names lt fits = simp append_assoc (
+    numbered_first script step (answer_text error ++ 10 ∷ rest) lt
+    ∙ rw (number_again 32 step _ lt refl, word_again 10 (answer_text error) rest (answer_is_word error) refl) (worded_answer step error rest))
+result_again script step (result.Look n len end) rest names lt fits = simp append_assoc (
+    looked_next script step (codec_name script.codecs n) (decimal len ++ 32 ∷ (promise_text end ++ 10 ∷ rest)) lt (names.codecs_are_words n fits.0.0)
+    ∙ rw (codec_again script n names fits.0, number_again 32 len _ fits.1 refl, look_again n len end rest) refl)
+result_again script step (result.State n len state size) rest names lt fits = simp append_assoc (
+    looked_next script step (codec_name script.codecs n) (decimal len ++ 32 ∷ (state_text state ++ 32 ∷ (decimal size ++ 10 ∷ rest))) lt (names.codecs_are_words n fits.0.0)
+    ∙ rw (codec_again script n names fits.0, number_again 32 len _ fits.1 refl, state_look_again n len size state rest fits.2) refl)
+result_again script step result.Absent rest names lt fits = simp append_assoc (
+    numbered_first script step (codes "absent" ++ 10 ∷ rest) lt ∙ rw (number_again 32 step _ lt refl) refl)
+
+-- a call's word is none of the registry's
+call_no_slot : (c : CallWord) (x y : Option Line) → cond (bytes_eq (call_word c) (codes "acquire") || bytes_eq (call_word c) (codes "give")) x y ≡ y
+call_no_slot call.Configure x y = refl
+call_no_slot call.Decode x y = refl
+call_no_slot call.Flush x y = refl
+call_no_slot call.Reset x y = refl
+call_no_slot call.Close x y = refl
+
+called_again : (script : Script) (place : ℕ) (who : Who) (c : CallWord) (error : Option DomError) (rest : List ℕ) → AreNames script → FitsWho script who
+    → dotted script place (caller_name script.callers who.caller) (decimal who.step ++ 32 ∷ (call_word c ++ 32 ∷ 61 ∷ 32 ∷ (answer_text error ++ 10 ∷ rest))) ≡ Some (line.Entry place (told.Call who c error))
+unfolding dotted call_at
+called_again script place who c error rest names fits =
+    rw (number_again 32 who.step _ (omega (arith, fits.1)) refl, word_again 32 (call_word c) _ (call_is_word c) refl)
+    (call_no_slot c _ _ ∙ rw (caller_again script who.caller names fits.0, short_is who.step fits.1, call_again c, answer_at_again error rest) refl)
+
+entry_again : (script : Script) (place : ℕ) (e : Told) (rest : List ℕ) → AreNames script → place < 2 ^ 64 → FitsTold script e → parsed script (numbered_line place (told_text script.callers e) ++ rest) ≡ Some (line.Entry place e)
+unfolding worded numbered start_at done_at
+entry_again script place (told.Call who call error) rest names lt fits = simp append_assoc (
+    dotted_next script place (caller_name script.callers who.caller) (decimal who.step ++ 32 ∷ (call_word call ++ 32 ∷ 61 ∷ 32 ∷ (answer_text error ++ 10 ∷ rest))) lt (names.callers_are_words who.caller fits.0.0)
+    ∙ called_again script place who call error rest names fits)
+entry_again script place (told.Start epoch item) rest names lt fits = simp append_assoc (
+    numbered_first script place _ lt ∙ rw (number_again 32 place _ lt refl, number_again 46 epoch _ fits.0 refl, number_again 10 item _ fits.1 refl) refl)
+entry_again script place (told.Done epoch item moment outcome) rest names lt fits = simp append_assoc (
+    numbered_first script place _ lt ∙ rw (number_again 32 place _ lt refl, number_again 46 epoch _ fits.0 refl, number_again 32 item _ fits.1 refl, number_again 32 moment _ fits.2 refl, outcome_again outcome rest fits.3) refl)
+entry_again script place (told.Turn word) rest names lt fits = simp append_assoc (
+    numbered_first script place _ lt ∙ rw (number_again 32 place _ lt refl, turn_again word rest) refl)
+entry_again script place (told.Reclaim moment) rest names lt fits = simp append_assoc (
+    numbered_first script place _ lt ∙ rw (number_again 32 place _ lt refl, number_again 10 moment _ fits refl) refl)
+
+-- ---- entries of the registry
+
+coder_again : (id : CoderId) (rest : List ℕ) → coder_at (role_text id.role ++ 58 ∷ (codec_text id.codec ++ 32 ∷ rest)) ≡ Some (id, rest)
+unfolding coder_at
+coder_again id rest = rw (word_again 58 (role_text id.role) _ (role_is_word id.role) refl, role_again id.role, word_again 32 (codec_text id.codec) rest (codec_id_is_word id.codec) refl, codec_id_again id.codec) refl
+
+-- behind the name and the number of who caused it
+op_found : (script : Script) (place : ℕ) (name : List ℕ) (m : ℕ) (op : SlotOp) (rest : List ℕ) (who : By) → m < 2 ^ 64 → FitsOp op → by_of script name m ≡ Some who
+    → dotted script place name (decimal m ++ 32 ∷ (slot_text op ++ 10 ∷ rest)) ≡ Some (line.Slot place (record { by = who; op = op }))
+unfolding dotted slot_at op_at acquired_at given_at refused_at
+op_found script place name m (slot.Acquire id number) rest who lt fits found = simp append_assoc (
+    rw (number_again 32 m _ lt refl, found, coder_again id _, word_again 10 (decimal number) rest (decimal_word number fits) refl, decimal_digits number fits, number_again 10 number rest fits refl) refl)
+op_found script place name m (slot.Refused id out made) rest who lt fits found = simp append_assoc (
+    rw (number_again 32 m _ lt refl, found, coder_again id _, number_again 32 out _ fits.0 refl, number_again 10 made rest fits.1 refl) refl)
+op_found script place name m (slot.Give id number) rest who lt fits found = simp append_assoc (
+    rw (number_again 32 m _ lt refl, found, coder_again id _, number_again 10 number rest fits refl) refl)
+
+slot_again : (script : Script) (place : ℕ) (who : By) (op : SlotOp) (rest : List ℕ) → AreNames script → place < 2 ^ 64 → FitsBy script who → FitsOp op
+    → parsed script (slot_line script place (record { by = who; op = op }) ++ rest) ≡ Some (line.Slot place (record { by = who; op = op }))
+slot_again script place (by.Caller who) op rest names lt fits fits_op =
+    let regrouped : slot_line script place (record { by = by.Caller who; op = op }) ++ rest ≡ decimal place ++ 32 ∷ (caller_name script.callers who.caller ++ 46 ∷ (decimal who.step ++ 32 ∷ (slot_text op ++ 10 ∷ rest))) = simp append_assoc in
+    ap (parsed script) regrouped
+    ∙ dotted_next script place (caller_name script.callers who.caller) (decimal who.step ++ 32 ∷ (slot_text op ++ 10 ∷ rest)) lt (names.callers_are_words who.caller fits.0.0)
+    ∙ op_found script place (caller_name script.callers who.caller) who.step op rest (by.Caller who) (omega (arith, fits.1)) fits_op (by_again script who names fits)
+slot_again script place (by.Codec n m) op rest names lt fits fits_op =
+    let regrouped : slot_line script place (record { by = by.Codec n m; op = op }) ++ rest ≡ decimal place ++ 32 ∷ (codec_name script.codecs n ++ 46 ∷ (decimal m ++ 32 ∷ (slot_text op ++ 10 ∷ rest))) = simp append_assoc in
+    ap (parsed script) regrouped
+    ∙ dotted_next script place (codec_name script.codecs n) (decimal m ++ 32 ∷ (slot_text op ++ 10 ∷ rest)) lt (names.codecs_are_words n fits.0.0)
+    ∙ op_found script place (codec_name script.codecs n) m op rest (by.Codec n m) fits.1 fits_op (by_codec_again script n m names fits.0)
+
+-- ---- what an entry showed
+
+dash_10 : ◌≡◌ {A = ℕ} 45 10 → ⊥
+dash_10 h = omega arith
+
+dash_32 : ◌≡◌ {A = ℕ} 45 32 → ⊥
+dash_32 h = omega arith
+
+same_hex : (bytes : List ℕ) → text.hex_or_dash bytes ≡ fields.hex_or_dash bytes
+same_hex [] = refl
+same_hex (b ∷ bytes) = refl
+
+same_number : (n : Option ℕ) → text.number_or_dash n ≡ fields.number_or_dash n
+same_number None = refl
+same_number (Some n) = refl
+
+hex_read : (bytes rest : List ℕ) → IsBytes bytes → bytes_upto 10 (text.hex_or_dash bytes ++ 10 ∷ rest) ≡ Some (bytes, rest)
+hex_read bytes rest fits = rw (same_hex bytes) (bytes_again 10 bytes rest fits dash_10 refl)
+
+number_read : (n : Option ℕ) (rest : List ℕ) → FitsOrAbsent n → number_or_dash_upto 32 (text.number_or_dash n ++ 32 ∷ rest) ≡ Some (n, rest)
+number_read n rest fits = rw (same_number n) (number_or_dash_again 32 n rest fits dash_32 refl)
+
+-- timestamp, duration and bytes
+abbrev content : ℤ → Option ℕ → List ℕ → List ℕ → List ℕ
+content timestamp duration bytes rest = signed_decimal timestamp ++ 32 ∷ (text.number_or_dash duration ++ 32 ∷ (text.hex_or_dash bytes ++ 10 ∷ rest))
+
+quotient_is_less : (a b : ℕ) → a / b ≤ a
+quotient_is_less a b = grind arith
+
+pub duration_fits : (shape : SoundShape) → shape.frames < 2 ^ 32 → FitsOrAbsent (Some (sound_duration shape))
+duration_fits shape lt k same = grind (arith, quotient_is_less (shape.frames * 1000000) shape.rate)
+
+sound_read : (shape : SoundShape) (bytes rest : List ℕ) → FitsSound shape bytes
+    → sound_at (sample_format_text shape.format ++ 32 ∷ (decimal shape.rate ++ 32 ∷ (decimal shape.channels ++ 32 ∷ (decimal shape.frames ++ 32 ∷ content shape.timestamp (Some (sound_duration shape)) bytes rest)))) ≡ Some (seen.Sound shape bytes)
+unfolding sound_at
+sound_read shape bytes rest fits =
+    rw (
+      word_again 32 (sample_format_text shape.format) _ (sample_format_is_word shape.format) refl,
+      sample_format_again shape.format,
+      short_again 32 shape.rate _ fits.rate refl,
+      short_again 32 shape.channels _ fits.channels refl,
+      short_again 32 shape.frames _ fits.frames refl,
+      signed_again 32 shape.timestamp _ fits.timestamp dash_32 refl,
+      number_read (Some (sound_duration shape)) _ (duration_fits shape fits.frames),
+      hex_read bytes rest fits.are_bytes,
+    ) refl
+
+image_read : (shape : PictureShape) (bytes rest : List ℕ) → FitsImage shape bytes
+    → image_at (picture_format_text shape.format ++ 32 ∷ (decimal shape.width ++ 32 ∷ (decimal shape.height ++ 32 ∷ content shape.timestamp shape.duration bytes rest))) ≡ Some (seen.Image shape bytes)
+unfolding image_at
+image_read shape bytes rest fits =
+    rw (
+      word_again 32 (picture_format_text shape.format) _ (picture_format_is_word shape.format) refl,
+      picture_format_again shape.format,
+      short_again 32 shape.width _ fits.width refl,
+      short_again 32 shape.height _ fits.height refl,
+      signed_again 32 shape.timestamp _ fits.timestamp dash_32 refl,
+      number_read shape.duration _ fits.duration,
+      hex_read bytes rest fits.are_bytes,
+    ) refl
+
+chunk_read : (key : Bool) (timestamp : ℤ) (duration : Option ℕ) (bytes rest : List ℕ) → mag timestamp < 2 ^ 63 → FitsOrAbsent duration → IsBytes bytes
+    → chunk_at (chunk_type_text key ++ 32 ∷ content timestamp duration bytes rest) ≡ Some (seen.Chunk key timestamp duration bytes)
+unfolding chunk_at
+chunk_read key timestamp duration bytes rest lt fits are_bytes =
+    rw (
+      word_again 32 (chunk_type_text key) _ (key_is_word key) refl,
+      key_again key,
+      signed_again 32 timestamp _ lt dash_32 refl,
+      number_read duration _ fits,
+      hex_read bytes rest are_bytes,
+    ) refl
+
+config_read : (codec : List ℕ) (rate channels : ℕ) (description rest : List ℕ) → Lacks 32 codec → rate < 2 ^ 32 → channels < 2 ^ 32 → IsBytes description
+    → config_at (codec ++ 32 ∷ (decimal rate ++ 32 ∷ (decimal channels ++ 32 ∷ (text.hex_or_dash description ++ 10 ∷ rest)))) ≡ Some (seen.Config codec rate channels description)
+unfolding config_at
+config_read codec rate channels description rest lacks rate_fits channels_fit are_bytes =
+    rw (
+      upto_again 32 codec _ lacks,
+      short_again 32 rate _ rate_fits refl,
+      short_again 32 channels _ channels_fit refl,
+      hex_read description rest are_bytes,
+    ) refl
+
+seen_again : (script : Script) (s : Seen) (rest : List ℕ) → FitsSeen s → parsed script (seen_line s ++ rest) ≡ Some (line.Seen s)
+unfolding parsed shown_at seen_at output_at reject_at
+seen_again script (seen.Sound shape bytes) rest fits =
+    let regrouped : sound_line shape bytes ++ rest ≡ codes "  output audio " ++ (sample_format_text shape.format ++ 32 ∷ (decimal shape.rate ++ 32 ∷ (decimal shape.channels ++ 32 ∷ (decimal shape.frames ++ 32 ∷ content shape.timestamp (Some (sound_duration shape)) bytes rest)))) = simp append_assoc in
+    ap (parsed script) regrouped ∙ rw (sound_read shape bytes rest fits) refl
+seen_again script (seen.Image shape bytes) rest fits =
+    let regrouped : picture_line shape bytes ++ rest ≡ codes "  output video " ++ (picture_format_text shape.format ++ 32 ∷ (decimal shape.width ++ 32 ∷ (decimal shape.height ++ 32 ∷ content shape.timestamp shape.duration bytes rest))) = simp append_assoc in
+    ap (parsed script) regrouped ∙ rw (image_read shape bytes rest fits) refl
+seen_again script (seen.Chunk key timestamp duration bytes) rest fits =
+    let regrouped : seen_line (seen.Chunk key timestamp duration bytes) ++ rest ≡ codes "  output chunk " ++ (chunk_type_text key ++ 32 ∷ content timestamp duration bytes rest) = simp append_assoc in
+    ap (parsed script) regrouped ∙ rw (chunk_read key timestamp duration bytes rest fits.0 fits.1 fits.2) refl
+seen_again script (seen.Config codec rate channels description) rest fits =
+    let regrouped : seen_line (seen.Config codec rate channels description) ++ rest ≡ codes "  config " ++ (codec ++ 32 ∷ (decimal rate ++ 32 ∷ (decimal channels ++ 32 ∷ (text.hex_or_dash description ++ 10 ∷ rest)))) = simp append_assoc in
+    ap (parsed script) regrouped ∙ rw (config_read codec rate channels description rest fits.0 fits.2 fits.3 fits.4) refl
+seen_again script (seen.Resolve p) rest fits = simp append_assoc (rw (number_again 10 p rest fits refl) refl)
+seen_again script (seen.Reject p e) rest fits = simp append_assoc (rw (number_again 32 p _ fits refl, error_at_again e rest) refl)
+seen_again script seen.Dequeue rest fits = refl
+seen_again script (seen.Error e) rest fits = simp append_assoc (rw (error_at_again e rest) refl)
+
+-- ---- every line
+
+parsed_again : (script : Script) (l : Line) (rest : List ℕ) → AreNames script → FitsLine script l → parsed script (line_text script l ++ rest) ≡ Some l
+unfolding parsed headed caller_at codec_at
+parsed_again script line.Header rest names fits = refl
+parsed_again script (line.Caller n) rest names fits = simp append_assoc (rw (word_again 10 (caller_name script.callers n) rest (names.callers_are_words n fits.0) refl, caller_again script n names fits) refl)
+parsed_again script (line.Result step found) rest names fits = result_again script step found rest names fits.0 fits.1
+parsed_again script (line.Codec n opening) rest names fits = simp append_assoc (
+    rw (word_again 32 (codec_name script.codecs n) _ (names.codecs_are_words n fits.0.0) refl, codec_again script n names fits.0, word_again 32 (kind_text opening.kind) _ (kind_is_word opening.kind) refl, kind_again opening.kind, short_again 10 opening.saturation rest fits.1 refl) refl)
+parsed_again script (line.Entry place entry) rest names fits = entry_again script place entry rest names fits.0 fits.1
+parsed_again script (line.Seen s) rest names fits = seen_again script s rest fits
+parsed_again script line.Pool rest names fits = refl
+parsed_again script line.Slots rest names fits = refl
+parsed_again script (line.Slot place entry) rest names fits = slot_again script place entry.by entry.op rest names fits.0 fits.1 fits.2
+parsed_again script (line.Held n) rest names fits = simp append_assoc (rw (number_again 10 n rest fits refl) refl)
+parsed_again script line.End rest names fits = refl
+
+pub line_again : (script : Script) (l : Line) (rest : List ℕ) → AreNames script → FitsLine script l → line_at script (line_text script l ++ rest) ≡ Some (l, rest)
+unfolding line_at
+line_again script l rest names fits = rw (parsed_again script l rest names fits, after_again (line_text script l) rest) refl
+
+bind_some : {A B : Type 0} (o : Option A) (f : A → Option B) (y : B) → (o >>= f) ≡ Some y → (x : A) × (o ≡ Some x) × (f x ≡ Some y)
+bind_some None f y e = absurd cc
+bind_some (Some x) f y e = (x, refl, e)
+
+abbrev some : {A : Type 0} → A → Option A
+some x = Some x
+
+some_is : {A : Type 0} (x y : A) → some x ≡ some y → x ≡ y
+some_is x y e = cc
+
+pub line_sound : (script : Script) (bs : List ℕ) (read : Line × List ℕ) → line_at script bs ≡ Some read → bs ≡ line_text script read.0 ++ read.1
+unfolding line_at
+line_sound script bs read e =
+    let l = bind_some (parsed script bs) (λ x. after (line_text script x) bs >>= λ rest. Some (x, rest)) read e in
+    let r = bind_some (after (line_text script l.0) bs) (λ rest. Some (l.0, rest)) read l.2 in
+    let made : Line × List ℕ = (l.0, r.0) in
+    subst (λ (z : Line × List ℕ). bs ≡ line_text script z.0 ++ z.1) (some_is made read r.2) (after_only (line_text script l.0) bs r.0 r.1)

@@ -1,0 +1,73 @@
+-- What is written as a line is read again, what is read is written so, and the report of a run is made of such lines.
+use Rattle.std.specs.Prelude.{ℕ, ◌≡◌, true, List, [], ◌∷◌, ◌++◌, flat_map, unwrap_or, Option, Some, None}
+use Rattle.std.specs.List.{list_all}
+use Rattle.coder_api.specs.declared.unit.Unit as media
+use Rattle.coder_api.specs.declared.unit.Unit.TheVariants as unit
+use Rattle.wc_config.specs.declared.config.AudioDecoderConfig.{AudioDecoderConfig}
+use Rattle.codec_model.specs.declared.entry.Event.{Event}
+use Rattle.codec_model.specs.declared.entry.Event.TheVariants as event
+use Rattle.codec_model.specs.declared.entry.Shown.{Shown}
+use Rattle.codec_model.specs.declared.entry.Entry.{Entry}
+use Rattle.codec_model.specs.declared.entry.Entry.TheVariants as entry
+use Rattle.wc_script.specs.declared.script.Script.{Script}
+use Rattle.trace_text.specs.Report.{refusal_in, entry_line, event_lines}
+use Rattle.report_lines.specs.declared.line.CallWord.TheVariants as call
+use Rattle.report_lines.specs.declared.line.Told.{Told}
+use Rattle.report_lines.specs.declared.line.Told.TheVariants as told
+use Rattle.report_lines.specs.declared.line.Seen.TheVariants as seen
+use Rattle.report_lines.specs.declared.line.Line.{Line}
+use Rattle.report_lines.specs.declared.line.Line.TheVariants as line
+use Rattle.report_lines.specs.Text.{line_text}
+use Rattle.report_lines.specs.Reading.{line_at}
+use Rattle.report_lines.specs.Fits.{is_no_feed, AreNames, FitsLine}
+
+abbrev pub LineAgain : Type 0
+LineAgain = (script : Script) (l : Line) (rest : List ℕ) → AreNames script → FitsLine script l → line_at script (line_text script l ++ rest) ≡ Some (l, rest)
+
+abbrev pub LineSound : Type 0
+LineSound = (script : Script) (bs : List ℕ) (read : Line × List ℕ) → line_at script bs ≡ Some read → bs ≡ line_text script read.0 ++ read.1
+
+-- a text ends with its only line feed
+pub record IsOneLine (text : List ℕ) : Type 0 where
+  pub front : List ℕ
+  pub whole : text ≡ front ++ 10 ∷ []
+  pub only : list_all is_no_feed front ≡ true
+
+abbrev pub LineIsOne : Type 0
+LineIsOne = (script : Script) (l : Line) → AreNames script → FitsLine script l → IsOneLine (line_text script l)
+
+-- an entry, as its line tells it
+abbrev pub told_of : Entry → Shown → Told
+told_of (entry.Configure who config) shown = told.Call who call.Configure (refusal_in shown.events)
+told_of (entry.Decode who chunk) shown = told.Call who call.Decode (refusal_in shown.events)
+told_of (entry.Flush who) shown = told.Call who call.Flush (refusal_in shown.events)
+told_of (entry.Reset who) shown = told.Call who call.Reset (refusal_in shown.events)
+told_of (entry.Close who) shown = told.Call who call.Close (refusal_in shown.events)
+told_of (entry.Start epoch item) shown = told.Start epoch item
+told_of (entry.Done epoch item moment outcome) shown = told.Done epoch item moment outcome
+told_of entry.Turn shown = told.Turn shown.turn
+told_of (entry.Reclaim moment) shown = told.Reclaim moment
+
+abbrev pub EntryIsALine : Type 0
+EntryIsALine = (script : Script) (place : ℕ) (e : Entry) (shown : Shown) → entry_line script.callers place e shown ≡ line_text script (line.Entry place (told_of e shown))
+
+abbrev pub config_seen : Option AudioDecoderConfig → List Line
+config_seen None = []
+config_seen (Some c) = line.Seen (seen.Config c.codec c.rate c.channels (unwrap_or c.description [])) ∷ []
+
+abbrev pub output_seen : media.Unit → List Line
+output_seen (unit.Sound samples) = line.Seen (seen.Sound samples.shape samples.bytes) ∷ []
+output_seen (unit.Image picture) = line.Seen (seen.Image picture.shape picture.bytes) ∷ []
+output_seen (unit.Coded chunk config) = line.Seen (seen.Chunk chunk.key chunk.timestamp chunk.duration chunk.bytes) ∷ config_seen config
+
+-- the lines of an event
+abbrev pub event_seen : Event → List Line
+event_seen (event.Refusal error) = []
+event_seen (event.Output number unit) = output_seen unit
+event_seen (event.Resolve promise) = line.Seen (seen.Resolve promise) ∷ []
+event_seen (event.Reject promise error) = line.Seen (seen.Reject promise error) ∷ []
+event_seen event.Dequeue = line.Seen seen.Dequeue ∷ []
+event_seen (event.ErrorCall error) = line.Seen (seen.Error error) ∷ []
+
+abbrev pub EventIsLines : Type 0
+EventIsLines = (script : Script) (e : Event) → event_lines e ≡ flat_map (line_text script) (event_seen e)

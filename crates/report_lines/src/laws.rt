@@ -1,0 +1,19 @@
+// What is written as a line is read again.
+ghost use Rattle.report_lines.specs.Laws.{LineAgain, LineSound, LineIsOne, EntryIsALine, EventIsLines};
+ghost use Rattle.report_lines.specs.Whole.{ReportIsLines};
+
+/// Laws: a line that fits the script is read again, whatever stands behind it; what is read stands in front, as it is
+/// written; and the text of such a line ends with its only line feed.
+pub fn lines_are_read_again()
+    ensures again { LineAgain }
+    ensures sound { LineSound }
+    ensures one { LineIsOne }
+{}
+
+/// Laws: the report's text of an entry is that of a line, its text of an event that of some lines, and the report of a run
+/// is the texts of the run's lines, in order.
+pub fn reports_are_lines()
+    ensures entry { EntryIsALine }
+    ensures event { EventIsLines }
+    ensures report { ReportIsLines }
+{}

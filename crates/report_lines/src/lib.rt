@@ -1,0 +1,15 @@
+//! The lines of a report: what stands on one, its text, and how the line in front of some bytes is read.
+#![tactic(auto)]
+
+mod laws;
+mod line;
+mod reading;
+#[cfg(test)]
+mod tests;
+mod text;
+mod words;
+
+pub use laws::{lines_are_read_again, reports_are_lines};
+pub use line::{CallWord, Line, Seen, Told};
+pub use reading::line_at;
+pub use text::line_text;

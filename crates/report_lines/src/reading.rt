@@ -1,0 +1,647 @@
+// How the line in front of some bytes is read.
+ghost use Rattle.std.specs.Prelude.{◌≡◌, ◌≢◌, IfOk, IfErr, Some, None, position, bytes_eq};
+ghost use Rattle.std.specs.Option.{option_map};
+ghost use Rattle.report_fields.specs.Fields.{short as short_of};
+ghost use Rattle.report_lines.specs.Reading as spec;
+
+use crate::line::{Line, Seen, Told};
+use crate::text::line_text;
+use crate::words::{
+    answer_of, call_of, codec_id_of, error_of, is, key_of, kind_of, picture_format_of, role_of,
+    sample_format_of, state_of,
+};
+use codec_model::{CodecState, Opening, Outcome, PromiseState, TurnWord};
+use coder_api::{SlotEntry, SlotOp};
+use report_fields::{
+    FieldFault, after, are_digits, bytes_upto, number_or_dash_upto, number_upto, short_upto,
+    signed_upto, upto, word_at,
+};
+use std::alloc::Global;
+use trace_text::StepResult;
+use wc_base::{By, DomError, List, PictureShape, SoundShape, Who};
+use wc_config::CoderId;
+use wc_script::{CallerItem, CodecItem, Script};
+
+fn short(n: u64) -> Option<u32>
+    ensures { result ≡ short_of n }
+{
+    if n < 1 << 32 { Some(n as u32) } else { None }
+}
+
+fn place_of_caller(callers: &[CallerItem], word: &[u8]) -> Option<usize>
+    ensures { result ≡ position (λ c. bytes_eq c.name word.now) callers.now }
+{
+    callers
+        .iter()
+        .position(|caller| caller.name.as_str().as_bytes() == word)
+}
+
+fn place_of_codec(codecs: &[CodecItem], word: &[u8]) -> Option<usize>
+    ensures { result ≡ position (λ c. bytes_eq c.name word.now) codecs.now }
+{
+    codecs
+        .iter()
+        .position(|codec| codec.name.as_str().as_bytes() == word)
+}
+
+fn caller_of(callers: &[CallerItem], word: &[u8]) -> Option<u32>
+    ensures { result ≡ spec.caller_of callers.now word.now }
+{
+    let place = place_of_caller(callers, word)?;
+    short(place as u64)
+}
+
+fn codec_of(codecs: &[CodecItem], word: &[u8]) -> Option<u32>
+    ensures { result ≡ spec.codec_of codecs.now word.now }
+{
+    let place = place_of_codec(codecs, word)?;
+    short(place as u64)
+}
+
+#[tactic(auto, unfolding(crate::specs::Reading::error_at))]
+fn error_at(bytes: &[u8]) -> Option<DomError>
+    ensures { result ≡ spec.error_at bytes.now }
+{
+    let (word, _, _) = word_at(bytes)?;
+    error_of(word)
+}
+
+#[tactic(auto, unfolding(crate::specs::Reading::answer_at))]
+fn answer_at(bytes: &[u8]) -> Option<Option<DomError>>
+    ensures { result ≡ spec.answer_at bytes.now }
+{
+    let (word, _, _) = word_at(bytes)?;
+    answer_of(word)
+}
+
+#[tactic(auto, unfolding(crate::specs::Reading::promise_at))]
+fn promise_at(bytes: &[u8]) -> Option<PromiseState>
+    ensures { result ≡ spec.promise_at bytes.now }
+{
+    let (word, _, rest) = word_at(bytes)?;
+    if is(word, "pending") {
+        Some(PromiseState::Pending)
+    } else if is(word, "resolved") {
+        Some(PromiseState::Resolved)
+    } else if is(word, "rejected") {
+        let error = error_at(rest)?;
+        Some(PromiseState::Rejected(error))
+    } else {
+        None
+    }
+}
+
+fn look_as(
+    state: Option<CodecState>,
+    codec: u32,
+    length: u64,
+    bytes: &[u8],
+    rest: &[u8],
+) -> Option<StepResult>
+    ensures { result ≡ spec.look_as state codec length bytes.now rest.now }
+{
+    match state {
+        None => {
+            let end = promise_at(bytes)?;
+            Some(StepResult::Look { codec, length, end })
+        }
+        Some(state) => {
+            let (size, _) = number_upto(b'\n', rest)?;
+            Some(StepResult::State {
+                codec,
+                length,
+                state,
+                size,
+            })
+        }
+    }
+}
+
+#[tactic(auto, unfolding(crate::specs::Reading::look_at))]
+fn look_at(codec: u32, length: u64, bytes: &[u8]) -> Option<StepResult>
+    ensures { result ≡ spec.look_at codec length bytes.now }
+{
+    let (word, _, rest) = word_at(bytes)?;
+    look_as(state_of(word), codec, length, bytes, rest)
+}
+
+#[tactic(auto, unfolding(crate::specs::Reading::looked))]
+fn looked(script: &Script, step: u64, name: &[u8], bytes: &[u8]) -> Option<Line>
+    ensures { result ≡ spec.looked script.now step name.now bytes.now }
+{
+    let codec = codec_of(script.codecs.as_slice(), name)?;
+    let (length, rest) = number_upto(b' ', bytes)?;
+    let found = look_at(codec, length, rest)?;
+    Some(Line::Result { step, found })
+}
+
+#[tactic(auto, unfolding(crate::specs::Reading::call_result))]
+fn call_result(script: &Script, step: u64, name: &[u8], place: u64, word: &[u8]) -> Option<Line>
+    ensures { result ≡ spec.call_result script.now step name.now place word.now }
+{
+    let codec = codec_of(script.codecs.as_slice(), name)?;
+    let error = answer_of(word)?;
+    let found = StepResult::Call {
+        codec,
+        place,
+        error,
+    };
+    Some(Line::Result { step, found })
+}
+
+#[tactic(auto, unfolding(crate::specs::Reading::outcome_at))]
+fn outcome_at(bytes: &[u8]) -> Option<Outcome>
+    ensures { result ≡ spec.outcome_at bytes.now }
+{
+    let (word, _, rest) = word_at(bytes)?;
+    if is(word, "ran") {
+        let (units, _) = number_upto(b'\n', rest)?;
+        Some(Outcome::Ran { units })
+    } else if is(word, "refused") {
+        Some(Outcome::Refused)
+    } else if is(word, "no-slot") {
+        let (entry, _) = number_upto(b'\n', rest)?;
+        Some(Outcome::NoSlot { entry })
+    } else if is(word, "no-memory") {
+        Some(Outcome::NoMemory)
+    } else {
+        None
+    }
+}
+
+#[tactic(auto, unfolding(crate::specs::Reading::turn_at))]
+fn turn_at(bytes: &[u8]) -> Option<Option<TurnWord>>
+    ensures { result ≡ spec.turn_at bytes.now }
+{
+    let (word, _, rest) = word_at(bytes)?;
+    if is(word, "-") {
+        Some(None)
+    } else if is(word, "unblock") {
+        Some(Some(TurnWord::Unblock))
+    } else if is(word, "process") {
+        Some(Some(TurnWord::Process))
+    } else if is(word, "desaturate") {
+        Some(Some(TurnWord::Desaturate))
+    } else if is(word, "output") {
+        Some(Some(TurnWord::Output))
+    } else if is(word, "flushed") {
+        Some(Some(TurnWord::Flushed))
+    } else if is(word, "dequeue") {
+        Some(Some(TurnWord::Dequeue))
+    } else if is(word, "close") {
+        let error = error_at(rest)?;
+        Some(Some(TurnWord::Close(error)))
+    } else {
+        None
+    }
+}
+
+#[tactic(auto, unfolding(crate::specs::Reading::start_at))]
+fn start_at(bytes: &[u8]) -> Option<Told>
+    ensures { result ≡ spec.start_at bytes.now }
+{
+    let (epoch, rest) = number_upto(b'.', bytes)?;
+    let (item, _) = number_upto(b'\n', rest)?;
+    Some(Told::Start { epoch, item })
+}
+
+#[tactic(auto, unfolding(crate::specs::Reading::done_at))]
+fn done_at(bytes: &[u8]) -> Option<Told>
+    ensures { result ≡ spec.done_at bytes.now }
+{
+    let (epoch, rest) = number_upto(b'.', bytes)?;
+    let (item, rest) = number_upto(b' ', rest)?;
+    let (moment, rest) = number_upto(b' ', rest)?;
+    let outcome = outcome_at(rest)?;
+    Some(Told::Done {
+        epoch,
+        item,
+        moment,
+        outcome,
+    })
+}
+
+#[tactic(auto, unfolding(crate::specs::Reading::call_at))]
+fn call_at(
+    script: &Script,
+    place: u64,
+    name: &[u8],
+    step: u64,
+    word: &[u8],
+    bytes: &[u8],
+) -> Option<Line>
+    ensures { result ≡ spec.call_at script.now place name.now step word.now bytes.now }
+{
+    let caller = caller_of(script.callers.as_slice(), name)?;
+    let step = short(step)?;
+    let call = call_of(word)?;
+    let rest = after(b"= ", bytes)?;
+    let error = answer_at(rest)?;
+    let who = Who { caller, step };
+    let told = Told::Call { who, call, error };
+    Some(Line::Entry { place, told })
+}
+
+fn by_as(caller: Option<u32>, script: &Script, name: &[u8], number: u64) -> Option<By>
+    ensures { result ≡ spec.by_as caller script.now name.now number }
+{
+    match caller {
+        None => {
+            let codec = codec_of(script.codecs.as_slice(), name)?;
+            Some(By::Codec {
+                codec,
+                place: number,
+            })
+        }
+        Some(caller) => {
+            let step = short(number)?;
+            Some(By::Caller(Who { caller, step }))
+        }
+    }
+}
+
+// A caller of the name, or else a codec.
+fn by_of(script: &Script, name: &[u8], number: u64) -> Option<By>
+    ensures { result ≡ spec.by_of script.now name.now number }
+{
+    by_as(
+        caller_of(script.callers.as_slice(), name),
+        script,
+        name,
+        number,
+    )
+}
+
+#[tactic(auto, unfolding(crate::specs::Reading::coder_at))]
+fn coder_at(bytes: &[u8]) -> Option<(CoderId, &[u8])>
+    ensures { option_map (λ x. (x.0, x.1.now)) result ≡ spec.coder_at bytes.now }
+{
+    let (word, _, rest) = word_at(bytes)?;
+    let role = role_of(word)?;
+    let (word, _, rest) = word_at(rest)?;
+    let codec = codec_id_of(word)?;
+    Some((CoderId { role, codec }, rest))
+}
+
+#[tactic(auto, unfolding(crate::specs::Reading::refused_at))]
+fn refused_at(id: CoderId, bytes: &[u8]) -> Option<SlotOp>
+    ensures { result ≡ spec.refused_at id bytes.now }
+{
+    let (out, rest) = number_upto(b' ', bytes)?;
+    let (made, _) = number_upto(b'\n', rest)?;
+    Some(SlotOp::Refused { id, out, made })
+}
+
+#[tactic(auto, unfolding(crate::specs::Reading::acquired_at))]
+fn acquired_at(bytes: &[u8]) -> Option<SlotOp>
+    ensures { result ≡ spec.acquired_at bytes.now }
+{
+    let (id, rest) = coder_at(bytes)?;
+    let (word, _, more) = word_at(rest)?;
+    if are_digits(word) {
+        let (number, _) = number_upto(b'\n', rest)?;
+        Some(SlotOp::Acquire { id, number })
+    } else {
+        refused_at(id, more)
+    }
+}
+
+#[tactic(auto, unfolding(crate::specs::Reading::given_at))]
+fn given_at(bytes: &[u8]) -> Option<SlotOp>
+    ensures { result ≡ spec.given_at bytes.now }
+{
+    let (id, rest) = coder_at(bytes)?;
+    let (number, _) = number_upto(b'\n', rest)?;
+    Some(SlotOp::Give { id, number })
+}
+
+#[tactic(auto, unfolding(crate::specs::Reading::op_at))]
+fn op_at(word: &[u8], bytes: &[u8]) -> Option<SlotOp>
+    ensures { result ≡ spec.op_at word.now bytes.now }
+{
+    if is(word, "acquire") {
+        acquired_at(bytes)
+    } else {
+        given_at(bytes)
+    }
+}
+
+#[tactic(auto, unfolding(crate::specs::Reading::slot_at))]
+fn slot_at(
+    script: &Script,
+    place: u64,
+    name: &[u8],
+    number: u64,
+    word: &[u8],
+    bytes: &[u8],
+) -> Option<Line>
+    ensures { result ≡ spec.slot_at script.now place name.now number word.now bytes.now }
+{
+    let by = by_of(script, name, number)?;
+    let op = op_at(word, bytes)?;
+    let entry = SlotEntry { by, op };
+    Some(Line::Slot { place, entry })
+}
+
+#[tactic(auto, unfolding(crate::specs::Reading::dotted))]
+fn dotted(script: &Script, n: u64, name: &[u8], bytes: &[u8]) -> Option<Line>
+    ensures { result ≡ spec.dotted script.now n name.now bytes.now }
+{
+    let (m, rest) = number_upto(b' ', bytes)?;
+    let (word, mark, rest) = word_at(rest)?;
+    if mark == b'\n' {
+        call_result(script, n, name, m, word)
+    } else if is(word, "acquire") || is(word, "give") {
+        slot_at(script, n, name, m, word, rest)
+    } else {
+        call_at(script, n, name, m, word, rest)
+    }
+}
+
+#[tactic(auto, unfolding(crate::specs::Reading::worded))]
+fn worded(n: u64, word: &[u8], rest: &[u8]) -> Option<Line>
+    ensures { result ≡ spec.worded n word.now rest.now }
+{
+    if is(word, "start") {
+        let told = start_at(rest)?;
+        Some(Line::Entry { place: n, told })
+    } else if is(word, "done") {
+        let told = done_at(rest)?;
+        Some(Line::Entry { place: n, told })
+    } else if is(word, "turn") {
+        let turn = turn_at(rest)?;
+        Some(Line::Entry {
+            place: n,
+            told: Told::Turn(turn),
+        })
+    } else if is(word, "reclaim") {
+        let (moment, _) = number_upto(b'\n', rest)?;
+        Some(Line::Entry {
+            place: n,
+            told: Told::Reclaim { moment },
+        })
+    } else if is(word, "absent") {
+        Some(Line::Result {
+            step: n,
+            found: StepResult::Absent,
+        })
+    } else {
+        let error = answer_of(word)?;
+        Some(Line::Result {
+            step: n,
+            found: StepResult::Local { error },
+        })
+    }
+}
+
+#[tactic(auto, unfolding(crate::specs::Reading::numbered))]
+fn numbered(script: &Script, bytes: &[u8]) -> Option<Line>
+    ensures { result ≡ spec.numbered script.now bytes.now }
+{
+    let (n, rest) = number_upto(b' ', bytes)?;
+    let (word, mark, rest) = word_at(rest)?;
+    if mark == b'.' {
+        dotted(script, n, word, rest)
+    } else if mark == b':' {
+        looked(script, n, word, rest)
+    } else {
+        worded(n, word, rest)
+    }
+}
+
+#[tactic(auto, unfolding(crate::specs::Reading::sound_at))]
+fn sound_at(alloc: Global, bytes: &[u8]) -> Result<Seen, FieldFault>
+    ensures ok { IfOk result (λ s. spec.sound_at bytes.now ≡ Some s) }
+    ensures err { IfErr result (λ e. e ≢ FieldFault.NoMemory → spec.sound_at bytes.now ≡ None) }
+{
+    let (word, _, rest) = word_at(bytes).ok_or(FieldFault::NoField)?;
+    let format = sample_format_of(word).ok_or(FieldFault::NoField)?;
+    let (rate, rest) = short_upto(b' ', rest).ok_or(FieldFault::NoField)?;
+    let (channels, rest) = short_upto(b' ', rest).ok_or(FieldFault::NoField)?;
+    let (frames, rest) = short_upto(b' ', rest).ok_or(FieldFault::NoField)?;
+    let (timestamp, rest) = signed_upto(b' ', rest).ok_or(FieldFault::NoField)?;
+    let (_, rest) = number_or_dash_upto(b' ', rest).ok_or(FieldFault::NoField)?;
+    let (found, _) = bytes_upto(alloc, b'\n', rest)?;
+    Ok(Seen::Sound {
+        shape: SoundShape {
+            format,
+            rate,
+            channels,
+            frames,
+            timestamp,
+        },
+        bytes: List::of(found),
+    })
+}
+
+#[tactic(auto, unfolding(crate::specs::Reading::image_at))]
+fn image_at(alloc: Global, bytes: &[u8]) -> Result<Seen, FieldFault>
+    ensures ok { IfOk result (λ s. spec.image_at bytes.now ≡ Some s) }
+    ensures err { IfErr result (λ e. e ≢ FieldFault.NoMemory → spec.image_at bytes.now ≡ None) }
+{
+    let (word, _, rest) = word_at(bytes).ok_or(FieldFault::NoField)?;
+    let format = picture_format_of(word).ok_or(FieldFault::NoField)?;
+    let (width, rest) = short_upto(b' ', rest).ok_or(FieldFault::NoField)?;
+    let (height, rest) = short_upto(b' ', rest).ok_or(FieldFault::NoField)?;
+    let (timestamp, rest) = signed_upto(b' ', rest).ok_or(FieldFault::NoField)?;
+    let (duration, rest) = number_or_dash_upto(b' ', rest).ok_or(FieldFault::NoField)?;
+    let (found, _) = bytes_upto(alloc, b'\n', rest)?;
+    Ok(Seen::Image {
+        shape: PictureShape {
+            format,
+            width,
+            height,
+            timestamp,
+            duration,
+        },
+        bytes: List::of(found),
+    })
+}
+
+#[tactic(auto, unfolding(crate::specs::Reading::chunk_at))]
+fn chunk_at(alloc: Global, bytes: &[u8]) -> Result<Seen, FieldFault>
+    ensures ok { IfOk result (λ s. spec.chunk_at bytes.now ≡ Some s) }
+    ensures err { IfErr result (λ e. e ≢ FieldFault.NoMemory → spec.chunk_at bytes.now ≡ None) }
+{
+    let (word, _, rest) = word_at(bytes).ok_or(FieldFault::NoField)?;
+    let key = key_of(word).ok_or(FieldFault::NoField)?;
+    let (timestamp, rest) = signed_upto(b' ', rest).ok_or(FieldFault::NoField)?;
+    let (duration, rest) = number_or_dash_upto(b' ', rest).ok_or(FieldFault::NoField)?;
+    let (found, _) = bytes_upto(alloc, b'\n', rest)?;
+    Ok(Seen::Chunk {
+        key,
+        timestamp,
+        duration,
+        bytes: List::of(found),
+    })
+}
+
+#[tactic(auto, unfolding(crate::specs::Reading::output_at))]
+fn output_at(alloc: Global, bytes: &[u8]) -> Result<Seen, FieldFault>
+    ensures ok { IfOk result (λ s. spec.output_at bytes.now ≡ Some s) }
+    ensures err { IfErr result (λ e. e ≢ FieldFault.NoMemory → spec.output_at bytes.now ≡ None) }
+{
+    let (word, _, rest) = word_at(bytes).ok_or(FieldFault::NoField)?;
+    if is(word, "audio") {
+        sound_at(alloc, rest)
+    } else if is(word, "video") {
+        image_at(alloc, rest)
+    } else {
+        chunk_at(alloc, rest)
+    }
+}
+
+fn copied(alloc: Global, bytes: &[u8]) -> Result<Vec<u8>, FieldFault>
+    ensures ok { IfOk result (λ v. v.items ≡ bytes.now) }
+    ensures err { IfErr result (λ e. e ≡ FieldFault.NoMemory) }
+{
+    let mut copy = Vec::new(alloc);
+    match copy.extend_from_slice(bytes) {
+        Ok(()) => Ok(copy),
+        Err(_) => Err(FieldFault::NoMemory),
+    }
+}
+
+#[tactic(auto, unfolding(crate::specs::Reading::config_at))]
+fn config_at(alloc: Global, bytes: &[u8]) -> Result<Seen, FieldFault>
+    ensures ok { IfOk result (λ s. spec.config_at bytes.now ≡ Some s) }
+    ensures err { IfErr result (λ e. e ≢ FieldFault.NoMemory → spec.config_at bytes.now ≡ None) }
+{
+    let (name, rest) = upto(b' ', bytes).ok_or(FieldFault::NoField)?;
+    let (rate, rest) = short_upto(b' ', rest).ok_or(FieldFault::NoField)?;
+    let (channels, rest) = short_upto(b' ', rest).ok_or(FieldFault::NoField)?;
+    let (description, _) = bytes_upto(alloc, b'\n', rest)?;
+    let codec = copied(alloc, name)?;
+    Ok(Seen::Config {
+        codec: List::of(codec),
+        rate,
+        channels,
+        description: List::of(description),
+    })
+}
+
+#[tactic(auto, unfolding(crate::specs::Reading::reject_at))]
+fn reject_at(bytes: &[u8]) -> Option<Seen>
+    ensures { result ≡ spec.reject_at bytes.now }
+{
+    let (promise, rest) = number_upto(b' ', bytes)?;
+    let error = error_at(rest)?;
+    Some(Seen::Reject { promise, error })
+}
+
+#[tactic(auto, unfolding(crate::specs::Reading::seen_at))]
+fn seen_at(alloc: Global, bytes: &[u8]) -> Result<Seen, FieldFault>
+    ensures ok { IfOk result (λ s. spec.seen_at bytes.now ≡ Some s) }
+    ensures err { IfErr result (λ e. e ≢ FieldFault.NoMemory → spec.seen_at bytes.now ≡ None) }
+{
+    let (word, _, rest) = word_at(bytes).ok_or(FieldFault::NoField)?;
+    if is(word, "output") {
+        output_at(alloc, rest)
+    } else if is(word, "config") {
+        config_at(alloc, rest)
+    } else if is(word, "resolve") {
+        let (promise, _) = number_upto(b'\n', rest).ok_or(FieldFault::NoField)?;
+        Ok(Seen::Resolve(promise))
+    } else if is(word, "reject") {
+        reject_at(rest).ok_or(FieldFault::NoField)
+    } else if is(word, "dequeue") {
+        Ok(Seen::Dequeue)
+    } else if is(word, "error") {
+        let error = error_at(rest).ok_or(FieldFault::NoField)?;
+        Ok(Seen::Error(error))
+    } else {
+        Err(FieldFault::NoField)
+    }
+}
+
+#[tactic(auto, unfolding(crate::specs::Reading::shown_at))]
+fn shown_at(alloc: Global, bytes: &[u8]) -> Result<Line, FieldFault>
+    ensures ok { IfOk result (λ l. spec.shown_at bytes.now ≡ Some l) }
+    ensures err { IfErr result (λ e. e ≢ FieldFault.NoMemory → spec.shown_at bytes.now ≡ None) }
+{
+    let rest = after(b" ", bytes).ok_or(FieldFault::NoField)?;
+    let seen = seen_at(alloc, rest)?;
+    Ok(Line::Seen(seen))
+}
+
+#[tactic(auto, unfolding(crate::specs::Reading::codec_at))]
+fn codec_at(script: &Script, bytes: &[u8]) -> Option<Line>
+    ensures { result ≡ spec.codec_at script.now bytes.now }
+{
+    let (name, _, rest) = word_at(bytes)?;
+    let codec = codec_of(script.codecs.as_slice(), name)?;
+    let (word, _, rest) = word_at(rest)?;
+    let kind = kind_of(word)?;
+    let (saturation, _) = short_upto(b'\n', rest)?;
+    let opening = Opening { kind, saturation };
+    Some(Line::Codec { codec, opening })
+}
+
+#[tactic(auto, unfolding(crate::specs::Reading::caller_at))]
+fn caller_at(script: &Script, bytes: &[u8]) -> Option<Line>
+    ensures { result ≡ spec.caller_at script.now bytes.now }
+{
+    let (name, _, _) = word_at(bytes)?;
+    let caller = caller_of(script.callers.as_slice(), name)?;
+    Some(Line::Caller(caller))
+}
+
+#[tactic(auto, unfolding(crate::specs::Reading::headed))]
+fn headed(script: &Script, word: &[u8], rest: &[u8]) -> Option<Line>
+    ensures { result ≡ spec.headed script.now word.now rest.now }
+{
+    if is(word, "wcrun") {
+        Some(Line::Header)
+    } else if is(word, "caller") {
+        caller_at(script, rest)
+    } else if is(word, "codec") {
+        codec_at(script, rest)
+    } else if is(word, "pool") {
+        Some(Line::Pool)
+    } else if is(word, "slots") {
+        Some(Line::Slots)
+    } else if is(word, "held") {
+        let (held, _) = number_upto(b'\n', rest)?;
+        Some(Line::Held(held))
+    } else if is(word, "end") {
+        Some(Line::End)
+    } else {
+        None
+    }
+}
+
+#[tactic(auto, unfolding(crate::specs::Reading::parsed))]
+fn parsed(alloc: Global, script: &Script, bytes: &[u8]) -> Result<Line, FieldFault>
+    ensures ok { IfOk result (λ l. spec.parsed script.now bytes.now ≡ Some l) }
+    ensures err { IfErr result (λ e. e ≢ FieldFault.NoMemory → spec.parsed script.now bytes.now ≡ None) }
+{
+    let (word, _, rest) = word_at(bytes).ok_or(FieldFault::NoField)?;
+    if is(word, "") {
+        shown_at(alloc, rest)
+    } else if are_digits(word) {
+        numbered(script, bytes).ok_or(FieldFault::NoField)
+    } else {
+        headed(script, word, rest).ok_or(FieldFault::NoField)
+    }
+}
+
+/// The line whose text stands in front of the bytes, and the bytes behind it. The text of a line is read only as it is
+/// written: `NoField` where the bytes do not begin with one.
+#[tactic(auto, unfolding(crate::specs::Reading::line_at))]
+pub fn line_at<'a>(
+    alloc: Global,
+    script: &Script,
+    bytes: &'a [u8],
+) -> Result<(Line, &'a [u8]), FieldFault>
+    ensures ok { IfOk result (λ x. spec.line_at script.now bytes.now ≡ Some (x.0, x.1.now)) }
+    ensures err { IfErr result (λ e. e ≢ FieldFault.NoMemory → spec.line_at script.now bytes.now ≡ None) }
+{
+    let line = parsed(alloc, script, bytes)?;
+    match line_text(alloc, script, &line) {
+        Err(_) => Err(FieldFault::NoMemory),
+        Ok(text) => match after(text.as_slice(), bytes) {
+            None => Err(FieldFault::NoField),
+            Some(rest) => Ok((line, rest)),
+        },
+    }
+}

@@ -1,0 +1,111 @@
+// A text with each line of a report, and lines that are not written so.
+use crate::{Line, line_at, line_text};
+use report_fields::FieldFault;
+use std::alloc::Global;
+use std::test::Fail;
+use trace_text::StepResult;
+use wc_base::{By, List, Text};
+use wc_script::{CallerItem, CodecItem, KindWord, Script};
+
+const LINES: &str =
+    "wcrun report 1\ncaller a\n0 d.0 ok\n1 QuotaExceededError\n2 d.1 DataError\n3 d:14 pending\n4 d:15 rejected AbortError\n5 d:15 closed 3\n6 absent\ncodec d audio-decoder 4\n0 a.0 configure = ok\n1 a.2 decode = TypeError\n2 start 0.1\n3 done 0.1 250 ran 1\n4 done 1.0 7 no-slot 2\n5 done 1.1 8 no-memory\n6 turn -\n7 turn close EncodingError\n8 reclaim 9\n  output audio s16 8000 1 2 0 250 01000200\n  output video NV12 2 2 -5 - 0001\n  output chunk delta 3 20 ff\n  config pcm-s16 8000 2 -\n  resolve 2\n  reject 3 AbortError\n  error OutOfMemory\n  dequeue\npool\nslots\n0 d.3 acquire decode:pcm-s16 0\n1 d.4 acquire encode:x-raw-nv12 none 2 2\n2 a.1 give decode:flac 1\nheld 0\nend\n";
+
+fn script(alloc: Global) -> Result<Script, Fail> {
+    let codec = CodecItem {
+        name: Text::of(String::from_str(alloc, "d")?),
+        kind: KindWord::AudioDecoder,
+        saturation: 4,
+    };
+    let caller = CallerItem {
+        name: Text::of(String::from_str(alloc, "a")?),
+        steps: List::empty(alloc),
+    };
+    Ok(Script {
+        codecs: List::of(vec![in alloc; codec]?),
+        callers: List::of(vec![in alloc; caller]?),
+        order: List::empty(alloc),
+    })
+}
+
+fn fault(alloc: Global, script: &Script, text: &str) -> Option<FieldFault> {
+    line_at(alloc, script, text.as_bytes()).err()
+}
+
+#[test]
+fn each_line_is_read_and_written_again(rt: HostRuntime) -> Result<(), Fail> {
+    let alloc = rt.alloc();
+    let script = script(alloc)?;
+    let mut rest = LINES.as_bytes();
+    let mut again = Vec::new(alloc);
+    let mut count = 0_u8;
+    for _ in 0..34 {
+        let (line, more) = line_at(alloc, &script, rest).expect(&rt, "a line");
+        let text = line_text(alloc, &script, &line)?;
+        again.extend_from_slice(text.as_slice())?;
+        rest = more;
+        count = count.wrapping_add(1);
+    }
+    assert_eq!(rt; count, 34);
+    assert_eq!(rt; rest.len(), 0);
+    assert_eq!(rt; again.as_slice(), LINES.as_bytes());
+    Ok(())
+}
+
+#[test]
+fn what_a_line_tells_is_read(rt: HostRuntime) -> Result<(), Fail> {
+    let alloc = rt.alloc();
+    let script = script(alloc)?;
+    let (look, rest) = line_at(alloc, &script, b"3 d:14 closed 2\nend\n").expect(&rt, "a look");
+    assert_eq!(rt; rest, b"end\n".as_slice());
+    match look {
+        Line::Result {
+            step,
+            found: StepResult::State { length, size, .. },
+        } => {
+            assert_eq!(rt; step, 3);
+            assert_eq!(rt; length, 14);
+            assert_eq!(rt; size, 2);
+        }
+        _ => assert!(rt; false),
+    }
+    let (slot, _) = line_at(alloc, &script, b"1 a.2 give decode:flac 0\n").expect(&rt, "a slot");
+    match slot {
+        Line::Slot { place, entry } => {
+            assert_eq!(rt; place, 1);
+            assert!(rt; matches!(entry.by, By::Caller(who) if who.step == 2));
+        }
+        _ => assert!(rt; false),
+    }
+    Ok(())
+}
+
+#[test]
+fn other_lines_are_refused(rt: HostRuntime) -> Result<(), Fail> {
+    let alloc = rt.alloc();
+    let script = script(alloc)?;
+    let no_line = Some(FieldFault::NoField);
+    assert_eq!(rt; fault(alloc, &script, ""), no_line);
+    assert_eq!(rt; fault(alloc, &script, "end"), no_line);
+    assert_eq!(rt; fault(alloc, &script, "wcrun report 2\n"), no_line);
+    assert_eq!(rt; fault(alloc, &script, "caller b\n"), no_line);
+    assert_eq!(rt; fault(alloc, &script, "00 a.0 configure = ok\n"), no_line);
+    assert_eq!(rt; fault(alloc, &script, "0 d.0 configure = ok\n"), no_line);
+    assert_eq!(rt; fault(alloc, &script, "0 a.0  configure = ok\n"), no_line);
+    assert_eq!(rt;
+        fault(
+            alloc,
+            &script,
+            "  output audio s16 8000 1 2 0 251 01000200\n"
+        ),
+        no_line
+    );
+    assert_eq!(rt;
+        fault(alloc, &script, "  output chunk key 0 - FF\n"),
+        no_line
+    );
+    assert_eq!(rt;
+        fault(alloc, &script, "0 d.3 acquire decode:pcm-s16 full 1 1\n"),
+        no_line
+    );
+    Ok(())
+}

@@ -1,0 +1,306 @@
+// The words of a report, written and read.
+ghost use Rattle.std.specs.Prelude.{◌≡◌, bytes_eq};
+ghost use Rattle.trace_text.specs.Report as text;
+ghost use Rattle.report_lines.specs.Text.{call_word as word_of_call};
+ghost use Rattle.report_lines.specs.Reading as spec;
+
+use crate::line::CallWord;
+use codec_model::{CodecState, Kind};
+use wc_base::{DomError, PictureFormat, SampleFormat};
+use wc_config::{CodecId, Role};
+
+pub fn is(word: &[u8], text: &str) -> bool
+    ensures { result ≡ bytes_eq word.now text.now }
+{
+    word == text.as_bytes()
+}
+
+pub fn error_name(error: DomError) -> &'static str
+    ensures { result.now ≡ text.error_name error }
+{
+    match error {
+        DomError::Abort => "AbortError",
+        DomError::InvalidState => "InvalidStateError",
+        DomError::NotSupported => "NotSupportedError",
+        DomError::Encoding => "EncodingError",
+        DomError::Data => "DataError",
+        DomError::DataClone => "DataCloneError",
+        DomError::QuotaExceeded => "QuotaExceededError",
+        DomError::TypeErr => "TypeError",
+        DomError::RangeErr => "RangeError",
+        DomError::OutOfMemory => "OutOfMemory",
+    }
+}
+
+pub fn error_of(word: &[u8]) -> Option<DomError>
+    ensures { result ≡ spec.error_of word.now }
+{
+    if is(word, "AbortError") {
+        Some(DomError::Abort)
+    } else if is(word, "InvalidStateError") {
+        Some(DomError::InvalidState)
+    } else if is(word, "NotSupportedError") {
+        Some(DomError::NotSupported)
+    } else if is(word, "EncodingError") {
+        Some(DomError::Encoding)
+    } else if is(word, "DataError") {
+        Some(DomError::Data)
+    } else if is(word, "DataCloneError") {
+        Some(DomError::DataClone)
+    } else if is(word, "QuotaExceededError") {
+        Some(DomError::QuotaExceeded)
+    } else if is(word, "TypeError") {
+        Some(DomError::TypeErr)
+    } else if is(word, "RangeError") {
+        Some(DomError::RangeErr)
+    } else if is(word, "OutOfMemory") {
+        Some(DomError::OutOfMemory)
+    } else {
+        None
+    }
+}
+
+pub fn kind_text(kind: Kind) -> &'static str
+    ensures { result.now ≡ text.kind_text kind }
+{
+    match kind {
+        Kind::AudioDecoder => "audio-decoder",
+        Kind::AudioEncoder => "audio-encoder",
+        Kind::VideoDecoder => "video-decoder",
+    }
+}
+
+pub fn kind_of(word: &[u8]) -> Option<Kind>
+    ensures { result ≡ spec.kind_of word.now }
+{
+    if is(word, "audio-decoder") {
+        Some(Kind::AudioDecoder)
+    } else if is(word, "audio-encoder") {
+        Some(Kind::AudioEncoder)
+    } else if is(word, "video-decoder") {
+        Some(Kind::VideoDecoder)
+    } else {
+        None
+    }
+}
+
+pub fn state_text(state: CodecState) -> &'static str
+    ensures { result.now ≡ text.state_text state }
+{
+    match state {
+        CodecState::Unconfigured => "unconfigured",
+        CodecState::Configured => "configured",
+        CodecState::Closed => "closed",
+    }
+}
+
+pub fn state_of(word: &[u8]) -> Option<CodecState>
+    ensures { result ≡ spec.state_of word.now }
+{
+    if is(word, "unconfigured") {
+        Some(CodecState::Unconfigured)
+    } else if is(word, "configured") {
+        Some(CodecState::Configured)
+    } else if is(word, "closed") {
+        Some(CodecState::Closed)
+    } else {
+        None
+    }
+}
+
+pub fn call_word(call: CallWord) -> &'static str
+    ensures { result.now ≡ word_of_call call }
+{
+    match call {
+        CallWord::Configure => "configure",
+        CallWord::Decode => "decode",
+        CallWord::Flush => "flush",
+        CallWord::Reset => "reset",
+        CallWord::Close => "close",
+    }
+}
+
+pub fn call_of(word: &[u8]) -> Option<CallWord>
+    ensures { result ≡ spec.call_of word.now }
+{
+    if is(word, "configure") {
+        Some(CallWord::Configure)
+    } else if is(word, "decode") {
+        Some(CallWord::Decode)
+    } else if is(word, "flush") {
+        Some(CallWord::Flush)
+    } else if is(word, "reset") {
+        Some(CallWord::Reset)
+    } else if is(word, "close") {
+        Some(CallWord::Close)
+    } else {
+        None
+    }
+}
+
+pub fn sample_format_text(sample_format: SampleFormat) -> &'static str
+    ensures { result.now ≡ text.sample_format_text sample_format }
+{
+    match sample_format {
+        SampleFormat::U8 => "u8",
+        SampleFormat::S16 => "s16",
+        SampleFormat::S32 => "s32",
+        SampleFormat::U8Planar => "u8-planar",
+        SampleFormat::S16Planar => "s16-planar",
+        SampleFormat::S32Planar => "s32-planar",
+    }
+}
+
+pub fn sample_format_of(word: &[u8]) -> Option<SampleFormat>
+    ensures { result ≡ spec.sample_format_of word.now }
+{
+    if is(word, "u8") {
+        Some(SampleFormat::U8)
+    } else if is(word, "s16") {
+        Some(SampleFormat::S16)
+    } else if is(word, "s32") {
+        Some(SampleFormat::S32)
+    } else if is(word, "u8-planar") {
+        Some(SampleFormat::U8Planar)
+    } else if is(word, "s16-planar") {
+        Some(SampleFormat::S16Planar)
+    } else if is(word, "s32-planar") {
+        Some(SampleFormat::S32Planar)
+    } else {
+        None
+    }
+}
+
+pub fn picture_format_text(picture_format: PictureFormat) -> &'static str
+    ensures { result.now ≡ text.picture_format_text picture_format }
+{
+    match picture_format {
+        PictureFormat::I420 => "I420",
+        PictureFormat::I422 => "I422",
+        PictureFormat::I444 => "I444",
+        PictureFormat::Nv12 => "NV12",
+    }
+}
+
+pub fn picture_format_of(word: &[u8]) -> Option<PictureFormat>
+    ensures { result ≡ spec.picture_format_of word.now }
+{
+    if is(word, "I420") {
+        Some(PictureFormat::I420)
+    } else if is(word, "I422") {
+        Some(PictureFormat::I422)
+    } else if is(word, "I444") {
+        Some(PictureFormat::I444)
+    } else if is(word, "NV12") {
+        Some(PictureFormat::Nv12)
+    } else {
+        None
+    }
+}
+
+pub fn codec_text(codec_id: CodecId) -> &'static str
+    ensures { result.now ≡ text.codec_text codec_id }
+{
+    match codec_id {
+        CodecId::PcmU8 => "pcm-u8",
+        CodecId::PcmS16 => "pcm-s16",
+        CodecId::PcmS24 => "pcm-s24",
+        CodecId::PcmS32 => "pcm-s32",
+        CodecId::Alaw => "alaw",
+        CodecId::Ulaw => "ulaw",
+        CodecId::Flac => "flac",
+        CodecId::RawI420 => "x-raw-i420",
+        CodecId::RawI422 => "x-raw-i422",
+        CodecId::RawI444 => "x-raw-i444",
+        CodecId::RawNv12 => "x-raw-nv12",
+    }
+}
+
+pub fn codec_id_of(word: &[u8]) -> Option<CodecId>
+    ensures { result ≡ spec.codec_id_of word.now }
+{
+    if is(word, "pcm-u8") {
+        Some(CodecId::PcmU8)
+    } else if is(word, "pcm-s16") {
+        Some(CodecId::PcmS16)
+    } else if is(word, "pcm-s24") {
+        Some(CodecId::PcmS24)
+    } else if is(word, "pcm-s32") {
+        Some(CodecId::PcmS32)
+    } else if is(word, "alaw") {
+        Some(CodecId::Alaw)
+    } else if is(word, "ulaw") {
+        Some(CodecId::Ulaw)
+    } else if is(word, "flac") {
+        Some(CodecId::Flac)
+    } else if is(word, "x-raw-i420") {
+        Some(CodecId::RawI420)
+    } else if is(word, "x-raw-i422") {
+        Some(CodecId::RawI422)
+    } else if is(word, "x-raw-i444") {
+        Some(CodecId::RawI444)
+    } else if is(word, "x-raw-nv12") {
+        Some(CodecId::RawNv12)
+    } else {
+        None
+    }
+}
+
+pub fn role_text(role: Role) -> &'static str
+    ensures { result.now ≡ text.role_text role }
+{
+    match role {
+        Role::Decode => "decode",
+        Role::Encode => "encode",
+    }
+}
+
+pub fn role_of(word: &[u8]) -> Option<Role>
+    ensures { result ≡ spec.role_of word.now }
+{
+    if is(word, "decode") {
+        Some(Role::Decode)
+    } else if is(word, "encode") {
+        Some(Role::Encode)
+    } else {
+        None
+    }
+}
+
+pub fn answer_text(error: Option<DomError>) -> &'static str
+    ensures { result.now ≡ text.answer_text error }
+{
+    match error {
+        None => "ok",
+        Some(error) => error_name(error),
+    }
+}
+
+pub fn answer_of(word: &[u8]) -> Option<Option<DomError>>
+    ensures { result ≡ spec.answer_of word.now }
+{
+    if is(word, "ok") {
+        Some(None)
+    } else {
+        let error = error_of(word)?;
+        Some(Some(error))
+    }
+}
+
+pub fn chunk_type_text(key: bool) -> &'static str
+    ensures { result.now ≡ text.chunk_type_text key }
+{
+    if key { "key" } else { "delta" }
+}
+
+pub fn key_of(word: &[u8]) -> Option<bool>
+    ensures { result ≡ spec.key_of word.now }
+{
+    if is(word, "key") {
+        Some(true)
+    } else if is(word, "delta") {
+        Some(false)
+    } else {
+        None
+    }
+}
