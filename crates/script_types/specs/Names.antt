@@ -1,0 +1,138 @@
+-- What a name in a script names: a codec, a caller, or a variable that an earlier step of the same caller defines.
+use Rattle.std.specs.Prelude.{ℕ, ◌&&◌, ◌||◌, ◌==◌, nat_lt, nat_le, Bool, true, false, List, length, bytes_eq, Option, Some, None, option_and_then}
+use Rattle.std.specs.List.{list_all, list_any, position, slice_get}
+use Rattle.script_types.specs.declared.script.KindWord.{KindWord}
+use Rattle.script_types.specs.declared.script.KindWord.TheVariants as kind
+use Rattle.script_types.specs.declared.script.CodecItem.{CodecItem}
+use Rattle.script_types.specs.declared.script.CallerItem.{CallerItem}
+use Rattle.script_types.specs.declared.steps.Step.{Step}
+use Rattle.script_types.specs.declared.steps.Step.TheVariants as step
+use Rattle.script_types.specs.declared.steps.MediaStep.{MediaStep}
+use Rattle.script_types.specs.declared.steps.MediaStep.TheVariants as media
+use Rattle.script_types.specs.declared.steps.VariableKind.{VariableKind}
+use Rattle.script_types.specs.declared.steps.VariableKind.TheVariants as holds
+
+-- ---- names
+
+-- a to z, 0 to 9, _ and -
+abbrev pub is_name_byte : ℕ → Bool
+is_name_byte b = (nat_le 97 b && nat_le b 122) || ((nat_le 48 b && nat_le b 57) || ((b == 95) || (b == 45)))
+
+-- 1 to 32 of these characters
+abbrev pub is_name : List ℕ → Bool
+is_name text = nat_lt 0 (length text) && (nat_le (length text) 32 && list_all is_name_byte text)
+
+-- ---- codecs and callers
+
+-- a codec, by its number in the script
+pub record FoundCodec : Type 0 where
+  pub number : ℕ
+  pub kind : KindWord
+
+abbrev pub codec_at : ℕ → Option CodecItem → Option FoundCodec
+codec_at n None = None
+codec_at n (Some c) = Some (record { number = n; kind = c.kind })
+
+-- the codec of this name
+abbrev pub codec_named : List CodecItem → List ℕ → Option FoundCodec
+codec_named codecs name = option_and_then (λ n. codec_at n (slice_get codecs n)) (position (λ c. bytes_eq c.name name) codecs)
+
+abbrev pub decodes : KindWord → Bool
+decodes kind.AudioDecoder = true
+decodes kind.AudioEncoder = false
+decodes kind.VideoDecoder = true
+
+-- what the outputs of a codec of this kind are
+abbrev pub outputs_of : KindWord → VariableKind
+outputs_of kind.AudioDecoder = holds.Audio
+outputs_of kind.AudioEncoder = holds.Chunk
+outputs_of kind.VideoDecoder = holds.Frame
+
+-- the number of the caller of this name
+abbrev pub caller_named : List CallerItem → List ℕ → Option ℕ
+caller_named callers name = position (λ c. bytes_eq c.name name) callers
+
+abbrev pub is_codec_name : List CodecItem → List ℕ → Bool
+is_codec_name codecs name = list_any (λ c. bytes_eq c.name name) codecs
+
+abbrev pub is_caller_name : List CallerItem → List ℕ → Bool
+is_caller_name callers name = list_any (λ c. bytes_eq c.name name) callers
+
+-- ---- variables
+
+-- a variable, by the number of the step that defines it
+pub record FoundVariable : Type 0 where
+  pub step : ℕ
+  pub kind : VariableKind
+
+-- the variable that a step defines, and what it holds
+abbrev pub binds_media : MediaStep → Option (List ℕ × VariableKind)
+binds_media (media.Audio bind init) = Some (bind, holds.Audio)
+binds_media (media.Frame bind init) = Some (bind, holds.Frame)
+binds_media (media.Encode on content) = None
+binds_media (media.Take on bind kind) = Some (bind, kind)
+binds_media (media.Clone of bind) = Some (bind, of.kind)
+binds_media (media.Transfer of bind) = Some (bind, of.kind)
+binds_media (media.CloseData of) = None
+binds_media (media.Copy of options size) = None
+binds_media (media.Size of options) = None
+
+abbrev pub binds : Step → Option (List ℕ × VariableKind)
+binds (step.Configure on config) = None
+binds (step.Chunk bind source) = Some (bind, holds.Chunk)
+binds (step.Decode on chunk) = None
+binds (step.Flush on bind) = Some (bind, holds.Promise)
+binds (step.Poll promise) = None
+binds (step.Await promise) = None
+binds (step.Reset on) = None
+binds (step.Close on) = None
+binds (step.State on) = None
+binds (step.Media s) = binds_media s
+
+-- what is bound has this name
+abbrev pub is_bound_as : List ℕ → Option (List ℕ × VariableKind) → Bool
+is_bound_as name None = false
+is_bound_as name (Some b) = bytes_eq b.0 name
+
+-- the step defines the variable of this name
+abbrev pub defines : List ℕ → Step → Bool
+defines name s = is_bound_as name (binds s)
+
+abbrev pub found_at : ℕ → Option (List ℕ × VariableKind) → Option FoundVariable
+found_at n None = None
+found_at n (Some b) = Some (record { step = n; kind = b.1 })
+
+-- the variable that step n defines
+abbrev pub variable_at : ℕ → Option Step → Option FoundVariable
+variable_at n s = found_at n (option_and_then binds s)
+
+-- the variable of this name, after these steps
+abbrev pub variable_named : List Step → List ℕ → Option FoundVariable
+variable_named steps name = option_and_then (λ n. variable_at n (slice_get steps n)) (position (λ s. defines name s) steps)
+
+abbrev pub is_variable_name : List Step → List ℕ → Bool
+is_variable_name steps name = list_any (λ s. defines name s) steps
+
+-- what holds which kind
+abbrev pub is_chunk : VariableKind → Bool
+is_chunk holds.Chunk = true
+is_chunk _ = false
+
+abbrev pub is_audio : VariableKind → Bool
+is_audio holds.Audio = true
+is_audio _ = false
+
+abbrev pub is_promise : VariableKind → Bool
+is_promise holds.Promise = true
+is_promise _ = false
+
+-- audio data or a frame
+abbrev pub is_medium : VariableKind → Bool
+is_medium holds.Audio = true
+is_medium holds.Frame = true
+is_medium _ = false
+
+-- a medium or a chunk
+abbrev pub is_copied : VariableKind → Bool
+is_copied holds.Promise = false
+is_copied _ = true

@@ -1,0 +1,16 @@
+//! What a script holds: its codecs, its callers with their steps, and the order in which all is done.
+#![tactic(auto)]
+
+mod fault;
+mod options;
+mod script;
+mod steps;
+
+pub use fault::{Counted, Place, ScriptFault};
+pub use options::{
+    AudioOptions, FormatWord, FrameOptions, LayoutWords, Options, RectWords,
+};
+pub use script::{CallerItem, CodecItem, KindWord, OrderItem, Script, ScriptData};
+pub use steps::{
+    ChunkInit, ChunkSource, MediaStep, PictureInit, SoundInit, Step, Variable, VariableKind,
+};
