@@ -9,13 +9,13 @@ use Rattle.codec_model.specs.declared.entry.Event.TheVariants as event
 use Rattle.codec_model.specs.declared.entry.Shown.{Shown}
 use Rattle.codec_model.specs.declared.entry.Entry.{Entry}
 use Rattle.codec_model.specs.declared.entry.Entry.TheVariants as entry
-use Rattle.wc_script.specs.declared.script.Script.{Script}
+use Rattle.script_types.specs.declared.script.ScriptData.{ScriptData}
 use Rattle.trace_text.specs.Report.{entry_line, event_lines, output_lines, config_lines}
 use Rattle.report_lines.specs.declared.line.Line.TheVariants as line
 use Rattle.report_lines.specs.Text.{line_text}
 use Rattle.report_lines.specs.Laws.{told_of, config_seen, output_seen, event_seen}
 
-pub entry_is : (script : Script) (place : ℕ) (e : Entry) (shown : Shown) → entry_line script.callers place e shown ≡ line_text script (line.Entry place (told_of e shown))
+pub entry_is : (script : ScriptData) (place : ℕ) (e : Entry) (shown : Shown) → entry_line script.callers place e shown ≡ line_text script (line.Entry place (told_of e shown))
 entry_is script place (entry.Configure who config) shown = refl
 entry_is script place (entry.Decode who chunk) shown = refl
 entry_is script place (entry.Flush who) shown = refl
@@ -29,16 +29,16 @@ entry_is script place (entry.Reclaim moment) shown = refl
 pub one : (xs : List ℕ) → xs ≡ xs ++ []
 one xs = sym (append-nil xs)
 
-config_is : (script : Script) (c : Option AudioDecoderConfig) → config_lines c ≡ flat_map (line_text script) (config_seen c)
+config_is : (script : ScriptData) (c : Option AudioDecoderConfig) → config_lines c ≡ flat_map (line_text script) (config_seen c)
 config_is script None = refl
 config_is script (Some c) = one _
 
-output_is : (script : Script) (u : media.Unit) → output_lines u ≡ flat_map (line_text script) (output_seen u)
+output_is : (script : ScriptData) (u : media.Unit) → output_lines u ≡ flat_map (line_text script) (output_seen u)
 output_is script (unit.Sound samples) = one _
 output_is script (unit.Image picture) = one _
 output_is script (unit.Coded chunk config) = rw (config_is script config) refl
 
-pub event_is : (script : Script) (e : Event) → event_lines e ≡ flat_map (line_text script) (event_seen e)
+pub event_is : (script : ScriptData) (e : Event) → event_lines e ≡ flat_map (line_text script) (event_seen e)
 event_is script (event.Refusal error) = refl
 event_is script (event.Output number u) = output_is script u
 event_is script (event.Resolve promise) = one _

@@ -23,7 +23,7 @@ use Rattle.codec_model.specs.declared.entry.Outcome.{Outcome}
 use Rattle.codec_model.specs.declared.entry.Outcome.TheVariants as outcome
 use Rattle.codec_model.specs.declared.entry.TurnWord.{TurnWord}
 use Rattle.codec_model.specs.declared.entry.TurnWord.TheVariants as turn
-use Rattle.wc_script.specs.declared.script.Script.{Script}
+use Rattle.script_types.specs.declared.script.ScriptData.{ScriptData}
 use Rattle.trace_text.specs.declared.run.StepResult.{StepResult}
 use Rattle.trace_text.specs.declared.run.StepResult.TheVariants as result
 use Rattle.trace_text.specs.Report.{error_name, answer_text, kind_text, state_text, sample_format_text, picture_format_text, codec_text, role_text, chunk_type_text, caller_name, codec_name, promise_text, outcome_text, turn_text, item_text, who_text, entry_name, look_name, result_text, coder_text, slot_text, by_text, numbered_line, number_or_dash, hex_or_dash, content_line, sound_text, picture_text, sound_duration}
@@ -95,13 +95,13 @@ hex (b ∷ bytes) fits = plain_from is_hex_digit (encode_lower (b ∷ bytes)) re
 answer : (e : Option DomError) → Plain (answer_text e)
 answer e = word_plain (answer_text e) (answer_is_word e)
 
-who_plain : (script : Script) (who : Who) → AreNames script → FitsWho script who → Plain (who_text script.callers who)
+who_plain : (script : ScriptData) (who : Who) → AreNames script → FitsWho script who → Plain (who_text script.callers who)
 who_plain script who names fits = both _ _ (word_plain (caller_name script.callers who.caller) (names.callers_are_words who.caller fits.0.0)) (both (codes ".") (decimal who.step) (sure refl) (short_number who.step fits.1))
 
-entry_plain : (script : Script) (n place : ℕ) → AreNames script → IsCodec script n → place < 2 ^ 64 → Plain (entry_name script.codecs n place)
+entry_plain : (script : ScriptData) (n place : ℕ) → AreNames script → IsCodec script n → place < 2 ^ 64 → Plain (entry_name script.codecs n place)
 entry_plain script n place names fits lt = both _ _ (word_plain (codec_name script.codecs n) (names.codecs_are_words n fits.0)) (both (codes ".") (decimal place) (sure refl) (number place lt))
 
-look_plain : (script : Script) (n len : ℕ) → AreNames script → IsCodec script n → len < 2 ^ 64 → Plain (look_name script.codecs n len)
+look_plain : (script : ScriptData) (n len : ℕ) → AreNames script → IsCodec script n → len < 2 ^ 64 → Plain (look_name script.codecs n len)
 look_plain script n len names fits lt = both _ _ (word_plain (codec_name script.codecs n) (names.codecs_are_words n fits.0)) (both (codes ":") (decimal len) (sure refl) (number len lt))
 
 promise_plain : (p : PromiseState) → Plain (promise_text p)
@@ -109,7 +109,7 @@ promise_plain promise.Pending = sure refl
 promise_plain promise.Resolved = sure refl
 promise_plain (promise.Rejected e) = both (codes "rejected ") _ (sure refl) (word_plain (error_name e) (error_is_word e))
 
-result_plain : (script : Script) (r : StepResult) → AreNames script → FitsResult script r → Plain (result_text script.codecs r)
+result_plain : (script : ScriptData) (r : StepResult) → AreNames script → FitsResult script r → Plain (result_text script.codecs r)
 result_plain script (result.Call n place error) names fits = both _ _ (entry_plain script n place names fits.0 fits.1) (both (codes " ") _ blank (answer error))
 result_plain script (result.Local error) names fits = answer error
 result_plain script (result.Look n len end) names fits = both _ _ (look_plain script n len names fits.0 fits.1) (both (codes " ") _ blank (promise_plain end))
@@ -135,14 +135,14 @@ turn_plain (Some (turn.Close e)) = both (codes "close ") _ (sure refl) (word_pla
 item_plain : (epoch item : ℕ) → epoch < 2 ^ 64 → item < 2 ^ 64 → Plain (item_text epoch item)
 item_plain epoch item a b = both _ _ (number epoch a) (both (codes ".") _ (sure refl) (number item b))
 
-told_plain : (script : Script) (e : Told) → AreNames script → FitsTold script e → Plain (told_text script.callers e)
+told_plain : (script : ScriptData) (e : Told) → AreNames script → FitsTold script e → Plain (told_text script.callers e)
 told_plain script (told.Call who call error) names fits = both _ _ (who_plain script who names fits) (both (codes " ") _ blank (both _ _ (word_plain (call_word call) (call_is_word call)) (both (codes " = ") _ (sure refl) (answer error))))
 told_plain script (told.Start epoch item) names fits = both (codes "start ") _ (sure refl) (item_plain epoch item fits.0 fits.1)
 told_plain script (told.Done epoch item moment outcome) names fits = both (codes "done ") _ (sure refl) (both _ _ (item_plain epoch item fits.0 fits.1) (both (codes " ") _ blank (both _ _ (number moment fits.2) (both (codes " ") _ blank (outcome_plain outcome fits.3)))))
 told_plain script (told.Turn word) names fits = both (codes "turn ") _ (sure refl) (turn_plain word)
 told_plain script (told.Reclaim moment) names fits = both (codes "reclaim ") _ (sure refl) (number moment fits)
 
-by_plain : (script : Script) (who : By) → AreNames script → FitsBy script who → Plain (by_text script who)
+by_plain : (script : ScriptData) (who : By) → AreNames script → FitsBy script who → Plain (by_text script who)
 by_plain script (by.Caller who) names fits = who_plain script who names fits
 by_plain script (by.Codec n place) names fits = entry_plain script n place names fits.0 fits.1
 
@@ -191,7 +191,7 @@ seen_one (seen.Reject p e) fits = behind (codes "  reject ") _ (sure refl) (behi
 seen_one seen.Dequeue fits = behind (codes "  dequeue") _ (sure refl) feed
 seen_one (seen.Error e) fits = behind (codes "  error ") _ (sure refl) (behind _ _ (word_plain (error_name e) (error_is_word e)) feed)
 
-pub line_one : (script : Script) (l : Line) → AreNames script → FitsLine script l → IsOneLine (line_text script l)
+pub line_one : (script : ScriptData) (l : Line) → AreNames script → FitsLine script l → IsOneLine (line_text script l)
 line_one script line.Header names fits = behind (codes "wcrun report 1") _ (sure refl) feed
 line_one script (line.Caller n) names fits = behind (codes "caller ") _ (sure refl) (behind _ _ (word_plain (caller_name script.callers n) (names.callers_are_words n fits.0)) feed)
 line_one script (line.Result step found) names fits = numbered_one step _ fits.0 (result_plain script found names fits.1)

@@ -25,10 +25,10 @@ use Rattle.codec_model.specs.declared.entry.Outcome.{Outcome}
 use Rattle.codec_model.specs.declared.entry.Outcome.TheVariants as outcome
 use Rattle.codec_model.specs.declared.entry.TurnWord.{TurnWord}
 use Rattle.codec_model.specs.declared.entry.TurnWord.TheVariants as turn
-use Rattle.wc_script.specs.declared.script.Script.{Script}
-use Rattle.wc_script.specs.declared.script.KindWord.TheVariants as word
-use Rattle.wc_script.specs.declared.script.CodecItem.{CodecItem}
-use Rattle.wc_script.specs.declared.script.CallerItem.{CallerItem}
+use Rattle.script_types.specs.declared.script.ScriptData.{ScriptData}
+use Rattle.script_types.specs.declared.script.KindWord.TheVariants as word
+use Rattle.script_types.specs.declared.script.CodecItem.{CodecItem}
+use Rattle.script_types.specs.declared.script.CallerItem.{CallerItem}
 use Rattle.trace_text.specs.declared.run.StepResult.{StepResult}
 use Rattle.trace_text.specs.declared.run.StepResult.TheVariants as result
 use Rattle.trace_text.specs.Report as text
@@ -87,31 +87,31 @@ caller_name_is callers i lt = rw (slice_get-get_or callers i no_caller lt) refl
 codec_name_is : (codecs : List CodecItem) (i : ℕ) → i < length codecs → codec_name codecs i ≡ (get_or codecs i no_codec).name
 codec_name_is codecs i lt = rw (slice_get-get_or codecs i no_codec lt) refl
 
-caller_again : (script : Script) (n : ℕ) → AreNames script → IsCaller script n → caller_of script.callers (caller_name script.callers n) ≡ Some n
+caller_again : (script : ScriptData) (n : ℕ) → AreNames script → IsCaller script n → caller_of script.callers (caller_name script.callers n) ≡ Some n
 caller_again script n names fits =
     let place : position (λ c. bytes_eq c.name (caller_name script.callers n)) script.callers ≡ Some n =
     place_again (λ (c : CallerItem). c.name) script.callers n no_caller (caller_name script.callers n) fits.0 (sym (caller_name_is script.callers n fits.0))
     (λ k below same. absurd (omega (arith, names.callers_differ k n (omega (arith, fits.0)) fits.0 (caller_name_is script.callers k (omega (arith, fits.0)) ∙ same)))) in
     rw place (short_is n fits.1)
 
-codec_again : (script : Script) (n : ℕ) → AreNames script → IsCodec script n → codec_of script.codecs (codec_name script.codecs n) ≡ Some n
+codec_again : (script : ScriptData) (n : ℕ) → AreNames script → IsCodec script n → codec_of script.codecs (codec_name script.codecs n) ≡ Some n
 codec_again script n names fits =
     let place : position (λ c. bytes_eq c.name (codec_name script.codecs n)) script.codecs ≡ Some n =
     place_again (λ (c : CodecItem). c.name) script.codecs n no_codec (codec_name script.codecs n) fits.0 (sym (codec_name_is script.codecs n fits.0))
     (λ k below same. absurd (omega (arith, names.codecs_differ k n (omega (arith, fits.0)) fits.0 (codec_name_is script.codecs k (omega (arith, fits.0)) ∙ same)))) in
     rw place (short_is n fits.1)
 
-no_caller_of : (script : Script) (n : ℕ) → AreNames script → IsCodec script n → caller_of script.callers (codec_name script.codecs n) ≡ None
+no_caller_of : (script : ScriptData) (n : ℕ) → AreNames script → IsCodec script n → caller_of script.callers (codec_name script.codecs n) ≡ None
 no_caller_of script n names fits =
     let place : position (λ c. bytes_eq c.name (codec_name script.codecs n)) script.callers ≡ None =
     place_none (λ (c : CallerItem). c.name) script.callers no_caller (codec_name script.codecs n)
     (λ k below same. names.apart k n below fits.0 (caller_name_is script.callers k below ∙ same)) in
     rw place refl
 
-by_again : (script : Script) (who : Who) → AreNames script → FitsWho script who → by_of script (caller_name script.callers who.caller) who.step ≡ Some (by.Caller who)
+by_again : (script : ScriptData) (who : Who) → AreNames script → FitsWho script who → by_of script (caller_name script.callers who.caller) who.step ≡ Some (by.Caller who)
 by_again script who names fits = rw (caller_again script who.caller names fits.0, short_is who.step fits.1) refl
 
-by_codec_again : (script : Script) (n place : ℕ) → AreNames script → IsCodec script n → by_of script (codec_name script.codecs n) place ≡ Some (by.Codec n place)
+by_codec_again : (script : ScriptData) (n place : ℕ) → AreNames script → IsCodec script n → by_of script (codec_name script.codecs n) place ≡ Some (by.Codec n place)
 by_codec_again script n place names fits = rw (no_caller_of script n names fits, codec_again script n names fits) refl
 
 -- ---- words at the end of a line
@@ -161,17 +161,17 @@ turn_again (Some (turn.Close e)) rest = rw (error_at_again e rest) refl
 -- ---- lines with a number
 
 -- a number comes first, and what follows is read by the mark behind its word
-numbered_first : (script : Script) (n : ℕ) (rest : List ℕ) → n < 2 ^ 64 → parsed script (decimal n ++ 32 ∷ rest) ≡ numbered script (decimal n ++ 32 ∷ rest)
+numbered_first : (script : ScriptData) (n : ℕ) (rest : List ℕ) → n < 2 ^ 64 → parsed script (decimal n ++ 32 ∷ rest) ≡ numbered script (decimal n ++ 32 ∷ rest)
 unfolding parsed
 numbered_first script n rest lt = rw (word_again 32 (decimal n) rest (decimal_word n lt) refl, decimal_not_nil n lt, decimal_digits n lt) refl
 
-dotted_next : (script : Script) (n : ℕ) (name rest : List ℕ) → n < 2 ^ 64 → list_all is_word_byte name ≡ true
+dotted_next : (script : ScriptData) (n : ℕ) (name rest : List ℕ) → n < 2 ^ 64 → list_all is_word_byte name ≡ true
     → parsed script (decimal n ++ 32 ∷ (name ++ 46 ∷ rest)) ≡ dotted script n name rest
 unfolding numbered
 dotted_next script n name rest lt word =
     numbered_first script n (name ++ 46 ∷ rest) lt ∙ rw (number_again 32 n (name ++ 46 ∷ rest) lt refl, word_again 46 name rest word refl) refl
 
-looked_next : (script : Script) (n : ℕ) (name rest : List ℕ) → n < 2 ^ 64 → list_all is_word_byte name ≡ true
+looked_next : (script : ScriptData) (n : ℕ) (name rest : List ℕ) → n < 2 ^ 64 → list_all is_word_byte name ≡ true
     → parsed script (decimal n ++ 32 ∷ (name ++ 58 ∷ rest)) ≡ looked script n name rest
 unfolding numbered
 looked_next script n name rest lt word =
@@ -191,7 +191,7 @@ worded_answer n (Some dom.TypeErr) rest = refl
 worded_answer n (Some dom.RangeErr) rest = refl
 worded_answer n (Some dom.OutOfMemory) rest = refl
 
-result_again : (script : Script) (step : ℕ) (r : StepResult) (rest : List ℕ) → AreNames script → step < 2 ^ 64 → FitsResult script r → parsed script (result_line script.codecs step r ++ rest) ≡ Some (line.Result step r)
+result_again : (script : ScriptData) (step : ℕ) (r : StepResult) (rest : List ℕ) → AreNames script → step < 2 ^ 64 → FitsResult script r → parsed script (result_line script.codecs step r ++ rest) ≡ Some (line.Result step r)
 unfolding dotted looked numbered call_result worded
 result_again script step (result.Call n place error) rest names lt fits = simp append_assoc (
     dotted_next script step (codec_name script.codecs n) (decimal place ++ 32 ∷ (answer_text error ++ 10 ∷ rest)) lt (names.codecs_are_words n fits.0.0)
@@ -216,14 +216,14 @@ call_no_slot call.Flush x y = refl
 call_no_slot call.Reset x y = refl
 call_no_slot call.Close x y = refl
 
-called_again : (script : Script) (place : ℕ) (who : Who) (c : CallWord) (error : Option DomError) (rest : List ℕ) → AreNames script → FitsWho script who
+called_again : (script : ScriptData) (place : ℕ) (who : Who) (c : CallWord) (error : Option DomError) (rest : List ℕ) → AreNames script → FitsWho script who
     → dotted script place (caller_name script.callers who.caller) (decimal who.step ++ 32 ∷ (call_word c ++ 32 ∷ 61 ∷ 32 ∷ (answer_text error ++ 10 ∷ rest))) ≡ Some (line.Entry place (told.Call who c error))
 unfolding dotted call_at
 called_again script place who c error rest names fits =
     rw (number_again 32 who.step _ (omega (arith, fits.1)) refl, word_again 32 (call_word c) _ (call_is_word c) refl)
     (call_no_slot c _ _ ∙ rw (caller_again script who.caller names fits.0, short_is who.step fits.1, call_again c, answer_at_again error rest) refl)
 
-entry_again : (script : Script) (place : ℕ) (e : Told) (rest : List ℕ) → AreNames script → place < 2 ^ 64 → FitsTold script e → parsed script (numbered_line place (told_text script.callers e) ++ rest) ≡ Some (line.Entry place e)
+entry_again : (script : ScriptData) (place : ℕ) (e : Told) (rest : List ℕ) → AreNames script → place < 2 ^ 64 → FitsTold script e → parsed script (numbered_line place (told_text script.callers e) ++ rest) ≡ Some (line.Entry place e)
 unfolding worded numbered start_at done_at
 entry_again script place (told.Call who call error) rest names lt fits = simp append_assoc (
     dotted_next script place (caller_name script.callers who.caller) (decimal who.step ++ 32 ∷ (call_word call ++ 32 ∷ 61 ∷ 32 ∷ (answer_text error ++ 10 ∷ rest))) lt (names.callers_are_words who.caller fits.0.0)
@@ -244,7 +244,7 @@ unfolding coder_at
 coder_again id rest = rw (word_again 58 (role_text id.role) _ (role_is_word id.role) refl, role_again id.role, word_again 32 (codec_text id.codec) rest (codec_id_is_word id.codec) refl, codec_id_again id.codec) refl
 
 -- behind the name and the number of who caused it
-op_found : (script : Script) (place : ℕ) (name : List ℕ) (m : ℕ) (op : SlotOp) (rest : List ℕ) (who : By) → m < 2 ^ 64 → FitsOp op → by_of script name m ≡ Some who
+op_found : (script : ScriptData) (place : ℕ) (name : List ℕ) (m : ℕ) (op : SlotOp) (rest : List ℕ) (who : By) → m < 2 ^ 64 → FitsOp op → by_of script name m ≡ Some who
     → dotted script place name (decimal m ++ 32 ∷ (slot_text op ++ 10 ∷ rest)) ≡ Some (line.Slot place (record { by = who; op = op }))
 unfolding dotted slot_at op_at acquired_at given_at refused_at
 op_found script place name m (slot.Acquire id number) rest who lt fits found = simp append_assoc (
@@ -254,7 +254,7 @@ op_found script place name m (slot.Refused id out made) rest who lt fits found =
 op_found script place name m (slot.Give id number) rest who lt fits found = simp append_assoc (
     rw (number_again 32 m _ lt refl, found, coder_again id _, number_again 10 number rest fits refl) refl)
 
-slot_again : (script : Script) (place : ℕ) (who : By) (op : SlotOp) (rest : List ℕ) → AreNames script → place < 2 ^ 64 → FitsBy script who → FitsOp op
+slot_again : (script : ScriptData) (place : ℕ) (who : By) (op : SlotOp) (rest : List ℕ) → AreNames script → place < 2 ^ 64 → FitsBy script who → FitsOp op
     → parsed script (slot_line script place (record { by = who; op = op }) ++ rest) ≡ Some (line.Slot place (record { by = who; op = op }))
 slot_again script place (by.Caller who) op rest names lt fits fits_op =
     let regrouped : slot_line script place (record { by = by.Caller who; op = op }) ++ rest ≡ decimal place ++ 32 ∷ (caller_name script.callers who.caller ++ 46 ∷ (decimal who.step ++ 32 ∷ (slot_text op ++ 10 ∷ rest))) = simp append_assoc in
@@ -351,7 +351,7 @@ config_read codec rate channels description rest lacks rate_fits channels_fit ar
       hex_read description rest are_bytes,
     ) refl
 
-seen_again : (script : Script) (s : Seen) (rest : List ℕ) → FitsSeen s → parsed script (seen_line s ++ rest) ≡ Some (line.Seen s)
+seen_again : (script : ScriptData) (s : Seen) (rest : List ℕ) → FitsSeen s → parsed script (seen_line s ++ rest) ≡ Some (line.Seen s)
 unfolding parsed shown_at seen_at output_at reject_at
 seen_again script (seen.Sound shape bytes) rest fits =
     let regrouped : sound_line shape bytes ++ rest ≡ codes "  output audio " ++ (sample_format_text shape.format ++ 32 ∷ (decimal shape.rate ++ 32 ∷ (decimal shape.channels ++ 32 ∷ (decimal shape.frames ++ 32 ∷ content shape.timestamp (Some (sound_duration shape)) bytes rest)))) = simp append_assoc in
@@ -372,7 +372,7 @@ seen_again script (seen.Error e) rest fits = simp append_assoc (rw (error_at_aga
 
 -- ---- every line
 
-parsed_again : (script : Script) (l : Line) (rest : List ℕ) → AreNames script → FitsLine script l → parsed script (line_text script l ++ rest) ≡ Some l
+parsed_again : (script : ScriptData) (l : Line) (rest : List ℕ) → AreNames script → FitsLine script l → parsed script (line_text script l ++ rest) ≡ Some l
 unfolding parsed headed caller_at codec_at
 parsed_again script line.Header rest names fits = refl
 parsed_again script (line.Caller n) rest names fits = simp append_assoc (rw (word_again 10 (caller_name script.callers n) rest (names.callers_are_words n fits.0) refl, caller_again script n names fits) refl)
@@ -387,7 +387,7 @@ parsed_again script (line.Slot place entry) rest names fits = slot_again script 
 parsed_again script (line.Held n) rest names fits = simp append_assoc (rw (number_again 10 n rest fits refl) refl)
 parsed_again script line.End rest names fits = refl
 
-pub line_again : (script : Script) (l : Line) (rest : List ℕ) → AreNames script → FitsLine script l → line_at script (line_text script l ++ rest) ≡ Some (l, rest)
+pub line_again : (script : ScriptData) (l : Line) (rest : List ℕ) → AreNames script → FitsLine script l → line_at script (line_text script l ++ rest) ≡ Some (l, rest)
 unfolding line_at
 line_again script l rest names fits = rw (parsed_again script l rest names fits, after_again (line_text script l) rest) refl
 
@@ -401,7 +401,7 @@ some x = Some x
 some_is : {A : Type 0} (x y : A) → some x ≡ some y → x ≡ y
 some_is x y e = cc
 
-pub line_sound : (script : Script) (bs : List ℕ) (read : Line × List ℕ) → line_at script bs ≡ Some read → bs ≡ line_text script read.0 ++ read.1
+pub line_sound : (script : ScriptData) (bs : List ℕ) (read : Line × List ℕ) → line_at script bs ≡ Some read → bs ≡ line_text script read.0 ++ read.1
 unfolding line_at
 line_sound script bs read e =
     let l = bind_some (parsed script bs) (λ x. after (line_text script x) bs >>= λ rest. Some (x, rest)) read e in

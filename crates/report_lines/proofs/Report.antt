@@ -5,9 +5,9 @@ use Rattle.std.proofs.lemmas.Grind.{flat_map-append}
 use Rattle.codec_model.specs.declared.entry.Event.{Event}
 use Rattle.codec_model.specs.declared.entry.Entry.{Entry}
 use Rattle.codec_model.specs.declared.entry.Shown.{Shown}
-use Rattle.wc_script.specs.declared.script.Script.{Script}
-use Rattle.wc_script.specs.declared.script.CodecItem.{CodecItem}
-use Rattle.wc_script.specs.declared.script.CallerItem.{CallerItem}
+use Rattle.script_types.specs.declared.script.ScriptData.{ScriptData}
+use Rattle.script_types.specs.declared.script.CodecItem.{CodecItem}
+use Rattle.script_types.specs.declared.script.CallerItem.{CallerItem}
 use Rattle.trace_text.specs.declared.run.CallerTrace.{CallerTrace}
 use Rattle.trace_text.specs.declared.run.CodecTrace.{CodecTrace}
 use Rattle.trace_text.specs.declared.run.Run.{Run}
@@ -21,33 +21,33 @@ use Rattle.report_lines.proofs.Agreement.{one, entry_is, event_is}
 two : {A : Type 0} (a b c d : List A) → a ≡ c → b ≡ d → a ++ b ≡ c ++ d
 two a b c d p q = rw (p, q) refl
 
-each_is : {X : Type 0} (script : Script) (text : ℕ → X → List ℕ) (seen : ℕ → X → List Line) → ((n : ℕ) (x : X) → text n x ≡ flat_map (line_text script) (seen n x))
+each_is : {X : Type 0} (script : ScriptData) (text : ℕ → X → List ℕ) (seen : ℕ → X → List Line) → ((n : ℕ) (x : X) → text n x ≡ flat_map (line_text script) (seen n x))
     → (n : ℕ) (xs : List X) → each_from text n xs ≡ flat_map (line_text script) (lines_from seen n xs)
 each_is script text seen same n [] = refl
 each_is script text seen same n (x ∷ xs) =
     two (text n x) (each_from text (n + 1) xs) (flat_map (line_text script) (seen n x)) (flat_map (line_text script) (lines_from seen (n + 1) xs)) (same n x) (each_is script text seen same (n + 1) xs)
     ∙ sym (flat_map-append (line_text script) (seen n x) (lines_from seen (n + 1) xs))
 
-events_are : (script : Script) (events : List Event) → flat_map event_lines events ≡ flat_map (line_text script) (flat_map event_seen events)
+events_are : (script : ScriptData) (events : List Event) → flat_map event_lines events ≡ flat_map (line_text script) (flat_map event_seen events)
 events_are script [] = refl
 events_are script (e ∷ events) =
     two (event_lines e) (flat_map event_lines events) (flat_map (line_text script) (event_seen e)) (flat_map (line_text script) (flat_map event_seen events)) (event_is script e) (events_are script events)
     ∙ sym (flat_map-append (line_text script) (event_seen e) (flat_map event_seen events))
 
-entry_lines_are : (script : Script) (place : ℕ) (made : Entry × Shown) → entry_lines script.callers place made ≡ flat_map (line_text script) (entry_seen place made)
+entry_lines_are : (script : ScriptData) (place : ℕ) (made : Entry × Shown) → entry_lines script.callers place made ≡ flat_map (line_text script) (entry_seen place made)
 entry_lines_are script place made = two _ _ _ _ (entry_is script place made.0 made.1) (events_are script made.1.events)
 
-caller_lines_are : (script : Script) (n : ℕ) (caller : CallerItem × CallerTrace) → caller_name script.callers n ≡ caller.0.name → caller_lines script n caller ≡ flat_map (line_text script) (caller_seen n caller)
+caller_lines_are : (script : ScriptData) (n : ℕ) (caller : CallerItem × CallerTrace) → caller_name script.callers n ≡ caller.0.name → caller_lines script n caller ≡ flat_map (line_text script) (caller_seen n caller)
 caller_lines_are script n caller same =
     two (caller_header caller.0.name) _ (caller_header (caller_name script.callers n)) _ (ap caller_header (sym same)) (each_is script (result_line script.codecs) result_seen (λ step r. one (result_line script.codecs step r)) 0 caller.1.results)
 
-codec_lines_are : (script : Script) (n : ℕ) (codec : CodecItem × CodecTrace) → codec_name script.codecs n ≡ codec.0.name → codec_lines script n codec ≡ flat_map (line_text script) (codec_seen n codec)
+codec_lines_are : (script : ScriptData) (n : ℕ) (codec : CodecItem × CodecTrace) → codec_name script.codecs n ≡ codec.0.name → codec_lines script n codec ≡ flat_map (line_text script) (codec_seen n codec)
 codec_lines_are script n codec same =
     two (codec_header codec.0.name codec.1.opening.kind codec.1.opening.saturation) _ (codec_header (codec_name script.codecs n) codec.1.opening.kind codec.1.opening.saturation) _
     (ap (λ (name : List ℕ). codec_header name codec.1.opening.kind codec.1.opening.saturation) (sym same))
     (each_is script (entry_lines script.callers) entry_seen (entry_lines_are script) 0 (zip codec.1.entries codec.1.shown))
 
-callers_are : (script : Script) (n : ℕ) (items : List CallerItem) (traces : List CallerTrace) → ((k : ℕ) → k < length items → caller_name script.callers (n + k) ≡ caller_name items k)
+callers_are : (script : ScriptData) (n : ℕ) (items : List CallerItem) (traces : List CallerTrace) → ((k : ℕ) → k < length items → caller_name script.callers (n + k) ≡ caller_name items k)
     → each_from (caller_lines script) n (zip items traces) ≡ flat_map (line_text script) (lines_from caller_seen n (zip items traces))
 callers_are script n [] traces same = refl
 callers_are script n (i ∷ items) [] same = refl
@@ -58,7 +58,7 @@ callers_are script n (i ∷ items) (t ∷ traces) same =
     two (caller_lines script n (i, t)) _ (flat_map (line_text script) (caller_seen n (i, t))) _ (caller_lines_are script n (i, t) here) (callers_are script (n + 1) items traces later)
     ∙ sym (flat_map-append (line_text script) (caller_seen n (i, t)) (lines_from caller_seen (n + 1) (zip items traces)))
 
-codecs_are : (script : Script) (n : ℕ) (items : List CodecItem) (traces : List CodecTrace) → ((k : ℕ) → k < length items → codec_name script.codecs (n + k) ≡ codec_name items k)
+codecs_are : (script : ScriptData) (n : ℕ) (items : List CodecItem) (traces : List CodecTrace) → ((k : ℕ) → k < length items → codec_name script.codecs (n + k) ≡ codec_name items k)
     → each_from (codec_lines script) n (zip items traces) ≡ flat_map (line_text script) (lines_from codec_seen n (zip items traces))
 codecs_are script n [] traces same = refl
 codecs_are script n (i ∷ items) [] same = refl
@@ -70,11 +70,11 @@ codecs_are script n (i ∷ items) (t ∷ traces) same =
     ∙ sym (flat_map-append (line_text script) (codec_seen n (i, t)) (lines_from codec_seen (n + 1) (zip items traces)))
 
 -- some text, and then the texts of lines
-joined : (script : Script) (front rest : List ℕ) (lines more : List Line) → front ≡ flat_map (line_text script) lines → rest ≡ flat_map (line_text script) more
+joined : (script : ScriptData) (front rest : List ℕ) (lines more : List Line) → front ≡ flat_map (line_text script) lines → rest ≡ flat_map (line_text script) more
     → front ++ rest ≡ flat_map (line_text script) (lines ++ more)
 joined script front rest lines more p q = two front rest _ _ p q ∙ sym (flat_map-append (line_text script) lines more)
 
-pub report_is : (script : Script) (run : Run) → report_of script run ≡ flat_map (line_text script) (lines_of script run)
+pub report_is : (script : ScriptData) (run : Run) → report_of script run ≡ flat_map (line_text script) (lines_of script run)
 report_is script run =
     let callers = lines_from caller_seen 0 (zip script.callers run.callers) in
     let codecs = lines_from codec_seen 0 (zip script.codecs run.codecs) in

@@ -12,7 +12,7 @@ use Rattle.coder_api.specs.declared.slot.SlotOp.{SlotOp}
 use Rattle.coder_api.specs.declared.slot.SlotOp.TheVariants as slot
 use Rattle.codec_model.specs.declared.entry.Outcome.{Outcome}
 use Rattle.codec_model.specs.declared.entry.Outcome.TheVariants as outcome
-use Rattle.wc_script.specs.declared.script.Script.{Script}
+use Rattle.script_types.specs.declared.script.ScriptData.{ScriptData}
 use Rattle.trace_text.specs.declared.run.StepResult.{StepResult}
 use Rattle.trace_text.specs.declared.run.StepResult.TheVariants as result
 use Rattle.trace_text.specs.Report.{caller_name, codec_name}
@@ -26,23 +26,23 @@ use Rattle.report_lines.specs.declared.line.Line.{Line}
 use Rattle.report_lines.specs.declared.line.Line.TheVariants as line
 
 -- the names of callers and codecs are words, and all differ
-pub record AreNames (script : Script) : Type 0 where
+pub record AreNames (script : ScriptData) : Type 0 where
   pub callers_differ : (i j : ℕ) → i < length script.callers → j < length script.callers → caller_name script.callers i ≡ caller_name script.callers j → i ≡ j
   pub codecs_differ : (i j : ℕ) → i < length script.codecs → j < length script.codecs → codec_name script.codecs i ≡ codec_name script.codecs j → i ≡ j
   pub apart : (i j : ℕ) → i < length script.callers → j < length script.codecs → caller_name script.callers i ≡ codec_name script.codecs j → ⊥
   pub callers_are_words : (i : ℕ) → i < length script.callers → list_all is_word_byte (caller_name script.callers i) ≡ true
   pub codecs_are_words : (i : ℕ) → i < length script.codecs → list_all is_word_byte (codec_name script.codecs i) ≡ true
 
-abbrev pub IsCaller : Script → ℕ → Type 0
+abbrev pub IsCaller : ScriptData → ℕ → Type 0
 IsCaller script n = (n < length script.callers) × (n < 2 ^ 32)
 
-abbrev pub IsCodec : Script → ℕ → Type 0
+abbrev pub IsCodec : ScriptData → ℕ → Type 0
 IsCodec script n = (n < length script.codecs) × (n < 2 ^ 32)
 
-abbrev pub FitsWho : Script → Who → Type 0
+abbrev pub FitsWho : ScriptData → Who → Type 0
 FitsWho script who = IsCaller script who.caller × (who.step < 2 ^ 32)
 
-abbrev pub FitsResult : Script → StepResult → Type 0
+abbrev pub FitsResult : ScriptData → StepResult → Type 0
 FitsResult script (result.Call n place error) = IsCodec script n × (place < 2 ^ 64)
 FitsResult script (result.Local error) = Unit {0}
 FitsResult script (result.Look n len end) = IsCodec script n × (len < 2 ^ 64)
@@ -55,7 +55,7 @@ FitsOutcome outcome.Refused = Unit {0}
 FitsOutcome (outcome.NoSlot entry) = entry < 2 ^ 64
 FitsOutcome outcome.NoMemory = Unit {0}
 
-abbrev pub FitsTold : Script → Told → Type 0
+abbrev pub FitsTold : ScriptData → Told → Type 0
 FitsTold script (told.Call who call error) = FitsWho script who
 FitsTold script (told.Start epoch item) = (epoch < 2 ^ 64) × (item < 2 ^ 64)
 FitsTold script (told.Done epoch item moment outcome) = (epoch < 2 ^ 64) × (item < 2 ^ 64) × (moment < 2 ^ 64) × FitsOutcome outcome
@@ -90,7 +90,7 @@ FitsSeen (seen.Reject promise error) = promise < 2 ^ 64
 FitsSeen seen.Dequeue = Unit {0}
 FitsSeen (seen.Error error) = Unit {0}
 
-abbrev pub FitsBy : Script → By → Type 0
+abbrev pub FitsBy : ScriptData → By → Type 0
 FitsBy script (by.Caller who) = FitsWho script who
 FitsBy script (by.Codec n place) = IsCodec script n × (place < 2 ^ 64)
 
@@ -99,7 +99,7 @@ FitsOp (slot.Acquire id number) = number < 2 ^ 64
 FitsOp (slot.Refused id out made) = (out < 2 ^ 64) × (made < 2 ^ 64)
 FitsOp (slot.Give id number) = number < 2 ^ 64
 
-abbrev pub FitsLine : Script → Line → Type 0
+abbrev pub FitsLine : ScriptData → Line → Type 0
 FitsLine script line.Header = Unit {0}
 FitsLine script (line.Caller n) = IsCaller script n
 FitsLine script (line.Result step found) = (step < 2 ^ 64) × FitsResult script found

@@ -9,7 +9,7 @@ use Rattle.codec_model.specs.declared.entry.Event.TheVariants as event
 use Rattle.codec_model.specs.declared.entry.Shown.{Shown}
 use Rattle.codec_model.specs.declared.entry.Entry.{Entry}
 use Rattle.codec_model.specs.declared.entry.Entry.TheVariants as entry
-use Rattle.wc_script.specs.declared.script.Script.{Script}
+use Rattle.script_types.specs.declared.script.ScriptData.{ScriptData}
 use Rattle.trace_text.specs.Report.{refusal_in, entry_line, event_lines}
 use Rattle.report_lines.specs.declared.line.CallWord.TheVariants as call
 use Rattle.report_lines.specs.declared.line.Told.{Told}
@@ -22,10 +22,10 @@ use Rattle.report_lines.specs.Reading.{line_at}
 use Rattle.report_lines.specs.Fits.{is_no_feed, AreNames, FitsLine}
 
 abbrev pub LineAgain : Type 0
-LineAgain = (script : Script) (l : Line) (rest : List ℕ) → AreNames script → FitsLine script l → line_at script (line_text script l ++ rest) ≡ Some (l, rest)
+LineAgain = (script : ScriptData) (l : Line) (rest : List ℕ) → AreNames script → FitsLine script l → line_at script (line_text script l ++ rest) ≡ Some (l, rest)
 
 abbrev pub LineSound : Type 0
-LineSound = (script : Script) (bs : List ℕ) (read : Line × List ℕ) → line_at script bs ≡ Some read → bs ≡ line_text script read.0 ++ read.1
+LineSound = (script : ScriptData) (bs : List ℕ) (read : Line × List ℕ) → line_at script bs ≡ Some read → bs ≡ line_text script read.0 ++ read.1
 
 -- a text ends with its only line feed
 pub record IsOneLine (text : List ℕ) : Type 0 where
@@ -34,7 +34,7 @@ pub record IsOneLine (text : List ℕ) : Type 0 where
   pub only : list_all is_no_feed front ≡ true
 
 abbrev pub LineIsOne : Type 0
-LineIsOne = (script : Script) (l : Line) → AreNames script → FitsLine script l → IsOneLine (line_text script l)
+LineIsOne = (script : ScriptData) (l : Line) → AreNames script → FitsLine script l → IsOneLine (line_text script l)
 
 -- an entry, as its line tells it
 abbrev pub told_of : Entry → Shown → Told
@@ -49,7 +49,7 @@ told_of entry.Turn shown = told.Turn shown.turn
 told_of (entry.Reclaim moment) shown = told.Reclaim moment
 
 abbrev pub EntryIsALine : Type 0
-EntryIsALine = (script : Script) (place : ℕ) (e : Entry) (shown : Shown) → entry_line script.callers place e shown ≡ line_text script (line.Entry place (told_of e shown))
+EntryIsALine = (script : ScriptData) (place : ℕ) (e : Entry) (shown : Shown) → entry_line script.callers place e shown ≡ line_text script (line.Entry place (told_of e shown))
 
 abbrev pub config_seen : Option AudioDecoderConfig → List Line
 config_seen None = []
@@ -70,4 +70,4 @@ event_seen event.Dequeue = line.Seen seen.Dequeue ∷ []
 event_seen (event.ErrorCall error) = line.Seen (seen.Error error) ∷ []
 
 abbrev pub EventIsLines : Type 0
-EventIsLines = (script : Script) (e : Event) → event_lines e ≡ flat_map (line_text script) (event_seen e)
+EventIsLines = (script : ScriptData) (e : Event) → event_lines e ≡ flat_map (line_text script) (event_seen e)

@@ -28,9 +28,9 @@ use Rattle.codec_model.specs.declared.entry.Outcome.{Outcome}
 use Rattle.codec_model.specs.declared.entry.Outcome.TheVariants as outcome
 use Rattle.codec_model.specs.declared.entry.TurnWord.{TurnWord}
 use Rattle.codec_model.specs.declared.entry.TurnWord.TheVariants as turn
-use Rattle.wc_script.specs.declared.script.Script.{Script}
-use Rattle.wc_script.specs.declared.script.CodecItem.{CodecItem}
-use Rattle.wc_script.specs.declared.script.CallerItem.{CallerItem}
+use Rattle.script_types.specs.declared.script.ScriptData.{ScriptData}
+use Rattle.script_types.specs.declared.script.CodecItem.{CodecItem}
+use Rattle.script_types.specs.declared.script.CallerItem.{CallerItem}
 use Rattle.trace_text.specs.declared.run.StepResult.{StepResult}
 use Rattle.trace_text.specs.declared.run.StepResult.TheVariants as result
 use Rattle.report_fields.specs.Words.{◌>>=◌, upto, after, word_at}
@@ -169,14 +169,14 @@ look_at n len bs = do
   w ← word_at bs
   look_as (state_of w.0) n len bs w.2
 
-unfoldable pub looked : Script → ℕ → List ℕ → List ℕ → Option Line
+unfoldable pub looked : ScriptData → ℕ → List ℕ → List ℕ → Option Line
 looked script step name bs = do
   n ← codec_of script.codecs name
   len ← number_upto 32 bs
   found ← look_at n len.0 len.1
   Some (line.Result step found)
 
-unfoldable pub call_result : Script → ℕ → List ℕ → ℕ → List ℕ → Option Line
+unfoldable pub call_result : ScriptData → ℕ → List ℕ → ℕ → List ℕ → Option Line
 call_result script step name place w = do
   n ← codec_of script.codecs name
   error ← answer_of w
@@ -220,7 +220,7 @@ done_at bs = do
   outcome ← outcome_at moment.1
   Some (told.Done epoch.0 item.0 moment.0 outcome)
 
-unfoldable pub call_at : Script → ℕ → List ℕ → ℕ → List ℕ → List ℕ → Option Line
+unfoldable pub call_at : ScriptData → ℕ → List ℕ → ℕ → List ℕ → List ℕ → Option Line
 call_at script place name m w bs = do
   caller ← caller_of script.callers name
   step ← short m
@@ -231,12 +231,12 @@ call_at script place name m w bs = do
 
 -- Entries of the registry.
 
-abbrev pub by_as : Option ℕ → Script → List ℕ → ℕ → Option By
+abbrev pub by_as : Option ℕ → ScriptData → List ℕ → ℕ → Option By
 by_as None script name m = codec_of script.codecs name >>= λ n. Some (by.Codec n m)
 by_as (Some caller) script name m = short m >>= λ step. Some (by.Caller (record { caller = caller; step = step }))
 
 -- a caller of the name, or else a codec
-abbrev pub by_of : Script → List ℕ → ℕ → Option By
+abbrev pub by_of : ScriptData → List ℕ → ℕ → Option By
 by_of script name m = by_as (caller_of script.callers name) script name m
 
 unfoldable pub coder_at : List ℕ → Option (CoderId × List ℕ)
@@ -268,7 +268,7 @@ given_at bs = do
 unfoldable pub op_at : List ℕ → List ℕ → Option SlotOp
 op_at w bs = if bytes_eq w (codes "acquire") then acquired_at bs else given_at bs
 
-unfoldable pub slot_at : Script → ℕ → List ℕ → ℕ → List ℕ → List ℕ → Option Line
+unfoldable pub slot_at : ScriptData → ℕ → List ℕ → ℕ → List ℕ → List ℕ → Option Line
 slot_at script place name m w bs = do
   who ← by_of script name m
   op ← op_at w bs
@@ -276,7 +276,7 @@ slot_at script place name m w bs = do
 
 -- Lines with a number.
 
-unfoldable pub dotted : Script → ℕ → List ℕ → List ℕ → Option Line
+unfoldable pub dotted : ScriptData → ℕ → List ℕ → List ℕ → Option Line
 dotted script n name bs = do
   m ← number_upto 32 bs
   w ← word_at m.1
@@ -294,7 +294,7 @@ worded n w rest =
     else (answer_of w >>= λ a. Some (line.Result n (result.Local a)))
 
 -- behind the number a name with a dot, a name with a colon, or another word
-unfoldable pub numbered : Script → List ℕ → Option Line
+unfoldable pub numbered : ScriptData → List ℕ → Option Line
 numbered script bs = do
   n ← number_upto 32 bs
   w ← word_at n.1
@@ -377,7 +377,7 @@ shown_at bs = do
 
 -- Lines that begin with a word.
 
-unfoldable pub codec_at : Script → List ℕ → Option Line
+unfoldable pub codec_at : ScriptData → List ℕ → Option Line
 codec_at script bs = do
   name ← word_at bs
   n ← codec_of script.codecs name.0
@@ -386,13 +386,13 @@ codec_at script bs = do
   saturation ← short_upto 10 w.2
   Some (line.Codec n (record { kind = kind; saturation = saturation.0 }))
 
-unfoldable pub caller_at : Script → List ℕ → Option Line
+unfoldable pub caller_at : ScriptData → List ℕ → Option Line
 caller_at script bs = do
   name ← word_at bs
   n ← caller_of script.callers name.0
   Some (line.Caller n)
 
-unfoldable pub headed : Script → List ℕ → List ℕ → Option Line
+unfoldable pub headed : ScriptData → List ℕ → List ℕ → Option Line
 headed script w rest =
     if bytes_eq w (codes "wcrun") then Some line.Header
     else if bytes_eq w (codes "caller") then caller_at script rest
@@ -404,7 +404,7 @@ headed script w rest =
     else None
 
 -- the only line that can stand in front
-unfoldable pub parsed : Script → List ℕ → Option Line
+unfoldable pub parsed : ScriptData → List ℕ → Option Line
 parsed script bs = do
   w ← word_at bs
   if bytes_eq w.0 [] then shown_at w.2
@@ -412,7 +412,7 @@ parsed script bs = do
       else headed script w.0 w.2
 
 -- the line whose text stands in front, and the bytes behind it
-unfoldable pub line_at : Script → List ℕ → Option (Line × List ℕ)
+unfoldable pub line_at : ScriptData → List ℕ → Option (Line × List ℕ)
 line_at script bs = do
   found ← parsed script bs
   rest ← after (line_text script found) bs

@@ -1,7 +1,7 @@
 -- The text of each line of a report, put together from the texts of the report's definition.
 use Rattle.std.specs.Prelude.{ℕ, List, codes, decimal, Some}
-use Rattle.wc_script.specs.declared.script.Script.{Script}
-use Rattle.wc_script.specs.declared.script.CallerItem.{CallerItem}
+use Rattle.script_types.specs.declared.script.ScriptData.{ScriptData}
+use Rattle.script_types.specs.declared.script.CallerItem.{CallerItem}
 use Rattle.trace_text.specs.Report.{◌<>◌, answer_text, who_text, outcome_text, turn_text, item_text, numbered_line, caller_header, caller_name, codec_name, result_line, codec_header, sound_line, picture_line, chunk_line, config_line, resolve_line, reject_line, error_line, dequeue_line, slot_line, held_line}
 use Rattle.report_lines.specs.declared.line.CallWord.{CallWord}
 use Rattle.report_lines.specs.declared.line.CallWord.TheVariants as call
@@ -36,7 +36,7 @@ seen_line (seen.Reject promise error) = reject_line promise error
 seen_line seen.Dequeue = dequeue_line
 seen_line (seen.Error error) = error_line error
 
-abbrev pub line_text : Script → Line → List ℕ
+abbrev pub line_text : ScriptData → Line → List ℕ
 line_text script line.Header = codes "wcrun report 1\n"
 line_text script (line.Caller n) = caller_header (caller_name script.callers n)
 line_text script (line.Result step found) = result_line script.codecs step found

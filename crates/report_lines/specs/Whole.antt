@@ -4,9 +4,9 @@ use Rattle.std.specs.List.{zip}
 use Rattle.coder_api.specs.declared.slot.SlotEntry.{SlotEntry}
 use Rattle.codec_model.specs.declared.entry.Entry.{Entry}
 use Rattle.codec_model.specs.declared.entry.Shown.{Shown}
-use Rattle.wc_script.specs.declared.script.Script.{Script}
-use Rattle.wc_script.specs.declared.script.CodecItem.{CodecItem}
-use Rattle.wc_script.specs.declared.script.CallerItem.{CallerItem}
+use Rattle.script_types.specs.declared.script.ScriptData.{ScriptData}
+use Rattle.script_types.specs.declared.script.CodecItem.{CodecItem}
+use Rattle.script_types.specs.declared.script.CallerItem.{CallerItem}
 use Rattle.trace_text.specs.declared.run.StepResult.{StepResult}
 use Rattle.trace_text.specs.declared.run.CallerTrace.{CallerTrace}
 use Rattle.trace_text.specs.declared.run.CodecTrace.{CodecTrace}
@@ -40,8 +40,8 @@ slot_seen place entry = line.Slot place entry ∷ []
 abbrev pub end_seen : ℕ → List Line
 end_seen held = line.Held held ∷ line.End ∷ []
 
-abbrev pub lines_of : Script → Run → List Line
+abbrev pub lines_of : ScriptData → Run → List Line
 lines_of script run = line.Header ∷ (lines_from caller_seen 0 (zip script.callers run.callers) ++ (lines_from codec_seen 0 (zip script.codecs run.codecs) ++ (line.Pool ∷ line.Slots ∷ (lines_from slot_seen 0 run.slots ++ end_seen run.held))))
 
 abbrev pub ReportIsLines : Type 0
-ReportIsLines = (script : Script) (run : Run) → report_of script run ≡ flat_map (line_text script) (lines_of script run)
+ReportIsLines = (script : ScriptData) (run : Run) → report_of script run ≡ flat_map (line_text script) (lines_of script run)

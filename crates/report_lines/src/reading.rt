@@ -20,7 +20,7 @@ use std::alloc::Global;
 use trace_text::StepResult;
 use wc_base::{By, DomError, List, PictureShape, SoundShape, Who};
 use wc_config::CoderId;
-use wc_script::{CallerItem, CodecItem, Script};
+use script_types::{CallerItem, CodecItem, ScriptData};
 
 fn short(n: u64) -> Option<u32>
     ensures { result ≡ short_of n }
@@ -126,7 +126,7 @@ fn look_at(codec: u32, length: u64, bytes: &[u8]) -> Option<StepResult>
 }
 
 #[tactic(auto, unfolding(crate::specs::Reading::looked))]
-fn looked(script: &Script, step: u64, name: &[u8], bytes: &[u8]) -> Option<Line>
+fn looked(script: &ScriptData, step: u64, name: &[u8], bytes: &[u8]) -> Option<Line>
     ensures { result ≡ spec.looked script.now step name.now bytes.now }
 {
     let codec = codec_of(script.codecs.as_slice(), name)?;
@@ -136,7 +136,7 @@ fn looked(script: &Script, step: u64, name: &[u8], bytes: &[u8]) -> Option<Line>
 }
 
 #[tactic(auto, unfolding(crate::specs::Reading::call_result))]
-fn call_result(script: &Script, step: u64, name: &[u8], place: u64, word: &[u8]) -> Option<Line>
+fn call_result(script: &ScriptData, step: u64, name: &[u8], place: u64, word: &[u8]) -> Option<Line>
     ensures { result ≡ spec.call_result script.now step name.now place word.now }
 {
     let codec = codec_of(script.codecs.as_slice(), name)?;
@@ -223,7 +223,7 @@ fn done_at(bytes: &[u8]) -> Option<Told>
 
 #[tactic(auto, unfolding(crate::specs::Reading::call_at))]
 fn call_at(
-    script: &Script,
+    script: &ScriptData,
     place: u64,
     name: &[u8],
     step: u64,
@@ -242,7 +242,7 @@ fn call_at(
     Some(Line::Entry { place, told })
 }
 
-fn by_as(caller: Option<u32>, script: &Script, name: &[u8], number: u64) -> Option<By>
+fn by_as(caller: Option<u32>, script: &ScriptData, name: &[u8], number: u64) -> Option<By>
     ensures { result ≡ spec.by_as caller script.now name.now number }
 {
     match caller {
@@ -261,7 +261,7 @@ fn by_as(caller: Option<u32>, script: &Script, name: &[u8], number: u64) -> Opti
 }
 
 // A caller of the name, or else a codec.
-fn by_of(script: &Script, name: &[u8], number: u64) -> Option<By>
+fn by_of(script: &ScriptData, name: &[u8], number: u64) -> Option<By>
     ensures { result ≡ spec.by_of script.now name.now number }
 {
     by_as(
@@ -328,7 +328,7 @@ fn op_at(word: &[u8], bytes: &[u8]) -> Option<SlotOp>
 
 #[tactic(auto, unfolding(crate::specs::Reading::slot_at))]
 fn slot_at(
-    script: &Script,
+    script: &ScriptData,
     place: u64,
     name: &[u8],
     number: u64,
@@ -344,7 +344,7 @@ fn slot_at(
 }
 
 #[tactic(auto, unfolding(crate::specs::Reading::dotted))]
-fn dotted(script: &Script, n: u64, name: &[u8], bytes: &[u8]) -> Option<Line>
+fn dotted(script: &ScriptData, n: u64, name: &[u8], bytes: &[u8]) -> Option<Line>
     ensures { result ≡ spec.dotted script.now n name.now bytes.now }
 {
     let (m, rest) = number_upto(b' ', bytes)?;
@@ -395,7 +395,7 @@ fn worded(n: u64, word: &[u8], rest: &[u8]) -> Option<Line>
 }
 
 #[tactic(auto, unfolding(crate::specs::Reading::numbered))]
-fn numbered(script: &Script, bytes: &[u8]) -> Option<Line>
+fn numbered(script: &ScriptData, bytes: &[u8]) -> Option<Line>
     ensures { result ≡ spec.numbered script.now bytes.now }
 {
     let (n, rest) = number_upto(b' ', bytes)?;
@@ -565,7 +565,7 @@ fn shown_at(alloc: Global, bytes: &[u8]) -> Result<Line, FieldFault>
 }
 
 #[tactic(auto, unfolding(crate::specs::Reading::codec_at))]
-fn codec_at(script: &Script, bytes: &[u8]) -> Option<Line>
+fn codec_at(script: &ScriptData, bytes: &[u8]) -> Option<Line>
     ensures { result ≡ spec.codec_at script.now bytes.now }
 {
     let (name, _, rest) = word_at(bytes)?;
@@ -578,7 +578,7 @@ fn codec_at(script: &Script, bytes: &[u8]) -> Option<Line>
 }
 
 #[tactic(auto, unfolding(crate::specs::Reading::caller_at))]
-fn caller_at(script: &Script, bytes: &[u8]) -> Option<Line>
+fn caller_at(script: &ScriptData, bytes: &[u8]) -> Option<Line>
     ensures { result ≡ spec.caller_at script.now bytes.now }
 {
     let (name, _, _) = word_at(bytes)?;
@@ -587,7 +587,7 @@ fn caller_at(script: &Script, bytes: &[u8]) -> Option<Line>
 }
 
 #[tactic(auto, unfolding(crate::specs::Reading::headed))]
-fn headed(script: &Script, word: &[u8], rest: &[u8]) -> Option<Line>
+fn headed(script: &ScriptData, word: &[u8], rest: &[u8]) -> Option<Line>
     ensures { result ≡ spec.headed script.now word.now rest.now }
 {
     if is(word, "wcrun") {
@@ -611,7 +611,7 @@ fn headed(script: &Script, word: &[u8], rest: &[u8]) -> Option<Line>
 }
 
 #[tactic(auto, unfolding(crate::specs::Reading::parsed))]
-fn parsed(alloc: Global, script: &Script, bytes: &[u8]) -> Result<Line, FieldFault>
+fn parsed(alloc: Global, script: &ScriptData, bytes: &[u8]) -> Result<Line, FieldFault>
     ensures ok { IfOk result (λ l. spec.parsed script.now bytes.now ≡ Some l) }
     ensures err { IfErr result (λ e. e ≢ FieldFault.NoMemory → spec.parsed script.now bytes.now ≡ None) }
 {
@@ -630,7 +630,7 @@ fn parsed(alloc: Global, script: &Script, bytes: &[u8]) -> Result<Line, FieldFau
 #[tactic(auto, unfolding(crate::specs::Reading::line_at))]
 pub fn line_at<'a>(
     alloc: Global,
-    script: &Script,
+    script: &ScriptData,
     bytes: &'a [u8],
 ) -> Result<(Line, &'a [u8]), FieldFault>
     ensures ok { IfOk result (λ x. spec.line_at script.now bytes.now ≡ Some (x.0, x.1.now)) }

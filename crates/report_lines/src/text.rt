@@ -15,7 +15,7 @@ use std::fmt;
 use trace_text::StepResult;
 use wc_base::{By, DomError, PictureShape, SoundShape, Who};
 use wc_config::CoderId;
-use wc_script::{CallerItem, CodecItem, Script};
+use script_types::{CallerItem, CodecItem, ScriptData};
 
 fn codec_name(codecs: &[CodecItem], number: u32) -> &str
     ensures { result.now ≡ spec.codec_name codecs.now number }
@@ -284,7 +284,7 @@ impl fmt::Display for CoderText {
 // Who caused an entry of the registry.
 #[derive(Drop)]
 struct ByText<'a> {
-    script: &'a Script,
+    script: &'a ScriptData,
     by: By,
 }
 
@@ -340,7 +340,7 @@ impl fmt::Display for SlotText {
 // An entry of the registry.
 #[derive(Drop)]
 struct SlotEntryText<'a> {
-    script: &'a Script,
+    script: &'a ScriptData,
     entry: SlotEntry,
 }
 
@@ -589,7 +589,7 @@ fn entry_line(
 
 fn slot_line(
     alloc: Global,
-    script: &Script,
+    script: &ScriptData,
     place: u64,
     entry: SlotEntry,
 ) -> Result<String, AllocError>
@@ -606,7 +606,7 @@ fn held_line(alloc: Global, held: u64) -> Result<String, AllocError>
 }
 
 /// The text of a line in the report of a run of the script.
-pub fn line_text(alloc: Global, script: &Script, line: &Line) -> Result<Vec<u8>, AllocError>
+pub fn line_text(alloc: Global, script: &ScriptData, line: &Line) -> Result<Vec<u8>, AllocError>
     ensures { IfOk result (λ v. v.items ≡ text_of_line script.now line.now) }
 {
     let callers = script.callers.as_slice();

@@ -5,6 +5,8 @@ use Rattle.script_types.specs.declared.script.KindWord.{KindWord}
 use Rattle.script_types.specs.declared.script.KindWord.TheVariants as kind
 use Rattle.script_types.specs.declared.script.CodecItem.{CodecItem}
 use Rattle.script_types.specs.declared.script.CallerItem.{CallerItem}
+use Rattle.script_types.specs.declared.found.FoundCodec.{FoundCodec}
+use Rattle.script_types.specs.declared.found.FoundVariable.{FoundVariable}
 use Rattle.script_types.specs.declared.steps.Step.{Step}
 use Rattle.script_types.specs.declared.steps.Step.TheVariants as step
 use Rattle.script_types.specs.declared.steps.MediaStep.{MediaStep}
@@ -23,11 +25,6 @@ abbrev pub is_name : List ℕ → Bool
 is_name text = nat_lt 0 (length text) && (nat_le (length text) 32 && list_all is_name_byte text)
 
 -- ---- codecs and callers
-
--- a codec, by its number in the script
-pub record FoundCodec : Type 0 where
-  pub number : ℕ
-  pub kind : KindWord
 
 abbrev pub codec_at : ℕ → Option CodecItem → Option FoundCodec
 codec_at n None = None
@@ -59,11 +56,6 @@ abbrev pub is_caller_name : List CallerItem → List ℕ → Bool
 is_caller_name callers name = list_any (λ c. bytes_eq c.name name) callers
 
 -- ---- variables
-
--- a variable, by the number of the step that defines it
-pub record FoundVariable : Type 0 where
-  pub step : ℕ
-  pub kind : VariableKind
 
 -- the variable that a step defines, and what it holds
 abbrev pub binds_media : MediaStep → Option (List ℕ × VariableKind)

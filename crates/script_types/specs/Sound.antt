@@ -25,8 +25,9 @@ use Rattle.script_types.specs.declared.steps.VariableKind.TheVariants as holds
 use Rattle.script_types.specs.declared.steps.MediaStep.{MediaStep}
 use Rattle.script_types.specs.declared.steps.MediaStep.TheVariants as media
 use Rattle.script_types.specs.declared.steps.Step.{Step}
+use Rattle.script_types.specs.declared.found.FoundVariable.{FoundVariable}
 use Rattle.script_types.specs.declared.steps.Step.TheVariants as step
-use Rattle.script_types.specs.Names.{FoundVariable, is_name, decodes, outputs_of, is_codec_name, is_caller_name, variable_named, is_variable_name, is_chunk, is_audio, is_promise, is_medium, is_copied}
+use Rattle.script_types.specs.Names.{is_name, decodes, outputs_of, is_codec_name, is_caller_name, variable_named, is_variable_name, is_chunk, is_audio, is_promise, is_medium, is_copied}
 
 -- ---- limits
 

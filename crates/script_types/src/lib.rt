@@ -2,11 +2,13 @@
 #![tactic(auto)]
 
 mod fault;
+mod found;
 mod options;
 mod script;
 mod steps;
 
 pub use fault::{Counted, Place, ScriptFault};
+pub use found::{FoundCodec, FoundVariable};
 pub use options::{
     AudioOptions, FormatWord, FrameOptions, LayoutWords, Options, RectWords,
 };

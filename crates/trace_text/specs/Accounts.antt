@@ -17,7 +17,7 @@ use Rattle.codec_model.specs.declared.entry.Entry.{Entry}
 use Rattle.codec_model.specs.declared.entry.Entry.TheVariants as entry
 use Rattle.codec_model.specs.Control.{start_item, is_close}
 use Rattle.codec_model.specs.Replay.{State, Given, missing_coder, removal_error}
-use Rattle.wc_script.specs.declared.script.Script.{Script}
+use Rattle.script_types.specs.declared.script.ScriptData.{ScriptData}
 use Rattle.trace_text.specs.Follow.{Recorded, at, opening_at, state_after}
 
 -- the coder of which an item needs a box that its codec does not hold, if there is an item
@@ -118,7 +118,7 @@ pub record EndsAt (history : List Entry) (p q epoch number moment : ℕ) (o : Ou
   pub end : IsFirstEnd history p q epoch number moment o
 
 -- The boxes of what was recorded are accounted for.
-pub record BoxesAccounted (s : Script) (made : List CoderId) (w : Recorded) : Type 0 where
+pub record BoxesAccounted (s : ScriptData) (made : List CoderId) (w : Recorded) : Type 0 where
   -- the registry can have this history
   pub legal : is_legal_slots made w.slots ≡ true
   -- each entry that asks for a box has an acquire, of the coder that it asks for

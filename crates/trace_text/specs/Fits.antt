@@ -9,17 +9,17 @@ use Rattle.codec_model.specs.declared.entry.Entry.TheVariants as entry
 use Rattle.codec_model.specs.Replay.{IsLegal}
 use Rattle.codec_model.specs.Shown.{each_shown}
 use Rattle.wc_chunk.specs.declared.chunk.Chunk.{Chunk}
-use Rattle.wc_script.specs.declared.script.Script.{Script}
-use Rattle.wc_script.specs.declared.script.CodecItem.{CodecItem}
-use Rattle.wc_script.specs.declared.script.Step.{Step}
-use Rattle.wc_script.specs.declared.script.Step.TheVariants as step
+use Rattle.script_types.specs.declared.script.ScriptData.{ScriptData}
+use Rattle.script_types.specs.declared.script.CodecItem.{CodecItem}
+use Rattle.script_types.specs.declared.steps.Step.{Step}
+use Rattle.script_types.specs.declared.steps.Step.TheVariants as step
 use Rattle.trace_text.specs.declared.run.Run.{Run}
 use Rattle.trace_text.specs.declared.run.CodecTrace.{CodecTrace}
 use Rattle.trace_text.specs.declared.run.StepResult.{StepResult}
 use Rattle.trace_text.specs.declared.run.StepResult.TheVariants as result
 pub use Rattle.trace_text.specs.Report.{refusal_in}
 use Rattle.trace_text.specs.Accounts.{BoxesAccounted}
-use Rattle.trace_text.specs.Follow.{Recorded, at, opening_of, opening_at, state_after, steps_of, chunk_at, init_error, promise_after, Holding, Follows, nothing_yet}
+use Rattle.trace_text.specs.Follow.{Recorded, at, opening_of, opening_at, state_after, steps_of, chunk_at, source_error, promise_after, order_items, Holding, Follows, nothing_yet}
 
 -- the caller whose call an entry keeps, with its step
 abbrev pub who_of : Entry → Option Who
@@ -40,10 +40,11 @@ called (step.Decode on chunk) = Some on
 called (step.Flush on bind) = Some on
 called (step.Reset on) = Some on
 called (step.Close on) = Some on
-called (step.Chunk bind init) = None
+called (step.Chunk bind source) = None
 called (step.Poll promise) = None
 called (step.Await promise) = None
 called (step.State on) = None
+called (step.Media x) = None
 
 -- what a run recorded, without what its entries showed
 abbrev pub recorded_of : Run → Recorded
@@ -58,7 +59,7 @@ abbrev pub entry_in : Recorded → ℕ → ℕ → Option Entry
 entry_in w k p = slice_get (at k w.codecs) p
 
 -- a caller's step
-abbrev pub step_in : Script → ℕ → ℕ → Option Step
+abbrev pub step_in : ScriptData → ℕ → ℕ → Option Step
 step_in s c j = slice_get (steps_of s c) j
 
 -- the exception that an entry shows, if it shows one
@@ -66,34 +67,34 @@ abbrev pub exception_at : Opening → List Entry → ℕ → Option DomError
 exception_at o h p = option_and_then (λ x. refusal_in x.events) (slice_get (each_shown o h) p)
 
 -- The entry at this place is the call of this step, and shows this exception.
-pub record KeepsCall (s : Script) (w : Recorded) (who : Who) (k p : ℕ) (error : Option DomError) : Type 0 where
+pub record KeepsCall (s : ScriptData) (w : Recorded) (who : Who) (k p : ℕ) (error : Option DomError) : Type 0 where
   pub entry : Entry
   pub stands : entry_in w k p ≡ Some entry
   pub names : who_of entry ≡ Some who
   pub shows : error ≡ exception_at (opening_at s k) (at k w.codecs) p
 
 -- The result of a step that calls a codec: one entry keeps the call, unless the step's variable is absent.
-abbrev pub IsCallResult : Script → Recorded → Who → ℕ → StepResult → Type 0
+abbrev pub IsCallResult : ScriptData → Recorded → Who → ℕ → StepResult → Type 0
 IsCallResult s w who k (result.Call other p error) = (other ≡ k) × KeepsCall s w who k p error
 IsCallResult s w who k result.Absent = Unit {0}
 IsCallResult s w who k _ = ⊥
 
 -- a step calls a codec by a call result, and no other step has one
-abbrev pub IsResultOf : Script → Recorded → Who → Option ℕ → StepResult → Type 0
+abbrev pub IsResultOf : ScriptData → Recorded → Who → Option ℕ → StepResult → Type 0
 IsResultOf s w who (Some k) r = IsCallResult s w who k r
 IsResultOf s w who None (result.Call k p error) = ⊥
 IsResultOf s w who None r = Unit {0}
 
 -- Each call of a caller's steps stands once, in its codec's history, and the places of a caller's calls on one codec rise
 -- with its steps.
-pub record CallsAreIn (s : Script) (w : Recorded) : Type 0 where
+pub record CallsAreIn (s : ScriptData) (w : Recorded) : Type 0 where
   -- each step made is a step of the script, and a call's result names its entry
   pub made : (c j : ℕ) (r : StepResult) → result_in w c j ≡ Some r → (x : Step) × (step_in s c j ≡ Some x) × IsResultOf s w (record { caller = c; step = j }) (called x) r
   -- each entry that names a caller's step is the one in that step's result
   pub only : (k p : ℕ) (e : Entry) (who : Who) → entry_in w k p ≡ Some e → who_of e ≡ Some who → (error : Option DomError) × (result_in w who.caller who.step ≡ Some (result.Call k p error))
   pub rising : (c i j k p q : ℕ) (e f : Option DomError) → i < j → result_in w c i ≡ Some (result.Call k p e) → result_in w c j ≡ Some (result.Call k q f) → p < q
 
-abbrev pub CallsStandOnce : Script → Run → Type 0
+abbrev pub CallsStandOnce : ScriptData → Run → Type 0
 CallsStandOnce s run = CallsAreIn s (recorded_of run)
 
 -- a look at a codec after this many entries, if the result is one
@@ -103,7 +104,7 @@ look_of (result.State k length state size) = Some (k, length)
 look_of _ = None
 
 -- what a look shows is read from the history up to it
-abbrev pub LookShows : Script → Recorded → ℕ → Step → StepResult → Type 0
+abbrev pub LookShows : ScriptData → Recorded → ℕ → Step → StepResult → Type 0
 LookShows s w c (step.Await promise) (result.Look k n end) =
     (p : ℕ) × (error : Option DomError) × (result_in w c promise.step ≡ Some (result.Call k p error)) × (end ≡ promise_after (opening_at s k) (take n (at k w.codecs)) p)
 LookShows s w c (step.Poll promise) (result.Look k n end) =
@@ -115,66 +116,67 @@ LookShows s w c x (result.State k n state size) = ⊥
 LookShows s w c x r = Unit {0}
 
 -- A look saw at most the whole history, all that its caller did on the codec before, and nothing that it did afterwards.
-pub record LooksAreIn (s : Script) (w : Recorded) : Type 0 where
+pub record LooksAreIn (s : ScriptData) (w : Recorded) : Type 0 where
   pub within : (c j k n : ℕ) (r : StepResult) → result_in w c j ≡ Some r → look_of r ≡ Some (k, n) → n ≤ length (at k w.codecs)
   pub after_calls : (c i j k p n : ℕ) (e : Option DomError) (r : StepResult) → i < j → result_in w c i ≡ Some (result.Call k p e) → result_in w c j ≡ Some r → look_of r ≡ Some (k, n) → p < n
   pub before_calls : (c i j k p n : ℕ) (e : Option DomError) (r : StepResult) → i < j → result_in w c i ≡ Some r → look_of r ≡ Some (k, n) → result_in w c j ≡ Some (result.Call k p e) → n ≤ p
   pub rising : (c i j k m n : ℕ) (q r : StepResult) → i < j → result_in w c i ≡ Some q → look_of q ≡ Some (k, m) → result_in w c j ≡ Some r → look_of r ≡ Some (k, n) → m ≤ n
   pub shows : (c j : ℕ) (x : Step) (r : StepResult) → step_in s c j ≡ Some x → result_in w c j ≡ Some r → LookShows s w c x r
 
-abbrev pub LooksAreBetween : Script → Run → Type 0
+abbrev pub LooksAreBetween : ScriptData → Run → Type 0
 LooksAreBetween s run = LooksAreIn s (recorded_of run)
 
 -- an entry has what its step gives
-abbrev pub HasArguments : Script → Who → Entry → Step → Type 0
-HasArguments s who e (step.Configure on config) = e ≡ entry.Configure who config
-HasArguments s who e (step.Decode on chunk) = (value : Chunk) × (chunk_at (steps_of s who.caller) chunk.step ≡ Some value) × (e ≡ entry.Decode who value)
-HasArguments s who e (step.Flush on bind) = e ≡ entry.Flush who
-HasArguments s who e (step.Reset on) = e ≡ entry.Reset who
-HasArguments s who e (step.Close on) = e ≡ entry.Close who
-HasArguments s who e _ = ⊥
+abbrev pub HasArguments : ScriptData → List (List Chunk) → Who → Entry → Step → Type 0
+HasArguments s media who e (step.Configure on config) = e ≡ entry.Configure who config
+HasArguments s media who e (step.Decode on chunk) = (value : Chunk) × (chunk_at media (steps_of s who.caller) chunk.step ≡ Some value) × (e ≡ entry.Decode who value)
+HasArguments s media who e (step.Flush on bind) = e ≡ entry.Flush who
+HasArguments s media who e (step.Reset on) = e ≡ entry.Reset who
+HasArguments s media who e (step.Close on) = e ≡ entry.Close who
+HasArguments s media who e _ = ⊥
 
-abbrev pub ArgumentsAreIn : Script → Recorded → Type 0
-ArgumentsAreIn s w = (k p : ℕ) (e : Entry) (who : Who) → entry_in w k p ≡ Some e → who_of e ≡ Some who → (x : Step) × (step_in s who.caller who.step ≡ Some x) × HasArguments s who e x
+abbrev pub ArgumentsAreIn : ScriptData → List (List Chunk) → Recorded → Type 0
+ArgumentsAreIn s media w = (k p : ℕ) (e : Entry) (who : Who) → entry_in w k p ≡ Some e → who_of e ≡ Some who → (x : Step) × (step_in s who.caller who.step ≡ Some x) × HasArguments s media who e x
 
--- The config or chunk in an entry is what the script and the caller's earlier steps give.
-abbrev pub ArgumentsAreTheScripts : Script → Run → Type 0
-ArgumentsAreTheScripts s run = ArgumentsAreIn s (recorded_of run)
+-- The config or chunk in an entry is what the script, its chunk files and the caller's earlier steps give.
+abbrev pub ArgumentsAreTheScripts : ScriptData → List (List Chunk) → Run → Type 0
+ArgumentsAreTheScripts s media run = ArgumentsAreIn s media (recorded_of run)
 
 -- the answer of a step that calls no codec and looks at none; absent is only what lacks its variable
-abbrev pub IsLocalAnswer : Script → ℕ → Step → StepResult → Type 0
-IsLocalAnswer s c (step.Chunk bind init) r = r ≡ result.Local (init_error init)
-IsLocalAnswer s c (step.Decode on chunk) result.Absent = chunk_at (steps_of s c) chunk.step ≡ None
-IsLocalAnswer s c x result.Absent = ⊥
-IsLocalAnswer s c x (result.Local error) = ⊥
-IsLocalAnswer s c x r = Unit {0}
+abbrev pub IsLocalAnswer : ScriptData → List (List Chunk) → ℕ → Step → StepResult → Type 0
+IsLocalAnswer s media c (step.Chunk bind source) r = r ≡ result.Local (source_error source)
+IsLocalAnswer s media c (step.Decode on chunk) result.Absent = chunk_at media (steps_of s c) chunk.step ≡ None
+IsLocalAnswer s media c x result.Absent = ⊥
+IsLocalAnswer s media c x (result.Local error) = ⊥
+IsLocalAnswer s media c x r = Unit {0}
 
-abbrev pub LocalsAreIn : Script → Recorded → Type 0
-LocalsAreIn s w = (c j : ℕ) (x : Step) (r : StepResult) → step_in s c j ≡ Some x → result_in w c j ≡ Some r → IsLocalAnswer s c x r
+abbrev pub LocalsAreIn : ScriptData → List (List Chunk) → Recorded → Type 0
+LocalsAreIn s media w = (c j : ℕ) (x : Step) (r : StepResult) → step_in s c j ≡ Some x → result_in w c j ≡ Some r → IsLocalAnswer s media c x r
 
 -- Every other step has the answer of its own rule.
-abbrev pub LocalStepsAnswer : Script → Run → Type 0
-LocalStepsAnswer s run = LocalsAreIn s (recorded_of run)
+abbrev pub LocalStepsAnswer : ScriptData → List (List Chunk) → Run → Type 0
+LocalStepsAnswer s media run = LocalsAreIn s media (recorded_of run)
 
 -- Each box that went out was asked for, and went back by the entry that let it go. `made` has the ids of the coders that
 -- were handed in.
-abbrev pub BoxesAreAccounted : Script → List CoderId → Run → Type 0
+abbrev pub BoxesAreAccounted : ScriptData → List CoderId → Run → Type 0
 BoxesAreAccounted s made run = BoxesAccounted s made (recorded_of run)
 
 -- All entries, results and slot entries are those that following the script's order makes, item after item. `made` has the
 -- ids of the coders that were handed in.
-pub record FollowsTheOrder (s : Script) (made : List CoderId) (run : Run) : Type 0 where
+pub record FollowsTheOrder (s : ScriptData) (media : List (List Chunk)) (made : List CoderId) (run : Run) : Type 0 where
   -- what each codec has of the registry in the end
   pub holdings : List Holding
-  pub follows : Follows s made s.order (nothing_yet s) (record { recorded = recorded_of run; holdings = holdings })
+  pub follows : Follows s media made (order_items s) (nothing_yet s) (record { recorded = recorded_of run; holdings = holdings })
 
-pub record Fits (s : Script) (made : List CoderId) (run : Run) : Type 0 where
+-- `media` has the chunks of each of the script's chunk files.
+pub record Fits (s : ScriptData) (media : List (List Chunk)) (made : List CoderId) (run : Run) : Type 0 where
   pub calls : CallsStandOnce s run
   pub looks : LooksAreBetween s run
-  pub arguments : ArgumentsAreTheScripts s run
-  pub locals : LocalStepsAnswer s run
+  pub arguments : ArgumentsAreTheScripts s media run
+  pub locals : LocalStepsAnswer s media run
   pub boxes : BoxesAreAccounted s made run
-  pub follows : FollowsTheOrder s made run
+  pub follows : FollowsTheOrder s media made run
 
 -- A codec's history is legal for the script's opening, and shows what was recorded.
 pub record IsLegalTrace (c : CodecItem) (t : CodecTrace) : Type 0 where
@@ -188,7 +190,7 @@ AreLegalTraces (c ∷ cs) (t ∷ ts) = IsLegalTrace c t × AreLegalTraces cs ts
 AreLegalTraces _ _ = ⊥
 
 -- The run has the script's callers and codecs, and each codec's history is legal; no media resource is held.
-pub record IsLegalRun (s : Script) (run : Run) : Type 0 where
+pub record IsLegalRun (s : ScriptData) (run : Run) : Type 0 where
   pub callers : length run.callers ≡ length s.callers
   pub codecs : AreLegalTraces s.codecs run.codecs
   pub held : run.held ≡ 0

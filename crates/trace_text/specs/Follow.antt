@@ -29,16 +29,18 @@ use Rattle.codec_model.specs.declared.entry.Entry.TheVariants as entry
 use Rattle.codec_model.specs.Control.{Control, start_item, may_reclaim, is_close}
 use Rattle.codec_model.specs.Replay.{State, Given, missing_coder, opening_state, replay, entry_of, call_error, removal_error, answer_to}
 use Rattle.codec_model.specs.Shown.{shown, ends_in, promise_state}
-use Rattle.wc_script.specs.declared.script.Script.{Script}
-use Rattle.wc_script.specs.declared.script.KindWord.{KindWord}
-use Rattle.wc_script.specs.declared.script.KindWord.TheVariants as word
-use Rattle.wc_script.specs.declared.script.CodecItem.{CodecItem}
-use Rattle.wc_script.specs.declared.script.CallerItem.{CallerItem}
-use Rattle.wc_script.specs.declared.script.ChunkInit.{ChunkInit}
-use Rattle.wc_script.specs.declared.script.Step.{Step}
-use Rattle.wc_script.specs.declared.script.Step.TheVariants as step
-use Rattle.wc_script.specs.declared.script.OrderItem.{OrderItem}
-use Rattle.wc_script.specs.declared.script.OrderItem.TheVariants as item
+use Rattle.script_types.specs.declared.script.ScriptData.{ScriptData}
+use Rattle.script_types.specs.declared.script.KindWord.{KindWord}
+use Rattle.script_types.specs.declared.script.KindWord.TheVariants as word
+use Rattle.script_types.specs.declared.script.CodecItem.{CodecItem}
+use Rattle.script_types.specs.declared.script.CallerItem.{CallerItem}
+use Rattle.script_types.specs.declared.steps.ChunkInit.{ChunkInit}
+use Rattle.script_types.specs.declared.steps.ChunkSource.{ChunkSource}
+use Rattle.script_types.specs.declared.steps.ChunkSource.TheVariants as source
+use Rattle.script_types.specs.declared.steps.Step.{Step}
+use Rattle.script_types.specs.declared.steps.Step.TheVariants as step
+use Rattle.script_types.specs.declared.script.OrderItem.{OrderItem}
+use Rattle.script_types.specs.declared.script.OrderItem.TheVariants as item
 use Rattle.trace_text.specs.declared.run.StepResult.{StepResult}
 use Rattle.trace_text.specs.declared.run.StepResult.TheVariants as result
 
@@ -99,7 +101,7 @@ opening_in [] k = record { kind = kind.AudioDecoder; saturation = 4 }
 opening_in (c ∷ cs) zero = opening_of c
 opening_in (c ∷ cs) (suc k) = opening_in cs k
 
-abbrev pub opening_at : Script → ℕ → Opening
+abbrev pub opening_at : ScriptData → ℕ → Opening
 opening_at s k = opening_in s.codecs k
 
 -- the state after a history
@@ -107,7 +109,7 @@ abbrev pub state_after : Opening → List Entry → State
 state_after o h = unwrap_or (replay o h) (opening_state o)
 
 -- the state of the codec with this number
-abbrev pub state_at : Script → Recorded → ℕ → State
+abbrev pub state_at : ScriptData → Recorded → ℕ → State
 state_at s w k = state_after (opening_at s k) (at k w.codecs)
 
 -- how a promise stands after a history
@@ -120,21 +122,27 @@ steps_in [] c = []
 steps_in (x ∷ xs) zero = x.steps
 steps_in (x ∷ xs) (suc c) = steps_in xs c
 
-abbrev pub steps_of : Script → ℕ → List Step
+abbrev pub steps_of : ScriptData → ℕ → List Step
 steps_of s c = steps_in s.callers c
 
 -- the chunk that an init makes (W3C WebCodecs, EncodedAudioChunk constructor)
 abbrev pub chunk_of : ChunkInit → Chunk
 chunk_of i = record { key = i.key; timestamp = i.timestamp; duration = i.duration; bytes = i.content }
 
--- the chunk that a step makes, if it makes one
-abbrev pub chunk_by : Step → Option Chunk
-chunk_by (step.Chunk bind init) = option_map chunk_of init
-chunk_by _ = None
+-- the chunk that a source gives: one that is made, unless its init breaks a rule of WebIDL, or one of a chunk file.
+-- `media` has the chunks of each of the script's files
+abbrev pub chunk_from : List (List Chunk) → ChunkSource → Option Chunk
+chunk_from media (source.Init init) = option_map chunk_of init
+chunk_from media (source.File file index) = slice_get (at file media) index
+
+-- the chunk that a step makes or takes from a file, if it does
+abbrev pub chunk_by : List (List Chunk) → Step → Option Chunk
+chunk_by media (step.Chunk bind source) = chunk_from media source
+chunk_by media _ = None
 
 -- the chunk of the variable that the step with this number defines; none where it is absent
-abbrev pub chunk_at : List Step → ℕ → Option Chunk
-chunk_at steps j = option_and_then chunk_by (slice_get steps j)
+abbrev pub chunk_at : List (List Chunk) → List Step → ℕ → Option Chunk
+chunk_at media steps j = option_and_then (chunk_by media) (slice_get steps j)
 
 -- The exception that a call shows, if it has one. A flush has none: its promise is rejected.
 abbrev pub exception_of : Call → Option DomError → Option DomError
@@ -143,7 +151,7 @@ exception_of (call.Decode chunk) error = error
 exception_of call.Flush error = None
 
 -- a caller's configure, decode or flush
-abbrev pub with_call : Script → Who → ℕ → Call → Recorded → Recorded
+abbrev pub with_call : ScriptData → Who → ℕ → Call → Recorded → Recorded
 with_call s who k x w =
     with_result who.caller (result.Call k (length (at k w.codecs)) (exception_of x (call_error x (state_at s w k).control)))
     (with_entry k (entry_of who x) w)
@@ -183,26 +191,26 @@ lets_go_unless None k running v = lets_go k running v
 lets_go_unless (Some error) k running v = v
 
 -- a caller's reset or close, which this entry keeps
-abbrev pub removes : Script → Who → ℕ → Entry → Recorded → Recorded
+abbrev pub removes : ScriptData → Who → ℕ → Entry → Recorded → Recorded
 removes s who k e w =
     with_result who.caller (result.Call k (length (at k w.codecs)) (removal_error (state_at s w k).control)) (with_entry k e w)
 
-abbrev pub with_removal : Script → Who → ℕ → Entry → Course → Course
+abbrev pub with_removal : ScriptData → Who → ℕ → Entry → Course → Course
 with_removal s who k e v =
     let c = (state_at s v.recorded k).control in recording (removes s who k e) (lets_go_unless (removal_error c) k c.running v)
 
-abbrev pub with_decode : Script → Who → ℕ → Option Chunk → Recorded → Recorded
+abbrev pub with_decode : ScriptData → Who → ℕ → Option Chunk → Recorded → Recorded
 with_decode s who k None w = with_result who.caller result.Absent w
 with_decode s who k (Some chunk) w = with_call s who k (call.Decode chunk) w
 
 -- a look at the promise of the flush that came to this result
-abbrev pub with_look : Script → Who → Option StepResult → Recorded → Recorded
+abbrev pub with_look : ScriptData → Who → Option StepResult → Recorded → Recorded
 with_look s who (Some (result.Call k place error)) w =
     with_result who.caller (result.Look k (length (at k w.codecs)) (promise_after (opening_at s k) (at k w.codecs) place)) w
 with_look s who _ w = with_result who.caller result.Absent w
 
 -- a look at a codec's state and the number of its queued chunks
-abbrev pub with_state : Script → Who → ℕ → Recorded → Recorded
+abbrev pub with_state : ScriptData → Who → ℕ → Recorded → Recorded
 with_state s who k w =
     let c = (state_at s w k).control in with_result who.caller (result.State k (length (at k w.codecs)) c.phase c.size) w
 
@@ -211,21 +219,27 @@ abbrev pub init_error : Option ChunkInit → Option DomError
 init_error None = Some dom.TypeErr
 init_error (Some i) = None
 
--- the step of a caller
-abbrev pub follow_step : Script → Who → Step → Course → Course
-follow_step s who (step.Configure on config) v = recording (with_call s who on (call.Configure config)) v
-follow_step s who (step.Chunk bind init) v = recording (with_result who.caller (result.Local (init_error init))) v
-follow_step s who (step.Decode on chunk) v = recording (with_decode s who on (chunk_at (steps_of s who.caller) chunk.step)) v
-follow_step s who (step.Flush on bind) v = recording (with_call s who on call.Flush) v
-follow_step s who (step.Poll promise) v = recording (with_look s who (slice_get (at who.caller v.recorded.callers) promise.step)) v
-follow_step s who (step.Await promise) v = recording (with_look s who (slice_get (at who.caller v.recorded.callers) promise.step)) v
-follow_step s who (step.Reset on) v = with_removal s who on (entry.Reset who) v
-follow_step s who (step.Close on) v = with_removal s who on (entry.Close who) v
-follow_step s who (step.State on) v = recording (with_state s who on) v
+-- a chunk of a file has none
+abbrev pub source_error : ChunkSource → Option DomError
+source_error (source.Init init) = init_error init
+source_error (source.File file index) = None
 
-abbrev pub follow_next : Script → Who → Option Step → Course → Course
-follow_next s who None v = v
-follow_next s who (Some x) v = follow_step s who x v
+-- The step of a caller. A step on media is not built yet, and makes nothing.
+abbrev pub follow_step : ScriptData → List (List Chunk) → Who → Step → Course → Course
+follow_step s media who (step.Configure on config) v = recording (with_call s who on (call.Configure config)) v
+follow_step s media who (step.Chunk bind source) v = recording (with_result who.caller (result.Local (source_error source))) v
+follow_step s media who (step.Decode on chunk) v = recording (with_decode s who on (chunk_at media (steps_of s who.caller) chunk.step)) v
+follow_step s media who (step.Flush on bind) v = recording (with_call s who on call.Flush) v
+follow_step s media who (step.Poll promise) v = recording (with_look s who (slice_get (at who.caller v.recorded.callers) promise.step)) v
+follow_step s media who (step.Await promise) v = recording (with_look s who (slice_get (at who.caller v.recorded.callers) promise.step)) v
+follow_step s media who (step.Reset on) v = with_removal s who on (entry.Reset who) v
+follow_step s media who (step.Close on) v = with_removal s who on (entry.Close who) v
+follow_step s media who (step.State on) v = recording (with_state s who on) v
+follow_step s media who (step.Media x) v = v
+
+abbrev pub follow_next : ScriptData → List (List Chunk) → Who → Option Step → Course → Course
+follow_next s media who None v = v
+follow_next s media who (Some x) v = follow_step s media who x v
 
 -- what a codec has of the registry after an acquire: the box of this number, or the entry that refused one
 abbrev pub holding_by : By → CoderId → ℕ → Option ℕ → Holding
@@ -282,25 +296,29 @@ with_turn k running (t ∷ ts) v = recording (with_entry k entry.Turn) (lets_go_
 abbrev pub with_reclaim : ℕ → ℕ → Control → Course → Course
 with_reclaim k moment c v = if may_reclaim moment c then recording (with_entry k (entry.Reclaim moment)) (lets_go k c.running v) else v
 
--- One item of the order; one that finds nothing to do changes nothing. `made` has the id of each coder that was handed in,
+-- One item of the order; one that finds nothing to do changes nothing. `media` has the chunks of each chunk file, `made` has the id of each coder that was handed in,
 -- and `wants` says that an end wants memory.
-abbrev pub follow_item : Script → List CoderId → Bool → OrderItem → Course → Course
-follow_item s made wants (item.Caller c) v =
-    let j = length (at c v.recorded.callers) in follow_next s (record { caller = c; step = j }) (slice_get (steps_of s c) j) v
-follow_item s made wants (item.Start k) v =
+abbrev pub follow_item : ScriptData → List (List Chunk) → List CoderId → Bool → OrderItem → Course → Course
+follow_item s media made wants (item.Caller c) v =
+    let j = length (at c v.recorded.callers) in follow_next s media (record { caller = c; step = j }) (slice_get (steps_of s c) j) v
+follow_item s media made wants (item.Start k) v =
     let x = state_at s v.recorded k in with_start made k x.control.epoch x.given (start_item x.control) v
-follow_item s made wants (item.Done k moment) v = let x = state_at s v.recorded k in with_done wants k moment x x.control.running v
-follow_item s made wants (item.Turn k) v =
+follow_item s media made wants (item.Done k moment) v = let x = state_at s v.recorded k in with_done wants k moment x x.control.running v
+follow_item s media made wants (item.Turn k) v =
     let c = (state_at s v.recorded k).control in with_turn k c.running c.tasks v
-follow_item s made wants (item.Reclaim k moment) v = with_reclaim k moment (state_at s v.recorded k).control v
+follow_item s media made wants (item.Reclaim k moment) v = with_reclaim k moment (state_at s v.recorded k).control v
 
 -- The order leads from one course to another, item after item; each end may want memory or not.
-abbrev pub Follows : Script → List CoderId → List OrderItem → Course → Course → Type 0
-Follows s made [] v u = u ≡ v
-Follows s made (x ∷ xs) v u = (wants : Bool) × Follows s made xs (follow_item s made wants x v) u
+abbrev pub Follows : ScriptData → List (List Chunk) → List CoderId → List OrderItem → Course → Course → Type 0
+Follows s media made [] v u = u ≡ v
+Follows s media made (x ∷ xs) v u = (wants : Bool) × Follows s media made xs (follow_item s media made wants x v) u
+
+-- the items of a script's order; none where there is no order
+abbrev pub order_items : ScriptData → List OrderItem
+order_items s = unwrap_or s.order []
 
 -- nothing is recorded yet, and no codec has anything of the registry
-abbrev pub nothing_yet : Script → Course
+abbrev pub nothing_yet : ScriptData → Course
 nothing_yet s = record {
   recorded = record { callers = map (λ c. []) s.callers; codecs = map (λ c. []) s.codecs; slots = [] };
   holdings = map (λ c. nothing_held) s.codecs;

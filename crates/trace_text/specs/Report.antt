@@ -44,9 +44,9 @@ use Rattle.codec_model.specs.declared.entry.Event.TheVariants as event
 use Rattle.codec_model.specs.declared.entry.Shown.{Shown}
 use Rattle.codec_model.specs.declared.entry.Entry.{Entry}
 use Rattle.codec_model.specs.declared.entry.Entry.TheVariants as entry
-use Rattle.wc_script.specs.declared.script.Script.{Script}
-use Rattle.wc_script.specs.declared.script.CodecItem.{CodecItem}
-use Rattle.wc_script.specs.declared.script.CallerItem.{CallerItem}
+use Rattle.script_types.specs.declared.script.ScriptData.{ScriptData}
+use Rattle.script_types.specs.declared.script.CodecItem.{CodecItem}
+use Rattle.script_types.specs.declared.script.CallerItem.{CallerItem}
 use Rattle.trace_text.specs.declared.run.StepResult.{StepResult}
 use Rattle.trace_text.specs.declared.run.StepResult.TheVariants as result
 use Rattle.trace_text.specs.declared.run.CallerTrace.{CallerTrace}
@@ -161,7 +161,7 @@ entry_name codecs n place = codec_name codecs n <> codes "." <> decimal place
 abbrev pub look_name : List CodecItem → ℕ → ℕ → List ℕ
 look_name codecs n length = codec_name codecs n <> codes ":" <> decimal length
 
-abbrev pub by_text : Script → By → List ℕ
+abbrev pub by_text : ScriptData → By → List ℕ
 by_text script (by.Caller who) = who_text script.callers who
 by_text script (by.Codec n place) = entry_name script.codecs n place
 
@@ -190,7 +190,7 @@ abbrev pub caller_header : List ℕ → List ℕ
 caller_header name = codes "caller " <> name <> codes "\n"
 
 -- the line `caller NAME`, and its results, numbered by their steps
-abbrev pub caller_lines : Script → ℕ → CallerItem × CallerTrace → List ℕ
+abbrev pub caller_lines : ScriptData → ℕ → CallerItem × CallerTrace → List ℕ
 caller_lines script n caller = caller_header caller.0.name ++ each_from (result_line script.codecs) 0 caller.1.results
 
 -- Entries of codecs.
@@ -309,7 +309,7 @@ abbrev pub codec_header : List ℕ → Kind → ℕ → List ℕ
 codec_header name kind saturation = codes "codec " <> name <> codes " " <> kind_text kind <> codes " " <> decimal saturation <> codes "\n"
 
 -- the line `codec NAME KIND S`, and its entries, numbered by their places
-abbrev pub codec_lines : Script → ℕ → CodecItem × CodecTrace → List ℕ
+abbrev pub codec_lines : ScriptData → ℕ → CodecItem × CodecTrace → List ℕ
 codec_lines script n codec = codec_header codec.0.name codec.1.opening.kind codec.1.opening.saturation ++ each_from (entry_lines script.callers) 0 (zip codec.1.entries codec.1.shown)
 
 -- Entries of the registry of coders.
@@ -319,10 +319,10 @@ slot_text (slot.Acquire id number) = codes "acquire " <> coder_text id <> codes 
 slot_text (slot.Refused id out made) = codes "acquire " <> coder_text id <> codes " none " <> decimal out <> codes " " <> decimal made
 slot_text (slot.Give id number) = codes "give " <> coder_text id <> codes " " <> decimal number
 
-abbrev pub slot_entry_text : Script → SlotEntry → List ℕ
+abbrev pub slot_entry_text : ScriptData → SlotEntry → List ℕ
 slot_entry_text script entry = by_text script entry.by <> codes " " <> slot_text entry.op
 
-abbrev pub slot_line : Script → ℕ → SlotEntry → List ℕ
+abbrev pub slot_line : ScriptData → ℕ → SlotEntry → List ℕ
 slot_line script place entry = numbered_line place (slot_entry_text script entry)
 
 abbrev pub held_line : ℕ → List ℕ
@@ -330,13 +330,13 @@ held_line held = codes "held " <> decimal held <> codes "\n"
 
 -- The whole. Callers and codecs of the script and of the run are taken in pairs, in order.
 
-abbrev pub callers_text : Script → Run → List ℕ
+abbrev pub callers_text : ScriptData → Run → List ℕ
 callers_text script run = each_from (caller_lines script) 0 (zip script.callers run.callers)
 
-abbrev pub codecs_text : Script → Run → List ℕ
+abbrev pub codecs_text : ScriptData → Run → List ℕ
 codecs_text script run = each_from (codec_lines script) 0 (zip script.codecs run.codecs)
 
-abbrev pub slots_text : Script → Run → List ℕ
+abbrev pub slots_text : ScriptData → Run → List ℕ
 slots_text script run = each_from (slot_line script) 0 run.slots
 
 -- how many media resources are still held, and the end
@@ -344,8 +344,8 @@ abbrev pub end_text : ℕ → List ℕ
 end_text held = held_line held ++ codes "end\n"
 
 -- the entries of the pool of media, of which a run has none yet, those of the registry, and the end
-abbrev pub registry_text : Script → Run → List ℕ
+abbrev pub registry_text : ScriptData → Run → List ℕ
 registry_text script run = codes "pool\n" <> codes "slots\n" <> slots_text script run <> end_text run.held
 
-abbrev pub report_of : Script → Run → List ℕ
+abbrev pub report_of : ScriptData → Run → List ℕ
 report_of script run = codes "wcrun report 1\n" <> callers_text script run <> codecs_text script run <> registry_text script run

@@ -15,14 +15,16 @@ use Rattle.codec_model.specs.declared.entry.TurnWord.{TurnWord}
 use Rattle.codec_model.specs.declared.entry.TurnWord.TheVariants as turn
 use Rattle.codec_model.specs.Shown.{each_shown}
 use Rattle.codec_model.specs.Rows.{four, pcm, unit, ordinary}
-use Rattle.wc_script.specs.declared.script.Script.{Script}
-use Rattle.wc_script.specs.declared.script.KindWord.TheVariants as word
-use Rattle.wc_script.specs.declared.script.CodecItem.{CodecItem}
-use Rattle.wc_script.specs.declared.script.ChunkInit.{ChunkInit}
-use Rattle.wc_script.specs.declared.script.Step.{Step}
-use Rattle.wc_script.specs.declared.script.Step.TheVariants as step
-use Rattle.wc_script.specs.declared.script.OrderItem.{OrderItem}
-use Rattle.wc_script.specs.declared.script.OrderItem.TheVariants as item
+use Rattle.script_types.specs.declared.script.ScriptData.{ScriptData}
+use Rattle.script_types.specs.declared.script.KindWord.TheVariants as word
+use Rattle.script_types.specs.declared.script.CodecItem.{CodecItem}
+use Rattle.script_types.specs.declared.steps.ChunkInit.{ChunkInit}
+use Rattle.script_types.specs.declared.steps.ChunkSource.TheVariants as source
+use Rattle.script_types.specs.declared.steps.VariableKind.TheVariants as holds
+use Rattle.script_types.specs.declared.steps.Step.{Step}
+use Rattle.script_types.specs.declared.steps.Step.TheVariants as step
+use Rattle.script_types.specs.declared.script.OrderItem.{OrderItem}
+use Rattle.script_types.specs.declared.script.OrderItem.TheVariants as item
 use Rattle.trace_text.specs.declared.run.Run.{Run}
 use Rattle.trace_text.specs.declared.run.StepResult.{StepResult}
 use Rattle.trace_text.specs.declared.run.StepResult.TheVariants as result
@@ -39,8 +41,8 @@ init = record { key = true; timestamp = pos 0; duration = None; content = 1 ∷ 
 
 abbrev pub steps : List Step
 steps =
-    step.Configure 0 pcm ∷ step.Chunk (codes "c") (Some init) ∷ step.Decode 0 (record { name = codes "c"; step = 1 })
-    ∷ step.Flush 0 (codes "p") ∷ step.Await (record { name = codes "p"; step = 3 }) ∷ []
+    step.Configure 0 pcm ∷ step.Chunk (codes "c") (source.Init (Some init)) ∷ step.Decode 0 (record { name = codes "c"; step = 1; kind = holds.Chunk })
+    ∷ step.Flush 0 (codes "p") ∷ step.Await (record { name = codes "p"; step = 3; kind = holds.Promise }) ∷ []
 
 abbrev pub order : List OrderItem
 order =
@@ -49,8 +51,8 @@ order =
     ∷ item.Start 0 ∷ item.Done 0 2 ∷ item.Turn 0 ∷ item.Turn 0
     ∷ item.Start 0 ∷ item.Done 0 3 ∷ item.Turn 0 ∷ item.Caller 0 ∷ []
 
-abbrev pub ordinary_script : Script
-ordinary_script = record { codecs = decoder ∷ []; callers = record { name = codes "a"; steps = steps } ∷ []; order = order }
+abbrev pub ordinary_script : ScriptData
+ordinary_script = record { codecs = decoder ∷ []; callers = record { name = codes "a"; steps = steps } ∷ []; order = Some order; chunk_files = [] }
 
 -- ---- the run
 
@@ -108,7 +110,7 @@ ordinary_text = codes "wcrun report 1\n" ++ caller_part ++ codec_part ++ codes "
 
 -- The script's order makes what was recorded, the entries show what stands beside them, and the report is this text.
 abbrev pub OrdinaryFollows : Type 0
-OrdinaryFollows = FollowsTheOrder ordinary_script (coder ∷ []) ordinary_run
+OrdinaryFollows = FollowsTheOrder ordinary_script [] (coder ∷ []) ordinary_run
 
 abbrev pub OrdinaryShown : Type 0
 OrdinaryShown = shown ≡ each_shown four ordinary

@@ -10,7 +10,7 @@ use std::alloc::{AllocError, Global};
 use std::fmt;
 use wc_base::{By, DomError, Who};
 use wc_config::CoderId;
-use wc_script::{CallerItem, CodecItem, Script};
+use script_types::{CallerItem, CodecItem, ScriptData};
 
 fn codec_name(codecs: &[CodecItem], number: u32) -> &str
     ensures { result.now ≡ spec.codec_name codecs.now number }
@@ -377,7 +377,7 @@ impl fmt::Display for CoderText {
 // Who caused an entry of the registry.
 #[derive(Drop)]
 struct ByText<'a> {
-    script: &'a Script,
+    script: &'a ScriptData,
     by: By,
 }
 
@@ -433,7 +433,7 @@ impl fmt::Display for SlotText {
 // An entry of the registry.
 #[derive(Drop)]
 struct SlotEntryText<'a> {
-    script: &'a Script,
+    script: &'a ScriptData,
     entry: SlotEntry,
 }
 
@@ -452,7 +452,7 @@ impl fmt::Display for SlotEntryText<'_> {
 
 pub fn slot_line(
     alloc: Global,
-    script: &Script,
+    script: &ScriptData,
     place: u64,
     entry: SlotEntry,
 ) -> Result<String, AllocError>

@@ -17,7 +17,7 @@ use std::alloc::{AllocError, Global};
 use wc_base::{DomError, Failed, Picture, Samples, Sink};
 use wc_chunk::Chunk;
 use wc_config::AudioDecoderConfig;
-use wc_script::{CallerItem, CodecItem, Script};
+use script_types::{CallerItem, CodecItem, Script, ScriptData};
 
 /// Why a report was not written whole.
 #[derive(Clone, Copy, Debug, PartialEq, Eq)]
@@ -90,7 +90,7 @@ fn write_results<S: Sink>(
 // What a caller's steps came to.
 fn write_steps<S: Sink>(
     alloc: Global,
-    script: &Script,
+    script: &ScriptData,
     trace: &CallerTrace,
     sink: &mut S,
 ) -> Result<(), WriteFault>
@@ -128,7 +128,7 @@ fn write_caller_header<S: Sink>(
 #[tactic(auto, using(wc_base::proofs::Parts::part_whole))]
 fn write_caller<S: Sink>(
     alloc: Global,
-    script: &Script,
+    script: &ScriptData,
     number: usize,
     caller: &CallerItem,
     trace: &CallerTrace,
@@ -148,7 +148,7 @@ fn write_caller<S: Sink>(
 #[tactic(auto, using(crate::proofs::Steps::so_far_start, crate::proofs::Steps::pairs_end, wc_base::proofs::Parts::part_whole))]
 fn write_callers<S: Sink>(
     alloc: Global,
-    script: &Script,
+    script: &ScriptData,
     items: &[CallerItem],
     traces: &[CallerTrace],
     sink: &mut S,
@@ -167,7 +167,7 @@ fn write_callers<S: Sink>(
 // The callers of the script and of the run, in pairs.
 fn write_all_callers<S: Sink>(
     alloc: Global,
-    script: &Script,
+    script: &ScriptData,
     run: &Run,
     sink: &mut S,
 ) -> Result<(), WriteFault>
@@ -444,7 +444,7 @@ fn write_entries<S: Sink>(
 // A codec's history.
 fn write_history<S: Sink>(
     alloc: Global,
-    script: &Script,
+    script: &ScriptData,
     trace: &CodecTrace,
     sink: &mut S,
 ) -> Result<(), WriteFault>
@@ -484,7 +484,7 @@ fn write_codec_header<S: Sink>(
 #[tactic(auto, using(wc_base::proofs::Parts::part_whole))]
 fn write_codec<S: Sink>(
     alloc: Global,
-    script: &Script,
+    script: &ScriptData,
     number: usize,
     codec: &CodecItem,
     trace: &CodecTrace,
@@ -504,7 +504,7 @@ fn write_codec<S: Sink>(
 #[tactic(auto, using(crate::proofs::Steps::so_far_start, crate::proofs::Steps::pairs_end, wc_base::proofs::Parts::part_whole))]
 fn write_codecs<S: Sink>(
     alloc: Global,
-    script: &Script,
+    script: &ScriptData,
     items: &[CodecItem],
     traces: &[CodecTrace],
     sink: &mut S,
@@ -523,7 +523,7 @@ fn write_codecs<S: Sink>(
 // The codecs of the script and of the run, in pairs.
 fn write_all_codecs<S: Sink>(
     alloc: Global,
-    script: &Script,
+    script: &ScriptData,
     run: &Run,
     sink: &mut S,
 ) -> Result<(), WriteFault>
@@ -545,7 +545,7 @@ fn write_all_codecs<S: Sink>(
 #[tactic(auto, using(wc_base::proofs::Parts::part_none))]
 fn write_slot<S: Sink>(
     alloc: Global,
-    script: &Script,
+    script: &ScriptData,
     place: u64,
     entry: SlotEntry,
     sink: &mut S,
@@ -564,7 +564,7 @@ fn write_slot<S: Sink>(
 #[tactic(auto, using(crate::proofs::Steps::so_far_start, crate::proofs::Steps::so_far_end, wc_base::proofs::Parts::part_whole))]
 fn write_slots<S: Sink>(
     alloc: Global,
-    script: &Script,
+    script: &ScriptData,
     slots: &[SlotEntry],
     sink: &mut S,
 ) -> Result<(), WriteFault>
@@ -582,7 +582,7 @@ fn write_slots<S: Sink>(
 // The registry's history.
 fn write_slot_entries<S: Sink>(
     alloc: Global,
-    script: &Script,
+    script: &ScriptData,
     run: &Run,
     sink: &mut S,
 ) -> Result<(), WriteFault>
@@ -636,7 +636,7 @@ fn write_pool<S: Sink>(sink: &mut S) -> Result<(), WriteFault>
 #[tactic(auto, using(wc_base::proofs::Parts::part_whole))]
 fn write_registry<S: Sink>(
     alloc: Global,
-    script: &Script,
+    script: &ScriptData,
     run: &Run,
     sink: &mut S,
 ) -> Result<(), WriteFault>
@@ -652,14 +652,11 @@ fn write_registry<S: Sink>(
     Ok(())
 }
 
-/// Appends the report of a run of this script, one write for each line.
-///
-/// Callers and codecs of the script and the run are taken in pairs, in order. After an `Err` a beginning of the report
-/// was appended: `Failed` comes only where the sink's count of faults rose, `NoMemory` from want of memory for a line.
+// The report of a run of a script that holds this.
 #[tactic(auto, using(wc_base::proofs::Parts::part_whole))]
-pub fn write_report<S: Sink>(
+fn write_whole<S: Sink>(
     alloc: Global,
-    script: &Script,
+    script: &ScriptData,
     run: &Run,
     sink: &mut S,
 ) -> Result<(), WriteFault>
@@ -673,4 +670,22 @@ pub fn write_report<S: Sink>(
     write_all_codecs(alloc, script, run, sink)?;
     write_registry(alloc, script, run, sink)?;
     Ok(())
+}
+
+/// Appends the report of a run of this script, one write for each line.
+///
+/// Callers and codecs of the script and the run are taken in pairs, in order. After an `Err` a beginning of the report
+/// was appended: `Failed` comes only where the sink's count of faults rose, `NoMemory` from want of memory for a line.
+pub fn write_report<S: Sink>(
+    alloc: Global,
+    script: &Script,
+    run: &Run,
+    sink: &mut S,
+) -> Result<(), WriteFault>
+    ensures ok { OnOk result (S.told sink.new ≡ appended (S.told sink.old) (report_of script.now run.now)) }
+    ensures part { AppendsPart (S.told sink.old) (report_of script.now run.now) (S.told sink.new) }
+    ensures later { S.faults sink.old ≤ S.faults sink.new }
+    ensures failed { IsErrOf result WriteFault.Failed → Rose (S.faults sink.old) (S.faults sink.new) }
+{
+    write_whole(alloc, script.data(), run, sink)
 }

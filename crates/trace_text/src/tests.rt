@@ -13,7 +13,7 @@ use wc_base::{
 };
 use wc_chunk::Chunk;
 use wc_config::{AudioDecoderConfig, CodecId, CoderId, Config, Role};
-use wc_script::{CallerItem, CodecItem, KindWord, Script};
+use script_types::{CallerItem, CodecItem, KindWord, Script, ScriptData};
 
 const OPENING: Opening = Opening {
     kind: Kind::AudioDecoder,
@@ -34,11 +34,12 @@ fn script(alloc: Global) -> Result<Script, Fail> {
         name: Text::of(String::from_str(alloc, "a")?),
         steps: List::empty(alloc),
     };
-    Ok(Script {
+    Ok(Script::of(ScriptData {
         codecs: List::of(vec![in alloc; codec]?),
         callers: List::of(vec![in alloc; caller]?),
-        order: List::empty(alloc),
-    })
+        order: None,
+        chunk_files: List::empty(alloc),
+    }))
 }
 
 fn call(place: u64) -> StepResult {

@@ -22,11 +22,11 @@ use Rattle.codec_model.specs.Control.{start_item, may_start, front, may_reclaim,
 use Rattle.codec_model.specs.Replay.{State, step, missing_coder, entry_of, removal_error, answer_to}
 use Rattle.codec_core.specs.Codec.{KeepsRunning}
 use Rattle.codec_core.proofs.Laws.{call_keeps_running, reset_keeps_running, close_keeps_running, turn_keeps_running, reclaim_keeps_running}
-use Rattle.wc_script.specs.declared.script.Script.{Script}
-use Rattle.wc_script.specs.declared.script.Step.{Step}
-use Rattle.wc_script.specs.declared.script.Step.TheVariants as does
-use Rattle.wc_script.specs.declared.script.OrderItem.{OrderItem}
-use Rattle.wc_script.specs.declared.script.OrderItem.TheVariants as item
+use Rattle.script_types.specs.declared.script.ScriptData.{ScriptData}
+use Rattle.script_types.specs.declared.steps.Step.{Step}
+use Rattle.script_types.specs.declared.steps.Step.TheVariants as does
+use Rattle.script_types.specs.declared.script.OrderItem.{OrderItem}
+use Rattle.script_types.specs.declared.script.OrderItem.TheVariants as item
 use Rattle.trace_text.specs.declared.run.StepResult.{StepResult}
 use Rattle.trace_text.specs.declared.run.StepResult.TheVariants as result
 use Rattle.trace_text.specs.Follow.{Recorded, Course, BoxOut, Holding, at, append_at, with_entry, state_at, steps_of, chunk_at, init_error, with_result, with_state, with_call, removes, with_decode, with_look, with_box, give_of, gives_back, keeps_box, lets_go, lets_go_if, lets_go_unless, with_start, with_done, with_turn, recording, holding_at, holding_by, nothing_held, next_cause, outcome_by, outcome_for, follow_step, follow_next, follow_item}
@@ -43,11 +43,11 @@ use Rattle.wc_replay.proofs.AccountsItems.{Accounted, set_length, held_here, cod
 use Rattle.wc_replay.proofs.AccountsRefusals.{RefusalsAgree, refusal_of, NoneRefused, gives_refuse_none, agree_plain, agree_done, agree_asks}
 
 -- refusals and ends agree in what a course recorded
-abbrev pub Agree : Script → Course → Type 0
+abbrev pub Agree : ScriptData → Course → Type 0
 Agree s v = RefusalsAgree s v.recorded.codecs v.recorded.slots v.holdings
 
 -- a codec with no item at work was refused none
-idle_none : (s : Script) (v : Course) (k : ℕ) → Agree s v → (state_at s v.recorded k).control.running ≡ None → refusal_of v.holdings k ≡ None
+idle_none : (s : ScriptData) (v : Course) (k : ℕ) → Agree s v → (state_at s v.recorded k).control.running ≡ None → refusal_of v.holdings k ≡ None
 idle_none s v k agree idle = by_case (refusal_of v.holdings k) refl
   where
     by_case : (o : Option ℕ) → refusal_of v.holdings k ≡ o → refusal_of v.holdings k ≡ None
@@ -64,13 +64,13 @@ gone_refusal n k hs none = elim (held n k nothing_held hs) [
 ]
 
 -- An entry that keeps the running item, and ends none.
-record Keeps (s : Script) (v : Course) (k : ℕ) (e : Entry) : Type 0 where
+record Keeps (s : ScriptData) (v : Course) (k : ℕ) (e : Entry) : Type 0 where
   below : k < length v.recorded.codecs
   plain : is_done e ≡ false
   steps : Steps e (state_at s v.recorded k)
   running : (r : Running) (t u : State) → t ≡ state_at s v.recorded k → t.control.running ≡ Some r → step e t ≡ Some u → u.control.running ≡ Some r
 
-kept_agrees : (s : Script) (k : ℕ) (e : Entry) (v u : Course) (cause : By) (box : Option BoxOut) → u.recorded.codecs ≡ append_at k e v.recorded.codecs → u.recorded.slots ≡ v.recorded.slots ++ give_of cause box → ((n : ℕ) → refusal_of u.holdings n ≡ refusal_of v.holdings n)
+kept_agrees : (s : ScriptData) (k : ℕ) (e : Entry) (v u : Course) (cause : By) (box : Option BoxOut) → u.recorded.codecs ≡ append_at k e v.recorded.codecs → u.recorded.slots ≡ v.recorded.slots ++ give_of cause box → ((n : ℕ) → refusal_of u.holdings n ≡ refusal_of v.holdings n)
     → Legals s v.recorded → Keeps s v k e → Agree s v → Agree s u
 kept_agrees s k e v u cause box grown slots refusals legal keeps agree =
     let steps = steps_on s v k e legal keeps.steps keeps.below in
@@ -79,7 +79,7 @@ kept_agrees s k e v u cause box grown slots refusals legal keeps agree =
     (λ r is. keeps.running r (state_at s v.recorded k) (After s v k e) refl is steps) agree)
 
 -- what keeps each running item
-keeps_all : (s : Script) (v : Course) (k : ℕ) (e : Entry) → k < length v.recorded.codecs → is_done e ≡ false → Steps e (state_at s v.recorded k) → ((a b : State) → step e a ≡ Some b → KeepsRunning a b) → Keeps s v k e
+keeps_all : (s : ScriptData) (v : Course) (k : ℕ) (e : Entry) → k < length v.recorded.codecs → is_done e ≡ false → Steps e (state_at s v.recorded k) → ((a b : State) → step e a ≡ Some b → KeepsRunning a b) → Keeps s v k e
 keeps_all s v k e below plain steps keeps = record {
   below = below;
   plain = plain;
@@ -88,21 +88,21 @@ keeps_all s v k e below plain steps keeps = record {
 }
 
 -- an entry that leaves the registry as it is
-still_agrees : (s : Script) (k : ℕ) (e : Entry) (v : Course) (f : Recorded → Recorded) → (f v.recorded).codecs ≡ append_at k e v.recorded.codecs → (f v.recorded).slots ≡ v.recorded.slots → Legals s v.recorded → Keeps s v k e → Agree s v → Agree s (recording f v)
+still_agrees : (s : ScriptData) (k : ℕ) (e : Entry) (v : Course) (f : Recorded → Recorded) → (f v.recorded).codecs ≡ append_at k e v.recorded.codecs → (f v.recorded).slots ≡ v.recorded.slots → Legals s v.recorded → Keeps s v k e → Agree s v → Agree s (recording f v)
 still_agrees s k e v f grown slots legal keeps agree = kept_agrees s k e v (recording f v) (next_cause k v) None grown (slots ∙ sym (append-nil v.recorded.slots)) (λ n. refl) legal keeps agree
 
-quiet_agrees : (s : Script) (v : Course) (f : Recorded → Recorded) → (f v.recorded).codecs ≡ v.recorded.codecs → (f v.recorded).slots ≡ v.recorded.slots → Agree s v → Agree s (recording f v)
+quiet_agrees : (s : ScriptData) (v : Course) (f : Recorded → Recorded) → (f v.recorded).codecs ≡ v.recorded.codecs → (f v.recorded).slots ≡ v.recorded.slots → Agree s v → Agree s (recording f v)
 quiet_agrees s v f codecs slots agree =
     subst (λ (c : List (List Entry)). RefusalsAgree s c (f v.recorded).slots v.holdings) (sym codecs)
     (subst (λ (l : List SlotEntry). RefusalsAgree s v.recorded.codecs l v.holdings) (sym slots) agree)
 
-lets_agrees : (s : Script) (k : ℕ) (e : Entry) (v : Course) (f : Recorded → Recorded) (o : Option Running) → ((u : Recorded) → (f u).slots ≡ u.slots) → ((u : Recorded) → u.codecs ≡ v.recorded.codecs → (f u).codecs ≡ append_at k e v.recorded.codecs)
+lets_agrees : (s : ScriptData) (k : ℕ) (e : Entry) (v : Course) (f : Recorded → Recorded) (o : Option Running) → ((u : Recorded) → (f u).slots ≡ u.slots) → ((u : Recorded) → u.codecs ≡ v.recorded.codecs → (f u).codecs ≡ append_at k e v.recorded.codecs)
     → (state_at s v.recorded k).control.running ≡ o → Legals s v.recorded → Keeps s v k e → Agree s v → Agree s (recording f (lets_go k o v))
 lets_agrees s k e v f None slots grown is legal keeps agree =
     kept_agrees s k e v (recording f (gives_back k v)) (next_cause k v) (box_of v.holdings k) (grown (gives_back k v).recorded refl) (slots (gives_back k v).recorded) (λ n. gone_refusal n k v.holdings (idle_none s v k agree is)) legal keeps agree
 lets_agrees s k e v f (Some r) slots grown is legal keeps agree = still_agrees s k e v f (grown v.recorded refl) (slots v.recorded) legal keeps agree
 
-call_agrees : (s : Script) (who : Who) (k : ℕ) (x : Call) (v : Course) → k < length v.recorded.codecs → Legals s v.recorded → Agree s v → Agree s (recording (with_call s who k x) v)
+call_agrees : (s : ScriptData) (who : Who) (k : ℕ) (x : Call) (v : Course) → k < length v.recorded.codecs → Legals s v.recorded → Agree s v → Agree s (recording (with_call s who k x) v)
 call_agrees s who k x v below legal agree = still_agrees s k (entry_of who x) v (with_call s who k x) refl refl legal (keeps_all s v k (entry_of who x) below (plain who x) (call_legal who x (state_at s v.recorded k)) (λ a b h. call_keeps_running who x a b h)) agree
   where
     plain : (who : Who) (x : Call) → is_done (entry_of who x) ≡ false
@@ -110,18 +110,18 @@ call_agrees s who k x v below legal agree = still_agrees s k (entry_of who x) v 
     plain who (call.Decode chunk) = refl
     plain who call.Flush = refl
 
-decode_agrees : (s : Script) (who : Who) (k : ℕ) (o : Option Chunk) (v : Course) → k < length v.recorded.codecs → Legals s v.recorded → Agree s v → Agree s (recording (with_decode s who k o) v)
+decode_agrees : (s : ScriptData) (who : Who) (k : ℕ) (o : Option Chunk) (v : Course) → k < length v.recorded.codecs → Legals s v.recorded → Agree s v → Agree s (recording (with_decode s who k o) v)
 decode_agrees s who k None v below legal agree = quiet_agrees s v (with_decode s who k None) refl refl agree
 decode_agrees s who k (Some chunk) v below legal agree = call_agrees s who k (call.Decode chunk) v below legal agree
 
-look_agrees : (s : Script) (who : Who) (o : Option StepResult) (v : Course) → Agree s v → Agree s (recording (with_look s who o) v)
+look_agrees : (s : ScriptData) (who : Who) (o : Option StepResult) (v : Course) → Agree s v → Agree s (recording (with_look s who o) v)
 look_agrees s who o v agree = quiet_agrees s v (with_look s who o) (look_slots s who o v.recorded).1 (look_slots s who o v.recorded).0 agree
 
-removal_agrees : (s : Script) (who : Who) (k : ℕ) (e : Entry) (v : Course) (o : Option DomError) → Legals s v.recorded → Keeps s v k e → Agree s v → Agree s (recording (removes s who k e) (lets_go_unless o k (state_at s v.recorded k).control.running v))
+removal_agrees : (s : ScriptData) (who : Who) (k : ℕ) (e : Entry) (v : Course) (o : Option DomError) → Legals s v.recorded → Keeps s v k e → Agree s v → Agree s (recording (removes s who k e) (lets_go_unless o k (state_at s v.recorded k).control.running v))
 removal_agrees s who k e v None legal keeps agree = lets_agrees s k e v (removes s who k e) (state_at s v.recorded k).control.running (λ u. refl) (λ u q. ap (append_at k e) q) refl legal keeps agree
 removal_agrees s who k e v (Some error) legal keeps agree = still_agrees s k e v (removes s who k e) refl refl legal keeps agree
 
-step_agrees : (s : Script) (c : ℕ) (x : Step) (v : Course) → IsSound s → FitsSoFar s v.recorded → step_in s c (length (at c v.recorded.callers)) ≡ Some x → Agree s v → Agree s (follow_step s (next_who v.recorded c) x v)
+step_agrees : (s : ScriptData) (c : ℕ) (x : Step) (v : Course) → IsSound s → FitsSoFar s v.recorded → step_in s c (length (at c v.recorded.callers)) ≡ Some x → Agree s v → Agree s (follow_step s (next_who v.recorded c) x v)
 step_agrees s c (does.Configure on config) v sound fits is agree = call_agrees s (next_who v.recorded c) on (call.Configure config) v (called_there s v c on (does.Configure on config) sound fits is refl) fits.legal agree
 step_agrees s c (does.Chunk bind init) v sound fits is agree = quiet_agrees s v (with_result c (result.Local (init_error init))) refl refl agree
 step_agrees s c (does.Decode on chunk) v sound fits is agree = decode_agrees s (next_who v.recorded c) on (chunk_at (steps_of s c) chunk.step) v (called_there s v c on (does.Decode on chunk) sound fits is refl) fits.legal agree
@@ -136,11 +136,11 @@ step_agrees s c (does.Close on) v sound fits is agree =
     removal_agrees s who on (entry.Close who) v (removal_error (state_at s v.recorded on).control) fits.legal (keeps_all s v on (entry.Close who) (called_there s v c on (does.Close on) sound fits is refl) refl refl (λ a b h. close_keeps_running who a b h)) agree
 step_agrees s c (does.State on) v sound fits is agree = quiet_agrees s v (with_state s (next_who v.recorded c) on) refl refl agree
 
-next_agrees : (s : Script) (c : ℕ) (o : Option Step) (v : Course) → IsSound s → FitsSoFar s v.recorded → step_in s c (length (at c v.recorded.callers)) ≡ o → Agree s v → Agree s (follow_next s (next_who v.recorded c) o v)
+next_agrees : (s : ScriptData) (c : ℕ) (o : Option Step) (v : Course) → IsSound s → FitsSoFar s v.recorded → step_in s c (length (at c v.recorded.callers)) ≡ o → Agree s v → Agree s (follow_next s (next_who v.recorded c) o v)
 next_agrees s c None v sound fits is agree = agree
 next_agrees s c (Some x) v sound fits is agree = step_agrees s c x v sound fits is agree
 
-turn_agrees : (s : Script) (k : ℕ) (ts : List Task) (v : Course) → (state_at s v.recorded k).control.tasks ≡ ts → Legals s v.recorded → Agree s v → Agree s (with_turn k (state_at s v.recorded k).control.running ts v)
+turn_agrees : (s : ScriptData) (k : ℕ) (ts : List Task) (v : Course) → (state_at s v.recorded k).control.tasks ≡ ts → Legals s v.recorded → Agree s v → Agree s (with_turn k (state_at s v.recorded k).control.running ts v)
 turn_agrees s k [] v is legal agree = agree
 turn_agrees s k (x ∷ ts) v is legal agree = on (is_close x)
   where
@@ -154,7 +154,7 @@ turn_agrees s k (x ∷ ts) v is legal agree = on (is_close x)
     on true = lets_agrees s k entry.Turn v (with_entry k entry.Turn) (state_at s v.recorded k).control.running (λ u. refl) (λ u q. ap (append_at k entry.Turn) q) refl legal keeps agree
     on false = still_agrees s k entry.Turn v (with_entry k entry.Turn) refl refl legal keeps agree
 
-reclaim_agrees : (s : Script) (k moment : ℕ) (v : Course) (b : Bool) → may_reclaim moment (state_at s v.recorded k).control ≡ b → Legals s v.recorded → Agree s v
+reclaim_agrees : (s : ScriptData) (k moment : ℕ) (v : Course) (b : Bool) → may_reclaim moment (state_at s v.recorded k).control ≡ b → Legals s v.recorded → Agree s v
     → Agree s (cond b (recording (with_entry k (entry.Reclaim moment)) (lets_go k (state_at s v.recorded k).control.running v)) v)
 reclaim_agrees s k moment v false may legal agree = agree
 reclaim_agrees s k moment v true may legal agree =
@@ -176,7 +176,7 @@ is_told true refusal answer n h = absurd cc
 is_told false None answer n h = absurd (no_slot_by answer n h)
 is_told false (Some e) answer n h = let same : e ≡ n = cc in ap (λ (m : ℕ). Some m) same
 
-done_agrees : (s : Script) (wants : Bool) (k moment : ℕ) (o : Option Running) (v : Course) → (state_at s v.recorded k).control.running ≡ o → Agree s v → Agree s (with_done wants k moment (state_at s v.recorded k) o v)
+done_agrees : (s : ScriptData) (wants : Bool) (k moment : ℕ) (o : Option Running) (v : Course) → (state_at s v.recorded k).control.running ≡ o → Agree s v → Agree s (with_done wants k moment (state_at s v.recorded k) o v)
 done_agrees s wants k moment None v is agree = agree
 done_agrees s wants k moment (Some r) v is agree = on (r.epoch == (state_at s v.recorded k).control.epoch)
   where
@@ -213,7 +213,7 @@ done_agrees s wants k moment (Some r) v is agree = on (r.epoch == (state_at s v.
         (agree_done s v.recorded.codecs v.recorded.slots (keeps_box b k v).recorded.slots v.holdings (keeps_box b k v).holdings k moment r x below (none b) is (others b) (keeps_box_clears b k v)
         (λ n. says_so wants refusal (answer_to r.kind t.running_given) n) (λ n. is_told wants refusal (answer_to r.kind t.running_given) n) agree)
 
-start_agrees : (s : Script) (made : List CoderId) (k : ℕ) (o : Option Item) (v : Course) → start_item (state_at s v.recorded k).control ≡ o → Legals s v.recorded → length v.holdings ≡ length v.recorded.codecs → Agree s v
+start_agrees : (s : ScriptData) (made : List CoderId) (k : ℕ) (o : Option Item) (v : Course) → start_item (state_at s v.recorded k).control ≡ o → Legals s v.recorded → length v.holdings ≡ length v.recorded.codecs → Agree s v
     → Agree s (with_start made k (state_at s v.recorded k).control.epoch (state_at s v.recorded k).given o v)
 start_agrees s made k None v is legal sizes agree = agree
 start_agrees s made k (Some i) v is legal sizes agree = on (missing_coder (state_at s v.recorded k).given i.work)
@@ -253,7 +253,7 @@ start_agrees s made k (Some i) v is legal sizes agree = on (missing_coder (state
         (ap (λ (y : Holding). y.refusal) (held_here k h without within)) agree
 
 -- An item leaves refusals and ends in agreement.
-pub item_agrees : (s : Script) (made : List CoderId) (wants : Bool) (x : OrderItem) (v : Course) → IsSound s → CourseFits s v → Accounted s made v → Agree s v → Agree s (follow_item s made wants x v)
+pub item_agrees : (s : ScriptData) (made : List CoderId) (wants : Bool) (x : OrderItem) (v : Course) → IsSound s → CourseFits s v → Accounted s made v → Agree s v → Agree s (follow_item s made wants x v)
 item_agrees s made wants (item.Caller c) v sound fits acc agree = next_agrees s c (step_in s c (length (at c v.recorded.callers))) v sound fits.recorded_fits refl agree
 item_agrees s made wants (item.Start k) v sound fits acc agree = start_agrees s made k (start_item (state_at s v.recorded k).control) v refl fits.recorded_fits.legal acc.sizes agree
 item_agrees s made wants (item.Done k moment) v sound fits acc agree = done_agrees s wants k moment (state_at s v.recorded k).control.running v refl agree

@@ -23,11 +23,11 @@ use Rattle.codec_model.specs.Replay.{State, step, start_step, turn_step, missing
 use Rattle.codec_model.proofs.FactLaws.{turned_control}
 use Rattle.codec_core.proofs.Steps.{call_keeps, call_steps, run_keeps}
 use Rattle.codec_core.proofs.Laws.{done_idle}
-use Rattle.wc_script.specs.declared.script.Script.{Script}
-use Rattle.wc_script.specs.declared.script.Step.{Step}
-use Rattle.wc_script.specs.declared.script.Step.TheVariants as does
-use Rattle.wc_script.specs.declared.script.OrderItem.{OrderItem}
-use Rattle.wc_script.specs.declared.script.OrderItem.TheVariants as item
+use Rattle.script_types.specs.declared.script.ScriptData.{ScriptData}
+use Rattle.script_types.specs.declared.steps.Step.{Step}
+use Rattle.script_types.specs.declared.steps.Step.TheVariants as does
+use Rattle.script_types.specs.declared.script.OrderItem.{OrderItem}
+use Rattle.script_types.specs.declared.script.OrderItem.TheVariants as item
 use Rattle.trace_text.specs.declared.run.StepResult.{StepResult}
 use Rattle.trace_text.specs.declared.run.StepResult.TheVariants as result
 use Rattle.trace_text.specs.Follow.{Recorded, Course, Holding, at, append_at, with_entry, state_at, opening_at, state_after, steps_of, chunk_at, init_error, with_result, with_state, with_call, removes, with_removal, with_decode, with_look, with_box, give_of, gives_back, keeps_box, lets_go, lets_go_if, lets_go_unless, with_start, with_done, with_turn, recording, holding_at, holding_by, nothing_held, outcome_for, follow_step, follow_next, follow_item}
@@ -45,7 +45,7 @@ use Rattle.wc_replay.proofs.AccountsMoves.{IsOlder, now_on, now_of, state_in, Ac
 use Rattle.wc_replay.proofs.AccountsSteps.{accounted_more}
 
 -- the boxes of a course are accounted for
-abbrev pub Accounted : Script → List CoderId → Course → Type 0
+abbrev pub Accounted : ScriptData → List CoderId → Course → Type 0
 Accounted s made v = AccountedIn s made v.recorded.codecs v.recorded.slots v.holdings
 
 pub set_length : (hs : List Holding) (k : ℕ) (h : Holding) → length (slice_set hs k h) ≡ length hs
@@ -59,7 +59,7 @@ held_here zero h (x ∷ xs) lt = refl
 held_here (suc k) h (x ∷ xs) lt = held_here k h xs (omega (arith, lt))
 
 -- A codec's entry that asks for no box: its box leaves, or stays.
-record Unasked (s : Script) (codecs : List (List Entry)) (hs : List Holding) (k : ℕ) (e : Entry) (leaves : Bool) (hs_then : List Holding) : Type 0 where
+record Unasked (s : ScriptData) (codecs : List (List Entry)) (hs : List Holding) (k : ℕ) (e : Entry) (leaves : Bool) (hs_then : List Holding) : Type 0 where
   below : k < length codecs
   none : asked_by e (state_in s codecs k) ≡ None
   sizes : length hs_then ≡ length hs
@@ -68,7 +68,7 @@ record Unasked (s : Script) (codecs : List (List Entry)) (hs : List Holding) (k 
   stays : stay_at e (state_in s codecs k) (length (at k codecs)) (now_of (state_in s codecs k).control) ≡ cond leaves (Left (length (at k codecs))) (now_of (state_in s (append_at k e codecs) k).control)
   older : IsOlder (state_in s (append_at k e codecs) k).control.running (state_in s (append_at k e codecs) k).control.epoch
 
-unasked_moves : (s : Script) (made : List CoderId) (codecs : List (List Entry)) (slots slots_then : List SlotEntry) (hs hs_then : List Holding) (k : ℕ) (e : Entry) (leaves : Bool) → length hs ≡ length codecs → Unasked s codecs hs k e leaves hs_then → slots_then ≡ slots_given codecs slots hs k leaves
+unasked_moves : (s : ScriptData) (made : List CoderId) (codecs : List (List Entry)) (slots slots_then : List SlotEntry) (hs hs_then : List Holding) (k : ℕ) (e : Entry) (leaves : Bool) → length hs ≡ length codecs → Unasked s codecs hs k e leaves hs_then → slots_then ≡ slots_given codecs slots hs k leaves
     → Moves s made codecs slots hs k e leaves (append_at k e codecs) slots_then hs_then
 unasked_moves s made codecs slots slots_then hs hs_then k e leaves sizes plain slots_are = record {
   below = plain.below;
@@ -84,7 +84,7 @@ unasked_moves s made codecs slots slots_then hs hs_then k e leaves sizes plain s
 }
 
 -- the box of a codec goes back by an entry
-goes_back : (s : Script) (made : List CoderId) (k : ℕ) (e : Entry) (v : Course) (f : Recorded → Recorded) → (f (gives_back k v).recorded).slots ≡ (gives_back k v).recorded.slots → (f (gives_back k v).recorded).codecs ≡ append_at k e v.recorded.codecs
+goes_back : (s : ScriptData) (made : List CoderId) (k : ℕ) (e : Entry) (v : Course) (f : Recorded → Recorded) → (f (gives_back k v).recorded).slots ≡ (gives_back k v).recorded.slots → (f (gives_back k v).recorded).codecs ≡ append_at k e v.recorded.codecs
     → Accounted s made v → AreHeld v → k < length v.recorded.codecs → asked_by e (state_at s v.recorded k) ≡ None
     → stay_at e (state_at s v.recorded k) (length (at k v.recorded.codecs)) (now_of (state_at s v.recorded k).control) ≡ Left (length (at k v.recorded.codecs))
     → IsOlder (state_in s (append_at k e v.recorded.codecs) k).control.running (state_in s (append_at k e v.recorded.codecs) k).control.epoch
@@ -107,7 +107,7 @@ goes_back s made k e v f slots grown acc are below none stays older =
     (accounted_more s made codecs (append_at k e codecs) v.recorded.slots new.slots hs hs_then k e true acc (are k) (unasked_moves s made codecs v.recorded.slots new.slots hs hs_then k e true acc.sizes plain slots))
 
 -- the box of a codec, if it holds one, stays at an entry
-stays_there : (s : Script) (made : List CoderId) (k : ℕ) (e : Entry) (v : Course) (w : Recorded) (hs_then : List Holding) → w.slots ≡ v.recorded.slots → w.codecs ≡ append_at k e v.recorded.codecs
+stays_there : (s : ScriptData) (made : List CoderId) (k : ℕ) (e : Entry) (v : Course) (w : Recorded) (hs_then : List Holding) → w.slots ≡ v.recorded.slots → w.codecs ≡ append_at k e v.recorded.codecs
     → length hs_then ≡ length v.holdings → ((n : ℕ) → box_of hs_then n ≡ box_of v.holdings n)
     → Accounted s made v → AreHeld v → k < length v.recorded.codecs → asked_by e (state_at s v.recorded k) ≡ None
     → stay_at e (state_at s v.recorded k) (length (at k v.recorded.codecs)) (now_of (state_at s v.recorded k).control) ≡ now_of (state_in s (append_at k e v.recorded.codecs) k).control
@@ -188,14 +188,14 @@ removal_leaves e t place r d none removal done busy old running epoch =
     stays ∙ sym now
 
 -- the entry is one that the codec can have, and comes where it does
-abbrev pub After : Script → Course → ℕ → Entry → State
+abbrev pub After : ScriptData → Course → ℕ → Entry → State
 After s v k e = state_in s (append_at k e v.recorded.codecs) k
 
-pub steps_on : (s : Script) (v : Course) (k : ℕ) (e : Entry) → Legals s v.recorded → Steps e (state_at s v.recorded k) → k < length v.recorded.codecs → step e (state_at s v.recorded k) ≡ Some (After s v k e)
+pub steps_on : (s : ScriptData) (v : Course) (k : ℕ) (e : Entry) → Legals s v.recorded → Steps e (state_at s v.recorded k) → k < length v.recorded.codecs → step e (state_at s v.recorded k) ≡ Some (After s v k e)
 steps_on s v k e legal steps below = state_steps s v.recorded (with_entry k e v.recorded) k e legal steps refl below
 
 -- a plain entry, which keeps the running item and the epoch
-plain_accounted : (s : Script) (made : List CoderId) (k : ℕ) (e : Entry) (v : Course) (w : Recorded) → w.slots ≡ v.recorded.slots → w.codecs ≡ append_at k e v.recorded.codecs → Accounted s made v → AreHeld v → k < length v.recorded.codecs → Plain e (state_at s v.recorded k)
+plain_accounted : (s : ScriptData) (made : List CoderId) (k : ℕ) (e : Entry) (v : Course) (w : Recorded) → w.slots ≡ v.recorded.slots → w.codecs ≡ append_at k e v.recorded.codecs → Accounted s made v → AreHeld v → k < length v.recorded.codecs → Plain e (state_at s v.recorded k)
     → (After s v k e).control.running ≡ (state_at s v.recorded k).control.running → (After s v k e).control.epoch ≡ (state_at s v.recorded k).control.epoch → AccountedIn s made w.codecs w.slots v.holdings
 plain_accounted s made k e v w slots grown acc are below plain running epoch =
     let t = state_at s v.recorded k in
@@ -205,7 +205,7 @@ plain_accounted s made k e v w slots grown acc are below plain running epoch =
     (older_same t.control d running epoch (acc.older k))
 
 -- a step that makes no entry
-quiet_accounted : (s : Script) (made : List CoderId) (v : Course) (f : Recorded → Recorded) → Accounted s made v → (f v.recorded).slots ≡ v.recorded.slots → (f v.recorded).codecs ≡ v.recorded.codecs → Accounted s made (recording f v)
+quiet_accounted : (s : ScriptData) (made : List CoderId) (v : Course) (f : Recorded → Recorded) → Accounted s made v → (f v.recorded).slots ≡ v.recorded.slots → (f v.recorded).codecs ≡ v.recorded.codecs → Accounted s made (recording f v)
 quiet_accounted s made v f acc slots codecs =
     subst (λ (c : List (List Entry)). AccountedIn s made c (f v.recorded).slots v.holdings) (sym codecs)
     (subst (λ (l : List SlotEntry). AccountedIn s made v.recorded.codecs l v.holdings) (sym slots) acc)
@@ -219,7 +219,7 @@ call_plain who (call.Configure config) t = record { none = refl; removal = refl;
 call_plain who (call.Decode chunk) t = record { none = refl; removal = refl; done = refl }
 call_plain who call.Flush t = record { none = refl; removal = refl; done = refl }
 
-call_accounted : (s : Script) (made : List CoderId) (who : Who) (k : ℕ) (x : Call) (v : Course) → Legals s v.recorded → Accounted s made v → AreHeld v → k < length v.recorded.codecs → Accounted s made (recording (with_call s who k x) v)
+call_accounted : (s : ScriptData) (made : List CoderId) (who : Who) (k : ℕ) (x : Call) (v : Course) → Legals s v.recorded → Accounted s made v → AreHeld v → k < length v.recorded.codecs → Accounted s made (recording (with_call s who k x) v)
 call_accounted s made who k x v legal acc are below =
     let e = entry_of who x in
     let t = state_at s v.recorded k in
@@ -229,11 +229,11 @@ call_accounted s made who k x v legal acc are below =
     plain_accounted s made k e v (with_call s who k x v.recorded) refl refl acc are below (call_plain who x t)
     (ap (λ (z : State). z.control.running) (sym same) ∙ keeps.running) (ap (λ (z : State). z.control.epoch) (sym same) ∙ keeps.epoch)
 
-decode_accounted : (s : Script) (made : List CoderId) (who : Who) (k : ℕ) (o : Option Chunk) (v : Course) → Legals s v.recorded → Accounted s made v → AreHeld v → k < length v.recorded.codecs → Accounted s made (recording (with_decode s who k o) v)
+decode_accounted : (s : ScriptData) (made : List CoderId) (who : Who) (k : ℕ) (o : Option Chunk) (v : Course) → Legals s v.recorded → Accounted s made v → AreHeld v → k < length v.recorded.codecs → Accounted s made (recording (with_decode s who k o) v)
 decode_accounted s made who k None v legal acc are below = quiet_accounted s made v (with_decode s who k None) acc refl refl
 decode_accounted s made who k (Some chunk) v legal acc are below = call_accounted s made who k (call.Decode chunk) v legal acc are below
 
-pub look_slots : (s : Script) (who : Who) (o : Option StepResult) (w : Recorded) → ((with_look s who o w).slots ≡ w.slots) × ((with_look s who o w).codecs ≡ w.codecs)
+pub look_slots : (s : ScriptData) (who : Who) (o : Option StepResult) (w : Recorded) → ((with_look s who o w).slots ≡ w.slots) × ((with_look s who o w).codecs ≡ w.codecs)
 look_slots s who None w = (refl, refl)
 look_slots s who (Some (result.Call k place error)) w = (refl, refl)
 look_slots s who (Some (result.Local error)) w = (refl, refl)
@@ -241,11 +241,11 @@ look_slots s who (Some (result.Look k n end)) w = (refl, refl)
 look_slots s who (Some (result.State k n state size)) w = (refl, refl)
 look_slots s who (Some result.Absent) w = (refl, refl)
 
-look_accounted : (s : Script) (made : List CoderId) (who : Who) (o : Option StepResult) (v : Course) → Accounted s made v → Accounted s made (recording (with_look s who o) v)
+look_accounted : (s : ScriptData) (made : List CoderId) (who : Who) (o : Option StepResult) (v : Course) → Accounted s made v → Accounted s made (recording (with_look s who o) v)
 look_accounted s made who o v acc = quiet_accounted s made v (with_look s who o) acc (look_slots s who o v.recorded).0 (look_slots s who o v.recorded).1
 
 -- a removal: a new epoch, with the running item
-record Removes (s : Script) (v : Course) (k : ℕ) (e : Entry) : Type 0 where
+record Removes (s : ScriptData) (v : Course) (k : ℕ) (e : Entry) : Type 0 where
   none : asked_by e (state_at s v.recorded k) ≡ None
   removal : is_removal e (state_at s v.recorded k) ≡ true
   done : is_done e ≡ false
@@ -253,7 +253,7 @@ record Removes (s : Script) (v : Course) (k : ℕ) (e : Entry) : Type 0 where
   epoch : (After s v k e).control.epoch ≡ (state_at s v.recorded k).control.epoch + 1
 
 -- the box goes back, or stays with the item that is at work
-lets_accounted : (s : Script) (made : List CoderId) (k : ℕ) (e : Entry) (v : Course) (f : Recorded → Recorded) (o : Option Running) → ((u : Recorded) → (f u).slots ≡ u.slots) → ((u : Recorded) → u.codecs ≡ v.recorded.codecs → (f u).codecs ≡ append_at k e v.recorded.codecs)
+lets_accounted : (s : ScriptData) (made : List CoderId) (k : ℕ) (e : Entry) (v : Course) (f : Recorded → Recorded) (o : Option Running) → ((u : Recorded) → (f u).slots ≡ u.slots) → ((u : Recorded) → u.codecs ≡ v.recorded.codecs → (f u).codecs ≡ append_at k e v.recorded.codecs)
     → Accounted s made v → AreHeld v → k < length v.recorded.codecs → (state_at s v.recorded k).control.running ≡ o → Removes s v k e → Accounted s made (recording f (lets_go k o v))
 lets_accounted s made k e v f None slots grown acc are below is removes =
     let t = state_at s v.recorded k in
@@ -276,7 +276,7 @@ record IsReset (e : Entry) (t : State) (made : Control) : Type 0 where
   running : made.running ≡ t.control.running
   epoch : made.epoch ≡ t.control.epoch + 1
 
-removal_on_error : (s : Script) (made : List CoderId) (who : Who) (k : ℕ) (e : Entry) (v : Course) (next : Control) (o : Option DomError) → removal_error (state_at s v.recorded k).control ≡ o → Legals s v.recorded → Accounted s made v → AreHeld v → k < length v.recorded.codecs → IsReset e (state_at s v.recorded k) next
+removal_on_error : (s : ScriptData) (made : List CoderId) (who : Who) (k : ℕ) (e : Entry) (v : Course) (next : Control) (o : Option DomError) → removal_error (state_at s v.recorded k).control ≡ o → Legals s v.recorded → Accounted s made v → AreHeld v → k < length v.recorded.codecs → IsReset e (state_at s v.recorded k) next
     → step e (state_at s v.recorded k) ≡ Some (After s v k e) → Accounted s made (recording (removes s who k e) (lets_go_unless o k (state_at s v.recorded k).control.running v))
 removal_on_error s made who k e v next None is legal acc are below reset steps =
     let t = state_at s v.recorded k in
@@ -294,7 +294,7 @@ removal_on_error s made who k e v next (Some error) is legal acc are below reset
     plain_accounted s made k e v (removes s who k e v.recorded) refl refl acc are below (record { none = reset.none; removal = reset.removal ∙ ap is_none is; done = reset.done })
     (ap (λ (z : State). z.control.running) (sym same)) (ap (λ (z : State). z.control.epoch) (sym same))
 
-removal_accounted : (s : Script) (made : List CoderId) (who : Who) (k : ℕ) (e : Entry) (v : Course) (next : Control) → Legals s v.recorded → Accounted s made v → AreHeld v → k < length v.recorded.codecs → IsReset e (state_at s v.recorded k) next → Accounted s made (with_removal s who k e v)
+removal_accounted : (s : ScriptData) (made : List CoderId) (who : Who) (k : ℕ) (e : Entry) (v : Course) (next : Control) → Legals s v.recorded → Accounted s made v → AreHeld v → k < length v.recorded.codecs → IsReset e (state_at s v.recorded k) next → Accounted s made (with_removal s who k e v)
 removal_accounted s made who k e v next legal acc are below reset =
     removal_on_error s made who k e v next (removal_error (state_at s v.recorded k).control) refl legal acc are below reset (steps_on s v k e legal (ap is_some reset.steps) below)
 
@@ -305,10 +305,10 @@ close_is : (who : Who) (t : State) → IsReset (entry.Close who) t (after_close 
 close_is who t = record { none = refl; removal = refl; done = refl; steps = refl; running = refl; epoch = refl }
 
 -- the codec that a step calls is there
-pub called_there : (s : Script) (v : Course) (c k : ℕ) (x : Step) → IsSound s → FitsSoFar s v.recorded → step_in s c (length (at c v.recorded.callers)) ≡ Some x → called x ≡ Some k → k < length v.recorded.codecs
+pub called_there : (s : ScriptData) (v : Course) (c k : ℕ) (x : Step) → IsSound s → FitsSoFar s v.recorded → step_in s c (length (at c v.recorded.callers)) ≡ Some x → called x ≡ Some k → k < length v.recorded.codecs
 called_there s v c k x sound fits is calls = omega (arith, fits.codecs, sound.called c (length (at c v.recorded.callers)) k x is calls)
 
-step_accounted : (s : Script) (made : List CoderId) (c : ℕ) (x : Step) (v : Course) → IsSound s → FitsSoFar s v.recorded → step_in s c (length (at c v.recorded.callers)) ≡ Some x → Accounted s made v → AreHeld v → Accounted s made (follow_step s (next_who v.recorded c) x v)
+step_accounted : (s : ScriptData) (made : List CoderId) (c : ℕ) (x : Step) (v : Course) → IsSound s → FitsSoFar s v.recorded → step_in s c (length (at c v.recorded.callers)) ≡ Some x → Accounted s made v → AreHeld v → Accounted s made (follow_step s (next_who v.recorded c) x v)
 step_accounted s made c (does.Configure on config) v sound fits is acc are = call_accounted s made (next_who v.recorded c) on (call.Configure config) v fits.legal acc are (called_there s v c on (does.Configure on config) sound fits is refl)
 step_accounted s made c (does.Chunk bind init) v sound fits is acc are = quiet_accounted s made v (with_result c (result.Local (init_error init))) acc refl refl
 step_accounted s made c (does.Decode on chunk) v sound fits is acc are = decode_accounted s made (next_who v.recorded c) on (chunk_at (steps_of s c) chunk.step) v fits.legal acc are (called_there s v c on (does.Decode on chunk) sound fits is refl)
@@ -319,12 +319,12 @@ step_accounted s made c (does.Reset on) v sound fits is acc are = removal_accoun
 step_accounted s made c (does.Close on) v sound fits is acc are = removal_accounted s made (next_who v.recorded c) on (entry.Close (next_who v.recorded c)) v _ fits.legal acc are (called_there s v c on (does.Close on) sound fits is refl) (close_is (next_who v.recorded c) (state_at s v.recorded on))
 step_accounted s made c (does.State on) v sound fits is acc are = quiet_accounted s made v (with_state s (next_who v.recorded c) on) acc refl refl
 
-next_accounted : (s : Script) (made : List CoderId) (c : ℕ) (o : Option Step) (v : Course) → IsSound s → FitsSoFar s v.recorded → step_in s c (length (at c v.recorded.callers)) ≡ o → Accounted s made v → AreHeld v → Accounted s made (follow_next s (next_who v.recorded c) o v)
+next_accounted : (s : ScriptData) (made : List CoderId) (c : ℕ) (o : Option Step) (v : Course) → IsSound s → FitsSoFar s v.recorded → step_in s c (length (at c v.recorded.callers)) ≡ o → Accounted s made v → AreHeld v → Accounted s made (follow_next s (next_who v.recorded c) o v)
 next_accounted s made c None v sound fits is acc are = acc
 next_accounted s made c (Some x) v sound fits is acc are = step_accounted s made c x v sound fits is acc are
 
 -- a codec whose state is not that of an empty history is there
-pub codec_there : (s : Script) (w : Recorded) (k : ℕ) → (state_after (opening_at s k) [] ≡ state_at s w k → ⊥) → k < length w.codecs
+pub codec_there : (s : ScriptData) (w : Recorded) (k : ℕ) → (state_after (opening_at s k) [] ≡ state_at s w k → ⊥) → k < length w.codecs
 codec_there s w k other = elim (there k w.codecs) [
   | inl lt ↦ lt
   | inr none ↦ absurd (other (ap (state_after (opening_at s k)) (sym none)))
@@ -343,7 +343,7 @@ close_runs (task.Output units) c h = absurd cc
 close_runs (task.Flushed promise units) c h = absurd cc
 close_runs task.Dequeue c h = absurd cc
 
-turn_on : (s : Script) (made : List CoderId) (k : ℕ) (x : Task) (ts : List Task) (v : Course) (b : Bool) → is_close x ≡ b → (state_at s v.recorded k).control.tasks ≡ x ∷ ts → step entry.Turn (state_at s v.recorded k) ≡ Some (After s v k entry.Turn) → Accounted s made v → AreHeld v → k < length v.recorded.codecs
+turn_on : (s : ScriptData) (made : List CoderId) (k : ℕ) (x : Task) (ts : List Task) (v : Course) (b : Bool) → is_close x ≡ b → (state_at s v.recorded k).control.tasks ≡ x ∷ ts → step entry.Turn (state_at s v.recorded k) ≡ Some (After s v k entry.Turn) → Accounted s made v → AreHeld v → k < length v.recorded.codecs
     → Accounted s made (recording (with_entry k entry.Turn) (lets_go_if b k (state_at s v.recorded k).control.running v))
 turn_on s made k x ts v true closes is steps acc are below =
     let t = state_at s v.recorded k in
@@ -363,13 +363,13 @@ turn_on s made k x ts v false closes is steps acc are below =
     plain_accounted s made k entry.Turn v (with_entry k entry.Turn v.recorded) refl refl acc are below (record { none = refl; removal = ap closes_codec is ∙ closes; done = refl })
     (ap (λ (c : Control). c.running) after ∙ keeps.running) (ap (λ (c : Control). c.epoch) after ∙ keeps.epoch)
 
-turn_accounted : (s : Script) (made : List CoderId) (k : ℕ) (ts : List Task) (v : Course) → (state_at s v.recorded k).control.tasks ≡ ts → Legals s v.recorded → Accounted s made v → AreHeld v → Accounted s made (with_turn k (state_at s v.recorded k).control.running ts v)
+turn_accounted : (s : ScriptData) (made : List CoderId) (k : ℕ) (ts : List Task) (v : Course) → (state_at s v.recorded k).control.tasks ≡ ts → Legals s v.recorded → Accounted s made v → AreHeld v → Accounted s made (with_turn k (state_at s v.recorded k).control.running ts v)
 turn_accounted s made k [] v is legal acc are = acc
 turn_accounted s made k (x ∷ ts) v is legal acc are =
     let below = codec_there s v.recorded k (λ same. (let bad : [] ≡ x ∷ ts = ap (λ (t : State). t.control.tasks) same ∙ is in cc)) in
     turn_on s made k x ts v (is_close x) refl is (steps_on s v k entry.Turn legal (turn_legal (state_at s v.recorded k) x ts is) below) acc are below
 
-reclaim_accounted : (s : Script) (made : List CoderId) (k moment : ℕ) (v : Course) (b : Bool) → may_reclaim moment (state_at s v.recorded k).control ≡ b → Legals s v.recorded → Accounted s made v → AreHeld v
+reclaim_accounted : (s : ScriptData) (made : List CoderId) (k moment : ℕ) (v : Course) (b : Bool) → may_reclaim moment (state_at s v.recorded k).control ≡ b → Legals s v.recorded → Accounted s made v → AreHeld v
     → Accounted s made (cond b (recording (with_entry k (entry.Reclaim moment)) (lets_go k (state_at s v.recorded k).control.running v)) v)
 reclaim_accounted s made k moment v false may legal acc are = acc
 reclaim_accounted s made k moment v true may legal acc are =
@@ -394,7 +394,7 @@ kept_box n k hs = elim (held n k (record (holding_at k hs) { refusal = None }) h
   | Stayed e ↦ ap (λ (x : Holding). x.box) e
 ]
 
-done_on : (s : Script) (made : List CoderId) (k moment : ℕ) (r : Running) (x : Outcome) (v : Course) (b : Bool) → (r.epoch == (state_at s v.recorded k).control.epoch) ≡ b → (state_at s v.recorded k).control.running ≡ Some r
+done_on : (s : ScriptData) (made : List CoderId) (k moment : ℕ) (r : Running) (x : Outcome) (v : Course) (b : Bool) → (r.epoch == (state_at s v.recorded k).control.epoch) ≡ b → (state_at s v.recorded k).control.running ≡ Some r
     → step (entry.Done r.epoch r.number moment x) (state_at s v.recorded k) ≡ Some (After s v k (entry.Done r.epoch r.number moment x)) → Accounted s made v → AreHeld v → k < length v.recorded.codecs
     → Accounted s made (recording (with_entry k (entry.Done r.epoch r.number moment x)) (keeps_box b k v))
 done_on s made k moment r x v true same is steps acc are below =
@@ -415,7 +415,7 @@ done_on s made k moment r x v false same is steps acc are below =
     goes_back s made k e v (with_entry k e) refl refl acc are below refl
     (ap (stay_at e t (length (at k v.recorded.codecs))) was) (subst (λ (o : Option Running). IsOlder o d.epoch) (sym idle) tt)
 
-done_accounted : (s : Script) (made : List CoderId) (wants : Bool) (k moment : ℕ) (o : Option Running) (v : Course) → (state_at s v.recorded k).control.running ≡ o → CourseFits s v → Accounted s made v → AreHeld v → Accounted s made (with_done wants k moment (state_at s v.recorded k) o v)
+done_accounted : (s : ScriptData) (made : List CoderId) (wants : Bool) (k moment : ℕ) (o : Option Running) (v : Course) → (state_at s v.recorded k).control.running ≡ o → CourseFits s v → Accounted s made v → AreHeld v → Accounted s made (with_done wants k moment (state_at s v.recorded k) o v)
 done_accounted s made wants k moment None v is fits acc are = acc
 done_accounted s made wants k moment (Some r) v is fits acc are =
     let t = state_at s v.recorded k in
@@ -434,7 +434,7 @@ start_epoch (j ∷ rest) epoch number x y queue h =
     ap (λ (z : State). z.control.epoch) (sym (one_state next y may.1)) ∙ ap (λ (l : List Item). (started_on l (entered x.control)).epoch) queue
 
 -- what is known where an item starts
-record Starts (s : Script) (v : Course) (k : ℕ) (e : Entry) (o : Option CoderId) : Type 0 where
+record Starts (s : ScriptData) (v : Course) (k : ℕ) (e : Entry) (o : Option CoderId) : Type 0 where
   below : k < length v.recorded.codecs
   asks : asked_by e (state_at s v.recorded k) ≡ o
   plain : is_removal e (state_at s v.recorded k) ≡ false
@@ -442,7 +442,7 @@ record Starts (s : Script) (v : Course) (k : ℕ) (e : Entry) (o : Option CoderI
   now : now_of (After s v k e).control ≡ Kept
   older : IsOlder (After s v k e).control.running (After s v k e).control.epoch
 
-box_accounted : (s : Script) (made : List CoderId) (k : ℕ) (e : Entry) (v : Course) (o : Option CoderId) → Starts s v k e o → Accounted s made v → AreHeld v → Accounted s made (recording (with_entry k e) (with_box made k o v))
+box_accounted : (s : ScriptData) (made : List CoderId) (k : ℕ) (e : Entry) (v : Course) (o : Option CoderId) → Starts s v k e o → Accounted s made v → AreHeld v → Accounted s made (recording (with_entry k e) (with_box made k o v))
 box_accounted s made k e v None starts acc are =
     let t = state_at s v.recorded k in
     stays_there s made k e v (with_entry k e v.recorded) v.holdings refl refl refl (λ n. refl) acc are starts.below starts.asks
@@ -473,7 +473,7 @@ box_accounted s made k e v (Some id) starts acc are =
     asked_leaves : (e : Entry) (t : State) (place : ℕ) (id : CoderId) → asked_by e t ≡ Some id → stay_at e t place Kept ≡ Left place
     asked_leaves e t place id asks = rw asks refl
 
-start_accounted : (s : Script) (made : List CoderId) (k : ℕ) (o : Option Item) (v : Course) → start_item (state_at s v.recorded k).control ≡ o → Legals s v.recorded → Accounted s made v → AreHeld v → Accounted s made (with_start made k (state_at s v.recorded k).control.epoch (state_at s v.recorded k).given o v)
+start_accounted : (s : ScriptData) (made : List CoderId) (k : ℕ) (o : Option Item) (v : Course) → start_item (state_at s v.recorded k).control ≡ o → Legals s v.recorded → Accounted s made v → AreHeld v → Accounted s made (with_start made k (state_at s v.recorded k).control.epoch (state_at s v.recorded k).given o v)
 start_accounted s made k None v is legal acc are = acc
 start_accounted s made k (Some i) v is legal acc are =
     let t = state_at s v.recorded k in
@@ -493,7 +493,7 @@ start_accounted s made k (Some i) v is legal acc are =
     }) acc are
 
 -- An item leaves the boxes accounted for.
-pub item_accounted : (s : Script) (made : List CoderId) (wants : Bool) (x : OrderItem) (v : Course) → IsSound s → CourseFits s v → AreHeld v → Accounted s made v → Accounted s made (follow_item s made wants x v)
+pub item_accounted : (s : ScriptData) (made : List CoderId) (wants : Bool) (x : OrderItem) (v : Course) → IsSound s → CourseFits s v → AreHeld v → Accounted s made v → Accounted s made (follow_item s made wants x v)
 item_accounted s made wants (item.Caller c) v sound fits are acc = next_accounted s made c (step_in s c (length (at c v.recorded.callers))) v sound fits.recorded_fits refl acc are
 item_accounted s made wants (item.Start k) v sound fits are acc = start_accounted s made k (start_item (state_at s v.recorded k).control) v refl fits.recorded_fits.legal acc are
 item_accounted s made wants (item.Done k moment) v sound fits are acc = done_accounted s made wants k moment (state_at s v.recorded k).control.running v refl fits acc are

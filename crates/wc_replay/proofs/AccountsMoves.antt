@@ -16,7 +16,7 @@ use Rattle.codec_model.specs.declared.entry.Entry.{Entry}
 use Rattle.codec_model.specs.declared.entry.Running.{Running}
 use Rattle.codec_model.specs.Control.{Control}
 use Rattle.codec_model.specs.Replay.{State}
-use Rattle.wc_script.specs.declared.script.Script.{Script}
+use Rattle.script_types.specs.declared.script.ScriptData.{ScriptData}
 use Rattle.trace_text.specs.Follow.{BoxOut, Holding, at, append_at, opening_at, state_after, holding_at, holding_by, give_of}
 use Rattle.wc_replay.specs.Boxes.{IsGivable}
 use Rattle.trace_text.specs.Accounts.{asked_by, asks_at, Stay, Kept, Leaving, Left, stay_at, stay_before, acquire_of, ComesBack}
@@ -37,13 +37,13 @@ abbrev pub now_of : Control → Stay
 now_of c = now_on c.running c.epoch
 
 -- the history, the state and the box of the codec with this number
-abbrev pub state_in : Script → List (List Entry) → ℕ → State
+abbrev pub state_in : ScriptData → List (List Entry) → ℕ → State
 state_in s codecs k = state_after (opening_at s k) (at k codecs)
 
-abbrev pub stay_in : Script → List (List Entry) → ℕ → ℕ → Stay
+abbrev pub stay_in : ScriptData → List (List Entry) → ℕ → ℕ → Stay
 stay_in s codecs k p = stay_before (opening_at s k) (at k codecs) p (length (at k codecs))
 
-abbrev pub asks_in : Script → List (List Entry) → ℕ → ℕ → Option CoderId
+abbrev pub asks_in : ScriptData → List (List Entry) → ℕ → ℕ → Option CoderId
 asks_in s codecs k p = asks_at (opening_at s k) (at k codecs) p
 
 abbrev pub acquired : By → CoderId → ℕ → SlotEntry
@@ -53,7 +53,7 @@ abbrev pub given : By → CoderId → ℕ → SlotEntry
 given cause id number = record { by = cause; op = slot.Give id number }
 
 -- where the box is that went out by an acquire: its codec has it, or it came back
-pub data Whereabouts (s : Script) (codecs : List (List Entry)) (slots : List SlotEntry) (hs : List Holding) (n k p : ℕ) (id : CoderId) (number : ℕ) : Type 0 where
+pub data Whereabouts (s : ScriptData) (codecs : List (List Entry)) (slots : List SlotEntry) (hs : List Holding) (n k p : ℕ) (id : CoderId) (number : ℕ) : Type 0 where
   Here : (holding_at k hs).box ≡ Some (record { id = id; number = number; by = by.Codec k p }) → Whereabouts s codecs slots hs n k p id number
   Back : (q m : ℕ) → stay_in s codecs k p ≡ Left q → ComesBack slots n m id number (by.Codec k p) (by.Codec k q) → Whereabouts s codecs slots hs n k p id number
 
@@ -66,14 +66,14 @@ pub record AskedAt (slots : List SlotEntry) (cause : By) (id : CoderId) : Type 0
   pub asks : acquire_of entry.op ≡ Some id
 
 -- the entry that asked
-pub record Asker (s : Script) (codecs : List (List Entry)) (cause : By) (id : CoderId) : Type 0 where
+pub record Asker (s : ScriptData) (codecs : List (List Entry)) (cause : By) (id : CoderId) : Type 0 where
   pub codec : ℕ
   pub place : ℕ
   pub is_cause : cause ≡ by.Codec codec place
   pub asks : asks_in s codecs codec place ≡ Some id
 
 -- the box that came back
-pub record CameBack (s : Script) (codecs : List (List Entry)) (slots : List SlotEntry) (m : ℕ) (giver : By) (id : CoderId) (number : ℕ) : Type 0 where
+pub record CameBack (s : ScriptData) (codecs : List (List Entry)) (slots : List SlotEntry) (m : ℕ) (giver : By) (id : CoderId) (number : ℕ) : Type 0 where
   pub acquire : ℕ
   pub codec : ℕ
   pub asker : ℕ
@@ -83,7 +83,7 @@ pub record CameBack (s : Script) (codecs : List (List Entry)) (slots : List Slot
   pub giver_is : giver ≡ by.Codec codec letter
 
 -- the acquire of a box that a codec holds
-pub record HeldSince (s : Script) (codecs : List (List Entry)) (slots : List SlotEntry) (k : ℕ) (b : BoxOut) : Type 0 where
+pub record HeldSince (s : ScriptData) (codecs : List (List Entry)) (slots : List SlotEntry) (k : ℕ) (b : BoxOut) : Type 0 where
   pub acquire : ℕ
   pub asker : ℕ
   pub cause_is : b.by ≡ by.Codec k asker
@@ -92,7 +92,7 @@ pub record HeldSince (s : Script) (codecs : List (List Entry)) (slots : List Slo
   pub now : stay_in s codecs k asker ≡ now_of (state_in s codecs k).control
 
 -- The boxes are accounted for, with those that codecs hold.
-pub record AccountedIn (s : Script) (made : List CoderId) (codecs : List (List Entry)) (slots : List SlotEntry) (hs : List Holding) : Type 0 where
+pub record AccountedIn (s : ScriptData) (made : List CoderId) (codecs : List (List Entry)) (slots : List SlotEntry) (hs : List Holding) : Type 0 where
   pub sizes : length hs ≡ length codecs
   pub older : (k : ℕ) → IsOlder (state_in s codecs k).control.running (state_in s codecs k).control.epoch
   pub legal : is_legal_slots made slots ≡ true
@@ -123,7 +123,7 @@ box_after made cause None slots staying = staying
 box_after made cause (Some id) slots staying = (holding_by cause id (length slots) (least_free id made slots)).box
 
 -- One entry of a codec, with what it changes: whether the codec's box leaves by it, and the boxes that are held then.
-pub record Moves (s : Script) (made : List CoderId) (codecs : List (List Entry)) (slots : List SlotEntry) (hs : List Holding) (k : ℕ) (e : Entry) (leaves : Bool) (codecs_then : List (List Entry)) (slots_then : List SlotEntry) (hs_then : List Holding) : Type 0 where
+pub record Moves (s : ScriptData) (made : List CoderId) (codecs : List (List Entry)) (slots : List SlotEntry) (hs : List Holding) (k : ℕ) (e : Entry) (leaves : Bool) (codecs_then : List (List Entry)) (slots_then : List SlotEntry) (hs_then : List Holding) : Type 0 where
   pub below : k < length codecs
   pub grown : codecs_then ≡ append_at k e codecs
   pub slots_grown : slots_then ≡ with_acquire made (by.Codec k (length (at k codecs))) (asked_by e (state_in s codecs k)) (slots ++ give_of (by.Codec k (length (at k codecs))) (leaving_box leaves (holding_at k hs).box))
@@ -207,7 +207,7 @@ acquire_legal made slots cause None legal = legal
 acquire_legal made slots cause (Some id) legal = legal_more made slots (acquire_entry cause id (record { made = made; history = slots })) legal (op_legal made slots cause id (least_free id made slots) refl)
 
 -- what a codec asks and lets go stays in a longer history
-pub asks_stay : (s : Script) (codecs : List (List Entry)) (k : ℕ) (e : Entry) (n p : ℕ) (id : CoderId) → asks_in s codecs n p ≡ Some id → asks_in s (append_at k e codecs) n p ≡ Some id
+pub asks_stay : (s : ScriptData) (codecs : List (List Entry)) (k : ℕ) (e : Entry) (n p : ℕ) (id : CoderId) → asks_in s codecs n p ≡ Some id → asks_in s (append_at k e codecs) n p ≡ Some id
 asks_stay s codecs k e n p id asks =
     let o = opening_at s n in
     let h = at n codecs in
@@ -216,7 +216,7 @@ asks_stay s codecs k e n p id asks =
       | Longer same q ↦ ap (λ l. asks_at o l p) q ∙ (asks_kept o h (e ∷ []) p (asks_within o h p id asks) ∙ asks)
     ]
 
-pub asks_new : (s : Script) (codecs : List (List Entry)) (k : ℕ) (e : Entry) (n p : ℕ) (id : CoderId) → asks_in s (append_at k e codecs) n p ≡ Some id → (asks_in s codecs n p ≡ Some id) ⊎ ((n ≡ k) × (p ≡ length (at k codecs)) × (asked_by e (state_in s codecs k) ≡ Some id))
+pub asks_new : (s : ScriptData) (codecs : List (List Entry)) (k : ℕ) (e : Entry) (n p : ℕ) (id : CoderId) → asks_in s (append_at k e codecs) n p ≡ Some id → (asks_in s codecs n p ≡ Some id) ⊎ ((n ≡ k) × (p ≡ length (at k codecs)) × (asked_by e (state_in s codecs k) ≡ Some id))
 asks_new s codecs k e n p id asks =
     let o = opening_at s n in
     let h = at n codecs in
@@ -228,23 +228,23 @@ asks_new s codecs k e n p id asks =
       ]
     ]
 
-pub asks_here : (s : Script) (codecs : List (List Entry)) (k : ℕ) (e : Entry) (id : CoderId) → k < length codecs → asked_by e (state_in s codecs k) ≡ Some id → asks_in s (append_at k e codecs) k (length (at k codecs)) ≡ Some id
+pub asks_here : (s : ScriptData) (codecs : List (List Entry)) (k : ℕ) (e : Entry) (id : CoderId) → k < length codecs → asked_by e (state_in s codecs k) ≡ Some id → asks_in s (append_at k e codecs) k (length (at k codecs)) ≡ Some id
 asks_here s codecs k e id below asks = ap (λ l. asks_at (opening_at s k) l (length (at k codecs))) (at_same k e codecs below) ∙ (asks_last (opening_at s k) (at k codecs) e ∙ asks)
 
-pub stay_others : (s : Script) (codecs : List (List Entry)) (k : ℕ) (e : Entry) (n p : ℕ) → n ≢ k → stay_in s (append_at k e codecs) n p ≡ stay_in s codecs n p
+pub stay_others : (s : ScriptData) (codecs : List (List Entry)) (k : ℕ) (e : Entry) (n p : ℕ) → n ≢ k → stay_in s (append_at k e codecs) n p ≡ stay_in s codecs n p
 stay_others s codecs k e n p other = ap (λ (l : List Entry). stay_before (opening_at s n) l p (length l)) (at_other n k e codecs other)
 
-pub state_others : (s : Script) (codecs : List (List Entry)) (k : ℕ) (e : Entry) (n : ℕ) → n ≢ k → state_in s (append_at k e codecs) n ≡ state_in s codecs n
+pub state_others : (s : ScriptData) (codecs : List (List Entry)) (k : ℕ) (e : Entry) (n : ℕ) → n ≢ k → state_in s (append_at k e codecs) n ≡ state_in s codecs n
 state_others s codecs k e n other = ap (λ (l : List Entry). state_after (opening_at s n) l) (at_other n k e codecs other)
 
-stay_this : (s : Script) (codecs : List (List Entry)) (k : ℕ) (e : Entry) (p : ℕ) → k < length codecs → p < length (at k codecs) → stay_in s (append_at k e codecs) k p ≡ stay_at e (state_in s codecs k) (length (at k codecs)) (stay_in s codecs k p)
+stay_this : (s : ScriptData) (codecs : List (List Entry)) (k : ℕ) (e : Entry) (p : ℕ) → k < length codecs → p < length (at k codecs) → stay_in s (append_at k e codecs) k p ≡ stay_at e (state_in s codecs k) (length (at k codecs)) (stay_in s codecs k p)
 stay_this s codecs k e p below lt = ap (λ (l : List Entry). stay_before (opening_at s k) l p (length l)) (at_same k e codecs below) ∙ stay_more (opening_at s k) (at k codecs) e p lt
 
-pub stay_fresh : (s : Script) (codecs : List (List Entry)) (k : ℕ) (e : Entry) → k < length codecs → stay_in s (append_at k e codecs) k (length (at k codecs)) ≡ Kept
+pub stay_fresh : (s : ScriptData) (codecs : List (List Entry)) (k : ℕ) (e : Entry) → k < length codecs → stay_in s (append_at k e codecs) k (length (at k codecs)) ≡ Kept
 stay_fresh s codecs k e below = ap (λ (l : List Entry). stay_before (opening_at s k) l (length (at k codecs)) (length l)) (at_same k e codecs below) ∙ stay_new (opening_at s k) (at k codecs) e
 
 -- what has left stays so
-pub left_stays : (s : Script) (codecs : List (List Entry)) (k : ℕ) (e : Entry) (n p q : ℕ) → p < length (at n codecs) → stay_in s codecs n p ≡ Left q → stay_in s (append_at k e codecs) n p ≡ Left q
+pub left_stays : (s : ScriptData) (codecs : List (List Entry)) (k : ℕ) (e : Entry) (n p q : ℕ) → p < length (at n codecs) → stay_in s codecs n p ≡ Left q → stay_in s (append_at k e codecs) n p ≡ Left q
 left_stays s codecs k e n p q lt left =
     let o = opening_at s n in
     let h = at n codecs in
@@ -254,7 +254,7 @@ left_stays s codecs k e n p q lt left =
     ]
 
 -- no entry that was there has the next place
-pub never_next : (s : Script) (codecs : List (List Entry)) (k : ℕ) (cause : By) (id : CoderId) → Asker s codecs cause id → cause ≡ by.Codec k (length (at k codecs)) → ⊥
+pub never_next : (s : ScriptData) (codecs : List (List Entry)) (k : ℕ) (cause : By) (id : CoderId) → Asker s codecs cause id → cause ≡ by.Codec k (length (at k codecs)) → ⊥
 never_next s codecs k cause id asker is =
     let same : by.Codec asker.codec asker.place ≡ by.Codec k (length (at k codecs)) = sym asker.is_cause ∙ is in
     let codec : asker.codec ≡ k = cc in
@@ -321,24 +321,24 @@ box_of hs k = (holding_at k hs).box
 abbrev pub slots_given : List (List Entry) → List SlotEntry → List Holding → ℕ → Bool → List SlotEntry
 slots_given codecs slots hs k leaves = slots ++ give_of (cause_of codecs k) (leaving_box leaves (box_of hs k))
 
-abbrev pub slots_after : Script → List CoderId → List (List Entry) → List SlotEntry → List Holding → ℕ → Entry → Bool → List SlotEntry
+abbrev pub slots_after : ScriptData → List CoderId → List (List Entry) → List SlotEntry → List Holding → ℕ → Entry → Bool → List SlotEntry
 slots_after s made codecs slots hs k e leaves = with_acquire made (cause_of codecs k) (asked_by e (state_in s codecs k)) (slots_given codecs slots hs k leaves)
 
-abbrev pub EntryMoves : Script → List CoderId → List (List Entry) → List SlotEntry → List Holding → ℕ → Entry → Bool → List Holding → Type 0
+abbrev pub EntryMoves : ScriptData → List CoderId → List (List Entry) → List SlotEntry → List Holding → ℕ → Entry → Bool → List Holding → Type 0
 EntryMoves s made codecs slots hs k e leaves hs_then = Moves s made codecs slots hs k e leaves (append_at k e codecs) (slots_after s made codecs slots hs k e leaves) hs_then
 
-pub slot_stays : (s : Script) (made : List CoderId) (codecs : List (List Entry)) (slots : List SlotEntry) (hs : List Holding) (k : ℕ) (e : Entry) (leaves : Bool) (n : ℕ) (x : SlotEntry) → slice_get slots n ≡ Some x → slice_get (slots_after s made codecs slots hs k e leaves) n ≡ Some x
+pub slot_stays : (s : ScriptData) (made : List CoderId) (codecs : List (List Entry)) (slots : List SlotEntry) (hs : List Holding) (k : ℕ) (e : Entry) (leaves : Bool) (n : ℕ) (x : SlotEntry) → slice_get slots n ≡ Some x → slice_get (slots_after s made codecs slots hs k e leaves) n ≡ Some x
 slot_stays s made codecs slots hs k e leaves n x h =
     let more = slots_more made slots (cause_of codecs k) (leaving_box leaves (box_of hs k)) (asked_by e (state_in s codecs k)) in
     ap (λ (l : List SlotEntry). slice_get l n) more.1 ∙ get_kept slots more.0 n x h
 
-pub comes_stays : (s : Script) (made : List CoderId) (codecs : List (List Entry)) (slots : List SlotEntry) (hs : List Holding) (k : ℕ) (e : Entry) (leaves : Bool) (n m : ℕ) (id : CoderId) (number : ℕ) (holder giver : By) → ComesBack slots n m id number holder giver → ComesBack (slots_after s made codecs slots hs k e leaves) n m id number holder giver
+pub comes_stays : (s : ScriptData) (made : List CoderId) (codecs : List (List Entry)) (slots : List SlotEntry) (hs : List Holding) (k : ℕ) (e : Entry) (leaves : Bool) (n m : ℕ) (id : CoderId) (number : ℕ) (holder giver : By) → ComesBack slots n m id number holder giver → ComesBack (slots_after s made codecs slots hs k e leaves) n m id number holder giver
 comes_stays s made codecs slots hs k e leaves n m id number holder giver comes =
     let more = slots_more made slots (cause_of codecs k) (leaving_box leaves (box_of hs k)) (asked_by e (state_in s codecs k)) in
     subst (λ (l : List SlotEntry). ComesBack l n m id number holder giver) (sym more.1) (comes_kept slots more.0 n m id number holder giver comes)
 
 -- the box of a codec that leaves by the entry comes back
-pub leaves_now : (s : Script) (made : List CoderId) (codecs : List (List Entry)) (slots : List SlotEntry) (hs : List Holding) (k : ℕ) (e : Entry) (leaves : Bool) (b : BoxOut) (n : ℕ) (holder : By) → leaves ≡ true → box_of hs k ≡ Some b → IsGivable slots (cause_of codecs k) (box_of hs k) → slice_get slots n ≡ Some (acquired holder b.id b.number) → b.by ≡ holder
+pub leaves_now : (s : ScriptData) (made : List CoderId) (codecs : List (List Entry)) (slots : List SlotEntry) (hs : List Holding) (k : ℕ) (e : Entry) (leaves : Bool) (b : BoxOut) (n : ℕ) (holder : By) → leaves ≡ true → box_of hs k ≡ Some b → IsGivable slots (cause_of codecs k) (box_of hs k) → slice_get slots n ≡ Some (acquired holder b.id b.number) → b.by ≡ holder
     → ComesBack (slots_after s made codecs slots hs k e leaves) n (length slots) b.id b.number holder (cause_of codecs k)
 leaves_now s made codecs slots hs k e leaves b n holder goes is may out by_is =
     let cause = cause_of codecs k in
@@ -354,11 +354,11 @@ leaves_now s made codecs slots hs k e leaves b n holder goes is may out by_is =
     }
 
 -- and its codec lets it go
-pub lets_now : (s : Script) (made : List CoderId) (codecs : List (List Entry)) (slots : List SlotEntry) (hs hs_then : List Holding) (k : ℕ) (e : Entry) (leaves : Bool) (p : ℕ) → EntryMoves s made codecs slots hs k e leaves hs_then → p < length (at k codecs) → stay_in s codecs k p ≡ now_of (state_in s codecs k).control
+pub lets_now : (s : ScriptData) (made : List CoderId) (codecs : List (List Entry)) (slots : List SlotEntry) (hs hs_then : List Holding) (k : ℕ) (e : Entry) (leaves : Bool) (p : ℕ) → EntryMoves s made codecs slots hs k e leaves hs_then → p < length (at k codecs) → stay_in s codecs k p ≡ now_of (state_in s codecs k).control
     → stay_in s (append_at k e codecs) k p ≡ cond leaves (Left (length (at k codecs))) (now_of (state_in s (append_at k e codecs) k).control)
 lets_now s made codecs slots hs hs_then k e leaves p moves there now = stay_this s codecs k e p moves.below there ∙ (ap (stay_at e (state_in s codecs k) (length (at k codecs))) now ∙ moves.stays)
 
-pub lets_left : (s : Script) (made : List CoderId) (codecs : List (List Entry)) (slots : List SlotEntry) (hs hs_then : List Holding) (k : ℕ) (e : Entry) (leaves : Bool) (p : ℕ) → EntryMoves s made codecs slots hs k e leaves hs_then → leaves ≡ true → p < length (at k codecs) → stay_in s codecs k p ≡ now_of (state_in s codecs k).control
+pub lets_left : (s : ScriptData) (made : List CoderId) (codecs : List (List Entry)) (slots : List SlotEntry) (hs hs_then : List Holding) (k : ℕ) (e : Entry) (leaves : Bool) (p : ℕ) → EntryMoves s made codecs slots hs k e leaves hs_then → leaves ≡ true → p < length (at k codecs) → stay_in s codecs k p ≡ now_of (state_in s codecs k).control
     → stay_in s (append_at k e codecs) k p ≡ Left (length (at k codecs))
 lets_left s made codecs slots hs hs_then k e leaves p moves goes there now =
     lets_now s made codecs slots hs hs_then k e leaves p moves there now ∙ ap (λ (l : Bool). cond l (Left (length (at k codecs))) (now_of (state_in s (append_at k e codecs) k).control)) goes

@@ -12,8 +12,8 @@ use Rattle.codec_model.specs.declared.entry.Outcome.TheVariants as outcome
 use Rattle.codec_model.specs.declared.entry.Entry.{Entry}
 use Rattle.codec_model.specs.declared.entry.Entry.TheVariants as entry
 use Rattle.codec_model.specs.declared.entry.Running.{Running}
-use Rattle.wc_script.specs.declared.script.Script.{Script}
-use Rattle.wc_script.specs.declared.script.OrderItem.{OrderItem}
+use Rattle.script_types.specs.declared.script.ScriptData.{ScriptData}
+use Rattle.script_types.specs.declared.script.OrderItem.{OrderItem}
 use Rattle.trace_text.specs.declared.run.Run.{Run}
 use Rattle.trace_text.specs.Follow.{at, Course, Holding, opening_at, state_after, follow_item, Follows, nothing_yet}
 use Rattle.trace_text.specs.Fits.{FollowsTheOrder, recorded_of}
@@ -30,7 +30,7 @@ use Rattle.wc_replay.proofs.AccountsRefusals.{RefusalsAgree, same_asker}
 use Rattle.wc_replay.proofs.AccountsEnds.{Agree, item_agrees}
 
 -- nothing is recorded yet, and the boxes are accounted for
-nothing_accounted : (s : Script) (made : List CoderId) → Accounted s made (nothing_yet s)
+nothing_accounted : (s : ScriptData) (made : List CoderId) → Accounted s made (nothing_yet s)
 nothing_accounted s made = record {
   sizes = length-map s.codecs _ ∙ sym (length-map s.codecs _);
   older = λ k. subst (λ (h : List Entry). IsOlder (state_after (opening_at s k) h).control.running (state_after (opening_at s k) h).control.epoch) (sym (at_empty k s.codecs)) tt;
@@ -44,14 +44,14 @@ nothing_accounted s made = record {
 }
 
 -- nothing was refused
-nothing_agrees : (s : Script) → Agree s (nothing_yet s)
+nothing_agrees : (s : ScriptData) → Agree s (nothing_yet s)
 nothing_agrees s = record {
   waits = λ k n is. absurd (let bad : None ≡ Some n = ap (λ (h : Holding). h.refusal) (sym (none_held k s.codecs)) ∙ is in cc);
   ends = λ k p n refused. absurd (let bad = refused.stands in cc);
   tells = λ k q epoch number moment n h. absurd (let bad : None ≡ Some (entry.Done epoch number moment (outcome.NoSlot n)) = ap (λ (l : List Entry). slice_get l q) (sym (at_empty k s.codecs)) ∙ h in cc);
 }
 
-order_accounted : (s : Script) (made : List CoderId) (xs : List OrderItem) (v u : Course) → IsSound s → CourseFits s v → AreHeld v → Accounted s made v → Agree s v → Follows s made xs v u → Accounted s made u × Agree s u
+order_accounted : (s : ScriptData) (made : List CoderId) (xs : List OrderItem) (v u : Course) → IsSound s → CourseFits s v → AreHeld v → Accounted s made v → Agree s v → Follows s made xs v u → Accounted s made u × Agree s u
 order_accounted s made [] v u sound fits are acc agree follows = (subst (Accounted s made) (sym follows) acc, subst (Agree s) (sym follows) agree)
 order_accounted s made (x ∷ xs) v u sound fits are acc agree follows =
     order_accounted s made xs (follow_item s made follows.0 x v) u sound (item_fits s made follows.0 x v sound fits) (held_item s made follows.0 x v are) (item_accounted s made follows.0 x v sound fits are acc) (item_agrees s made follows.0 x v sound fits acc agree) follows.1
@@ -71,13 +71,13 @@ get_from_front (y ∷ ys) (suc n) zero x h = h
 get_from_front (y ∷ ys) (suc n) (suc m) x h = get_from_front ys n m x h
 
 -- a box does not come back again before it goes out again
-not_again : (s : Script) (made : List CoderId) (codecs : List (List Entry)) (slots : List SlotEntry) (hs : List Holding) → AccountedIn s made codecs slots hs → (n m l number : ℕ) (id : CoderId) (holder giver other : By) → ComesBack slots n m id number holder giver → ComesBack slots n l id number holder other → m < l → ⊥
+not_again : (s : ScriptData) (made : List CoderId) (codecs : List (List Entry)) (slots : List SlotEntry) (hs : List Holding) → AccountedIn s made codecs slots hs → (n m l number : ℕ) (id : CoderId) (holder giver other : By) → ComesBack slots n m id number holder giver → ComesBack slots n l id number holder other → m < l → ⊥
 not_again s made codecs slots hs acc n m l number id holder giver other first second lt =
     let last = last_out id number holder (take l slots) second.had in
     let place : last.place ≡ n = acc.once last.place n (acquired holder id number) (acquired holder id number) id id (get_from_front slots l last.place (acquired holder id number) last.out) first.out refl refl refl in
     last.none_after m giver (omega (arith, first.later, place)) (get_taken slots l m (given giver id number) lt first.back)
 
-back_once : (s : Script) (made : List CoderId) (codecs : List (List Entry)) (slots : List SlotEntry) (hs : List Holding) → AccountedIn s made codecs slots hs → (n m l number : ℕ) (id : CoderId) (holder giver other : By) → ComesBack slots n m id number holder giver → ComesBack slots n l id number holder other → m ≡ l
+back_once : (s : ScriptData) (made : List CoderId) (codecs : List (List Entry)) (slots : List SlotEntry) (hs : List Holding) → AccountedIn s made codecs slots hs → (n m l number : ℕ) (id : CoderId) (holder giver other : By) → ComesBack slots n m id number holder giver → ComesBack slots n l id number holder other → m ≡ l
 back_once s made codecs slots hs acc n m l number id holder giver other first second =
     elim (cases_order m l) [
       | inl same ↦ same
@@ -96,7 +96,7 @@ not_left (Some r) epoch = either (r.epoch == epoch)
     either true = refl
     either false = refl
 
-comes_back : (s : Script) (made : List CoderId) (codecs : List (List Entry)) (slots : List SlotEntry) (hs : List Holding) → AccountedIn s made codecs slots hs → (n k p q number : ℕ) (id : CoderId) → slice_get slots n ≡ Some (acquired (by.Codec k p) id number) → left_by (stay_in s codecs k p) ≡ Some q → (m : ℕ) × ComesBack slots n m id number (by.Codec k p) (by.Codec k q)
+comes_back : (s : ScriptData) (made : List CoderId) (codecs : List (List Entry)) (slots : List SlotEntry) (hs : List Holding) → AccountedIn s made codecs slots hs → (n k p q number : ℕ) (id : CoderId) → slice_get slots n ≡ Some (acquired (by.Codec k p) id number) → left_by (stay_in s codecs k p) ≡ Some q → (m : ℕ) × ComesBack slots n m id number (by.Codec k p) (by.Codec k q)
 comes_back s made codecs slots hs acc n k p q number id h left =
     elim (acc.away n k p number id h) [
       | Here is ↦ (
@@ -112,7 +112,7 @@ comes_back s made codecs slots hs acc n k p q number id h left =
           )
     ]
 
-by_that_entry : (s : Script) (made : List CoderId) (codecs : List (List Entry)) (slots : List SlotEntry) (hs : List Holding) → AccountedIn s made codecs slots hs → (n m k p number : ℕ) (id : CoderId) (giver : By) → ComesBack slots n m id number (by.Codec k p) giver → (q : ℕ) × (left_by (stay_in s codecs k p) ≡ Some q) × (giver ≡ by.Codec k q)
+by_that_entry : (s : ScriptData) (made : List CoderId) (codecs : List (List Entry)) (slots : List SlotEntry) (hs : List Holding) → AccountedIn s made codecs slots hs → (n m k p number : ℕ) (id : CoderId) (giver : By) → ComesBack slots n m id number (by.Codec k p) giver → (q : ℕ) × (left_by (stay_in s codecs k p) ≡ Some q) × (giver ≡ by.Codec k q)
 by_that_entry s made codecs slots hs acc n m k p number id giver comes =
     let back = acc.backs m number giver id comes.back in
     let holders : by.Codec back.codec back.asker ≡ by.Codec k p = (let some = sym back.comes.had ∙ comes.had in cc) in
@@ -139,7 +139,7 @@ same_end h p q epoch number moment r other count after o x one two =
     ]
 
 -- where the acquire of a start was refused, its end says so
-refused_ends : (s : Script) (codecs : List (List Entry)) (slots : List SlotEntry) (hs : List Holding) → RefusalsAgree s codecs slots hs → (k p q epoch number moment n : ℕ) (o : Outcome) → IsRefusedAt slots n (by.Codec k p) → IsFirstEnd (at k codecs) p q epoch number moment o
+refused_ends : (s : ScriptData) (codecs : List (List Entry)) (slots : List SlotEntry) (hs : List Holding) → RefusalsAgree s codecs slots hs → (k p q epoch number moment n : ℕ) (o : Outcome) → IsRefusedAt slots n (by.Codec k p) → IsFirstEnd (at k codecs) p q epoch number moment o
     → EndsAt (at k codecs) p q epoch number moment o × ((o ≡ outcome.NoSlot n) ⊎ (o ≡ outcome.NoMemory))
 refused_ends s codecs slots hs agree k p q epoch number moment n o refused first =
     elim (agree.ends k p n refused) [
@@ -163,7 +163,7 @@ refused_ends s codecs slots hs agree k p q epoch number moment n o refused first
     ]
 
 -- The boxes of a run that follows the order of a sound script are accounted for.
-pub boxes_of : (s : Script) → IsSound s → (made : List CoderId) (run : Run) → FollowsTheOrder s made run → BoxesAccounted s made (recorded_of run)
+pub boxes_of : (s : ScriptData) → IsSound s → (made : List CoderId) (run : Run) → FollowsTheOrder s made run → BoxesAccounted s made (recorded_of run)
 boxes_of s sound made run follows =
     let w = recorded_of run in
     let hs = follows.holdings in

@@ -16,7 +16,7 @@ use Rattle.codec_model.specs.declared.entry.Entry.{Entry}
 use Rattle.codec_model.specs.declared.entry.Entry.TheVariants as entry
 use Rattle.codec_model.specs.declared.entry.Running.{Running}
 use Rattle.codec_model.specs.Replay.{State}
-use Rattle.wc_script.specs.declared.script.Script.{Script}
+use Rattle.script_types.specs.declared.script.ScriptData.{ScriptData}
 use Rattle.trace_text.specs.Follow.{BoxOut, Holding, at, append_at, holding_at, holding_by, give_of}
 use Rattle.trace_text.specs.Accounts.{is_done, IsRefusedAt, IsFirstEnd, EndsAt}
 use Rattle.wc_replay.proofs.Lists.{IsNew, result_kept, result_new, result_more, get_kept, get_end}
@@ -28,7 +28,7 @@ abbrev pub refusal_of : List Holding → ℕ → Option ℕ
 refusal_of hs k = (holding_at k hs).refusal
 
 -- a codec that was refused a box: its item has not ended
-pub record Waits (s : Script) (codecs : List (List Entry)) (slots : List SlotEntry) (k n : ℕ) : Type 0 where
+pub record Waits (s : ScriptData) (codecs : List (List Entry)) (slots : List SlotEntry) (k n : ℕ) : Type 0 where
   pub asker : ℕ
   pub running : Running
   pub starts : slice_get (at k codecs) asker ≡ Some (entry.Start running.epoch running.number)
@@ -53,7 +53,7 @@ pub record Told (codecs : List (List Entry)) (slots : List SlotEntry) (k q epoch
   pub refused : IsRefusedAt slots n (by.Codec k asker)
 
 -- Refusals and the ends that tell of them agree.
-pub record RefusalsAgree (s : Script) (codecs : List (List Entry)) (slots : List SlotEntry) (hs : List Holding) : Type 0 where
+pub record RefusalsAgree (s : ScriptData) (codecs : List (List Entry)) (slots : List SlotEntry) (hs : List Holding) : Type 0 where
   pub waits : (k n : ℕ) → refusal_of hs k ≡ Some n → Waits s codecs slots k n
   pub ends : (k p n : ℕ) → IsRefusedAt slots n (by.Codec k p) → (refusal_of hs k ≡ Some n) ⊎ Ended codecs k p n
   pub tells : (k q epoch number moment n : ℕ) → slice_get (at k codecs) q ≡ Some (entry.Done epoch number moment (outcome.NoSlot n)) → Told codecs slots k q epoch number moment n
@@ -126,7 +126,7 @@ told_grown codecs k e slots slots_then kept c q epoch number moment n told = rec
 }
 
 -- a codec that still waits
-waits_grown : (s : Script) (codecs : List (List Entry)) (k : ℕ) (e : Entry) (slots slots_then : List SlotEntry) → ((n : ℕ) (cause : By) → IsRefusedAt slots n cause → IsRefusedAt slots_then n cause) → (c n : ℕ) (w : Waits s codecs slots c n) → (state_in s (append_at k e codecs) c).control.running ≡ Some w.running → (c ≡ k → is_done e ≡ false)
+waits_grown : (s : ScriptData) (codecs : List (List Entry)) (k : ℕ) (e : Entry) (slots slots_then : List SlotEntry) → ((n : ℕ) (cause : By) → IsRefusedAt slots n cause → IsRefusedAt slots_then n cause) → (c n : ℕ) (w : Waits s codecs slots c n) → (state_in s (append_at k e codecs) c).control.running ≡ Some w.running → (c ≡ k → is_done e ≡ false)
     → Waits s (append_at k e codecs) slots_then c n
 waits_grown s codecs k e slots slots_then kept c n w runs plain = record {
   asker = w.asker;
@@ -140,12 +140,12 @@ waits_grown s codecs k e slots slots_then kept c n w runs plain = record {
   ];
 }
 
-waits_other : (s : Script) (codecs : List (List Entry)) (k : ℕ) (e : Entry) (slots slots_then : List SlotEntry) → ((n : ℕ) (cause : By) → IsRefusedAt slots n cause → IsRefusedAt slots_then n cause) → (c n : ℕ) → c ≢ k → Waits s codecs slots c n → Waits s (append_at k e codecs) slots_then c n
+waits_other : (s : ScriptData) (codecs : List (List Entry)) (k : ℕ) (e : Entry) (slots slots_then : List SlotEntry) → ((n : ℕ) (cause : By) → IsRefusedAt slots n cause → IsRefusedAt slots_then n cause) → (c n : ℕ) → c ≢ k → Waits s codecs slots c n → Waits s (append_at k e codecs) slots_then c n
 waits_other s codecs k e slots slots_then kept c n other w =
     waits_grown s codecs k e slots slots_then kept c n w (ap (λ (t : State). t.control.running) (state_others s codecs k e c other) ∙ w.runs) (λ same. absurd (other same))
 
 -- an end that is not new where the entry is none
-told_before : (s : Script) (codecs : List (List Entry)) (k : ℕ) (e : Entry) (slots slots_then : List SlotEntry) (hs : List Holding) → ((n : ℕ) (cause : By) → IsRefusedAt slots n cause → IsRefusedAt slots_then n cause) → is_done e ≡ false → RefusalsAgree s codecs slots hs
+told_before : (s : ScriptData) (codecs : List (List Entry)) (k : ℕ) (e : Entry) (slots slots_then : List SlotEntry) (hs : List Holding) → ((n : ℕ) (cause : By) → IsRefusedAt slots n cause → IsRefusedAt slots_then n cause) → is_done e ≡ false → RefusalsAgree s codecs slots hs
     → (c q epoch number moment n : ℕ) → slice_get (at c (append_at k e codecs)) q ≡ Some (entry.Done epoch number moment (outcome.NoSlot n)) → Told (append_at k e codecs) slots_then c q epoch number moment n
 told_before s codecs k e slots slots_then hs kept plain agree c q epoch number moment n h =
     elim (result_more c k q e (entry.Done epoch number moment (outcome.NoSlot n)) codecs h) [
@@ -154,7 +154,7 @@ told_before s codecs k e slots slots_then hs kept plain agree c q epoch number m
     ]
 
 -- An entry that ends no item, asks for no box and keeps the running item.
-pub agree_plain : (s : Script) (codecs : List (List Entry)) (slots slots_then : List SlotEntry) (hs hs_then : List Holding) (k : ℕ) (e : Entry) → NoneRefused slots slots_then → is_done e ≡ false → ((n : ℕ) → refusal_of hs_then n ≡ refusal_of hs n)
+pub agree_plain : (s : ScriptData) (codecs : List (List Entry)) (slots slots_then : List SlotEntry) (hs hs_then : List Holding) (k : ℕ) (e : Entry) → NoneRefused slots slots_then → is_done e ≡ false → ((n : ℕ) → refusal_of hs_then n ≡ refusal_of hs n)
     → ((r : Running) → (state_in s codecs k).control.running ≡ Some r → (state_in s (append_at k e codecs) k).control.running ≡ Some r) → RefusalsAgree s codecs slots hs → RefusalsAgree s (append_at k e codecs) slots_then hs_then
 agree_plain s codecs slots slots_then hs hs_then k e none plain refusals keeps agree = record {
   waits = λ c n is. wait c n (agree.waits c n (sym (refusals c) ∙ is));
@@ -172,7 +172,7 @@ agree_plain s codecs slots slots_then hs hs_then k e none plain refusals keeps a
     ]
 
 -- the end of an item that waits
-end_here : (s : Script) (codecs : List (List Entry)) (slots : List SlotEntry) (k n moment : ℕ) (r : Running) (x : Outcome) → k < length codecs → (state_in s codecs k).control.running ≡ Some r → (w : Waits s codecs slots k n) → EndsAt (at k (append_at k (entry.Done r.epoch r.number moment x) codecs)) w.asker (length (at k codecs)) r.epoch r.number moment x
+end_here : (s : ScriptData) (codecs : List (List Entry)) (slots : List SlotEntry) (k n moment : ℕ) (r : Running) (x : Outcome) → k < length codecs → (state_in s codecs k).control.running ≡ Some r → (w : Waits s codecs slots k n) → EndsAt (at k (append_at k (entry.Done r.epoch r.number moment x) codecs)) w.asker (length (at k codecs)) r.epoch r.number moment x
 end_here s codecs slots k n moment r x below is w =
     let e = entry.Done r.epoch r.number moment x in
     let same : w.running ≡ r = (let some = sym w.runs ∙ is in one w.running r some) in
@@ -198,7 +198,7 @@ same_asker slots n k p q a b =
     cc
 
 -- An end of an item: it tells of the refusal, where there was one.
-pub agree_done : (s : Script) (codecs : List (List Entry)) (slots slots_then : List SlotEntry) (hs hs_then : List Holding) (k moment : ℕ) (r : Running) (x : Outcome) → k < length codecs → NoneRefused slots slots_then → (state_in s codecs k).control.running ≡ Some r
+pub agree_done : (s : ScriptData) (codecs : List (List Entry)) (slots slots_then : List SlotEntry) (hs hs_then : List Holding) (k moment : ℕ) (r : Running) (x : Outcome) → k < length codecs → NoneRefused slots slots_then → (state_in s codecs k).control.running ≡ Some r
     → ((n : ℕ) → n ≢ k → refusal_of hs_then n ≡ refusal_of hs n) → refusal_of hs_then k ≡ None
     → ((n : ℕ) → refusal_of hs k ≡ Some n → (x ≡ outcome.NoSlot n) ⊎ (x ≡ outcome.NoMemory)) → ((n : ℕ) → x ≡ outcome.NoSlot n → refusal_of hs k ≡ Some n)
     → RefusalsAgree s codecs slots hs → RefusalsAgree s (append_at k (entry.Done r.epoch r.number moment x) codecs) slots_then hs_then
@@ -263,7 +263,7 @@ refusal_by cause id place n None h = (refl, (let same : place ≡ n = cc in sym 
 refusal_by cause id place n (Some number) h = absurd cc
 
 -- A start that asks for a box, and is refused one or not.
-pub agree_asks : (s : Script) (made : List CoderId) (codecs : List (List Entry)) (slots : List SlotEntry) (hs hs_then : List Holding) (k epoch number : ℕ) (id : CoderId) (box : Option BoxOut) (r : Running) → k < length codecs → (state_in s codecs k).control.running ≡ None
+pub agree_asks : (s : ScriptData) (made : List CoderId) (codecs : List (List Entry)) (slots : List SlotEntry) (hs hs_then : List Holding) (k epoch number : ℕ) (id : CoderId) (box : Option BoxOut) (r : Running) → k < length codecs → (state_in s codecs k).control.running ≡ None
     → (state_in s (append_at k (entry.Start epoch number) codecs) k).control.running ≡ Some r → r.epoch ≡ epoch → r.number ≡ number
     → ((n : ℕ) → n ≢ k → refusal_of hs_then n ≡ refusal_of hs n)
     → refusal_of hs_then k ≡ (holding_by (cause_of codecs k) id (length (slots ++ give_of (cause_of codecs k) box)) (least_free id made (slots ++ give_of (cause_of codecs k) box))).refusal

@@ -11,7 +11,7 @@ use Rattle.slot_registry.specs.Boxes.{made_of, out_of, least_free}
 use Rattle.slot_registry.specs.Slots.{acquire_op, acquire_entry}
 use Rattle.codec_model.specs.declared.entry.Entry.{Entry}
 use Rattle.codec_model.specs.Replay.{State}
-use Rattle.wc_script.specs.declared.script.Script.{Script}
+use Rattle.script_types.specs.declared.script.ScriptData.{ScriptData}
 use Rattle.trace_text.specs.Follow.{BoxOut, Holding, at, append_at, opening_at}
 use Rattle.wc_replay.specs.Boxes.{IsGivable}
 use Rattle.trace_text.specs.Accounts.{asked_by, Left, acquire_of}
@@ -20,18 +20,18 @@ use Rattle.wc_replay.proofs.Accounts.{asks_within}
 use Rattle.wc_replay.proofs.AccountsMoves.{IsOlder, now_of, state_in, stay_in, asks_in, acquired, given, Whereabouts, Here, Back, AskedAt, Asker, CameBack, HeldSince, AccountedIn, leaving_box, staying_box, Moves, EntryMoves, NewSlot, Old, Gave, Asked, Stayed, WentOut, cause_of, box_of, slots_given, slots_after, new_slot, acquire_asks, acquire_stands, give_legal, acquire_legal, asks_stay, asks_new, asks_here, stay_others, state_others, stay_fresh, left_stays, never_next, not_give, acquired_by, no_give_op, kept_on, out_now, how_held, leaving_is, staying_is, slot_stays, comes_stays, leaves_now, lets_now, lets_left}
 
 -- each element of the registry's history after an entry
-find_slot : (s : Script) (made : List CoderId) (codecs : List (List Entry)) (slots : List SlotEntry) (hs : List Holding) (k : ℕ) (e : Entry) (leaves : Bool) (n : ℕ) (x : SlotEntry) → slice_get (slots_after s made codecs slots hs k e leaves) n ≡ Some x
+find_slot : (s : ScriptData) (made : List CoderId) (codecs : List (List Entry)) (slots : List SlotEntry) (hs : List Holding) (k : ℕ) (e : Entry) (leaves : Bool) (n : ℕ) (x : SlotEntry) → slice_get (slots_after s made codecs slots hs k e leaves) n ≡ Some x
     → NewSlot made slots (cause_of codecs k) (leaving_box leaves (box_of hs k)) (asked_by e (state_in s codecs k)) n x
 find_slot s made codecs slots hs k e leaves n x h = new_slot made slots (cause_of codecs k) (leaving_box leaves (box_of hs k)) (asked_by e (state_in s codecs k)) n x h
 
-older_more : (s : Script) (made : List CoderId) (codecs : List (List Entry)) (slots : List SlotEntry) (hs hs_then : List Holding) (k : ℕ) (e : Entry) (leaves : Bool) → AccountedIn s made codecs slots hs → EntryMoves s made codecs slots hs k e leaves hs_then → (n : ℕ) → IsOlder (state_in s (append_at k e codecs) n).control.running (state_in s (append_at k e codecs) n).control.epoch
+older_more : (s : ScriptData) (made : List CoderId) (codecs : List (List Entry)) (slots : List SlotEntry) (hs hs_then : List Holding) (k : ℕ) (e : Entry) (leaves : Bool) → AccountedIn s made codecs slots hs → EntryMoves s made codecs slots hs k e leaves hs_then → (n : ℕ) → IsOlder (state_in s (append_at k e codecs) n).control.running (state_in s (append_at k e codecs) n).control.epoch
 older_more s made codecs slots hs hs_then k e leaves acc moves n =
     elim (cases_eq n k) [
       | inl same ↦ subst (λ (m : ℕ). IsOlder (state_in s (append_at k e codecs) m).control.running (state_in s (append_at k e codecs) m).control.epoch) (sym same) moves.older
       | inr other ↦ subst (λ (t : State). IsOlder t.control.running t.control.epoch) (sym (state_others s codecs k e n other)) (acc.older n)
     ]
 
-asked_more : (s : Script) (made : List CoderId) (codecs : List (List Entry)) (slots : List SlotEntry) (hs : List Holding) (k : ℕ) (e : Entry) (leaves : Bool) → AccountedIn s made codecs slots hs → (n p : ℕ) (id : CoderId) → asks_in s (append_at k e codecs) n p ≡ Some id → AskedAt (slots_after s made codecs slots hs k e leaves) (by.Codec n p) id
+asked_more : (s : ScriptData) (made : List CoderId) (codecs : List (List Entry)) (slots : List SlotEntry) (hs : List Holding) (k : ℕ) (e : Entry) (leaves : Bool) → AccountedIn s made codecs slots hs → (n p : ℕ) (id : CoderId) → asks_in s (append_at k e codecs) n p ≡ Some id → AskedAt (slots_after s made codecs slots hs k e leaves) (by.Codec n p) id
 asked_more s made codecs slots hs k e leaves acc n p id asks =
     let cause = cause_of codecs k in
     let before = slots_given codecs slots hs k leaves in
@@ -49,7 +49,7 @@ asked_more s made codecs slots hs k e leaves acc n p id asks =
       }
     ]
 
-once_more : (s : Script) (made : List CoderId) (codecs : List (List Entry)) (slots : List SlotEntry) (hs : List Holding) (k : ℕ) (e : Entry) (leaves : Bool) → AccountedIn s made codecs slots hs → (m n : ℕ) (d f : SlotEntry) (i j : CoderId) → slice_get (slots_after s made codecs slots hs k e leaves) m ≡ Some d → slice_get (slots_after s made codecs slots hs k e leaves) n ≡ Some f → acquire_of d.op ≡ Some i → acquire_of f.op ≡ Some j → d.by ≡ f.by → m ≡ n
+once_more : (s : ScriptData) (made : List CoderId) (codecs : List (List Entry)) (slots : List SlotEntry) (hs : List Holding) (k : ℕ) (e : Entry) (leaves : Bool) → AccountedIn s made codecs slots hs → (m n : ℕ) (d f : SlotEntry) (i j : CoderId) → slice_get (slots_after s made codecs slots hs k e leaves) m ≡ Some d → slice_get (slots_after s made codecs slots hs k e leaves) n ≡ Some f → acquire_of d.op ≡ Some i → acquire_of f.op ≡ Some j → d.by ≡ f.by → m ≡ n
 once_more s made codecs slots hs k e leaves acc m n d f i j hd hf asks_d asks_f same =
     let cause = cause_of codecs k in
     elim (find_slot s made codecs slots hs k e leaves m d hd) [
@@ -66,10 +66,10 @@ once_more s made codecs slots hs k e leaves acc m n d f i j hd hf asks_d asks_f 
       ]
     ]
 
-asker_stays : (s : Script) (codecs : List (List Entry)) (k : ℕ) (e : Entry) (cause : By) (id : CoderId) → Asker s codecs cause id → Asker s (append_at k e codecs) cause id
+asker_stays : (s : ScriptData) (codecs : List (List Entry)) (k : ℕ) (e : Entry) (cause : By) (id : CoderId) → Asker s codecs cause id → Asker s (append_at k e codecs) cause id
 asker_stays s codecs k e cause id asker = record { codec = asker.codec; place = asker.place; is_cause = asker.is_cause; asks = asks_stay s codecs k e asker.codec asker.place id asker.asks }
 
-only_more : (s : Script) (made : List CoderId) (codecs : List (List Entry)) (slots : List SlotEntry) (hs : List Holding) (k : ℕ) (e : Entry) (leaves : Bool) → k < length codecs → AccountedIn s made codecs slots hs → (n : ℕ) (x : SlotEntry) (id : CoderId) → slice_get (slots_after s made codecs slots hs k e leaves) n ≡ Some x → acquire_of x.op ≡ Some id → Asker s (append_at k e codecs) x.by id
+only_more : (s : ScriptData) (made : List CoderId) (codecs : List (List Entry)) (slots : List SlotEntry) (hs : List Holding) (k : ℕ) (e : Entry) (leaves : Bool) → k < length codecs → AccountedIn s made codecs slots hs → (n : ℕ) (x : SlotEntry) (id : CoderId) → slice_get (slots_after s made codecs slots hs k e leaves) n ≡ Some x → acquire_of x.op ≡ Some id → Asker s (append_at k e codecs) x.by id
 only_more s made codecs slots hs k e leaves below acc n x id h asks =
     let cause = cause_of codecs k in
     elim (find_slot s made codecs slots hs k e leaves n x h) [
@@ -82,7 +82,7 @@ only_more s made codecs slots hs k e leaves below acc n x id h asks =
     ]
 
 -- the asker of an acquire that was there
-asker_there : (s : Script) (made : List CoderId) (codecs : List (List Entry)) (slots : List SlotEntry) (hs : List Holding) → AccountedIn s made codecs slots hs → (n k p number : ℕ) (id : CoderId) → slice_get slots n ≡ Some (acquired (by.Codec k p) id number) → p < length (at k codecs)
+asker_there : (s : ScriptData) (made : List CoderId) (codecs : List (List Entry)) (slots : List SlotEntry) (hs : List Holding) → AccountedIn s made codecs slots hs → (n k p number : ℕ) (id : CoderId) → slice_get slots n ≡ Some (acquired (by.Codec k p) id number) → p < length (at k codecs)
 asker_there s made codecs slots hs acc n k p number id h =
     let asker = acc.only n (acquired (by.Codec k p) id number) id h refl in
     let is = asker.is_cause in
@@ -92,7 +92,7 @@ asker_there s made codecs slots hs acc n k p number id h =
     omega (arith, within, place, ap (λ (m : ℕ). length (at m codecs)) codec)
 
 -- the box that this codec holds, which went out by an acquire
-this_away : (s : Script) (made : List CoderId) (codecs : List (List Entry)) (slots : List SlotEntry) (hs hs_then : List Holding) (k : ℕ) (e : Entry) (leaves : Bool) → AccountedIn s made codecs slots hs → IsGivable slots (cause_of codecs k) (box_of hs k) → EntryMoves s made codecs slots hs k e leaves hs_then
+this_away : (s : ScriptData) (made : List CoderId) (codecs : List (List Entry)) (slots : List SlotEntry) (hs hs_then : List Holding) (k : ℕ) (e : Entry) (leaves : Bool) → AccountedIn s made codecs slots hs → IsGivable slots (cause_of codecs k) (box_of hs k) → EntryMoves s made codecs slots hs k e leaves hs_then
     → (n p number : ℕ) (id : CoderId) → slice_get slots n ≡ Some (acquired (by.Codec k p) id number) → box_of hs k ≡ Some (record { id = id; number = number; by = by.Codec k p }) → (l : Bool) → leaves ≡ l
     → Whereabouts s (append_at k e codecs) (slots_after s made codecs slots hs k e leaves) hs_then n k p id number
 this_away s made codecs slots hs hs_then k e leaves acc may moves n p number id h is true goes =
@@ -108,7 +108,7 @@ this_away s made codecs slots hs hs_then k e leaves acc may moves n p number id 
     let b : BoxOut = record { id = id; number = number; by = by.Codec k p } in
     Here (moves.mine ∙ kept_on made (cause_of codecs k) (asked_by e (state_in s codecs k)) (slots_given codecs slots hs k leaves) leaves (box_of hs k) b moves.renews stays is)
 
-old_away : (s : Script) (made : List CoderId) (codecs : List (List Entry)) (slots : List SlotEntry) (hs hs_then : List Holding) (k : ℕ) (e : Entry) (leaves : Bool) → AccountedIn s made codecs slots hs → IsGivable slots (cause_of codecs k) (box_of hs k) → EntryMoves s made codecs slots hs k e leaves hs_then
+old_away : (s : ScriptData) (made : List CoderId) (codecs : List (List Entry)) (slots : List SlotEntry) (hs hs_then : List Holding) (k : ℕ) (e : Entry) (leaves : Bool) → AccountedIn s made codecs slots hs → IsGivable slots (cause_of codecs k) (box_of hs k) → EntryMoves s made codecs slots hs k e leaves hs_then
     → (n c p number : ℕ) (id : CoderId) → slice_get slots n ≡ Some (acquired (by.Codec c p) id number)
     → Whereabouts s (append_at k e codecs) (slots_after s made codecs slots hs k e leaves) hs_then n c p id number
 old_away s made codecs slots hs hs_then k e leaves acc may moves n c p number id h =
@@ -123,7 +123,7 @@ old_away s made codecs slots hs hs_then k e leaves acc may moves n c p number id
       | Back q m left comes ↦ Back q m (left_stays s codecs k e c p q (asker_there s made codecs slots hs acc n c p number id h) left) (comes_stays s made codecs slots hs k e leaves n m id number (by.Codec c p) (by.Codec c q) comes)
     ]
 
-new_away : (s : Script) (made : List CoderId) (codecs : List (List Entry)) (slots : List SlotEntry) (hs hs_then : List Holding) (k : ℕ) (e : Entry) (leaves : Bool) → EntryMoves s made codecs slots hs k e leaves hs_then
+new_away : (s : ScriptData) (made : List CoderId) (codecs : List (List Entry)) (slots : List SlotEntry) (hs hs_then : List Holding) (k : ℕ) (e : Entry) (leaves : Bool) → EntryMoves s made codecs slots hs k e leaves hs_then
     → (n c p number : ℕ) (id j : CoderId) → asked_by e (state_in s codecs k) ≡ Some j → acquired (by.Codec c p) id number ≡ acquire_entry (cause_of codecs k) j (record { made = made; history = slots_given codecs slots hs k leaves })
     → Whereabouts s (append_at k e codecs) (slots_after s made codecs slots hs k e leaves) hs_then n c p id number
 new_away s made codecs slots hs hs_then k e leaves moves n c p number id j o is =
@@ -136,7 +136,7 @@ new_away s made codecs slots hs hs_then k e leaves moves n c p number id j o is 
     let boxes : Some (record { id = j; number = number; by = cause_of codecs k }) ≡ Some box = ap (λ (x : CoderId). Some (record { id = x; number = number; by = cause_of codecs k })) (sym op.1) ∙ ap (λ (x : By). Some (record { id = id; number = number; by = x })) (sym cause) in
     Here (ap (box_of hs_then) codec ∙ (moves.mine ∙ (out ∙ boxes)))
 
-away_more : (s : Script) (made : List CoderId) (codecs : List (List Entry)) (slots : List SlotEntry) (hs hs_then : List Holding) (k : ℕ) (e : Entry) (leaves : Bool) → AccountedIn s made codecs slots hs → IsGivable slots (cause_of codecs k) (box_of hs k) → EntryMoves s made codecs slots hs k e leaves hs_then
+away_more : (s : ScriptData) (made : List CoderId) (codecs : List (List Entry)) (slots : List SlotEntry) (hs hs_then : List Holding) (k : ℕ) (e : Entry) (leaves : Bool) → AccountedIn s made codecs slots hs → IsGivable slots (cause_of codecs k) (box_of hs k) → EntryMoves s made codecs slots hs k e leaves hs_then
     → (n c p number : ℕ) (id : CoderId) → slice_get (slots_after s made codecs slots hs k e leaves) n ≡ Some (acquired (by.Codec c p) id number)
     → Whereabouts s (append_at k e codecs) (slots_after s made codecs slots hs k e leaves) hs_then n c p id number
 away_more s made codecs slots hs hs_then k e leaves acc may moves n c p number id h =
@@ -147,7 +147,7 @@ away_more s made codecs slots hs hs_then k e leaves acc may moves n c p number i
     ]
 
 -- what came back
-back_stays : (s : Script) (made : List CoderId) (codecs : List (List Entry)) (slots : List SlotEntry) (hs : List Holding) (k : ℕ) (e : Entry) (leaves : Bool) → AccountedIn s made codecs slots hs → (m number : ℕ) (giver : By) (id : CoderId) → CameBack s codecs slots m giver id number → CameBack s (append_at k e codecs) (slots_after s made codecs slots hs k e leaves) m giver id number
+back_stays : (s : ScriptData) (made : List CoderId) (codecs : List (List Entry)) (slots : List SlotEntry) (hs : List Holding) (k : ℕ) (e : Entry) (leaves : Bool) → AccountedIn s made codecs slots hs → (m number : ℕ) (giver : By) (id : CoderId) → CameBack s codecs slots m giver id number → CameBack s (append_at k e codecs) (slots_after s made codecs slots hs k e leaves) m giver id number
 back_stays s made codecs slots hs k e leaves acc m number giver id back = record {
   acquire = back.acquire;
   codec = back.codec;
@@ -158,7 +158,7 @@ back_stays s made codecs slots hs k e leaves acc m number giver id back = record
   giver_is = back.giver_is;
 }
 
-back_new : (s : Script) (made : List CoderId) (codecs : List (List Entry)) (slots : List SlotEntry) (hs hs_then : List Holding) (k : ℕ) (e : Entry) (leaves : Bool) → AccountedIn s made codecs slots hs → IsGivable slots (cause_of codecs k) (box_of hs k) → EntryMoves s made codecs slots hs k e leaves hs_then
+back_new : (s : ScriptData) (made : List CoderId) (codecs : List (List Entry)) (slots : List SlotEntry) (hs hs_then : List Holding) (k : ℕ) (e : Entry) (leaves : Bool) → AccountedIn s made codecs slots hs → IsGivable slots (cause_of codecs k) (box_of hs k) → EntryMoves s made codecs slots hs k e leaves hs_then
     → (b : BoxOut) → leaves ≡ true → box_of hs k ≡ Some b → CameBack s (append_at k e codecs) (slots_after s made codecs slots hs k e leaves) (length slots) (cause_of codecs k) b.id b.number
 back_new s made codecs slots hs hs_then k e leaves acc may moves b goes is =
     let since = acc.held k b is in
@@ -179,7 +179,7 @@ same_given cause giver id i number n h =
     let numbers : number ≡ n = cc in
     (ap (λ (x : SlotEntry). x.by) h, ids, numbers)
 
-backs_more : (s : Script) (made : List CoderId) (codecs : List (List Entry)) (slots : List SlotEntry) (hs hs_then : List Holding) (k : ℕ) (e : Entry) (leaves : Bool) → AccountedIn s made codecs slots hs → IsGivable slots (cause_of codecs k) (box_of hs k) → EntryMoves s made codecs slots hs k e leaves hs_then
+backs_more : (s : ScriptData) (made : List CoderId) (codecs : List (List Entry)) (slots : List SlotEntry) (hs hs_then : List Holding) (k : ℕ) (e : Entry) (leaves : Bool) → AccountedIn s made codecs slots hs → IsGivable slots (cause_of codecs k) (box_of hs k) → EntryMoves s made codecs slots hs k e leaves hs_then
     → (m number : ℕ) (giver : By) (id : CoderId) → slice_get (slots_after s made codecs slots hs k e leaves) m ≡ Some (given giver id number) → CameBack s (append_at k e codecs) (slots_after s made codecs slots hs k e leaves) m giver id number
 backs_more s made codecs slots hs hs_then k e leaves acc may moves m number giver id h =
     let all = slots_after s made codecs slots hs k e leaves in
@@ -199,7 +199,7 @@ backs_more s made codecs slots hs hs_then k e leaves acc may moves m number give
     ]
 
 -- the box that another codec holds
-held_other : (s : Script) (made : List CoderId) (codecs : List (List Entry)) (slots : List SlotEntry) (hs : List Holding) (k : ℕ) (e : Entry) (leaves : Bool) (c : ℕ) (b : BoxOut) → c ≢ k → HeldSince s codecs slots c b → HeldSince s (append_at k e codecs) (slots_after s made codecs slots hs k e leaves) c b
+held_other : (s : ScriptData) (made : List CoderId) (codecs : List (List Entry)) (slots : List SlotEntry) (hs : List Holding) (k : ℕ) (e : Entry) (leaves : Bool) (c : ℕ) (b : BoxOut) → c ≢ k → HeldSince s codecs slots c b → HeldSince s (append_at k e codecs) (slots_after s made codecs slots hs k e leaves) c b
 held_other s made codecs slots hs k e leaves c b other since = record {
   acquire = since.acquire;
   asker = since.asker;
@@ -210,7 +210,7 @@ held_other s made codecs slots hs k e leaves c b other since = record {
 }
 
 -- the box that this codec holds still
-held_still : (s : Script) (made : List CoderId) (codecs : List (List Entry)) (slots : List SlotEntry) (hs hs_then : List Holding) (k : ℕ) (e : Entry) (leaves : Bool) (b : BoxOut) → EntryMoves s made codecs slots hs k e leaves hs_then → leaves ≡ false → HeldSince s codecs slots k b → HeldSince s (append_at k e codecs) (slots_after s made codecs slots hs k e leaves) k b
+held_still : (s : ScriptData) (made : List CoderId) (codecs : List (List Entry)) (slots : List SlotEntry) (hs hs_then : List Holding) (k : ℕ) (e : Entry) (leaves : Bool) (b : BoxOut) → EntryMoves s made codecs slots hs k e leaves hs_then → leaves ≡ false → HeldSince s codecs slots k b → HeldSince s (append_at k e codecs) (slots_after s made codecs slots hs k e leaves) k b
 held_still s made codecs slots hs hs_then k e leaves b moves stays since = record {
   acquire = since.acquire;
   asker = since.asker;
@@ -221,7 +221,7 @@ held_still s made codecs slots hs hs_then k e leaves b moves stays since = recor
 }
 
 -- the box that goes out
-held_new : (s : Script) (made : List CoderId) (codecs : List (List Entry)) (slots : List SlotEntry) (hs hs_then : List Holding) (k : ℕ) (e : Entry) (leaves : Bool) (id : CoderId) (number : ℕ) → EntryMoves s made codecs slots hs k e leaves hs_then → asked_by e (state_in s codecs k) ≡ Some id → least_free id made (slots_given codecs slots hs k leaves) ≡ Some number
+held_new : (s : ScriptData) (made : List CoderId) (codecs : List (List Entry)) (slots : List SlotEntry) (hs hs_then : List Holding) (k : ℕ) (e : Entry) (leaves : Bool) (id : CoderId) (number : ℕ) → EntryMoves s made codecs slots hs k e leaves hs_then → asked_by e (state_in s codecs k) ≡ Some id → least_free id made (slots_given codecs slots hs k leaves) ≡ Some number
     → HeldSince s (append_at k e codecs) (slots_after s made codecs slots hs k e leaves) k (record { id = id; number = number; by = cause_of codecs k })
 held_new s made codecs slots hs hs_then k e leaves id number moves asks free =
     let before = slots_given codecs slots hs k leaves in
@@ -235,7 +235,7 @@ held_new s made codecs slots hs hs_then k e leaves id number moves asks free =
       now = stay_fresh s codecs k e moves.below ∙ sym (moves.fresh (ap is_some asks));
     }
 
-this_held : (s : Script) (made : List CoderId) (codecs : List (List Entry)) (slots : List SlotEntry) (hs hs_then : List Holding) (k : ℕ) (e : Entry) (leaves : Bool) → AccountedIn s made codecs slots hs → EntryMoves s made codecs slots hs k e leaves hs_then → (b : BoxOut) → box_of hs_then k ≡ Some b
+this_held : (s : ScriptData) (made : List CoderId) (codecs : List (List Entry)) (slots : List SlotEntry) (hs hs_then : List Holding) (k : ℕ) (e : Entry) (leaves : Bool) → AccountedIn s made codecs slots hs → EntryMoves s made codecs slots hs k e leaves hs_then → (b : BoxOut) → box_of hs_then k ≡ Some b
     → HeldSince s (append_at k e codecs) (slots_after s made codecs slots hs k e leaves) k b
 this_held s made codecs slots hs hs_then k e leaves acc moves b is =
     elim (how_held made (cause_of codecs k) (asked_by e (state_in s codecs k)) (slots_given codecs slots hs k leaves) (staying_box leaves (box_of hs k)) b (sym moves.mine ∙ is)) [
@@ -243,7 +243,7 @@ this_held s made codecs slots hs hs_then k e leaves acc moves b is =
       | WentOut id number asks free same ↦ subst (HeldSince s (append_at k e codecs) (slots_after s made codecs slots hs k e leaves) k) (sym same) (held_new s made codecs slots hs hs_then k e leaves id number moves asks free)
     ]
 
-held_more : (s : Script) (made : List CoderId) (codecs : List (List Entry)) (slots : List SlotEntry) (hs hs_then : List Holding) (k : ℕ) (e : Entry) (leaves : Bool) → AccountedIn s made codecs slots hs → EntryMoves s made codecs slots hs k e leaves hs_then → (c : ℕ) (b : BoxOut) → box_of hs_then c ≡ Some b
+held_more : (s : ScriptData) (made : List CoderId) (codecs : List (List Entry)) (slots : List SlotEntry) (hs hs_then : List Holding) (k : ℕ) (e : Entry) (leaves : Bool) → AccountedIn s made codecs slots hs → EntryMoves s made codecs slots hs k e leaves hs_then → (c : ℕ) (b : BoxOut) → box_of hs_then c ≡ Some b
     → HeldSince s (append_at k e codecs) (slots_after s made codecs slots hs k e leaves) c b
 held_more s made codecs slots hs hs_then k e leaves acc moves c b is =
     elim (cases_eq c k) [
@@ -251,7 +251,7 @@ held_more s made codecs slots hs hs_then k e leaves acc moves c b is =
       | inr other ↦ held_other s made codecs slots hs k e leaves c b other (acc.held c b (sym (moves.others c other) ∙ is))
     ]
 
-accounted_here : (s : Script) (made : List CoderId) (codecs : List (List Entry)) (slots : List SlotEntry) (hs hs_then : List Holding) (k : ℕ) (e : Entry) (leaves : Bool) → AccountedIn s made codecs slots hs → IsGivable slots (cause_of codecs k) (box_of hs k) → EntryMoves s made codecs slots hs k e leaves hs_then
+accounted_here : (s : ScriptData) (made : List CoderId) (codecs : List (List Entry)) (slots : List SlotEntry) (hs hs_then : List Holding) (k : ℕ) (e : Entry) (leaves : Bool) → AccountedIn s made codecs slots hs → IsGivable slots (cause_of codecs k) (box_of hs k) → EntryMoves s made codecs slots hs k e leaves hs_then
     → AccountedIn s made (append_at k e codecs) (slots_after s made codecs slots hs k e leaves) hs_then
 accounted_here s made codecs slots hs hs_then k e leaves acc may moves = record {
   sizes = moves.sizes;
@@ -270,7 +270,7 @@ accounted_here s made codecs slots hs hs_then k e leaves acc may moves = record 
     may_leave false box h = tt
 
 -- An entry leaves the boxes accounted for.
-pub accounted_more : (s : Script) (made : List CoderId) (codecs codecs_then : List (List Entry)) (slots slots_then : List SlotEntry) (hs hs_then : List Holding) (k : ℕ) (e : Entry) (leaves : Bool) → AccountedIn s made codecs slots hs → IsGivable slots (cause_of codecs k) (box_of hs k) → Moves s made codecs slots hs k e leaves codecs_then slots_then hs_then
+pub accounted_more : (s : ScriptData) (made : List CoderId) (codecs codecs_then : List (List Entry)) (slots slots_then : List SlotEntry) (hs hs_then : List Holding) (k : ℕ) (e : Entry) (leaves : Bool) → AccountedIn s made codecs slots hs → IsGivable slots (cause_of codecs k) (box_of hs k) → Moves s made codecs slots hs k e leaves codecs_then slots_then hs_then
     → AccountedIn s made codecs_then slots_then hs_then
 accounted_more s made codecs codecs_then slots slots_then hs hs_then k e leaves acc may moves =
     let cs = append_at k e codecs in

@@ -4,15 +4,15 @@ use Rattle.std.specs.Prelude.{slice_get, nat_lt}
 use Rattle.std.specs.List.{list_all}
 use Rattle.std.proofs.lemmas.Bool.{leb-true, ltb-true}
 use Rattle.std.proofs.lemmas.Option.{slice_get_within}
-use Rattle.wc_script.specs.declared.script.Script.{Script}
-use Rattle.wc_script.specs.declared.script.CallerItem.{CallerItem}
-use Rattle.wc_script.specs.declared.script.CodecItem.{CodecItem}
-use Rattle.wc_script.specs.declared.script.OrderItem.{OrderItem}
-use Rattle.wc_script.specs.declared.script.OrderItem.TheVariants as item
-use Rattle.wc_script.specs.declared.script.Variable.{Variable}
-use Rattle.wc_script.specs.declared.script.Step.{Step}
-use Rattle.wc_script.specs.declared.script.Step.TheVariants as step
-use Rattle.wc_script.specs.Form.{is_built, is_built_step, is_built_caller, is_built_item, is_built_codec, are_built_callers, are_built_steps, are_sound_steps, is_sound_step, makes_promise}
+use Rattle.script_types.specs.declared.script.ScriptData.{ScriptData}
+use Rattle.script_types.specs.declared.script.CallerItem.{CallerItem}
+use Rattle.script_types.specs.declared.script.CodecItem.{CodecItem}
+use Rattle.script_types.specs.declared.script.OrderItem.{OrderItem}
+use Rattle.script_types.specs.declared.script.OrderItem.TheVariants as item
+use Rattle.script_types.specs.declared.steps.Variable.{Variable}
+use Rattle.script_types.specs.declared.steps.Step.{Step}
+use Rattle.script_types.specs.declared.steps.Step.TheVariants as step
+use Rattle.script_types.specs.Sound.{is_built, is_built_step, is_built_caller, is_built_item, is_built_codec, are_built_callers, are_built_steps, are_sound_steps, is_sound_step, makes_promise}
 use Rattle.trace_text.specs.Follow.{steps_in, steps_of}
 use Rattle.trace_text.specs.Fits.{step_in, called}
 use Rattle.wc_replay.specs.Sound.{IsSound, promise_of, IsFlush}
@@ -96,12 +96,12 @@ promise_is all j (step.Close on) v sound is = absurd cc
 promise_is all j (step.State on) v sound is = absurd cc
 
 -- what is known of a step of such a script
-record BuiltStep (s : Script) (c j : ℕ) (x : Step) : Type 0 where
+record BuiltStep (s : ScriptData) (c j : ℕ) (x : Step) : Type 0 where
   pub step : is_built_step (length s.codecs) x ≡ true
   pub sound : is_sound_step (steps_of s c) j x ≡ true
   pub few : j < 4294967296
 
-built_step : (s : Script) (c j : ℕ) (x : Step) → are_built_callers (length s.codecs) s.callers ≡ true → step_in s c j ≡ Some x → BuiltStep s c j x
+built_step : (s : ScriptData) (c j : ℕ) (x : Step) → are_built_callers (length s.codecs) s.callers ≡ true → step_in s c j ≡ Some x → BuiltStep s c j x
 built_step s c j x h is =
     let built = built_caller (length s.codecs) s.callers c j x h is in
     let few = leb-true (length (steps_of s c)) 100000 (second _ _ built) in
@@ -111,26 +111,26 @@ built_step s c j x h is =
       few = omega (arith, few, slice_get_within (steps_of s c) j x is);
     }
 
-promise_test : (s : Script) (c j : ℕ) (x : Step) (v : Variable) → are_built_callers (length s.codecs) s.callers ≡ true → step_in s c j ≡ Some x → promise_of x ≡ Some v → (nat_lt v.step j && makes_promise v.name (slice_get (steps_of s c) v.step)) ≡ true
+promise_test : (s : ScriptData) (c j : ℕ) (x : Step) (v : Variable) → are_built_callers (length s.codecs) s.callers ≡ true → step_in s c j ≡ Some x → promise_of x ≡ Some v → (nat_lt v.step j && makes_promise v.name (slice_get (steps_of s c) v.step)) ≡ true
 promise_test s c j x v h is looks = promise_is (steps_of s c) j x v (built_step s c j x h is).sound looks
 
-sound_by : (s : Script) → are_built_callers (length s.codecs) s.callers ≡ true → IsSound s
+sound_by : (s : ScriptData) → are_built_callers (length s.codecs) s.callers ≡ true → IsSound s
 sound_by s callers = record {
   called = λ c j k x is calls. called_within (length s.codecs) x k (built_step s c j x callers is).step calls;
   earlier = λ c j x v is looks. ltb-true v.step j (first _ _ (promise_test s c j x v callers is looks));
   promised = λ c j x v is looks. promise_made v.name (slice_get (steps_of s c) v.step) (second _ _ (promise_test s c j x v callers is looks));
 }
 
-callers_of : (s : Script) → is_built s ≡ true → are_built_callers (length s.codecs) s.callers ≡ true
+callers_of : (s : ScriptData) → is_built s ≡ true → are_built_callers (length s.codecs) s.callers ≡ true
 callers_of s h = second _ _ (first _ _ (first _ _ h))
 
-pub codecs_of : (s : Script) → is_built s ≡ true → list_all is_built_codec s.codecs ≡ true
+pub codecs_of : (s : ScriptData) → is_built s ≡ true → list_all is_built_codec s.codecs ≡ true
 codecs_of s h = first _ _ (first _ _ (first _ _ h))
 
-pub sound_of : (s : Script) → is_built s ≡ true → IsSound s
+pub sound_of : (s : ScriptData) → is_built s ≡ true → IsSound s
 sound_of s h = sound_by s (callers_of s h)
 
-pub playable_of : (s : Script) → is_built s ≡ true → IsPlayable s
+pub playable_of : (s : ScriptData) → is_built s ≡ true → IsPlayable s
 playable_of s h = record {
   calls = λ c j k x is calls. called_within (length s.codecs) x k (built_step s c j x (callers_of s h) is).step calls;
   looks = λ c j x is. looks_within (length s.codecs) x (built_step s c j x (callers_of s h) is).step;
@@ -144,7 +144,7 @@ item_within n m (item.Done k moment) h = ltb-true k n h
 item_within n m (item.Turn k) h = ltb-true k n h
 item_within n m (item.Reclaim k moment) h = ltb-true k n h
 
-pub in_range_of : (s : Script) → is_built s ≡ true → AreInRange s
+pub in_range_of : (s : ScriptData) → is_built s ≡ true → AreInRange s
 in_range_of s h i x is = item_within (length s.codecs) (length s.callers) x (all_at (is_built_item (length s.codecs) (length s.callers)) s.order i x (second _ _ (first _ _ h)) is)
 
 -- the saturation of a codec of such a script

@@ -10,7 +10,7 @@ use Rattle.codec_model.specs.Replay.{State, step}
 use Rattle.codec_model.proofs.ShownLaws.{replay_append}
 use Rattle.codec_core.specs.Codec.{KeepsRunning}
 use Rattle.codec_core.proofs.Laws.{keeps_itself}
-use Rattle.wc_script.specs.declared.script.Script.{Script}
+use Rattle.script_types.specs.declared.script.ScriptData.{ScriptData}
 use Rattle.trace_text.specs.Follow.{Recorded, Holding, Course, at, append_at, opening_at, state_after, state_at, nothing_held, holding_at, gives_back, lets_go, lets_go_unless, lets_go_if, with_box, keeps_box}
 pub use Rattle.wc_replay.specs.Refusals.{NeedsBox, RefusalsStand}
 use Rattle.wc_replay.proofs.Lists.{Same, Longer, growth, at_same}
@@ -112,31 +112,31 @@ needs_stays t u keeps needs = record {
 }
 
 -- each codec's running item and what it was given stay
-abbrev pub KeepsAll : Script → Recorded → Recorded → Type 0
+abbrev pub KeepsAll : ScriptData → Recorded → Recorded → Type 0
 KeepsAll s w v = (k : ℕ) → KeepsRunning (state_at s w k) (state_at s v k)
 
-pub refusals_stay : (s : Script) (v u : Course) → KeepsAll s v.recorded u.recorded → NoMoreRefusals v u → RefusalsStand s v → RefusalsStand s u
+pub refusals_stay : (s : ScriptData) (v u : Course) → KeepsAll s v.recorded u.recorded → NoMoreRefusals v u → RefusalsStand s v → RefusalsStand s u
 refusals_stay s v u keeps no_more stand k e h = needs_stays (state_at s v.recorded k) (state_at s u.recorded k) (keeps k) (stand k e (no_more k e h))
 
-pub state_same : (s : Script) (w v : Recorded) (k : ℕ) → v.codecs ≡ w.codecs → state_at s v k ≡ state_at s w k
+pub state_same : (s : ScriptData) (w v : Recorded) (k : ℕ) → v.codecs ≡ w.codecs → state_at s v k ≡ state_at s w k
 state_same s w v k codecs = ap (λ cs. state_after (opening_at s k) (at k cs)) codecs
 
 -- the same codecs keep all
-pub same_keeps : (s : Script) (w v : Recorded) → v.codecs ≡ w.codecs → KeepsAll s w v
+pub same_keeps : (s : ScriptData) (w v : Recorded) → v.codecs ≡ w.codecs → KeepsAll s w v
 same_keeps s w v codecs k = subst (λ (t : State). KeepsRunning (state_at s w k) t) (sym (state_same s w v k codecs)) (keeps_itself (state_at s w k))
 
 -- The state of a codec after an entry: as it was, or the entry's step.
-pub data StateMore (s : Script) (w v : Recorded) (k : ℕ) (e : Entry) (n : ℕ) : Type 0 where
+pub data StateMore (s : ScriptData) (w v : Recorded) (k : ℕ) (e : Entry) (n : ℕ) : Type 0 where
   StateStays : state_at s v n ≡ state_at s w n → StateMore s w v k e n
   StateSteps : n ≡ k → step e (state_at s w n) ≡ Some (state_at s v n) → StateMore s w v k e n
 
-one_step : (s : Script) (w : Recorded) (n : ℕ) (e : Entry) → Legals s w → Steps e (state_at s w n) → step e (state_at s w n) ≡ Some (state_after (opening_at s n) (at n w.codecs ++ e ∷ []))
+one_step : (s : ScriptData) (w : Recorded) (n : ℕ) (e : Entry) → Legals s w → Steps e (state_at s w n) → step e (state_at s w n) ≡ Some (state_after (opening_at s n) (at n w.codecs ++ e ∷ []))
 one_step s w n e legal steps =
     let o = opening_at s n in
     let h = at n w.codecs in
     sym (replay_append o h e (state_after o h) (legal_state o h (legal n))) ∙ legal_state o (h ++ e ∷ []) (legal_more o h e (legal n) steps)
 
-pub state_more : (s : Script) (w v : Recorded) (k : ℕ) (e : Entry) → Legals s w → Steps e (state_at s w k) → v.codecs ≡ append_at k e w.codecs → (n : ℕ) → StateMore s w v k e n
+pub state_more : (s : ScriptData) (w v : Recorded) (k : ℕ) (e : Entry) → Legals s w → Steps e (state_at s w k) → v.codecs ≡ append_at k e w.codecs → (n : ℕ) → StateMore s w v k e n
 state_more s w v k e legal steps codecs n =
     elim (growth n k e w.codecs) [
       | Same q ↦ StateStays (ap (λ cs. state_after (opening_at s n) (at n cs)) codecs ∙ ap (state_after (opening_at s n)) q)
@@ -144,7 +144,7 @@ state_more s w v k e legal steps codecs n =
     ]
 
 -- an entry that keeps the running item, and what it was given
-pub entry_keeps : (s : Script) (w v : Recorded) (k : ℕ) (e : Entry) → Legals s w → Steps e (state_at s w k) → v.codecs ≡ append_at k e w.codecs → ((a b : State) → step e a ≡ Some b → KeepsRunning a b) → KeepsAll s w v
+pub entry_keeps : (s : ScriptData) (w v : Recorded) (k : ℕ) (e : Entry) → Legals s w → Steps e (state_at s w k) → v.codecs ≡ append_at k e w.codecs → ((a b : State) → step e a ≡ Some b → KeepsRunning a b) → KeepsAll s w v
 entry_keeps s w v k e legal steps codecs keeps n =
     elim (state_more s w v k e legal steps codecs n) [
       | StateStays q ↦ subst (λ (t : State). KeepsRunning (state_at s w n) t) (sym q) (keeps_itself (state_at s w n))
@@ -152,5 +152,5 @@ entry_keeps s w v k e legal steps codecs keeps n =
     ]
 
 -- the codec that the entry is of
-pub state_steps : (s : Script) (w v : Recorded) (k : ℕ) (e : Entry) → Legals s w → Steps e (state_at s w k) → v.codecs ≡ append_at k e w.codecs → k < length w.codecs → step e (state_at s w k) ≡ Some (state_at s v k)
+pub state_steps : (s : ScriptData) (w v : Recorded) (k : ℕ) (e : Entry) → Legals s w → Steps e (state_at s w k) → v.codecs ≡ append_at k e w.codecs → k < length w.codecs → step e (state_at s w k) ≡ Some (state_at s v k)
 state_steps s w v k e legal steps codecs below = one_step s w k e legal steps ∙ ap (λ h. Some (state_after (opening_at s k) h)) (sym (ap (at k) codecs ∙ at_same k e w.codecs below))

@@ -7,8 +7,8 @@ use Rattle.coder_api.specs.declared.slot.SlotEntry.{SlotEntry}
 use Rattle.codec_model.specs.declared.entry.Entry.{Entry}
 use Rattle.codec_model.specs.declared.entry.Opening.{Opening}
 use Rattle.wc_config.specs.declared.codec.CoderId.{CoderId}
-use Rattle.wc_script.specs.declared.script.CodecItem.{CodecItem}
-use Rattle.wc_script.specs.declared.script.Script.{Script}
+use Rattle.script_types.specs.declared.script.CodecItem.{CodecItem}
+use Rattle.script_types.specs.declared.script.ScriptData.{ScriptData}
 use Rattle.trace_text.specs.declared.run.CallerTrace.{CallerTrace}
 use Rattle.trace_text.specs.declared.run.CodecTrace.{CodecTrace}
 use Rattle.trace_text.specs.declared.run.Run.{Run}
@@ -45,10 +45,10 @@ new_openings : (cs : List CodecItem) → openings_of (map new_desk cs) ≡ map o
 new_openings [] = refl
 new_openings (c ∷ cs) = ap (λ (os : List Opening). opening_of c ∷ os) (new_openings cs)
 
-pub opened_as : (s : Script) (desks : List DeskValue) → desks ≡ map new_desk s.codecs → AreOpened s desks
+pub opened_as : (s : ScriptData) (desks : List DeskValue) → desks ≡ map new_desk s.codecs → AreOpened s desks
 opened_as s desks is = rw is (new_openings s.codecs)
 
-pub nothing_recorded : (s : Script) (callers : List (List StepResult)) (desks : List DeskValue) (slots : List SlotEntry) → desks ≡ map new_desk s.codecs → callers ≡ map new_results s.callers → slots ≡ [] → course_of callers desks slots ≡ nothing_yet s
+pub nothing_recorded : (s : ScriptData) (callers : List (List StepResult)) (desks : List DeskValue) (slots : List SlotEntry) → desks ≡ map new_desk s.codecs → callers ≡ map new_results s.callers → slots ≡ [] → course_of callers desks slots ≡ nothing_yet s
 nothing_recorded s callers desks slots is cs none =
     let hs = ap (λ (ds : List DeskValue). map (λ (d : DeskValue). d.history) ds) is ∙ new_histories s.codecs in
     let holds = ap (λ (ds : List DeskValue). map (λ (d : DeskValue). d.holding) ds) is ∙ new_holdings s.codecs in
@@ -76,7 +76,7 @@ run_recorded p run is =
     same : (a b : List (List StepResult)) (hs is : List (List Entry)) (s t : List SlotEntry) → a ≡ b → hs ≡ is → s ≡ t → ◌≡◌ {A = Recorded} (record { callers = a; codecs = hs; slots = s }) (record { callers = b; codecs = is; slots = t })
     same a b hs is s t p q r = cc
 
-pub run_follows : (s : Script) (made : List CoderId) (p : PlayerValue) (run : Run) → Follows s made s.order (nothing_yet s) (course p) → IsRunOf p run → FollowsTheOrder s made run
+pub run_follows : (s : ScriptData) (made : List CoderId) (p : PlayerValue) (run : Run) → Follows s made s.order (nothing_yet s) (course p) → IsRunOf p run → FollowsTheOrder s made run
 run_follows s made p run follows is = record {
   holdings = (course p).holdings;
   follows = subst (λ (w : Recorded). Follows s made s.order (nothing_yet s) (record { recorded = w; holdings = (course p).holdings })) (sym (run_recorded p run is)) follows;
@@ -88,11 +88,11 @@ shown_traces [] (d ∷ ds) is = absurd cc
 shown_traces (c ∷ cs) [] is = absurd cc
 shown_traces (c ∷ cs) (d ∷ ds) is = let same : d.opening ≡ opening_of c = cc in (record { opening = same; shown = refl }, shown_traces cs ds cc)
 
-pub run_shows : (s : Script) (p : PlayerValue) (run : Run) → AreOpened s p.desks → IsRunOf p run → AreShownTraces s.codecs run.codecs
+pub run_shows : (s : ScriptData) (p : PlayerValue) (run : Run) → AreOpened s p.desks → IsRunOf p run → AreShownTraces s.codecs run.codecs
 run_shows s p run opened is = subst (AreShownTraces s.codecs) (sym is.codecs) (shown_traces s.codecs p.desks opened)
 
 -- as many codecs as the script has
-pub as_many : (s : Script) (desks : List DeskValue) → AreOpened s desks → length desks ≡ length s.codecs
+pub as_many : (s : ScriptData) (desks : List DeskValue) → AreOpened s desks → length desks ≡ length s.codecs
 as_many s desks opened = sym (length-map desks (λ (d : DeskValue). d.opening)) ∙ (ap (λ (os : List Opening). length os) opened ∙ length-map s.codecs opening_of)
 
 -- ---- lists that are made of the front of another

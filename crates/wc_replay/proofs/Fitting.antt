@@ -1,14 +1,14 @@
 -- A run that follows the order of a sound script fits it.
 use Rattle.std.specs.Prelude.{List}
 use Rattle.wc_config.specs.declared.codec.CoderId.{CoderId}
-use Rattle.wc_script.specs.declared.script.Script.{Script}
+use Rattle.script_types.specs.declared.script.ScriptData.{ScriptData}
 use Rattle.trace_text.specs.declared.run.Run.{Run}
 use Rattle.trace_text.specs.Fits.{Fits, FollowsTheOrder}
 use Rattle.wc_replay.specs.Sound.{IsSound}
 use Rattle.wc_replay.proofs.AccountsOrder.{boxes_of}
 use Rattle.wc_replay.proofs.Following.{order_makes}
 
-pub fits_of : (s : Script) → IsSound s → (made : List CoderId) (run : Run) → FollowsTheOrder s made run → Fits s made run
+pub fits_of : (s : ScriptData) → IsSound s → (made : List CoderId) (run : Run) → FollowsTheOrder s made run → Fits s made run
 fits_of s sound made run follows =
     let all = order_makes s sound made run follows in
     record {

@@ -5,8 +5,8 @@ use Rattle.std.specs.Prelude.{slice_get}
 use Rattle.wc_base.specs.declared.who.Who.{Who}
 use Rattle.wc_base.specs.declared.error.DomError.{DomError}
 use Rattle.codec_model.specs.declared.entry.Entry.{Entry}
-use Rattle.wc_script.specs.declared.script.Script.{Script}
-use Rattle.wc_script.specs.declared.script.Step.{Step}
+use Rattle.script_types.specs.declared.script.ScriptData.{ScriptData}
+use Rattle.script_types.specs.declared.steps.Step.{Step}
 use Rattle.trace_text.specs.declared.run.StepResult.{StepResult}
 use Rattle.trace_text.specs.declared.run.StepResult.TheVariants as result
 use Rattle.trace_text.specs.Follow.{Recorded, at, with_result, with_entry}
@@ -22,7 +22,7 @@ pub record Grows (w v : Recorded) (R : ℕ → ℕ → StepResult → Type 0) (E
   pub entries : (k p : ℕ) (e : Entry) → entry_in v k p ≡ Some e → (entry_in w k p ≡ Some e) ⊎ E k p e
 
 -- A new result fits: the script's step that it answers, and what it shows.
-pub record ResultFits (s : Script) (w v : Recorded) (c j : ℕ) (r : StepResult) : Type 0 where
+pub record ResultFits (s : ScriptData) (w v : Recorded) (c j : ℕ) (r : StepResult) : Type 0 where
   pub made : (x : Step) × (step_in s c j ≡ Some x) × IsResultOf s v (record { caller = c; step = j }) (called x) r
   pub shows : (x : Step) → step_in s c j ≡ Some x → LookShows s v c x r
   pub answers : (x : Step) → step_in s c j ≡ Some x → IsLocalAnswer s c x r
@@ -30,11 +30,11 @@ pub record ResultFits (s : Script) (w v : Recorded) (c j : ℕ) (r : StepResult)
   pub look : (k n : ℕ) → look_of r ≡ Some (k, n) → n ≡ length (at k w.codecs)
 
 -- A new entry that names a caller's step fits: that step's result is its call, and it has the step's arguments.
-pub record EntryFits (s : Script) (v : Recorded) (k p : ℕ) (e : Entry) : Type 0 where
+pub record EntryFits (s : ScriptData) (v : Recorded) (k p : ℕ) (e : Entry) : Type 0 where
   pub call : (who : Who) → who_of e ≡ Some who → (error : Option DomError) × (result_in v who.caller who.step ≡ Some (result.Call k p error))
   pub arguments : (who : Who) → who_of e ≡ Some who → (x : Step) × (step_in s who.caller who.step ≡ Some x) × HasArguments s who e x
 
-pub record NewFits (s : Script) (w v : Recorded) (R : ℕ → ℕ → StepResult → Type 0) (E : ℕ → ℕ → Entry → Type 0) : Type 0 where
+pub record NewFits (s : ScriptData) (w v : Recorded) (R : ℕ → ℕ → StepResult → Type 0) (E : ℕ → ℕ → Entry → Type 0) : Type 0 where
   pub result : (c j : ℕ) (r : StepResult) → R c j r → ResultFits s w v c j r
   pub entry : (k p : ℕ) (e : Entry) → E k p e → EntryFits s v k p e
 

@@ -25,11 +25,11 @@ use Rattle.codec_model.specs.declared.entry.Call.{Call}
 use Rattle.codec_model.specs.declared.entry.Call.TheVariants as call
 use Rattle.codec_model.specs.Control.{start_item, may_reclaim, is_close}
 use Rattle.codec_model.specs.Replay.{missing_coder, removal_error, answer_to}
-use Rattle.wc_script.specs.declared.script.Script.{Script}
-use Rattle.wc_script.specs.declared.script.Step.{Step}
-use Rattle.wc_script.specs.declared.script.Step.TheVariants as step
-use Rattle.wc_script.specs.declared.script.OrderItem.{OrderItem}
-use Rattle.wc_script.specs.declared.script.OrderItem.TheVariants as item
+use Rattle.script_types.specs.declared.script.ScriptData.{ScriptData}
+use Rattle.script_types.specs.declared.steps.Step.{Step}
+use Rattle.script_types.specs.declared.steps.Step.TheVariants as step
+use Rattle.script_types.specs.declared.script.OrderItem.{OrderItem}
+use Rattle.script_types.specs.declared.script.OrderItem.TheVariants as item
 use Rattle.trace_text.specs.declared.run.StepResult.{StepResult}
 use Rattle.trace_text.specs.declared.run.StepResult.TheVariants as result
 use Rattle.trace_text.specs.Follow.{Recorded, Course, BoxOut, Holding, at, append_at, with_entry, state_at, steps_of, chunk_at, init_error, with_result, with_state, with_call, removes, with_removal, with_decode, with_look, with_box, asks_for_box, give_of, gives_back, keeps_box, lets_go, lets_go_if, lets_go_unless, with_start, with_done, with_turn, recording, holding_at, holding_by, nothing_held, next_cause, outcome_for, follow_step, follow_next, follow_item, Follows, nothing_yet}
@@ -181,14 +181,14 @@ entry_held v k e are = recording_held v (with_entry k e) are refl (λ n. longer_
 quiet_held : (v : Course) (f : Recorded → Recorded) → AreHeld v → (f v.recorded).slots ≡ v.recorded.slots → (f v.recorded).codecs ≡ v.recorded.codecs → AreHeld (recording f v)
 quiet_held v f are slots codecs = recording_held v f are slots (λ n. subst (λ (cs : List (List Entry)). length (at n v.recorded.codecs) ≤ length (at n cs)) (sym codecs) (no_shorter (length (at n v.recorded.codecs))))
 
-call_held : (s : Script) (who : Who) (k : ℕ) (x : Call) (e : Entry) (v : Course) → (with_call s who k x v.recorded).codecs ≡ append_at k e v.recorded.codecs → AreHeld v → AreHeld (recording (with_call s who k x) v)
+call_held : (s : ScriptData) (who : Who) (k : ℕ) (x : Call) (e : Entry) (v : Course) → (with_call s who k x v.recorded).codecs ≡ append_at k e v.recorded.codecs → AreHeld v → AreHeld (recording (with_call s who k x) v)
 call_held s who k x e v grown are = recording_held v (with_call s who k x) are refl (λ n. subst (λ (cs : List (List Entry)). length (at n v.recorded.codecs) ≤ length (at n cs)) (sym grown) (longer_by k e v.recorded.codecs n))
 
-decode_held : (s : Script) (who : Who) (k : ℕ) (o : Option Chunk) (v : Course) → AreHeld v → AreHeld (recording (with_decode s who k o) v)
+decode_held : (s : ScriptData) (who : Who) (k : ℕ) (o : Option Chunk) (v : Course) → AreHeld v → AreHeld (recording (with_decode s who k o) v)
 decode_held s who k None v are = quiet_held v (with_decode s who k None) are refl refl
 decode_held s who k (Some chunk) v are = call_held s who k (call.Decode chunk) (entry.Decode who chunk) v refl are
 
-look_keeps : (s : Script) (who : Who) (o : Option StepResult) (w : Recorded) → ((with_look s who o w).slots ≡ w.slots) × ((with_look s who o w).codecs ≡ w.codecs)
+look_keeps : (s : ScriptData) (who : Who) (o : Option StepResult) (w : Recorded) → ((with_look s who o w).slots ≡ w.slots) × ((with_look s who o w).codecs ≡ w.codecs)
 look_keeps s who None w = (refl, refl)
 look_keeps s who (Some (result.Call k place error)) w = (refl, refl)
 look_keeps s who (Some (result.Local error)) w = (refl, refl)
@@ -196,16 +196,16 @@ look_keeps s who (Some (result.Look k n end)) w = (refl, refl)
 look_keeps s who (Some (result.State k n state size)) w = (refl, refl)
 look_keeps s who (Some result.Absent) w = (refl, refl)
 
-look_held : (s : Script) (who : Who) (o : Option StepResult) (v : Course) → AreHeld v → AreHeld (recording (with_look s who o) v)
+look_held : (s : ScriptData) (who : Who) (o : Option StepResult) (v : Course) → AreHeld v → AreHeld (recording (with_look s who o) v)
 look_held s who o v are = quiet_held v (with_look s who o) are (look_keeps s who o v.recorded).0 (look_keeps s who o v.recorded).1
 
-removal_held : (s : Script) (who : Who) (k : ℕ) (e : Entry) (v : Course) → AreHeld v → AreHeld (with_removal s who k e v)
+removal_held : (s : ScriptData) (who : Who) (k : ℕ) (e : Entry) (v : Course) → AreHeld v → AreHeld (with_removal s who k e v)
 removal_held s who k e v are =
     let c = (state_at s v.recorded k).control in
     let u = lets_go_unless (removal_error c) k c.running v in
     recording_held u (removes s who k e) (lets_go_unless_held (removal_error c) k c.running v are) refl (λ n. longer_by k e u.recorded.codecs n)
 
-step_held : (s : Script) (who : Who) (x : Step) (v : Course) → AreHeld v → AreHeld (follow_step s who x v)
+step_held : (s : ScriptData) (who : Who) (x : Step) (v : Course) → AreHeld v → AreHeld (follow_step s who x v)
 step_held s who (step.Configure on config) v are = call_held s who on (call.Configure config) (entry.Configure who config) v refl are
 step_held s who (step.Chunk bind init) v are = quiet_held v (with_result who.caller (result.Local (init_error init))) are refl refl
 step_held s who (step.Decode on chunk) v are = decode_held s who on (chunk_at (steps_of s who.caller) chunk.step) v are
@@ -216,7 +216,7 @@ step_held s who (step.Reset on) v are = removal_held s who on (entry.Reset who) 
 step_held s who (step.Close on) v are = removal_held s who on (entry.Close who) v are
 step_held s who (step.State on) v are = quiet_held v (with_state s who on) are refl refl
 
-next_held : (s : Script) (who : Who) (o : Option Step) (v : Course) → AreHeld v → AreHeld (follow_next s who o v)
+next_held : (s : ScriptData) (who : Who) (o : Option Step) (v : Course) → AreHeld v → AreHeld (follow_next s who o v)
 next_held s who None v are = are
 next_held s who (Some x) v are = step_held s who x v are
 
@@ -245,11 +245,11 @@ box_held : (made : List CoderId) (k : ℕ) (o : Option CoderId) (e : Entry) (v :
 box_held made k None e v below are = entry_held v k e are
 box_held made k (Some id) e v below are = ask_held made k id e (gives_back k v) below (gives_back_held k v are)
 
-start_held : (s : Script) (made : List CoderId) (k : ℕ) (v : Course) (o : Option Item) → start_item (state_at s v.recorded k).control ≡ o → AreHeld v → AreHeld (with_start made k (state_at s v.recorded k).control.epoch (state_at s v.recorded k).given o v)
+start_held : (s : ScriptData) (made : List CoderId) (k : ℕ) (v : Course) (o : Option Item) → start_item (state_at s v.recorded k).control ≡ o → AreHeld v → AreHeld (with_start made k (state_at s v.recorded k).control.epoch (state_at s v.recorded k).given o v)
 start_held s made k v None is are = are
 start_held s made k v (Some i) is are = box_held made k (missing_coder (state_at s v.recorded k).given i.work) (entry.Start (state_at s v.recorded k).control.epoch i.number) v (start_is_there s v.recorded k i is) are
 
-done_held : (s : Script) (wants : Bool) (k moment : ℕ) (v : Course) (o : Option Running) → AreHeld v → AreHeld (with_done wants k moment (state_at s v.recorded k) o v)
+done_held : (s : ScriptData) (wants : Bool) (k moment : ℕ) (v : Course) (o : Option Running) → AreHeld v → AreHeld (with_done wants k moment (state_at s v.recorded k) o v)
 done_held s wants k moment v None are = are
 done_held s wants k moment v (Some r) are =
     let b = r.epoch == (state_at s v.recorded k).control.epoch in
@@ -264,7 +264,7 @@ reclaim_held k moment running v false are = are
 reclaim_held k moment running v true are = entry_held (lets_go k running v) k (entry.Reclaim moment) (lets_go_held k running v are)
 
 -- An item keeps the boxes that are held.
-pub held_item : (s : Script) (made : List CoderId) (wants : Bool) (x : OrderItem) (v : Course) → AreHeld v → AreHeld (follow_item s made wants x v)
+pub held_item : (s : ScriptData) (made : List CoderId) (wants : Bool) (x : OrderItem) (v : Course) → AreHeld v → AreHeld (follow_item s made wants x v)
 held_item s made wants (item.Caller c) v are = next_held s (record { caller = c; step = length (at c v.recorded.callers) }) (slice_get (steps_of s c) (length (at c v.recorded.callers))) v are
 held_item s made wants (item.Start k) v are = start_held s made k v (start_item (state_at s v.recorded k).control) refl are
 held_item s made wants (item.Done k moment) v are = done_held s wants k moment v (state_at s v.recorded k).control.running are
@@ -272,14 +272,14 @@ held_item s made wants (item.Turn k) v are = turn_held k (state_at s v.recorded 
 held_item s made wants (item.Reclaim k moment) v are = reclaim_held k moment (state_at s v.recorded k).control.running v (may_reclaim moment (state_at s v.recorded k).control) are
 
 -- no codec holds a box yet
-pub held_nothing : (s : Script) → AreHeld (nothing_yet s)
+pub held_nothing : (s : ScriptData) → AreHeld (nothing_yet s)
 held_nothing s k = no_box [] (next_cause k (nothing_yet s)) (holding_at k (nothing_yet s).holdings) (ap (λ (x : Holding). x.box) (none_held k s.codecs))
 
 -- An order keeps them.
-pub held_order : (s : Script) (made : List CoderId) (xs : List OrderItem) (v u : Course) → AreHeld v → Follows s made xs v u → AreHeld u
+pub held_order : (s : ScriptData) (made : List CoderId) (xs : List OrderItem) (v u : Course) → AreHeld v → Follows s made xs v u → AreHeld u
 held_order s made [] v u are follows = subst AreHeld (sym follows) are
 held_order s made (x ∷ xs) v u are follows = held_order s made xs (follow_item s made follows.0 x v) u (held_item s made follows.0 x v are) follows.1
 
 -- each box that is held after a front of the order is out
-pub held_before : (s : Script) (made : List CoderId) (i : ℕ) (u : Course) → Follows s made (take i s.order) (nothing_yet s) u → AreHeld u
+pub held_before : (s : ScriptData) (made : List CoderId) (i : ℕ) (u : Course) → Follows s made (take i s.order) (nothing_yet s) u → AreHeld u
 held_before s made i u follows = held_order s made (take i s.order) (nothing_yet s) u (held_nothing s) follows

@@ -18,12 +18,12 @@ use Rattle.codec_model.specs.Control.{may_start, front, start_item, may_reclaim}
 use Rattle.codec_model.specs.Replay.{State, step, opening_state, replay, answer_to, entry_of, start_step, done_step, done_ended, ended_of, IsLegal}
 use Rattle.codec_model.specs.Shown.{shown_at, each_shown, each_shown_from}
 use Rattle.codec_model.proofs.ShownLaws.{replay_append, each_append, each_more, each_length}
-use Rattle.wc_script.specs.declared.script.Script.{Script}
+use Rattle.script_types.specs.declared.script.ScriptData.{ScriptData}
 use Rattle.trace_text.specs.Follow.{Recorded, at, opening_at, state_after, state_at, with_entry, outcome_by, outcome_for}
 use Rattle.wc_replay.proofs.Lists.{Same, Longer, growth, get_within, get_end}
 
 -- each codec's history is legal
-abbrev pub Legals : Script → Recorded → Type 0
+abbrev pub Legals : ScriptData → Recorded → Type 0
 Legals s w = (k : ℕ) → IsLegal (opening_at s k) (at k w.codecs)
 
 some_is : {X : Type 0} (o : Option X) (d : X) → is_some o ≡ true → o ≡ Some (unwrap_or o d)
@@ -41,7 +41,7 @@ pub legal_more : (o : Opening) (h : List Entry) (e : Entry) → IsLegal o h → 
 legal_more o h e l st = ap is_some (replay_append o h e (state_after o h) (legal_state o h l)) ∙ st
 
 -- an entry that is legal where it comes
-pub legals_more : (s : Script) (w : Recorded) (k : ℕ) (e : Entry) → Legals s w → Steps e (state_at s w k) → Legals s (with_entry k e w)
+pub legals_more : (s : ScriptData) (w : Recorded) (k : ℕ) (e : Entry) → Legals s w → Steps e (state_at s w k) → Legals s (with_entry k e w)
 legals_more s w k e l st n =
     elim (growth n k e w.codecs) [
       | Same q ↦ subst (λ (h : List Entry). IsLegal (opening_at s n) h) (sym q) (l n)

@@ -2,9 +2,9 @@
 use Rattle.std.proofs.Common.{ℕ, ◌≡◌, ◌≤◌, ◌++◌, inl, inr, List, take, length, length-append, Some, refl, ap, sym, ◌∙◌, arith}
 use Rattle.std.proofs.lemmas.List.{take-append-le}
 use Rattle.codec_model.specs.declared.entry.Entry.{Entry}
-use Rattle.wc_script.specs.declared.script.Script.{Script}
-use Rattle.wc_script.specs.declared.script.Step.{Step}
-use Rattle.wc_script.specs.declared.script.Step.TheVariants as step
+use Rattle.script_types.specs.declared.script.ScriptData.{ScriptData}
+use Rattle.script_types.specs.declared.steps.Step.{Step}
+use Rattle.script_types.specs.declared.steps.Step.TheVariants as step
 use Rattle.trace_text.specs.declared.run.StepResult.{StepResult}
 use Rattle.trace_text.specs.declared.run.StepResult.TheVariants as result
 use Rattle.trace_text.specs.Follow.{Recorded, at, opening_at, promise_after, state_after}
@@ -16,7 +16,7 @@ taken : (w v : Recorded) (k n : ℕ) → (more : List Entry) × (at k v.codecs �
 taken w v k n m within = sym (ap (take n) m.1 ∙ take-append-le n (at k w.codecs) m.0 within)
 
 -- what a look shows stays
-shows_more : (s : Script) (w v : Recorded) (R : ℕ → ℕ → StepResult → Type 0) (E : ℕ → ℕ → Entry → Type 0) → Grows w v R E → (c : ℕ) (x : Step) (r : StepResult) → ((k n : ℕ) → look_of r ≡ Some (k, n) → n ≤ length (at k w.codecs)) → LookShows s w c x r → LookShows s v c x r
+shows_more : (s : ScriptData) (w v : Recorded) (R : ℕ → ℕ → StepResult → Type 0) (E : ℕ → ℕ → Entry → Type 0) → Grows w v R E → (c : ℕ) (x : Step) (r : StepResult) → ((k n : ℕ) → look_of r ≡ Some (k, n) → n ≤ length (at k w.codecs)) → LookShows s w c x r → LookShows s v c x r
 shows_more s w v R E g c (step.Await promise) (result.Look k n end) within h =
     (h.0, h.1, g.result_stays c promise.step (result.Call k h.0 h.1) h.2, h.3 ∙ ap (λ (t : List Entry). promise_after (opening_at s k) t h.0) (taken w v k n (g.more k) (within k n refl)))
 shows_more s w v R E g c (step.Poll promise) (result.Look k n end) within h =
@@ -32,7 +32,7 @@ shows_more s w v R E g c (step.Reset on) result.Absent within h = h
 shows_more s w v R E g c (step.Close on) result.Absent within h = h
 shows_more s w v R E g c x r within h = h
 
-pub looks_more : (s : Script) (w v : Recorded) (R : ℕ → ℕ → StepResult → Type 0) (E : ℕ → ℕ → Entry → Type 0) → Grows w v R E → NewFits s w v R E → CallsAreIn s w → LooksAreIn s w → LooksAreIn s v
+pub looks_more : (s : ScriptData) (w v : Recorded) (R : ℕ → ℕ → StepResult → Type 0) (E : ℕ → ℕ → Entry → Type 0) → Grows w v R E → NewFits s w v R E → CallsAreIn s w → LooksAreIn s w → LooksAreIn s v
 looks_more s w v R E g new calls looks = record {
   within = λ c j k n r h l. elim (g.results c j r h) [
     | inl o ↦ omega (arith, looks.within c j k n r o l, longer k)

@@ -10,9 +10,9 @@ use Rattle.codec_model.specs.declared.entry.Call.TheVariants as call
 use Rattle.codec_model.specs.declared.entry.Shown.{Shown}
 use Rattle.codec_model.specs.Replay.{State, entry_of, call_error, IsLegal}
 use Rattle.codec_model.specs.Shown.{shows, refusal, rejection, rejections, removal_shows}
-use Rattle.wc_script.specs.declared.script.Script.{Script}
-use Rattle.wc_script.specs.declared.script.Step.{Step}
-use Rattle.wc_script.specs.declared.script.Step.TheVariants as step
+use Rattle.script_types.specs.declared.script.ScriptData.{ScriptData}
+use Rattle.script_types.specs.declared.steps.Step.{Step}
+use Rattle.script_types.specs.declared.steps.Step.TheVariants as step
 use Rattle.trace_text.specs.declared.run.StepResult.{StepResult}
 use Rattle.trace_text.specs.declared.run.StepResult.TheVariants as result
 use Rattle.trace_text.specs.Follow.{Recorded, at, with_result, with_entry, opening_at, state_at, exception_of}
@@ -26,7 +26,7 @@ use Rattle.wc_replay.proofs.Looks.{looks_more}
 use Rattle.wc_replay.proofs.Arguments.{arguments_more, locals_more}
 
 -- What was recorded so far fits the script.
-pub record FitsSoFar (s : Script) (w : Recorded) : Type 0 where
+pub record FitsSoFar (s : ScriptData) (w : Recorded) : Type 0 where
   pub callers : length w.callers ≡ length s.callers
   pub codecs : length w.codecs ≡ length s.codecs
   pub legal : Legals s w
@@ -35,7 +35,7 @@ pub record FitsSoFar (s : Script) (w : Recorded) : Type 0 where
   pub arguments : ArgumentsAreIn s w
   pub locals : LocalsAreIn s w
 
-fits_more : (s : Script) (w v : Recorded) (R : ℕ → ℕ → StepResult → Type 0) (E : ℕ → ℕ → Entry → Type 0) → FitsSoFar s w → Grows w v R E → NewFits s w v R E → length v.callers ≡ length w.callers → length v.codecs ≡ length w.codecs → Legals s v → FitsSoFar s v
+fits_more : (s : ScriptData) (w v : Recorded) (R : ℕ → ℕ → StepResult → Type 0) (E : ℕ → ℕ → Entry → Type 0) → FitsSoFar s w → Grows w v R E → NewFits s w v R E → length v.callers ≡ length w.callers → length v.codecs ≡ length w.codecs → Legals s v → FitsSoFar s v
 fits_more s w v R E fits g new callers codecs legal = record {
   callers = callers ∙ fits.callers;
   codecs = codecs ∙ fits.codecs;
@@ -47,14 +47,14 @@ fits_more s w v R E fits g new callers codecs legal = record {
 }
 
 -- the same callers and codecs fit too
-pub fits_same : (s : Script) (w v : Recorded) → SameParts w v → FitsSoFar s w → FitsSoFar s v
+pub fits_same : (s : ScriptData) (w v : Recorded) → SameParts w v → FitsSoFar s w → FitsSoFar s v
 fits_same s w v same fits = fits_more s w v Nothing Nothing fits (grows_same w v same.callers same.codecs)
     (record { result = λ c j r new. absurd new; entry = λ k p e new. absurd new })
     (ap length same.callers) (ap length same.codecs)
     (λ k. subst (λ (cs : List (List Entry)). IsLegal (opening_at s k) (at k cs)) (sym same.codecs) (fits.legal k))
 
 -- an entry of no caller
-pub fits_entry : (s : Script) (w : Recorded) (k : ℕ) (e : Entry) → FitsSoFar s w → who_of e ≡ None → Steps e (state_at s w k) → FitsSoFar s (with_entry k e w)
+pub fits_entry : (s : ScriptData) (w : Recorded) (k : ℕ) (e : Entry) → FitsSoFar s w → who_of e ≡ None → Steps e (state_at s w k) → FitsSoFar s (with_entry k e w)
 fits_entry s w k e fits none steps =
     let v : Recorded = with_entry k e w in
     let there : EntryFits s v k (length (at k w.codecs)) e = record {
@@ -66,18 +66,18 @@ fits_entry s w k e fits none steps =
     refl (append_at_length k e w.codecs) (legals_more s w k e fits.legal steps)
 
 -- what a step's result is, other than a call
-pub record IsAnswer (s : Script) (w v : Recorded) (c : ℕ) (x : Step) (r : StepResult) : Type 0 where
+pub record IsAnswer (s : ScriptData) (w v : Recorded) (c : ℕ) (x : Step) (r : StepResult) : Type 0 where
   pub made : IsResultOf s v (record { caller = c; step = length (at c w.callers) }) (called x) r
   pub shows : LookShows s v c x r
   pub answers : IsLocalAnswer s c x r
   pub no_call : (k p : ℕ) (error : Option DomError) → r ≡ result.Call k p error → ⊥
   pub look : (k n : ℕ) → look_of r ≡ Some (k, n) → n ≡ length (at k w.codecs)
 
-same_step : (s : Script) (c j : ℕ) (x y : Step) (P : Step → Type 0) → step_in s c j ≡ Some x → step_in s c j ≡ Some y → P x → P y
+same_step : (s : ScriptData) (c j : ℕ) (x y : Step) (P : Step → Type 0) → step_in s c j ≡ Some x → step_in s c j ≡ Some y → P x → P y
 same_step s c j x y P a b h = let same : x ≡ y = cc in subst P same h
 
 -- a step of a caller that makes no entry
-pub fits_result : (s : Script) (w : Recorded) (c : ℕ) (x : Step) (r : StepResult) → FitsSoFar s w → step_in s c (length (at c w.callers)) ≡ Some x → IsAnswer s w (with_result c r w) c x r → FitsSoFar s (with_result c r w)
+pub fits_result : (s : ScriptData) (w : Recorded) (c : ℕ) (x : Step) (r : StepResult) → FitsSoFar s w → step_in s c (length (at c w.callers)) ≡ Some x → IsAnswer s w (with_result c r w) c x r → FitsSoFar s (with_result c r w)
 fits_result s w c x r fits is answer =
     let v = with_result c r w in
     let there : ResultFits s w v c (length (at c w.callers)) r = record {
@@ -92,7 +92,7 @@ fits_result s w c x r fits is answer =
     (append_at_length c r w.callers) refl fits.legal
 
 -- A step that calls a codec, the entry that it makes, and the exception that it shows.
-pub record IsCall (s : Script) (w : Recorded) (c k : ℕ) (x : Step) (e : Entry) (error : Option DomError) : Type 0 where
+pub record IsCall (s : ScriptData) (w : Recorded) (c k : ℕ) (x : Step) (e : Entry) (error : Option DomError) : Type 0 where
   pub is_step : step_in s c (length (at c w.callers)) ≡ Some x
   pub calls : called x ≡ Some k
   pub caller : c < length s.callers
@@ -102,7 +102,7 @@ pub record IsCall (s : Script) (w : Recorded) (c k : ℕ) (x : Step) (e : Entry)
   pub steps : Steps e (state_at s w k)
   pub shown : error ≡ refusal_in (shows e (state_at s w k))
 
-no_look : (s : Script) (v : Recorded) (c k p : ℕ) (x : Step) (error : Option DomError) → called x ≡ Some k → LookShows s v c x (result.Call k p error) × IsLocalAnswer s c x (result.Call k p error)
+no_look : (s : ScriptData) (v : Recorded) (c k p : ℕ) (x : Step) (error : Option DomError) → called x ≡ Some k → LookShows s v c x (result.Call k p error) × IsLocalAnswer s c x (result.Call k p error)
 no_look s v c k p (step.Configure on config) error h = (tt, tt)
 no_look s v c k p (step.Decode on chunk) error h = (tt, tt)
 no_look s v c k p (step.Flush on bind) error h = (tt, tt)
@@ -114,7 +114,7 @@ no_look s v c k p (step.Await promise) error h = absurd cc
 no_look s v c k p (step.State on) error h = absurd cc
 
 -- the call's entry is kept
-call_kept : (s : Script) (w : Recorded) (c k : ℕ) (x : Step) (e : Entry) (error : Option DomError) (slot : StepResult) → FitsSoFar s w → IsCall s w c k x e error → KeepsCall s (with_result c slot (with_entry k e w)) (record { caller = c; step = length (at c w.callers) }) k (length (at k w.codecs)) error
+call_kept : (s : ScriptData) (w : Recorded) (c k : ℕ) (x : Step) (e : Entry) (error : Option DomError) (slot : StepResult) → FitsSoFar s w → IsCall s w c k x e error → KeepsCall s (with_result c slot (with_entry k e w)) (record { caller = c; step = length (at c w.callers) }) k (length (at k w.codecs)) error
 call_kept s w c k x e error slot fits call =
     let below : k < length w.codecs = omega (arith, fits.codecs, call.codec) in
     record {
@@ -127,7 +127,7 @@ call_kept s w c k x e error slot fits call =
           );
     }
 
-made_by : (s : Script) (v : Recorded) (who : Who) (o : Option ℕ) (k p : ℕ) (error : Option DomError) → o ≡ Some k → KeepsCall s v who k p error → IsResultOf s v who o (result.Call k p error)
+made_by : (s : ScriptData) (v : Recorded) (who : Who) (o : Option ℕ) (k p : ℕ) (error : Option DomError) → o ≡ Some k → KeepsCall s v who k p error → IsResultOf s v who o (result.Call k p error)
 made_by s v who o k p error h kept = subst (λ (q : Option ℕ). IsResultOf s v who q (result.Call k p error)) (sym h) (refl, kept)
 
 call_places : (w : Recorded) (k n q : ℕ) (e f : Option DomError) → result.Call k (length (at k w.codecs)) e ≡ result.Call n q f → q ≡ length (at n w.codecs)
@@ -137,7 +137,7 @@ call_places w k n q e f h =
     sym place ∙ ap (λ (m : ℕ). length (at m w.codecs)) number
 
 -- a call of a caller
-pub fits_call : (s : Script) (w : Recorded) (c k : ℕ) (x : Step) (e : Entry) (error : Option DomError) → FitsSoFar s w → IsCall s w c k x e error → FitsSoFar s (with_result c (result.Call k (length (at k w.codecs)) error) (with_entry k e w))
+pub fits_call : (s : ScriptData) (w : Recorded) (c k : ℕ) (x : Step) (e : Entry) (error : Option DomError) → FitsSoFar s w → IsCall s w c k x e error → FitsSoFar s (with_result c (result.Call k (length (at k w.codecs)) error) (with_entry k e w))
 fits_call s w c k x e error fits call =
     let j = length (at c w.callers) in
     let p = length (at k w.codecs) in

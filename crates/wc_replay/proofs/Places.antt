@@ -2,7 +2,7 @@
 use Rattle.std.proofs.Common.{ℕ, zero, suc, ◌≡◌, ◌<◌, ◌≤◌, List, [], ◌∷◌, ◌++◌, length, get_or, Some, None, refl, ap, ◌∙◌}
 use Rattle.std.proofs.lemmas.Option.{slice_get_read, slice_get_past}
 use Rattle.std.specs.Prelude.{slice_get, slice_set}
-use Rattle.wc_script.specs.declared.script.CallerItem.{CallerItem}
+use Rattle.script_types.specs.declared.script.CallerItem.{CallerItem}
 use Rattle.trace_text.specs.Follow.{at, append_at, steps_in}
 
 pub at_within : {X : Type 0} (c : ℕ) (ls : List (List X)) (l : List X) → slice_get ls c ≡ Some l → at c ls ≡ l

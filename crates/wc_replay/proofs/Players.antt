@@ -19,9 +19,9 @@ use Rattle.codec_model.specs.declared.entry.PromiseState.TheVariants.{Pending}
 use Rattle.std.proofs.lemmas.Option.{slice_get_past}
 use Rattle.codec_model.specs.Replay.{State, entry_of, call_error, removal_error}
 use Rattle.slot_registry.specs.Slots.{SlotsValue, acquired}
-use Rattle.wc_script.specs.declared.script.OrderItem.{OrderItem}
-use Rattle.wc_script.specs.declared.script.OrderItem.TheVariants as item
-use Rattle.wc_script.specs.declared.script.Script.{Script}
+use Rattle.script_types.specs.declared.script.OrderItem.{OrderItem}
+use Rattle.script_types.specs.declared.script.OrderItem.TheVariants as item
+use Rattle.script_types.specs.declared.script.ScriptData.{ScriptData}
 use Rattle.trace_text.specs.declared.run.StepResult.{StepResult}
 use Rattle.trace_text.specs.declared.run.StepResult.TheVariants as result
 use Rattle.trace_text.specs.Follow.{Course, Holding, BoxOut, at, append_at, recording, with_call, with_look, with_state, with_result, with_removal, exception_of, give_of, next_cause, opening_at, promise_after, follow_item}
@@ -50,10 +50,10 @@ held_desk p k held =
 
 -- ---- calls
 
-pub called_made : (s : Script) (who : Who) (k : ℕ) (x : Call) (p : PlayerValue) (desks : List DeskValue) (callers : List (List StepResult)) (place : ℕ) (error : Option DomError) → AreOpened s p.desks → desks ≡ slice_set p.desks k (more (entry_of who x) (desk_at k p.desks)) → place ≡ length (desk_at k p.desks).history → error ≡ exception_of x (call_error x (state_of (desk_at k p.desks)).control) → callers ≡ append_at who.caller (result.Call k place error) p.callers → course_of callers desks p.slots.history ≡ recording (with_call s who k x) (course p)
+pub called_made : (s : ScriptData) (who : Who) (k : ℕ) (x : Call) (p : PlayerValue) (desks : List DeskValue) (callers : List (List StepResult)) (place : ℕ) (error : Option DomError) → AreOpened s p.desks → desks ≡ slice_set p.desks k (more (entry_of who x) (desk_at k p.desks)) → place ≡ length (desk_at k p.desks).history → error ≡ exception_of x (call_error x (state_of (desk_at k p.desks)).control) → callers ≡ append_at who.caller (result.Call k place error) p.callers → course_of callers desks p.slots.history ≡ recording (with_call s who k x) (course p)
 called_made s who k x p desks callers place error opened moved at_place shows noted = rw (moved, noted) (call_course s who k x p.callers p.desks p.slots.history place error opened at_place shows)
 
-pub removed_made : (s : Script) (who : Who) (k : ℕ) (e : Entry) (p : PlayerValue) (desks : List DeskValue) (callers : List (List StepResult)) (slots : SlotsValue) (place : ℕ) (error : Option DomError) → AreOpened s p.desks → desks ≡ slice_set p.desks k (after_removal e (desk_at k p.desks)) → slots ≡ record p.slots { history = p.slots.history ++ give_of (next_by k (desk_at k p.desks)) (removal_box (desk_at k p.desks)) } → place ≡ length (desk_at k p.desks).history → error ≡ removal_error (state_of (desk_at k p.desks)).control → callers ≡ append_at who.caller (result.Call k place error) p.callers → course_of callers desks slots.history ≡ with_removal s who k e (course p)
+pub removed_made : (s : ScriptData) (who : Who) (k : ℕ) (e : Entry) (p : PlayerValue) (desks : List DeskValue) (callers : List (List StepResult)) (slots : SlotsValue) (place : ℕ) (error : Option DomError) → AreOpened s p.desks → desks ≡ slice_set p.desks k (after_removal e (desk_at k p.desks)) → slots ≡ record p.slots { history = p.slots.history ++ give_of (next_by k (desk_at k p.desks)) (removal_box (desk_at k p.desks)) } → place ≡ length (desk_at k p.desks).history → error ≡ removal_error (state_of (desk_at k p.desks)).control → callers ≡ append_at who.caller (result.Call k place error) p.callers → course_of callers desks slots.history ≡ with_removal s who k e (course p)
 removed_made s who k e p desks callers slots place error opened moved gave at_place shows noted = rw (moved, noted, gave) (removal_course s who k e p.callers p.desks p.slots.history place error opened at_place shows)
 
 pub shape_moved : (p : PlayerValue) (k : ℕ) (new : DeskValue) (desks : List DeskValue) (callers : List (List StepResult)) (slots : SlotsValue) → new.opening ≡ (desk_at k p.desks).opening → desks ≡ slice_set p.desks k new → slots.made ≡ p.slots.made → KeepsShape p (record { desks = desks; callers = callers; slots = slots })
@@ -61,7 +61,7 @@ shape_moved p k new desks callers slots same moved made = record { openings = rw
 
 -- ---- looks
 
-pub looked_made : (s : Script) (who : Who) (p : PlayerValue) (o : Option StepResult) → AreOpened s p.desks → recording (with_result who.caller (look_at s p.desks o)) (course p) ≡ recording (with_look s who o) (course p)
+pub looked_made : (s : ScriptData) (who : Who) (p : PlayerValue) (o : Option StepResult) → AreOpened s p.desks → recording (with_result who.caller (look_at s p.desks o)) (course p) ≡ recording (with_look s who o) (course p)
 looked_made s who p (Some (result.Call k place error)) opened =
     ap (λ (h : List Entry). recording (with_result who.caller (result.Look k (length h) (promise_after (opening_at s k) h place))) (course p)) (sym (at_desk k p.desks))
 looked_made s who p None opened = refl
@@ -70,20 +70,20 @@ looked_made s who p (Some (result.Look k n end)) opened = refl
 looked_made s who p (Some (result.State k n state size)) opened = refl
 looked_made s who p (Some result.Absent) opened = refl
 
-pub state_made : (s : Script) (who : Who) (p : PlayerValue) (k : ℕ) → AreOpened s p.desks → recording (with_result who.caller (state_look k p.desks)) (course p) ≡ recording (with_state s who k) (course p)
+pub state_made : (s : ScriptData) (who : Who) (p : PlayerValue) (k : ℕ) → AreOpened s p.desks → recording (with_result who.caller (state_look k p.desks)) (course p) ≡ recording (with_state s who k) (course p)
 state_made s who p k opened =
     ap (λ (h : List Entry). recording (with_result who.caller (let c = (state_of (desk_at k p.desks)).control in result.State k (length h) c.phase c.size)) (course p)) (sym (at_desk k p.desks))
     ∙ ap (λ (t : State). recording (with_result who.caller (result.State k (length (at k (course p).recorded.codecs)) t.control.phase t.control.size)) (course p)) (sym (state_desk s k p.callers p.desks p.slots.history opened))
 
 -- a codec that was read, looked at
-pub look_read : (s : Script) (desks : List DeskValue) (k place n : ℕ) (d : DeskValue) (end : PromiseState) → AreOpened s desks → desk_at k desks ≡ d → n ≡ length d.history → end ≡ promise_after d.opening d.history place → result.Look k n end ≡ result.Look k (length (desk_at k desks).history) (promise_after (opening_at s k) (desk_at k desks).history place)
+pub look_read : (s : ScriptData) (desks : List DeskValue) (k place n : ℕ) (d : DeskValue) (end : PromiseState) → AreOpened s desks → desk_at k desks ≡ d → n ≡ length d.history → end ≡ promise_after d.opening d.history place → result.Look k n end ≡ result.Look k (length (desk_at k desks).history) (promise_after (opening_at s k) (desk_at k desks).history place)
 look_read s desks k place n d end opened is at_end ends = rw (at_end, ends, opening_desk s k desks opened, is) refl
 
-pub look_of_call : (s : Script) (desks : List DeskValue) (flush : Option StepResult) (k place : ℕ) → call_in flush ≡ Some (k, place) → look_at s desks flush ≡ result.Look k (length (desk_at k desks).history) (promise_after (opening_at s k) (desk_at k desks).history place)
+pub look_of_call : (s : ScriptData) (desks : List DeskValue) (flush : Option StepResult) (k place : ℕ) → call_in flush ≡ Some (k, place) → look_at s desks flush ≡ result.Look k (length (desk_at k desks).history) (promise_after (opening_at s k) (desk_at k desks).history place)
 look_of_call s desks flush k place is = ap (λ (o : Option (ℕ × ℕ)). look_after s desks o) is
 
 -- a codec that is not there has no entry
-pub look_past : (s : Script) (desks : List DeskValue) (k place : ℕ) → length desks ≤ k → result.Look k 0 Pending ≡ result.Look k (length (desk_at k desks).history) (promise_after (opening_at s k) (desk_at k desks).history place)
+pub look_past : (s : ScriptData) (desks : List DeskValue) (k place : ℕ) → length desks ≤ k → result.Look k 0 Pending ≡ result.Look k (length (desk_at k desks).history) (promise_after (opening_at s k) (desk_at k desks).history place)
 look_past s desks k place beyond = rw (slice_get_past desks k beyond) refl
 
 -- ---- items of the order
@@ -94,19 +94,19 @@ on_ok_both (Ok x) P Q R f p q = f p q
 on_ok_both (Err e) P Q R f p q = tt
 
 -- what an item made, said of the player as it was
-pub item_made : (s : Script) (p q : PlayerValue) (x y : OrderItem) (wants : Bool) (u : Course) → p ≡ q → y ≡ x → u ≡ follow_item s p.slots.made wants x (course p) → u ≡ follow_item s q.slots.made wants y (course q)
+pub item_made : (s : ScriptData) (p q : PlayerValue) (x y : OrderItem) (wants : Bool) (u : Course) → p ≡ q → y ≡ x → u ≡ follow_item s p.slots.made wants x (course p) → u ≡ follow_item s q.slots.made wants y (course q)
 item_made s p q x y wants u is same made = made ∙ rw (is, same) refl
 
-pub started : (s : Script) (p : PlayerValue) (k : ℕ) (desks : List DeskValue) (slots : SlotsValue) → AreOpened s p.desks → RefusalsStand s (course p) → desks ≡ slice_set p.desks k (after_start p.slots.made k p.slots.history (desk_at k p.desks)) → slots ≡ record p.slots { history = start_slots p.slots.made k p.slots.history (desk_at k p.desks) } → course_of p.callers desks slots.history ≡ follow_item s p.slots.made false (item.Start k) (course p)
+pub started : (s : ScriptData) (p : PlayerValue) (k : ℕ) (desks : List DeskValue) (slots : SlotsValue) → AreOpened s p.desks → RefusalsStand s (course p) → desks ≡ slice_set p.desks k (after_start p.slots.made k p.slots.history (desk_at k p.desks)) → slots ≡ record p.slots { history = start_slots p.slots.made k p.slots.history (desk_at k p.desks) } → course_of p.callers desks slots.history ≡ follow_item s p.slots.made false (item.Start k) (course p)
 started s p k desks slots opened stands moved went = rw (moved, went) (start_course s p.slots.made false k p.callers p.desks p.slots.history opened stands)
 
-pub ended : (s : Script) (p : PlayerValue) (wants : Bool) (k moment : ℕ) (desks : List DeskValue) (slots : SlotsValue) → AreOpened s p.desks → desks ≡ slice_set p.desks k (after_done wants moment (desk_at k p.desks)) → slots ≡ record p.slots { history = p.slots.history ++ give_of (next_by k (desk_at k p.desks)) (done_box (desk_at k p.desks)) } → course_of p.callers desks slots.history ≡ follow_item s p.slots.made wants (item.Done k moment) (course p)
+pub ended : (s : ScriptData) (p : PlayerValue) (wants : Bool) (k moment : ℕ) (desks : List DeskValue) (slots : SlotsValue) → AreOpened s p.desks → desks ≡ slice_set p.desks k (after_done wants moment (desk_at k p.desks)) → slots ≡ record p.slots { history = p.slots.history ++ give_of (next_by k (desk_at k p.desks)) (done_box (desk_at k p.desks)) } → course_of p.callers desks slots.history ≡ follow_item s p.slots.made wants (item.Done k moment) (course p)
 ended s p wants k moment desks slots opened moved went = rw (moved, went) (done_course s p.slots.made wants k moment p.callers p.desks p.slots.history opened)
 
-pub turned : (s : Script) (p : PlayerValue) (k : ℕ) (desks : List DeskValue) (slots : SlotsValue) → AreOpened s p.desks → desks ≡ slice_set p.desks k (after_turn (desk_at k p.desks)) → slots ≡ record p.slots { history = p.slots.history ++ give_of (next_by k (desk_at k p.desks)) (turn_box (desk_at k p.desks)) } → course_of p.callers desks slots.history ≡ follow_item s p.slots.made false (item.Turn k) (course p)
+pub turned : (s : ScriptData) (p : PlayerValue) (k : ℕ) (desks : List DeskValue) (slots : SlotsValue) → AreOpened s p.desks → desks ≡ slice_set p.desks k (after_turn (desk_at k p.desks)) → slots ≡ record p.slots { history = p.slots.history ++ give_of (next_by k (desk_at k p.desks)) (turn_box (desk_at k p.desks)) } → course_of p.callers desks slots.history ≡ follow_item s p.slots.made false (item.Turn k) (course p)
 turned s p k desks slots opened moved went = rw (moved, went) (turn_course s p.slots.made false k p.callers p.desks p.slots.history opened)
 
-pub reclaimed : (s : Script) (p : PlayerValue) (k moment : ℕ) (desks : List DeskValue) (slots : SlotsValue) → AreOpened s p.desks → desks ≡ slice_set p.desks k (after_reclaim moment (desk_at k p.desks)) → slots ≡ record p.slots { history = p.slots.history ++ give_of (next_by k (desk_at k p.desks)) (reclaim_box moment (desk_at k p.desks)) } → course_of p.callers desks slots.history ≡ follow_item s p.slots.made false (item.Reclaim k moment) (course p)
+pub reclaimed : (s : ScriptData) (p : PlayerValue) (k moment : ℕ) (desks : List DeskValue) (slots : SlotsValue) → AreOpened s p.desks → desks ≡ slice_set p.desks k (after_reclaim moment (desk_at k p.desks)) → slots ≡ record p.slots { history = p.slots.history ++ give_of (next_by k (desk_at k p.desks)) (reclaim_box moment (desk_at k p.desks)) } → course_of p.callers desks slots.history ≡ follow_item s p.slots.made false (item.Reclaim k moment) (course p)
 reclaimed s p k moment desks slots opened moved went = rw (moved, went) (reclaim_course s p.slots.made false k moment p.callers p.desks p.slots.history opened)
 
 -- each keeps how the codec was opened

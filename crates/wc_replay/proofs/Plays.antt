@@ -16,12 +16,12 @@ use Rattle.codec_model.specs.declared.entry.Running.{Running}
 use Rattle.codec_model.specs.declared.entry.Task.{Task}
 use Rattle.codec_model.specs.Control.{Control, start_item, may_start, front, may_reclaim, is_close}
 use Rattle.codec_model.specs.Replay.{State, entry_of, call_error, removal_error, missing_coder, answer_to}
-use Rattle.wc_script.specs.declared.script.CodecItem.{CodecItem}
-use Rattle.wc_script.specs.declared.script.Script.{Script}
+use Rattle.script_types.specs.declared.script.CodecItem.{CodecItem}
+use Rattle.script_types.specs.declared.script.ScriptData.{ScriptData}
 use Rattle.trace_text.specs.declared.run.StepResult.{StepResult}
 use Rattle.trace_text.specs.declared.run.StepResult.TheVariants as result
 use Rattle.trace_text.specs.Follow.{Holding, nothing_held, Course, BoxOut, at, append_at, with_entry, with_result, holding_at, recording, next_cause, with_slots, give_of, gives_back, lets_go, lets_go_unless, lets_go_if, removes, with_removal, with_call, with_box, with_start, with_done, keeps_box, with_turn, with_reclaim, opening_of, opening_in, opening_at, state_after, state_at, exception_of, outcome_for, follow_item}
-use Rattle.wc_script.specs.declared.script.OrderItem.TheVariants as item
+use Rattle.script_types.specs.declared.script.OrderItem.TheVariants as item
 use Rattle.wc_replay.specs.Boxes.{filled_slots, filled_holding}
 use Rattle.wc_replay.specs.Desk.{DeskValue, more, moved, state_of, next_by, left_by, let_go, left_unless, let_go_unless, left_if, let_go_if, kept_by, back_by, started_with, slots_with, after_start, start_slots, after_removal, removal_box, turned_by, after_turn, box_by_turn, turn_box, after_reclaim, reclaim_box, done_by, after_done, box_by_done, done_box}
 use Rattle.wc_replay.specs.Player.{course_of, desk_at, AreOpened, openings_of}
@@ -46,10 +46,10 @@ opening_in_desk k (d ∷ ds) [] is = absurd cc
 opening_in_desk zero (d ∷ ds) (c ∷ cs) is = let same : d.opening ≡ opening_of c = cc in sym same
 opening_in_desk (suc k) (d ∷ ds) (c ∷ cs) is = opening_in_desk k ds cs cc
 
-pub opening_desk : (s : Script) (k : ℕ) (desks : List DeskValue) → AreOpened s desks → opening_at s k ≡ (desk_at k desks).opening
+pub opening_desk : (s : ScriptData) (k : ℕ) (desks : List DeskValue) → AreOpened s desks → opening_at s k ≡ (desk_at k desks).opening
 opening_desk s k desks opened = opening_in_desk k desks s.codecs opened
 
-pub state_desk : (s : Script) (k : ℕ) (callers : List (List StepResult)) (desks : List DeskValue) (slots : List SlotEntry) → AreOpened s desks → state_at s (course_of callers desks slots).recorded k ≡ state_of (desk_at k desks)
+pub state_desk : (s : ScriptData) (k : ℕ) (callers : List (List StepResult)) (desks : List DeskValue) (slots : List SlotEntry) → AreOpened s desks → state_at s (course_of callers desks slots).recorded k ≡ state_of (desk_at k desks)
 state_desk s k callers desks slots opened =
     ap (λ (o : Opening). state_after o (at k (map (λ (d : DeskValue). d.history) desks))) (opening_desk s k desks opened)
     ∙ ap (λ (h : List Entry). state_after (desk_at k desks).opening h) (at_desk k desks)
@@ -118,7 +118,7 @@ let_go_if_course callers desks slots k e false running = kept_with_none callers 
 noted_course : (c : ℕ) (r : StepResult) (callers : List (List StepResult)) (desks : List DeskValue) (slots : List SlotEntry) → course_of (append_at c r callers) desks slots ≡ recording (with_result c r) (course_of callers desks slots)
 noted_course c r callers desks slots = refl
 
-pub call_course : (s : Script) (who : Who) (k : ℕ) (x : Call) (callers : List (List StepResult)) (desks : List DeskValue) (slots : List SlotEntry) (place : ℕ) (error : Option DomError) → AreOpened s desks → place ≡ length (desk_at k desks).history → error ≡ exception_of x (call_error x (state_of (desk_at k desks)).control) → course_of (append_at who.caller (result.Call k place error) callers) (slice_set desks k (more (entry_of who x) (desk_at k desks))) slots ≡ recording (with_call s who k x) (course_of callers desks slots)
+pub call_course : (s : ScriptData) (who : Who) (k : ℕ) (x : Call) (callers : List (List StepResult)) (desks : List DeskValue) (slots : List SlotEntry) (place : ℕ) (error : Option DomError) → AreOpened s desks → place ≡ length (desk_at k desks).history → error ≡ exception_of x (call_error x (state_of (desk_at k desks)).control) → course_of (append_at who.caller (result.Call k place error) callers) (slice_set desks k (more (entry_of who x) (desk_at k desks))) slots ≡ recording (with_call s who k x) (course_of callers desks slots)
 call_course s who k x callers desks slots place error opened at_place shows =
     let v = course_of callers desks slots in
     let moves = ap (λ (u : Course). recording (with_result who.caller (result.Call k place error)) u) (kept_course callers desks slots k (entry_of who x)) in
@@ -128,7 +128,7 @@ call_course s who k x callers desks slots place error opened at_place shows =
     ∙ ap (λ (o : Option DomError). recording (with_result who.caller (result.Call k (length (at k v.recorded.codecs)) o)) (recording (with_entry k (entry_of who x)) v)) same)
 
 -- the entry and the result of a removal
-removes_on : (s : Script) (who : Who) (k : ℕ) (e : Entry) (u v : Course) → u.recorded.codecs ≡ v.recorded.codecs → recording (removes s who k e) u ≡ recording (with_result who.caller (result.Call k (length (at k v.recorded.codecs)) (removal_error (state_at s v.recorded k).control))) (recording (with_entry k e) u)
+removes_on : (s : ScriptData) (who : Who) (k : ℕ) (e : Entry) (u v : Course) → u.recorded.codecs ≡ v.recorded.codecs → recording (removes s who k e) u ≡ recording (with_result who.caller (result.Call k (length (at k v.recorded.codecs)) (removal_error (state_at s v.recorded k).control))) (recording (with_entry k e) u)
 removes_on s who k e u v is =
     ap (λ (hs : List (List Entry)). recording (with_result who.caller (result.Call k (length (at k hs)) (removal_error (state_after (opening_at s k) (at k hs)).control))) (recording (with_entry k e) u)) is
 
@@ -137,7 +137,7 @@ let_go_codecs None k None v = refl
 let_go_codecs None k (Some r) v = refl
 let_go_codecs (Some error) k running v = refl
 
-pub removal_course : (s : Script) (who : Who) (k : ℕ) (e : Entry) (callers : List (List StepResult)) (desks : List DeskValue) (slots : List SlotEntry) (place : ℕ) (error : Option DomError) → AreOpened s desks → place ≡ length (desk_at k desks).history → error ≡ removal_error (state_of (desk_at k desks)).control → course_of (append_at who.caller (result.Call k place error) callers) (slice_set desks k (after_removal e (desk_at k desks))) (slots ++ give_of (next_by k (desk_at k desks)) (removal_box (desk_at k desks))) ≡ with_removal s who k e (course_of callers desks slots)
+pub removal_course : (s : ScriptData) (who : Who) (k : ℕ) (e : Entry) (callers : List (List StepResult)) (desks : List DeskValue) (slots : List SlotEntry) (place : ℕ) (error : Option DomError) → AreOpened s desks → place ≡ length (desk_at k desks).history → error ≡ removal_error (state_of (desk_at k desks)).control → course_of (append_at who.caller (result.Call k place error) callers) (slice_set desks k (after_removal e (desk_at k desks))) (slots ++ give_of (next_by k (desk_at k desks)) (removal_box (desk_at k desks))) ≡ with_removal s who k e (course_of callers desks slots)
 removal_course s who k e callers desks slots place error opened at_place shows =
     let v = course_of callers desks slots in
     let t = state_of (desk_at k desks) in
@@ -168,7 +168,7 @@ turn_on : (callers : List (List StepResult)) (desks : List DeskValue) (slots : L
 turn_on callers desks slots k [] = unmoved_with_none callers desks slots k
 turn_on callers desks slots k (t ∷ ts) = let_go_if_course callers desks slots k entry.Turn (is_close t) (state_of (desk_at k desks)).control.running
 
-pub turn_course : (s : Script) (made : List CoderId) (wants : Bool) (k : ℕ) (callers : List (List StepResult)) (desks : List DeskValue) (slots : List SlotEntry) → AreOpened s desks → course_of callers (slice_set desks k (after_turn (desk_at k desks))) (slots ++ give_of (next_by k (desk_at k desks)) (turn_box (desk_at k desks))) ≡ follow_item s made wants (item.Turn k) (course_of callers desks slots)
+pub turn_course : (s : ScriptData) (made : List CoderId) (wants : Bool) (k : ℕ) (callers : List (List StepResult)) (desks : List DeskValue) (slots : List SlotEntry) → AreOpened s desks → course_of callers (slice_set desks k (after_turn (desk_at k desks))) (slots ++ give_of (next_by k (desk_at k desks)) (turn_box (desk_at k desks))) ≡ follow_item s made wants (item.Turn k) (course_of callers desks slots)
 turn_course s made wants k callers desks slots opened =
     turn_on callers desks slots k (state_of (desk_at k desks)).control.tasks
     ∙ ap (λ (x : State). with_turn k x.control.running x.control.tasks (course_of callers desks slots)) (sym (state_desk s k callers desks slots opened))
@@ -177,7 +177,7 @@ reclaim_on : (callers : List (List StepResult)) (desks : List DeskValue) (slots 
 reclaim_on callers desks slots k moment running true = let_go_course callers desks slots k (entry.Reclaim moment) running
 reclaim_on callers desks slots k moment running false = unmoved_with_none callers desks slots k
 
-pub reclaim_course : (s : Script) (made : List CoderId) (wants : Bool) (k moment : ℕ) (callers : List (List StepResult)) (desks : List DeskValue) (slots : List SlotEntry) → AreOpened s desks → course_of callers (slice_set desks k (after_reclaim moment (desk_at k desks))) (slots ++ give_of (next_by k (desk_at k desks)) (reclaim_box moment (desk_at k desks))) ≡ follow_item s made wants (item.Reclaim k moment) (course_of callers desks slots)
+pub reclaim_course : (s : ScriptData) (made : List CoderId) (wants : Bool) (k moment : ℕ) (callers : List (List StepResult)) (desks : List DeskValue) (slots : List SlotEntry) → AreOpened s desks → course_of callers (slice_set desks k (after_reclaim moment (desk_at k desks))) (slots ++ give_of (next_by k (desk_at k desks)) (reclaim_box moment (desk_at k desks))) ≡ follow_item s made wants (item.Reclaim k moment) (course_of callers desks slots)
 reclaim_course s made wants k moment callers desks slots opened =
     let c = (state_of (desk_at k desks)).control in
     reclaim_on callers desks slots k moment c.running (may_reclaim moment c)
@@ -198,7 +198,7 @@ done_on wants moment callers desks slots k t (Some r) =
     kept_on callers desks slots k (entry.Done r.epoch r.number moment (outcome_for wants d.holding.refusal (answer_to r.kind t.running_given))) (r.epoch == t.control.epoch)
     ∙ ap (λ (h : Holding). recording (with_entry k (entry.Done r.epoch r.number moment (outcome_for wants h.refusal (answer_to r.kind t.running_given)))) (keeps_box (r.epoch == t.control.epoch) k (course_of callers desks slots))) (sym (holding_desk k desks))
 
-pub done_course : (s : Script) (made : List CoderId) (wants : Bool) (k moment : ℕ) (callers : List (List StepResult)) (desks : List DeskValue) (slots : List SlotEntry) → AreOpened s desks → course_of callers (slice_set desks k (after_done wants moment (desk_at k desks))) (slots ++ give_of (next_by k (desk_at k desks)) (done_box (desk_at k desks))) ≡ follow_item s made wants (item.Done k moment) (course_of callers desks slots)
+pub done_course : (s : ScriptData) (made : List CoderId) (wants : Bool) (k moment : ℕ) (callers : List (List StepResult)) (desks : List DeskValue) (slots : List SlotEntry) → AreOpened s desks → course_of callers (slice_set desks k (after_done wants moment (desk_at k desks))) (slots ++ give_of (next_by k (desk_at k desks)) (done_box (desk_at k desks))) ≡ follow_item s made wants (item.Done k moment) (course_of callers desks slots)
 done_course s made wants k moment callers desks slots opened =
     let t = state_of (desk_at k desks) in
     done_on wants moment callers desks slots k t t.control.running
@@ -239,7 +239,7 @@ start_on made callers desks slots k (Some i) none =
     fill_on made callers desks slots k (entry.Start t.control.epoch i.number) (missing_coder t.given i.work) (none i refl)
 
 -- a codec that starts an item was refused none
-none_refused : (s : Script) (v : Course) (k : ℕ) (i : Item) (refusal : Option ℕ) → RefusalsStand s v → start_item (state_at s v.recorded k).control ≡ Some i → (holding_at k v.holdings).refusal ≡ refusal → refusal ≡ None
+none_refused : (s : ScriptData) (v : Course) (k : ℕ) (i : Item) (refusal : Option ℕ) → RefusalsStand s v → start_item (state_at s v.recorded k).control ≡ Some i → (holding_at k v.holdings).refusal ≡ refusal → refusal ≡ None
 none_refused s v k i None stands starts is = refl
 none_refused s v k i (Some e) stands starts is =
     let needs = stands k e is in
@@ -252,7 +252,7 @@ none_refused s v k i (Some e) stands starts is =
     busy : (c : Control) (r : Running) → c.running ≡ Some r → may_start c ≡ true → ⊥
     busy c r is may = let no : false ≡ true = sym (rw is refl) ∙ may in absurd cc
 
-pub start_course : (s : Script) (made : List CoderId) (wants : Bool) (k : ℕ) (callers : List (List StepResult)) (desks : List DeskValue) (slots : List SlotEntry) → AreOpened s desks → RefusalsStand s (course_of callers desks slots) → course_of callers (slice_set desks k (after_start made k slots (desk_at k desks))) (start_slots made k slots (desk_at k desks)) ≡ follow_item s made wants (item.Start k) (course_of callers desks slots)
+pub start_course : (s : ScriptData) (made : List CoderId) (wants : Bool) (k : ℕ) (callers : List (List StepResult)) (desks : List DeskValue) (slots : List SlotEntry) → AreOpened s desks → RefusalsStand s (course_of callers desks slots) → course_of callers (slice_set desks k (after_start made k slots (desk_at k desks))) (start_slots made k slots (desk_at k desks)) ≡ follow_item s made wants (item.Start k) (course_of callers desks slots)
 start_course s made wants k callers desks slots opened stands =
     let v = course_of callers desks slots in
     let t = state_of (desk_at k desks) in

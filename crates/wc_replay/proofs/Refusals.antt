@@ -20,9 +20,9 @@ use Rattle.codec_model.specs.Control.{may_start, front, start_item, may_reclaim,
 use Rattle.codec_model.specs.Replay.{State, Given, step as entry_step, start_step, given_more, serves_too, missing_coder, entry_of, removal_error, answer_to}
 use Rattle.codec_core.specs.Codec.{KeepsRunning}
 use Rattle.codec_core.proofs.Laws.{call_keeps_running, reset_keeps_running, close_keeps_running, turn_keeps_running, reclaim_keeps_running}
-use Rattle.wc_script.specs.declared.script.Script.{Script}
-use Rattle.wc_script.specs.declared.script.Step.{Step}
-use Rattle.wc_script.specs.declared.script.Step.TheVariants as step
+use Rattle.script_types.specs.declared.script.ScriptData.{ScriptData}
+use Rattle.script_types.specs.declared.steps.Step.{Step}
+use Rattle.script_types.specs.declared.steps.Step.TheVariants as step
 use Rattle.trace_text.specs.declared.run.StepResult.{StepResult}
 use Rattle.trace_text.specs.declared.run.StepResult.TheVariants as result
 use Rattle.trace_text.specs.Follow.{Recorded, Course, Holding, at, append_at, with_result, with_entry, opening_at, state_after, state_at, steps_of, chunk_at, init_error, with_call, with_state, removes, with_removal, with_decode, with_look, with_box, keeps_box, lets_go, lets_go_if, lets_go_unless, with_start, with_done, with_turn, recording, holding_at, outcome_for, follow_step}
@@ -31,7 +31,7 @@ use Rattle.wc_replay.proofs.Legal.{Legals, Steps, MayBeRefused, cond_some, call_
 use Rattle.wc_replay.proofs.Courses.{StateStays, StateSteps, Eases, NeedsBox, eases_itself, RefusalsStand, state_more, state_steps, entry_keeps, same_keeps, refusals_stay, no_more, with_box_parts, with_box_others, keeps_box_eases, keeps_box_clears, lets_go_eases, lets_go_if_eases, lets_go_unless_eases}
 
 -- what is known of the running item at its end
-pub may_be_refused : (s : Script) (v : Course) (k : ℕ) (r : Running) (refusal : Option ℕ) → (holding_at k v.holdings).refusal ≡ refusal → (state_at s v.recorded k).control.running ≡ Some r → RefusalsStand s v → MayBeRefused r (state_at s v.recorded k) refusal
+pub may_be_refused : (s : ScriptData) (v : Course) (k : ℕ) (r : Running) (refusal : Option ℕ) → (holding_at k v.holdings).refusal ≡ refusal → (state_at s v.recorded k).control.running ≡ Some r → RefusalsStand s v → MayBeRefused r (state_at s v.recorded k) refusal
 may_be_refused s v k r None h is stand = tt
 may_be_refused s v k r (Some e) h is stand =
     let needs = stand k e h in
@@ -42,23 +42,23 @@ may_be_refused s v k r (Some e) h is stand =
     one_running a b h = cc
 
 -- an entry that keeps each running item, after what eases
-eased_entry : (s : Script) (v u : Course) (k : ℕ) (e : Entry) → Legals s v.recorded → RefusalsStand s v → Steps e (state_at s v.recorded k) → Eases v u → ((a b : State) → entry_step e a ≡ Some b → KeepsRunning a b) → (f : Recorded → Recorded) → (f u.recorded).codecs ≡ append_at k e u.recorded.codecs → RefusalsStand s (recording f u)
+eased_entry : (s : ScriptData) (v u : Course) (k : ℕ) (e : Entry) → Legals s v.recorded → RefusalsStand s v → Steps e (state_at s v.recorded k) → Eases v u → ((a b : State) → entry_step e a ≡ Some b → KeepsRunning a b) → (f : Recorded → Recorded) → (f u.recorded).codecs ≡ append_at k e u.recorded.codecs → RefusalsStand s (recording f u)
 eased_entry s v u k e legal stand steps eases keeps f grown =
     let codecs = grown ∙ ap (λ cs. append_at k e cs) eases.parts.codecs in
     refusals_stay s v (recording f u) (entry_keeps s v.recorded (f u.recorded) k e legal steps codecs keeps) eases.refusals stand
 
 -- a step that makes no entry
-quiet_stands : (s : Script) (v : Course) (f : Recorded → Recorded) → RefusalsStand s v → (f v.recorded).codecs ≡ v.recorded.codecs → RefusalsStand s (recording f v)
+quiet_stands : (s : ScriptData) (v : Course) (f : Recorded → Recorded) → RefusalsStand s v → (f v.recorded).codecs ≡ v.recorded.codecs → RefusalsStand s (recording f v)
 quiet_stands s v f stand same = refusals_stay s v (recording f v) (same_keeps s v.recorded (f v.recorded) same) (no_more v) stand
 
-call_stands : (s : Script) (who : Who) (k : ℕ) (x : Call) (v : Course) → Legals s v.recorded → RefusalsStand s v → RefusalsStand s (recording (with_call s who k x) v)
+call_stands : (s : ScriptData) (who : Who) (k : ℕ) (x : Call) (v : Course) → Legals s v.recorded → RefusalsStand s v → RefusalsStand s (recording (with_call s who k x) v)
 call_stands s who k x v legal stand = eased_entry s v v k (entry_of who x) legal stand (call_legal who x (state_at s v.recorded k)) (eases_itself v) (λ a b h. call_keeps_running who x a b h) (with_call s who k x) refl
 
-decode_stands : (s : Script) (who : Who) (k : ℕ) (o : Option Chunk) (v : Course) → Legals s v.recorded → RefusalsStand s v → RefusalsStand s (recording (with_decode s who k o) v)
+decode_stands : (s : ScriptData) (who : Who) (k : ℕ) (o : Option Chunk) (v : Course) → Legals s v.recorded → RefusalsStand s v → RefusalsStand s (recording (with_decode s who k o) v)
 decode_stands s who k None v legal stand = quiet_stands s v (with_decode s who k None) stand refl
 decode_stands s who k (Some chunk) v legal stand = call_stands s who k (call.Decode chunk) v legal stand
 
-look_codecs : (s : Script) (who : Who) (o : Option StepResult) (w : Recorded) → (with_look s who o w).codecs ≡ w.codecs
+look_codecs : (s : ScriptData) (who : Who) (o : Option StepResult) (w : Recorded) → (with_look s who o w).codecs ≡ w.codecs
 look_codecs s who None w = refl
 look_codecs s who (Some (result.Call k place error)) w = refl
 look_codecs s who (Some (result.Local error)) w = refl
@@ -66,12 +66,12 @@ look_codecs s who (Some (result.Look k n end)) w = refl
 look_codecs s who (Some (result.State k n state size)) w = refl
 look_codecs s who (Some result.Absent) w = refl
 
-removal_stands : (s : Script) (who : Who) (k : ℕ) (e : Entry) (v : Course) → Legals s v.recorded → RefusalsStand s v → Steps e (state_at s v.recorded k) → ((a b : State) → entry_step e a ≡ Some b → KeepsRunning a b) → RefusalsStand s (with_removal s who k e v)
+removal_stands : (s : ScriptData) (who : Who) (k : ℕ) (e : Entry) (v : Course) → Legals s v.recorded → RefusalsStand s v → Steps e (state_at s v.recorded k) → ((a b : State) → entry_step e a ≡ Some b → KeepsRunning a b) → RefusalsStand s (with_removal s who k e v)
 removal_stands s who k e v legal stand steps keeps =
     let c = (state_at s v.recorded k).control in
     eased_entry s v (lets_go_unless (removal_error c) k c.running v) k e legal stand steps (lets_go_unless_eases (removal_error c) k c.running v) keeps (removes s who k e) refl
 
-pub step_stands : (s : Script) (who : Who) (x : Step) (v : Course) → Legals s v.recorded → RefusalsStand s v → RefusalsStand s (follow_step s who x v)
+pub step_stands : (s : ScriptData) (who : Who) (x : Step) (v : Course) → Legals s v.recorded → RefusalsStand s v → RefusalsStand s (follow_step s who x v)
 step_stands s who (step.Configure on config) v legal stand = call_stands s who on (call.Configure config) v legal stand
 step_stands s who (step.Chunk bind init) v legal stand = quiet_stands s v (with_result who.caller (result.Local (init_error init))) stand refl
 step_stands s who (step.Decode on chunk) v legal stand = decode_stands s who on (chunk_at (steps_of s who.caller) chunk.step) v legal stand
@@ -83,12 +83,12 @@ step_stands s who (step.Close on) v legal stand = removal_stands s who on (entry
 step_stands s who (step.State on) v legal stand = quiet_stands s v (with_state s who on) stand refl
 
 -- the state of another codec is as it was
-other_state : (s : Script) (w v : Recorded) (k : ℕ) (e : Entry) → Legals s w → Steps e (state_at s w k) → v.codecs ≡ append_at k e w.codecs → (n : ℕ) → n ≢ k → state_at s v n ≡ state_at s w n
+other_state : (s : ScriptData) (w v : Recorded) (k : ℕ) (e : Entry) → Legals s w → Steps e (state_at s w k) → v.codecs ≡ append_at k e w.codecs → (n : ℕ) → n ≢ k → state_at s v n ≡ state_at s w n
 other_state s w v k e legal steps codecs n other =
     elim (state_more s w v k e legal steps codecs n) [ StateStays q ↦ q | StateSteps p q ↦ absurd (other p) ]
 
 -- the item that a start takes is there
-pub start_is_there : (s : Script) (w : Recorded) (k : ℕ) (i : Item) → start_item (state_at s w k).control ≡ Some i → k < length w.codecs
+pub start_is_there : (s : ScriptData) (w : Recorded) (k : ℕ) (i : Item) → start_item (state_at s w k).control ≡ Some i → k < length w.codecs
 start_is_there s w k i is = elim (there k w.codecs) [
   | inl lt ↦ lt
   | inr e ↦ absurd (let bad : None ≡ Some i = ap (λ h. start_item (state_after (opening_at s k) h).control) (sym e) ∙ is in cc)
@@ -128,7 +128,7 @@ idle_at_start s i h =
     none_is (Some r) h = absurd cc
 
 -- the codec whose item starts
-this_stands : (s : Script) (made : List CoderId) (k : ℕ) (i : Item) (v : Course) (u : Recorded) (o : Option CoderId) → Legals s v.recorded → RefusalsStand s v → start_item (state_at s v.recorded k).control ≡ Some i → missing_coder (state_at s v.recorded k).given i.work ≡ o
+this_stands : (s : ScriptData) (made : List CoderId) (k : ℕ) (i : Item) (v : Course) (u : Recorded) (o : Option CoderId) → Legals s v.recorded → RefusalsStand s v → start_item (state_at s v.recorded k).control ≡ Some i → missing_coder (state_at s v.recorded k).given i.work ≡ o
     → u.codecs ≡ append_at k (entry.Start (state_at s v.recorded k).control.epoch i.number) v.recorded.codecs → (e : ℕ) → (holding_at k (with_box made k o v).holdings).refusal ≡ Some e → NeedsBox (state_at s u k)
 this_stands s made k i v u None legal stand is lacks codecs e h =
     let needs = stand k e h in
@@ -145,7 +145,7 @@ this_stands s made k i v u (Some id) legal stand is lacks codecs e h =
       supported = ap (λ (g : Given). is_supported g.config) runs.1 ∙ needs.1;
     }
 
-pub start_stands : (s : Script) (made : List CoderId) (k : ℕ) (i : Item) (v : Course) → Legals s v.recorded → RefusalsStand s v → start_item (state_at s v.recorded k).control ≡ Some i
+pub start_stands : (s : ScriptData) (made : List CoderId) (k : ℕ) (i : Item) (v : Course) → Legals s v.recorded → RefusalsStand s v → start_item (state_at s v.recorded k).control ≡ Some i
     → RefusalsStand s (with_start made k (state_at s v.recorded k).control.epoch (state_at s v.recorded k).given (Some i) v)
 start_stands s made k i v legal stand is n e h =
     let x = state_at s v.recorded k in
@@ -158,7 +158,7 @@ start_stands s made k i v legal stand is n e h =
       | inr other ↦ subst NeedsBox (sym (other_state s v.recorded u k start legal (start_legal x i is) codecs n other)) (stand n e (ap (λ (y : Holding). y.refusal) (sym (with_box_others made k o v n other)) ∙ h))
     ]
 
-pub done_stands : (s : Script) (wants : Bool) (k moment : ℕ) (r : Running) (v : Course) → Legals s v.recorded → RefusalsStand s v → (state_at s v.recorded k).control.running ≡ Some r
+pub done_stands : (s : ScriptData) (wants : Bool) (k moment : ℕ) (r : Running) (v : Course) → Legals s v.recorded → RefusalsStand s v → (state_at s v.recorded k).control.running ≡ Some r
     → RefusalsStand s (with_done wants k moment (state_at s v.recorded k) (Some r) v)
 done_stands s wants k moment r v legal stand is n e h =
     let x = state_at s v.recorded k in
@@ -173,13 +173,13 @@ done_stands s wants k moment r v legal stand is n e h =
       | inr other ↦ subst NeedsBox (sym (other_state s v.recorded u k done legal (done_legal x r moment wants refusal is (may_be_refused s v k r refusal refl is stand)) codecs n other)) (stand n e (eases.refusals n e h))
     ]
 
-pub turn_stands : (s : Script) (k : ℕ) (t : Task) (ts : List Task) (v : Course) → Legals s v.recorded → RefusalsStand s v → (state_at s v.recorded k).control.tasks ≡ t ∷ ts
+pub turn_stands : (s : ScriptData) (k : ℕ) (t : Task) (ts : List Task) (v : Course) → Legals s v.recorded → RefusalsStand s v → (state_at s v.recorded k).control.tasks ≡ t ∷ ts
     → RefusalsStand s (with_turn k (state_at s v.recorded k).control.running (t ∷ ts) v)
 turn_stands s k t ts v legal stand is =
     let x = state_at s v.recorded k in
     eased_entry s v (lets_go_if (is_close t) k x.control.running v) k entry.Turn legal stand (turn_legal x t ts is) (lets_go_if_eases (is_close t) k x.control.running v) (λ a b h. turn_keeps_running a b h) (with_entry k entry.Turn) refl
 
-pub reclaim_stands : (s : Script) (k moment : ℕ) (v : Course) → Legals s v.recorded → RefusalsStand s v → may_reclaim moment (state_at s v.recorded k).control ≡ true
+pub reclaim_stands : (s : ScriptData) (k moment : ℕ) (v : Course) → Legals s v.recorded → RefusalsStand s v → may_reclaim moment (state_at s v.recorded k).control ≡ true
     → RefusalsStand s (recording (with_entry k (entry.Reclaim moment)) (lets_go k (state_at s v.recorded k).control.running v))
 reclaim_stands s k moment v legal stand is =
     let x = state_at s v.recorded k in

@@ -4,8 +4,8 @@ use Rattle.std.proofs.lemmas.List.{length-map}
 use Rattle.codec_model.specs.declared.entry.Opening.{Opening}
 use Rattle.codec_model.specs.Replay.{IsLegal}
 use Rattle.wc_config.specs.declared.codec.CoderId.{CoderId}
-use Rattle.wc_script.specs.declared.script.Script.{Script}
-use Rattle.wc_script.specs.declared.script.CodecItem.{CodecItem}
+use Rattle.script_types.specs.declared.script.ScriptData.{ScriptData}
+use Rattle.script_types.specs.declared.script.CodecItem.{CodecItem}
 use Rattle.trace_text.specs.declared.run.Run.{Run}
 use Rattle.trace_text.specs.declared.run.CodecTrace.{CodecTrace}
 use Rattle.trace_text.specs.declared.run.CallerTrace.{CallerTrace}
@@ -29,7 +29,7 @@ legal_traces (c ∷ cs) (t ∷ ts) shown legal = (
 )
 
 -- A run that follows the order of a sound script, with traces that show what they must and nothing held, is legal.
-pub legal_run_of : (s : Script) → IsSound s → (made : List CoderId) (run : Run) → FollowsTheOrder s made run → AreShownTraces s.codecs run.codecs → run.held ≡ 0 → IsLegalRun s run
+pub legal_run_of : (s : ScriptData) → IsSound s → (made : List CoderId) (run : Run) → FollowsTheOrder s made run → AreShownTraces s.codecs run.codecs → run.held ≡ 0 → IsLegalRun s run
 legal_run_of s sound made run follows shown held = record {
   callers = sym (length-map run.callers (λ (c : CallerTrace). c.results)) ∙ (order_makes s sound made run follows).callers;
   codecs = legal_traces s.codecs run.codecs shown (λ k. legal_of s sound made run follows k);

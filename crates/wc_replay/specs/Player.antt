@@ -4,13 +4,13 @@ use Rattle.codec_model.specs.declared.entry.Kind.TheVariants as kind
 use Rattle.codec_model.specs.declared.entry.Opening.{Opening}
 use Rattle.coder_api.specs.declared.slot.SlotEntry.{SlotEntry}
 use Rattle.slot_registry.specs.Slots.{SlotsValue}
-use Rattle.wc_script.specs.declared.script.OrderItem.{OrderItem}
-use Rattle.wc_script.specs.declared.script.OrderItem.TheVariants as item
-use Rattle.wc_script.specs.declared.script.CallerItem.{CallerItem}
-use Rattle.wc_script.specs.declared.script.CodecItem.{CodecItem}
-use Rattle.wc_script.specs.declared.script.Script.{Script}
-use Rattle.wc_script.specs.declared.script.Step.{Step}
-use Rattle.wc_script.specs.declared.script.Step.TheVariants as step
+use Rattle.script_types.specs.declared.script.OrderItem.{OrderItem}
+use Rattle.script_types.specs.declared.script.OrderItem.TheVariants as item
+use Rattle.script_types.specs.declared.script.CallerItem.{CallerItem}
+use Rattle.script_types.specs.declared.script.CodecItem.{CodecItem}
+use Rattle.script_types.specs.declared.script.ScriptData.{ScriptData}
+use Rattle.script_types.specs.declared.steps.Step.{Step}
+use Rattle.script_types.specs.declared.steps.Step.TheVariants as step
 use Rattle.codec_model.specs.Shown.{each_shown}
 use Rattle.trace_text.specs.declared.run.CallerTrace.{CallerTrace}
 use Rattle.trace_text.specs.declared.run.CodecTrace.{CodecTrace}
@@ -46,7 +46,7 @@ abbrev pub openings_of : List DeskValue → List Opening
 openings_of desks = map (λ d. d.opening) desks
 
 -- the codecs are opened as the script says
-abbrev pub AreOpened : Script → List DeskValue → Type 0
+abbrev pub AreOpened : ScriptData → List DeskValue → Type 0
 AreOpened s desks = openings_of desks ≡ map opening_of s.codecs
 
 -- the same codecs, and a registry of the same boxes
@@ -72,7 +72,7 @@ LooksInRange n (step.State k) = k < n
 LooksInRange n x = Unit {0}
 
 -- Each step of the callers names codecs of the script, and its number fits in 32 bits.
-pub record IsPlayable (s : Script) : Type 0 where
+pub record IsPlayable (s : ScriptData) : Type 0 where
   pub calls : (c j k : ℕ) (x : Step) → step_in s c j ≡ Some x → called x ≡ Some k → k < length s.codecs
   pub looks : (c j : ℕ) (x : Step) → step_in s c j ≡ Some x → LooksInRange (length s.codecs) x
   pub few : (c j : ℕ) (x : Step) → step_in s c j ≡ Some x → j < 4294967296
@@ -82,12 +82,12 @@ abbrev pub call_in : Option StepResult → Option (ℕ × ℕ)
 call_in (Some (result.Call k place error)) = Some (k, place)
 call_in _ = None
 
-abbrev pub look_after : Script → List DeskValue → Option (ℕ × ℕ) → StepResult
+abbrev pub look_after : ScriptData → List DeskValue → Option (ℕ × ℕ) → StepResult
 look_after s desks None = result.Absent
 look_after s desks (Some (k, place)) = result.Look k (length (desk_at k desks).history) (promise_after (opening_at s k) (desk_at k desks).history place)
 
 -- what a look shows at the promise of the flush that came to this result
-abbrev pub look_at : Script → List DeskValue → Option StepResult → StepResult
+abbrev pub look_at : ScriptData → List DeskValue → Option StepResult → StepResult
 look_at s desks flush = look_after s desks (call_in flush)
 
 -- what a look shows of a codec's state
@@ -105,7 +105,7 @@ abbrev pub new_results : CallerItem → List StepResult
 new_results c = []
 
 -- every item of the order names one of the script's codecs, if it names one
-abbrev pub AreInRange : Script → Type 0
+abbrev pub AreInRange : ScriptData → Type 0
 AreInRange s = (i : ℕ) (x : OrderItem) → slice_get s.order i ≡ Some x → IsInRange (length s.codecs) x
 
 abbrev pub trace_of : DeskValue → CodecTrace

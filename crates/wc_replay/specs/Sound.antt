@@ -1,9 +1,9 @@
 -- What a script must hold so that each of its steps has what it needs.
 use Rattle.std.specs.Prelude.{ℕ, ◌≡◌, ◌<◌, length, Option, Some, None}
-use Rattle.wc_script.specs.declared.script.Script.{Script}
-use Rattle.wc_script.specs.declared.script.Variable.{Variable}
-use Rattle.wc_script.specs.declared.script.Step.{Step}
-use Rattle.wc_script.specs.declared.script.Step.TheVariants as step
+use Rattle.script_types.specs.declared.script.ScriptData.{ScriptData}
+use Rattle.script_types.specs.declared.steps.Variable.{Variable}
+use Rattle.script_types.specs.declared.steps.Step.{Step}
+use Rattle.script_types.specs.declared.steps.Step.TheVariants as step
 use Rattle.trace_text.specs.Fits.{step_in, called}
 
 -- the promise that a step looks at, if it looks at one
@@ -17,7 +17,7 @@ IsFlush (step.Flush on bind) = Unit {0}
 IsFlush _ = ⊥
 
 -- Each step that calls a codec calls one of the script's, and each promise is that of an earlier flush of the same caller.
-pub record IsSound (s : Script) : Type 0 where
+pub record IsSound (s : ScriptData) : Type 0 where
   pub called : (c j k : ℕ) (x : Step) → step_in s c j ≡ Some x → called x ≡ Some k → k < length s.codecs
   pub earlier : (c j : ℕ) (x : Step) (v : Variable) → step_in s c j ≡ Some x → promise_of x ≡ Some v → v.step < j
   pub promised : (c j : ℕ) (x : Step) (v : Variable) → step_in s c j ≡ Some x → promise_of x ≡ Some v → (y : Step) × (step_in s c v.step ≡ Some y) × IsFlush y

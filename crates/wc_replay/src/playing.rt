@@ -5,7 +5,7 @@ ghost use Rattle.trace_text.specs.Fits.{IsLegalRun, Fits, FollowsTheOrder};
 ghost use Rattle.trace_text.specs.Follow.{Follows, nothing_yet, opening_of, kind_of_word};
 ghost use Rattle.wc_replay.specs.Player.{course, AreOpened, KeepsShape, IsPlayable, AreInRange, new_desk, new_results, trace_of, caller_trace, IsRunOf, AreShownTraces};
 ghost use Rattle.wc_replay.specs.Sound.{IsSound};
-ghost use Rattle.wc_script.specs.Form.{is_built, is_built_codec};
+ghost use Rattle.script_types.specs.Sound.{is_built, is_built_codec};
 
 use crate::desk::Desk;
 use crate::events::append;
@@ -17,7 +17,7 @@ use slot_registry::Slots;
 use std::alloc::Global;
 use trace_text::{CallerTrace, CodecTrace, Run};
 use wc_base::{List, NoMemory};
-use wc_script::{CallerItem, CodecItem, KindWord, Script};
+use script_types::{CallerItem, CodecItem, KindWord, ScriptData};
 
 fn kind_of_word(word: KindWord) -> Kind
     ensures { result ≡ kind_of_word word }
@@ -74,7 +74,7 @@ fn open_callers(alloc: Global, callers: &[CallerItem]) -> Result<Vec<Results>, N
 fn take_items<C: Coder>(
     player: &mut Player<C>,
     alloc: Global,
-    script: &Script,
+    script: &ScriptData,
 ) -> Result<(), NoMemory>
     requires opened { AreOpened script.now player.old.desks }
     requires playable { IsPlayable script.now }
@@ -129,7 +129,7 @@ fn caller_traces(alloc: Global, callers: Vec<Results>) -> Result<Vec<CallerTrace
 /// A replay of a script that has nothing recorded yet.
 fn open_player<C: Coder>(
     alloc: Global,
-    script: &Script,
+    script: &ScriptData,
     coders: Vec<C>,
 ) -> Result<Player<C>, NoMemory>
     requires { list_all is_built_codec script.now.codecs ≡ true }
@@ -162,7 +162,7 @@ fn run_of<C: Coder>(alloc: Global, player: Player<C>) -> Result<Run, NoMemory>
 }
 
 /// Follows the script's order item after item.
-fn play<C: Coder>(alloc: Global, script: &Script, coders: Vec<C>) -> Result<Run, NoMemory>
+fn play<C: Coder>(alloc: Global, script: &ScriptData, coders: Vec<C>) -> Result<Run, NoMemory>
     requires codecs { list_all is_built_codec script.now.codecs ≡ true }
     requires playable { IsPlayable script.now }
     requires sound { IsSound script.now }
@@ -179,7 +179,7 @@ fn play<C: Coder>(alloc: Global, script: &Script, coders: Vec<C>) -> Result<Run,
 /// Follows the script's order item after item, with these coders for its codecs: each item is a caller's next step, the
 /// start or end of a work item, the turn of an event task, or a reclaim; one that finds nothing to do is passed over. The
 /// answer is a legal run that fits the script.
-pub fn replay<C: Coder>(alloc: Global, script: &Script, coders: Vec<C>) -> Result<Run, NoMemory>
+pub fn replay<C: Coder>(alloc: Global, script: &ScriptData, coders: Vec<C>) -> Result<Run, NoMemory>
     requires { is_built script.now ≡ true }
     ensures legal { IfOk result (λ run. IsLegalRun script.now run) }
     ensures fits { IfOk result (λ run. Fits script.now (map C.coder coders.items) run) }

@@ -4,7 +4,7 @@ ghost use Rattle.codec_model.specs.declared.entry.Entry.TheVariants as entry;
 ghost use Rattle.trace_text.specs.Fits.{called};
 ghost use Rattle.trace_text.specs.Follow.{recording, with_call, with_decode, with_look, with_state, with_result, with_removal, follow_step, follow_item, steps_of, chunk_at, init_error, chunk_of, chunk_by};
 ghost use Rattle.trace_text.specs.declared.run.StepResult.TheVariants as came;
-ghost use Rattle.wc_script.specs.declared.script.OrderItem.TheVariants as item;
+ghost use Rattle.script_types.specs.declared.script.OrderItem.TheVariants as item;
 ghost use Rattle.wc_replay.specs.Player.{course, AreOpened, KeepsShape, AreHeld, IsInRange, IsPlayable, call_in, look_at};
 ghost use Rattle.wc_replay.specs.Refusals.{RefusalsStand};
 
@@ -19,7 +19,7 @@ use std::marker::Model;
 use trace_text::StepResult;
 use wc_base::{DomError, NoMemory, Who};
 use wc_chunk::Chunk;
-use wc_script::{ChunkInit, OrderItem, Script, Step};
+use script_types::{ChunkInit, OrderItem, ScriptData, Step};
 
 /// The codecs, each caller's results so far, and the registry of the boxes.
 #[derive(Drop)]
@@ -102,7 +102,7 @@ fn call_in(flush: Option<StepResult>) -> Option<(u32, u64)>
 /// What a look shows at the promise of the flush that came to this result.
 fn look_result<C: Coder>(
     desks: &[Desk<C>],
-    script: &Script,
+    script: &ScriptData,
     flush: Option<StepResult>,
 ) -> StepResult
     requires { AreOpened script.now desks.now }
@@ -148,7 +148,7 @@ fn step_at(steps: &[Step], number: usize) -> Option<&Step>
 }
 
 /// The steps of a caller.
-fn steps_of(script: &Script, caller: u32) -> &[Step]
+fn steps_of(script: &ScriptData, caller: u32) -> &[Step]
     ensures { result.now ≡ steps_of script.now caller }
 {
     match script.callers.as_slice().get(caller as usize) {
@@ -162,7 +162,7 @@ impl<C: Coder> Player<C> {
     fn call(
         &mut self,
         alloc: Global,
-        script: &Script,
+        script: &ScriptData,
         who: Who,
         codec: u32,
         call: Call,
@@ -193,7 +193,7 @@ impl<C: Coder> Player<C> {
     fn decode(
         &mut self,
         alloc: Global,
-        script: &Script,
+        script: &ScriptData,
         who: Who,
         codec: u32,
         chunk: Option<Chunk>,
@@ -210,7 +210,7 @@ impl<C: Coder> Player<C> {
     }
 
     /// A look at the promise of the flush that is the caller's step with this number.
-    fn look(&mut self, script: &Script, who: Who, flush: u32) -> Result<(), NoMemory>
+    fn look(&mut self, script: &ScriptData, who: Who, flush: u32) -> Result<(), NoMemory>
         requires { AreOpened script.now self.old.desks }
         ensures made { OnOk result (course self.new ≡ recording (with_look script.now who (slice_get (Rattle.trace_text.specs.Follow.at who.caller self.old.callers) flush)) (course self.old)) }
         ensures shape { OnOk result (KeepsShape self.old self.new) }
@@ -221,7 +221,7 @@ impl<C: Coder> Player<C> {
     }
 
     /// A look at a codec's state.
-    fn look_at_state(&mut self, script: &Script, who: Who, codec: u32) -> Result<(), NoMemory>
+    fn look_at_state(&mut self, script: &ScriptData, who: Who, codec: u32) -> Result<(), NoMemory>
         requires opened { AreOpened script.now self.old.desks }
         requires codec { codec < length self.old.desks }
         ensures made { OnOk result (course self.new ≡ recording (with_state script.now who codec) (course self.old)) }
@@ -235,7 +235,7 @@ impl<C: Coder> Player<C> {
     fn reset(
         &mut self,
         alloc: Global,
-        script: &Script,
+        script: &ScriptData,
         who: Who,
         codec: u32,
     ) -> Result<(), NoMemory>
@@ -258,7 +258,7 @@ impl<C: Coder> Player<C> {
     fn close(
         &mut self,
         alloc: Global,
-        script: &Script,
+        script: &ScriptData,
         who: Who,
         codec: u32,
     ) -> Result<(), NoMemory>
@@ -281,7 +281,7 @@ impl<C: Coder> Player<C> {
     fn step(
         &mut self,
         alloc: Global,
-        script: &Script,
+        script: &ScriptData,
         steps: &[Step],
         who: Who,
         step: &Step,
@@ -314,7 +314,7 @@ impl<C: Coder> Player<C> {
     }
 
     /// The next step of a caller, if it has one.
-    fn next(&mut self, alloc: Global, script: &Script, caller: u32) -> Result<(), NoMemory>
+    fn next(&mut self, alloc: Global, script: &ScriptData, caller: u32) -> Result<(), NoMemory>
         requires opened { AreOpened script.now self.old.desks }
         requires playable { IsPlayable script.now }
         requires held { AreHeld (course self.old) }
@@ -339,7 +339,7 @@ impl<C: Coder> Player<C> {
     pub(crate) fn take(
         &mut self,
         alloc: Global,
-        script: &Script,
+        script: &ScriptData,
         item: OrderItem,
     ) -> Result<(), NoMemory>
         requires opened { AreOpened script.now self.old.desks }

@@ -1,6 +1,6 @@
 use Rattle.std.proofs.Common.{◌++◌, ◌∷◌, [], length, refl, ap, ◌∙◌}
 use Rattle.std.proofs.lemmas.Option.{slice_get_read}
-use Rattle.wc_script.specs.Form.{is_built_codec}
+use Rattle.script_types.specs.Sound.{is_built_codec}
 use Rattle.wc_replay.specs.Desk.{DeskValue}
 use Rattle.wc_replay.specs.Player.{new_desk}
 use Rattle.wc_replay.proofs.Built.{all_at}

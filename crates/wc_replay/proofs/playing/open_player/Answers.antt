@@ -1,7 +1,7 @@
 use Rattle.std.proofs.Common.{List, map, ap, ◌∙◌}
 use Rattle.slot_registry.specs.Slots.{SlotsValue}
-use Rattle.wc_script.specs.declared.script.CallerItem.{CallerItem}
-use Rattle.wc_script.specs.declared.script.CodecItem.{CodecItem}
+use Rattle.script_types.specs.declared.script.CallerItem.{CallerItem}
+use Rattle.script_types.specs.declared.script.CodecItem.{CodecItem}
 use Rattle.wc_replay.specs.Player.{new_desk, new_results}
 use Rattle.wc_replay.proofs.Ends.{opened_as, nothing_recorded}
 use Rattle.wc_replay.proofs.playing.open_player.Goals as goal

@@ -1,8 +1,8 @@
 use Rattle.std.proofs.Common.{ℕ, ◌≤◌, List, length, ap, sym, subst, ◌∙◌}
 use Rattle.std.specs.Prelude.{slice_index_or}
 use Rattle.wc_config.specs.declared.codec.CoderId.{CoderId}
-use Rattle.wc_script.specs.declared.script.OrderItem.{OrderItem}
-use Rattle.wc_script.specs.declared.script.OrderItem.TheVariants as item
+use Rattle.script_types.specs.declared.script.OrderItem.{OrderItem}
+use Rattle.script_types.specs.declared.script.OrderItem.TheVariants as item
 use Rattle.trace_text.specs.Follow.{Course, Follows, nothing_yet, follow_item}
 use Rattle.wc_replay.specs.Player.{course, IsInRange}
 use Rattle.wc_replay.proofs.Ends.{as_many, item_at, shape_more}

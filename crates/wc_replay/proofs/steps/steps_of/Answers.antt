@@ -1,5 +1,5 @@
 use Rattle.std.proofs.Common.{List, ap, sym, ◌∙◌}
-use Rattle.wc_script.specs.declared.script.CallerItem.{CallerItem}
+use Rattle.script_types.specs.declared.script.CallerItem.{CallerItem}
 use Rattle.trace_text.specs.Follow.{steps_in}
 use Rattle.wc_replay.proofs.Places.{steps_read, steps_past}
 use Rattle.wc_replay.proofs.steps.steps_of.Goals as goal

@@ -1,5 +1,5 @@
 use Rattle.std.proofs.Common.{false, sym, subst}
-use Rattle.wc_script.specs.declared.script.OrderItem.TheVariants as item
+use Rattle.script_types.specs.declared.script.OrderItem.TheVariants as item
 use Rattle.wc_replay.specs.Desk.{done_box, turn_box, reclaim_box}
 use Rattle.wc_replay.specs.Player.{PlayerValue, course, desk_at, AreOpened, AreHeld, KeepsShape}
 use Rattle.wc_replay.specs.Refusals.{RefusalsStand}

@@ -1,0 +1,16 @@
+// What names are found to name.
+use crate::{KindWord, VariableKind};
+
+/// A codec, by its number in the script, and its kind.
+#[derive(Clone, Copy, Debug, PartialEq, Eq)]
+pub struct FoundCodec {
+    pub number: u32,
+    pub kind: KindWord,
+}
+
+/// A variable, by the number of the step that defines it, and what it holds.
+#[derive(Clone, Copy, Debug, PartialEq, Eq)]
+pub struct FoundVariable {
+    pub step: u32,
+    pub kind: VariableKind,
+}
