@@ -253,10 +253,11 @@ is_sound_order codecs callers (Some items) =
 abbrev pub are_few : List CodecItem → List CallerItem → Bool
 are_few codecs callers = nat_le (length codecs) most_codecs && (nat_le (length callers) most_callers && nat_le (sum_by (λ c. length c.steps) callers) most_steps)
 
-abbrev pub is_small_media : List CallerItem → Bool
-is_small_media callers = list_all are_small callers && nat_le (sum_by bytes_of_caller callers) most_media
+-- no inline data is above its limit, nor are the bytes of all, of which some may stand in inits that break a rule of WebIDL
+abbrev pub is_small_media : ℕ → List CallerItem → Bool
+is_small_media inline callers = list_all are_small callers && (nat_le (sum_by bytes_of_caller callers) inline && nat_le inline most_media)
 
 abbrev pub is_sound : ScriptData → Bool
 is_sound s =
     are_sound_codecs [] s.codecs && (are_sound_callers s.codecs [] s.callers && (are_few s.codecs s.callers
-    && (is_small_media s.callers && (are_sound_files s.chunk_files s.callers && is_sound_order (length s.codecs) s.callers s.order))))
+    && (is_small_media s.inline s.callers && (are_sound_files s.chunk_files s.callers && is_sound_order (length s.codecs) s.callers s.order))))

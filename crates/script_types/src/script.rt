@@ -41,12 +41,14 @@ pub enum OrderItem {
 
 /// What a script holds: codecs, callers with their steps, the order in which all is done, which may be absent, and the
 /// chunk files in order of first mention. A codec, a caller or a chunk file is named by its number in the script.
+/// `inline` counts the bytes of all inline data, those of an init that breaks a rule of WebIDL too.
 #[derive(Debug, PartialEq, Drop)]
 pub struct ScriptData {
     pub codecs: List<CodecItem>,
     pub callers: List<CallerItem>,
     pub order: Option<List<OrderItem>>,
     pub chunk_files: List<Text>,
+    pub inline: u64,
 }
 
 /// A script: data in which no name, reference, number or count is at fault.

@@ -52,7 +52,7 @@ order =
     ∷ item.Start 0 ∷ item.Done 0 3 ∷ item.Turn 0 ∷ item.Caller 0 ∷ []
 
 abbrev pub ordinary_script : ScriptData
-ordinary_script = record { codecs = decoder ∷ []; callers = record { name = codes "a"; steps = steps } ∷ []; order = Some order; chunk_files = [] }
+ordinary_script = record { codecs = decoder ∷ []; callers = record { name = codes "a"; steps = steps } ∷ []; order = Some order; chunk_files = []; inline = 4 }
 
 -- ---- the run
 

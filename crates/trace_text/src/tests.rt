@@ -39,6 +39,7 @@ fn script(alloc: Global) -> Result<Script, Fail> {
         callers: List::of(vec![in alloc; caller]?),
         order: None,
         chunk_files: List::empty(alloc),
+        inline: 0,
     }))
 }
 
