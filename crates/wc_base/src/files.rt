@@ -1,5 +1,5 @@
 // Files are read whole, by name. They may tell what they hold, and they count their faults and the bytes read.
-ghost use Rattle.std.specs.Prelude.{◌≡◌, ◌≤◌, ◌<◌, ◌+◌, List, ℕ, Option, ◌≢◌, length, map, Some, None, IfOk, IfSome, MatchOption, IfErr, OnErr, IsErrOf, option_copied};
+ghost use Rattle.std.specs.Prelude.{◌≡◌, ◌≤◌, ◌<◌, ◌+◌, List, ℕ, Option, ◌≢◌, length, map, Some, None, IfOk, IfSome, IsSomeAnd, MatchOption, IfErr, OnErr, IsErrOf, option_copied};
 ghost use Rattle.wc_base.specs.Causes.{Rose, RoseBy};
 ghost use Rattle.wc_base.specs.Held.{found, plain, answer_of, faults_after};
 ghost use Rattle.wc_base.specs.Up.{up, up_by};
@@ -45,7 +45,7 @@ pub trait Files {
         ensures failed { IsErrOf result FileFault.Failed → Rose (faults self.old) (faults self.new) }
         ensures too_long { IsErrOf result FileFault.TooLong → MatchOption (content self.old)
             (RoseBy (limit + 1) (bytes_read self.old) (bytes_read self.new))
-            (λ files. IfSome (files name.now) (λ bytes. limit < length bytes)) };
+            (λ files. IsSomeAnd (files name.now) (λ bytes. limit < length bytes)) };
 }
 
 /// Files in memory, which tell what they hold.
@@ -109,7 +109,7 @@ impl Files for MemFiles {
         ensures bytes_later { self.old.bytes_read ≤ self.new.bytes_read }
         ensures failed { IsErrOf result FileFault.Failed → Rose self.old.faults self.new.faults }
         ensures too_long { IsErrOf result FileFault.TooLong →
-            IfSome (found self.old.files name.now) (λ bytes. limit < length bytes) }
+            IsSomeAnd (found self.old.files name.now) (λ bytes. limit < length bytes) }
     {
         let listed = self.fails.contains(&self.calls);
         self.calls = self.calls.saturating_add(1);
