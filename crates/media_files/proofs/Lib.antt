@@ -1,0 +1,3 @@
+mod Long
+mod Reading
+mod OneReading

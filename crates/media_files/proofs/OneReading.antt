@@ -1,0 +1,137 @@
+-- The chunk files of a script have one reading, as the bytes of a chunk file have.
+use Rattle.std.proofs.Common.{ℕ, ◌≡◌, ◌+◌, ◌-◌, ◌<◌, ◌≤◌, ◌⊎◌, inl, inr, Bool, true, false, List, [], ◌∷◌, length, Option, Some, None, Result, Ok, Err, refl, ap, sym, subst, ◌∙◌, arith}
+use Rattle.wc_chunk.specs.declared.chunk.Chunk.{Chunk}
+use Rattle.chunk_files.specs.declared.fault.ChunkFault.{ChunkFault}
+use Rattle.chunk_files.specs.Grammar.{IsChunkFile, IsFirstFault}
+use Rattle.script_types.specs.declared.script.ScriptData.{ScriptData}
+use Rattle.media_files.specs.declared.fault.MediaFault.{MediaFault}
+use Rattle.media_files.specs.declared.fault.MediaFault.TheVariants as fault
+use Rattle.media_files.specs.Media.{media_of, are_small, AreChunks, FileGives, FilesGive}
+
+abbrev pub OneFile : Type 0
+OneFile = (bytes : List ℕ) (one other : List Chunk) → IsChunkFile one bytes → IsChunkFile other bytes → one ≡ other
+
+abbrev pub OneFault : Type 0
+OneFault = (bytes : List ℕ) (one other : ChunkFault) → IsFirstFault bytes one → IsFirstFault bytes other → one ≡ other
+
+abbrev pub Apart : Type 0
+Apart = (bytes : List ℕ) (chunks : List Chunk) (e : ChunkFault) → IsChunkFile chunks bytes → IsFirstFault bytes e → ⊥
+
+-- what is known of the bytes of one file
+pub record OneOfEach : Type 0 where
+  pub file : OneFile
+  pub fault : OneFault
+  pub apart : Apart
+
+abbrev Answer : Type 0
+Answer = Result (List Chunk) MediaFault
+
+-- chunks that are small, and the same chunks that are not
+not_both : (a b : List Chunk) → a ≡ b → are_small a ≡ true → are_small b ≡ false → ⊥
+not_both a b is t f = let e : true ≡ false = sym t ∙ (ap are_small is ∙ f) in absurd cc
+
+too_many : (room : ℕ) (a b : List Chunk) → a ≡ b → media_of a ≤ room → room < media_of b → ⊥
+too_many room a b is le lt = absurd (omega (arith, ap media_of is))
+
+same : (k : OneOfEach) (bytes : List ℕ) (a b : List Chunk) → AreChunks bytes a → AreChunks bytes b → a ≡ b
+same k bytes a b p q = k.file bytes a b p.file q.file
+
+-- a file gives one answer
+pub one_answer : (k : OneOfEach) (room n : ℕ) (bytes : Option (List ℕ)) (a b : Answer) → FileGives room n bytes a → FileGives room n bytes b → a ≡ b
+one_answer k room n None (Ok cs) b p q = elim p [ ]
+one_answer k room n None (Err (fault.Unread x)) (Ok cs) p q = elim q [ ]
+one_answer k room n None (Err (fault.Unread x)) (Err fault.LongFile) p q = elim q [ ]
+one_answer k room n None (Err (fault.Unread x)) (Err (fault.Chunks y f)) p q = elim q [ ]
+one_answer k room n None (Err (fault.Unread x)) (Err fault.LongChunk) p q = elim q [ ]
+one_answer k room n None (Err (fault.Unread x)) (Err fault.MuchMedia) p q = elim q [ ]
+one_answer k room n None (Err (fault.Unread x)) (Err fault.NoMemory) p q = elim q [ ]
+one_answer k room n None (Err fault.LongFile) b p q = elim p [ ]
+one_answer k room n None (Err (fault.Chunks x e)) b p q = elim p [ ]
+one_answer k room n None (Err fault.LongChunk) b p q = elim p [ ]
+one_answer k room n None (Err fault.MuchMedia) b p q = elim p [ ]
+one_answer k room n None (Err fault.NoMemory) b p q = elim p [ ]
+one_answer k room n (Some bytes) (Ok cs) (Err (fault.Unread y)) p q = elim q [ ]
+one_answer k room n (Some bytes) (Ok cs) (Err fault.NoMemory) p q = elim q [ ]
+one_answer k room n (Some bytes) (Err (fault.Unread x)) b p q = elim p [ ]
+one_answer k room n (Some bytes) (Err fault.LongFile) (Err (fault.Unread y)) p q = elim q [ ]
+one_answer k room n (Some bytes) (Err fault.LongFile) (Err fault.NoMemory) p q = elim q [ ]
+one_answer k room n (Some bytes) (Err (fault.Chunks x e)) (Err (fault.Unread y)) p q = elim q [ ]
+one_answer k room n (Some bytes) (Err (fault.Chunks x e)) (Err fault.NoMemory) p q = elim q [ ]
+one_answer k room n (Some bytes) (Err fault.LongChunk) (Err (fault.Unread y)) p q = elim q [ ]
+one_answer k room n (Some bytes) (Err fault.LongChunk) (Err fault.NoMemory) p q = elim q [ ]
+one_answer k room n (Some bytes) (Err fault.MuchMedia) (Err (fault.Unread y)) p q = elim q [ ]
+one_answer k room n (Some bytes) (Err fault.MuchMedia) (Err fault.NoMemory) p q = elim q [ ]
+one_answer k room n (Some bytes) (Err fault.NoMemory) b p q = elim p [ ]
+one_answer k room n None (Err (fault.Unread x)) (Err (fault.Unread y)) p q = ap (λ m. Err (fault.Unread m)) (p ∙ sym q)
+one_answer k room n (Some bytes) (Err fault.LongFile) (Err fault.LongFile) p q = refl
+one_answer k room n (Some bytes) (Err fault.LongFile) (Err (fault.Chunks y f)) p (is, le, h) = absurd (omega arith)
+one_answer k room n (Some bytes) (Err fault.LongFile) (Err fault.LongChunk) p (cs, h, small) = absurd (omega (arith, h.short))
+one_answer k room n (Some bytes) (Err fault.LongFile) (Err fault.MuchMedia) p (cs, h, small, lt) = absurd (omega (arith, h.short))
+one_answer k room n (Some bytes) (Err fault.LongFile) (Ok cs) p (h, small, le) = absurd (omega (arith, h.short))
+one_answer k room n (Some bytes) (Err (fault.Chunks x e)) (Err fault.LongFile) (is, le, h) q = absurd (omega arith)
+one_answer k room n (Some bytes) (Err (fault.Chunks x e)) (Err (fault.Chunks y f)) (is, le, h) (js, le', g) = same_chunks x y e f (is ∙ sym js) (k.fault bytes e f h g)
+  where
+    same_chunks : (x y : ℕ) (e f : ChunkFault) → x ≡ y → e ≡ f → ◌≡◌ {A = Answer} (Err (fault.Chunks x e)) (Err (fault.Chunks y f))
+    same_chunks x y e f p q = cc
+one_answer k room n (Some bytes) (Err (fault.Chunks x e)) (Err fault.LongChunk) (is, le, h) (cs, g, small) = absurd (k.apart bytes cs e g.file h)
+one_answer k room n (Some bytes) (Err (fault.Chunks x e)) (Err fault.MuchMedia) (is, le, h) (cs, g, small, lt) = absurd (k.apart bytes cs e g.file h)
+one_answer k room n (Some bytes) (Err (fault.Chunks x e)) (Ok cs) (is, le, h) (g, small, fits) = absurd (k.apart bytes cs e g.file h)
+one_answer k room n (Some bytes) (Err fault.LongChunk) (Err fault.LongFile) (cs, h, small) q = absurd (omega (arith, h.short))
+one_answer k room n (Some bytes) (Err fault.LongChunk) (Err (fault.Chunks y f)) (cs, h, small) (is, le, g) = absurd (k.apart bytes cs f h.file g)
+one_answer k room n (Some bytes) (Err fault.LongChunk) (Err fault.LongChunk) p q = refl
+one_answer k room n (Some bytes) (Err fault.LongChunk) (Err fault.MuchMedia) (cs, h, small) (ds, g, small', lt) = absurd (not_both ds cs (same k bytes ds cs g h) small' small)
+one_answer k room n (Some bytes) (Err fault.LongChunk) (Ok ds) (cs, h, small) (g, small', le) = absurd (not_both ds cs (same k bytes ds cs g h) small' small)
+one_answer k room n (Some bytes) (Err fault.MuchMedia) (Err fault.LongFile) (cs, h, small, lt) q = absurd (omega (arith, h.short))
+one_answer k room n (Some bytes) (Err fault.MuchMedia) (Err (fault.Chunks y f)) (cs, h, small, lt) (is, le, g) = absurd (k.apart bytes cs f h.file g)
+one_answer k room n (Some bytes) (Err fault.MuchMedia) (Err fault.LongChunk) (cs, h, small, lt) (ds, g, small') = absurd (not_both cs ds (same k bytes cs ds h g) small small')
+one_answer k room n (Some bytes) (Err fault.MuchMedia) (Err fault.MuchMedia) p q = refl
+one_answer k room n (Some bytes) (Err fault.MuchMedia) (Ok ds) (cs, h, small, lt) (g, small', le) = absurd (too_many room ds cs (same k bytes ds cs g h) le lt)
+one_answer k room n (Some bytes) (Ok cs) (Err fault.LongFile) (h, small, le) q = absurd (omega (arith, h.short))
+one_answer k room n (Some bytes) (Ok cs) (Err (fault.Chunks y f)) (h, small, le) (is, le', g) = absurd (k.apart bytes cs f h.file g)
+one_answer k room n (Some bytes) (Ok cs) (Err fault.LongChunk) (h, small, le) (ds, g, small') = absurd (not_both cs ds (same k bytes cs ds h g) small small')
+one_answer k room n (Some bytes) (Ok cs) (Err fault.MuchMedia) (h, small, le) (ds, g, small', lt) = absurd (too_many room cs ds (same k bytes cs ds h g) le lt)
+one_answer k room n (Some bytes) (Ok cs) (Ok ds) (h, small, le) (g, small', le') = ap Ok (same k bytes cs ds h g)
+
+-- two answers that are chunks, or a fault and chunks
+chunks_of : (k : OneOfEach) (room n : ℕ) (bytes : Option (List ℕ)) (cs ds : List Chunk) → FileGives room n bytes (Ok cs) → FileGives room n bytes (Ok ds) → cs ≡ ds
+chunks_of k room n None cs ds p q = elim p [ ]
+chunks_of k room n (Some bytes) cs ds (h, small, le) (g, small', le') = same k bytes cs ds h g
+
+not_a_fault : (k : OneOfEach) (room n : ℕ) (bytes : Option (List ℕ)) (cs : List Chunk) (e : MediaFault) → FileGives room n bytes (Ok cs) → FileGives room n bytes (Err e) → ⊥
+not_a_fault k room n bytes cs e p q = let is = one_answer k room n bytes (Ok cs) (Err e) p q in absurd cc
+
+abbrev Media : Type 0
+Media = Result (List (List Chunk)) MediaFault
+
+pub one_media : (k : OneOfEach) (files : List ℕ → Option (List ℕ)) (names : List (List ℕ)) (room n : ℕ) (a b : Media) → FilesGive files room n names a → FilesGive files room n names b → a ≡ b
+one_media k files [] room n (Ok x) (Err e) p q = elim q [ ]
+one_media k files [] room n (Err e) b p q = elim p [ ]
+one_media k files (name ∷ names) room n (Ok []) b p q = elim p [ ]
+one_media k files (name ∷ names) room n (Ok (x ∷ xs)) (Ok []) p q = elim q [ ]
+one_media k files (name ∷ names) room n (Err e) (Ok []) p q = elim q [ ]
+one_media k files [] room n (Ok x) (Ok y) p q = ap Ok (p ∙ sym q)
+one_media k files (name ∷ names) room n (Ok (x ∷ xs)) (Ok (y ∷ ys)) (p, ps) (q, qs) =
+    let is = chunks_of k room n (files name) x y p q in
+    both x y xs ys is (one_media k files names (room - media_of y) (n + 1) (Ok xs) (Ok ys) (subst (λ c. FilesGive files (room - media_of c) (n + 1) names (Ok xs)) is ps) qs)
+  where
+    both : (x y : List Chunk) (xs ys : List (List Chunk)) → x ≡ y → ◌≡◌ {A = Media} (Ok xs) (Ok ys) → ◌≡◌ {A = Media} (Ok (x ∷ xs)) (Ok (y ∷ ys))
+    both x y xs ys p q = cc
+one_media k files (name ∷ names) room n (Ok (x ∷ xs)) (Err e) (p, ps) (inl q) = absurd (not_a_fault k room n (files name) x e p q)
+one_media k files (name ∷ names) room n (Ok (x ∷ xs)) (Err e) (p, ps) (inr (y, q, qs)) =
+    let is = chunks_of k room n (files name) x y p q in
+    let no = one_media k files names (room - media_of y) (n + 1) (Ok xs) (Err e) (subst (λ c. FilesGive files (room - media_of c) (n + 1) names (Ok xs)) is ps) qs in
+    absurd cc
+one_media k files (name ∷ names) room n (Err e) (Ok (x ∷ xs)) (inl q) (p, ps) = absurd (not_a_fault k room n (files name) x e p q)
+one_media k files (name ∷ names) room n (Err e) (Ok (x ∷ xs)) (inr (y, q, qs)) (p, ps) =
+    let is = chunks_of k room n (files name) x y p q in
+    let no = one_media k files names (room - media_of y) (n + 1) (Ok xs) (Err e) (subst (λ c. FilesGive files (room - media_of c) (n + 1) names (Ok xs)) is ps) qs in
+    absurd cc
+one_media k files (name ∷ names) room n (Err e) (Err f) (inl p) (inl q) = again (one_answer k room n (files name) (Err e) (Err f) p q)
+  where
+    again : ◌≡◌ {A = Answer} (Err e) (Err f) → ◌≡◌ {A = Media} (Err e) (Err f)
+    again is = cc
+one_media k files (name ∷ names) room n (Err e) (Err f) (inl p) (inr (y, q, qs)) = absurd (not_a_fault k room n (files name) y e q p)
+one_media k files (name ∷ names) room n (Err e) (Err f) (inr (x, p, ps)) (inl q) = absurd (not_a_fault k room n (files name) x f p q)
+one_media k files (name ∷ names) room n (Err e) (Err f) (inr (x, p, ps)) (inr (y, q, qs)) =
+    let is = chunks_of k room n (files name) x y p q in
+    one_media k files names (room - media_of y) (n + 1) (Err e) (Err f) (subst (λ c. FilesGive files (room - media_of c) (n + 1) names (Err e)) is ps) qs

@@ -1,0 +1,12 @@
+//! The chunk files that a script mentions, read in order of first mention, each within its limits.
+#![tactic(auto)]
+
+mod fault;
+mod laws;
+mod read;
+#[cfg(test)]
+mod tests;
+
+pub use fault::MediaFault;
+pub use laws::media_have_one_reading;
+pub use read::read_media;

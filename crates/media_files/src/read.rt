@@ -1,0 +1,130 @@
+// Reads the chunk files of a script.
+ghost use Rattle.std.specs.Prelude.{◌≡◌, ◌≢◌, ◌≤◌, ◌<◌, ◌+◌, true, ◌-◌, IfOk, IfErr, IfSome, IfNone, Some, Ok, Err, length};
+ghost use Rattle.wc_base.specs.Causes.{Rose, RoseBy};
+ghost use Rattle.media_files.specs.Media.{are_small, media_of, FileGives, FilesGive, GivesMedia, MayFail, MayFailAt};
+ghost use Rattle.media_files.specs.Media as spec;
+ghost use Rattle.script_types.specs.Sound.{most_media};
+
+use crate::MediaFault;
+use chunk_files::{ChunkFault, read_chunks};
+use script_types::Script;
+use std::alloc::Global;
+use wc_base::{FileFault, Files, List, Text};
+use wc_chunk::Chunk;
+
+// The most bytes of a chunk file.
+const MOST_FILE: u64 = 268_435_456;
+
+// The most bytes of a chunk.
+const MOST_CHUNK: usize = 16_777_216;
+
+// The most bytes of all chunks and all inline data.
+const MOST_MEDIA: u64 = 268_435_456;
+
+fn are_small(chunks: &[Chunk]) -> bool
+    ensures { result ≡ spec.are_small chunks.now }
+{
+    chunks.iter().all(|chunk| chunk.bytes.len() <= MOST_CHUNK)
+}
+
+// The bytes of media that may come after these chunks; none where they are too many.
+fn room_after(chunks: &[Chunk], room: u64) -> Option<u64>
+    ensures some { IfSome result (λ left. left + media_of chunks.now ≡ room) }
+    ensures none { IfNone result (room < media_of chunks.now) }
+{
+    let mut left = room;
+    let mut rest = chunks;
+    while let [chunk, more @ ..] = rest {
+        left = left.checked_sub(chunk.bytes.len() as u64)?;
+        rest = more;
+    }
+    Some(left)
+}
+
+// The chunks of one file's bytes, which are no more than a file may have, and the bytes of media that may come after.
+fn read_bytes(
+    alloc: Global,
+    n: u64,
+    bytes: &[u8],
+    room: u64,
+) -> Result<(List<Chunk>, u64), MediaFault>
+    requires { length bytes.now ≤ 268435456 }
+    ensures ok { IfOk result (λ r. FileGives room n (Some bytes.now) (Ok r.0)) }
+    ensures left { IfOk result (λ r. r.1 ≡ room - media_of r.0) }
+    ensures err { IfErr result (λ e. e ≢ MediaFault.NoMemory → FileGives room n (Some bytes.now) (Err e)) }
+{
+    let chunks = match read_chunks(alloc, bytes) {
+        Ok(chunks) => chunks,
+        Err(ChunkFault::NoMemory) => return Err(MediaFault::NoMemory),
+        Err(fault) => return Err(MediaFault::Chunks { file: n, fault }),
+    };
+    if !are_small(&chunks) {
+        return Err(MediaFault::LongChunk);
+    }
+    match room_after(&chunks, room) {
+        Some(left) => Ok((List::of(chunks), left)),
+        None => Err(MediaFault::MuchMedia),
+    }
+}
+
+// The chunks of one file, and the bytes of media that may come after.
+fn read_file<F: Files>(
+    alloc: Global,
+    n: u64,
+    name: &str,
+    room: u64,
+    files: &mut F,
+) -> Result<(List<Chunk>, u64), MediaFault>
+    ensures kept { F.content files.new ≡ F.content files.old }
+    ensures faults { F.faults files.old ≤ F.faults files.new }
+    ensures bytes { F.bytes_read files.old ≤ F.bytes_read files.new }
+    ensures ok { IfOk result (λ r. IfSome (F.content files.old) (λ c. FileGives room n (c name.now) (Ok r.0))) }
+    ensures left { IfOk result (λ r. r.1 ≡ room - media_of r.0) }
+    ensures err { IfErr result (λ e. MayFailAt (F.content files.old) room n name.now (F.faults files.old) (F.faults files.new) (F.bytes_read files.old) (F.bytes_read files.new) e) }
+{
+    match files.read_all(alloc, name, MOST_FILE) {
+        Ok(bytes) => read_bytes(alloc, n, &bytes, room),
+        Err(FileFault::Failed) => Err(MediaFault::Unread { file: n }),
+        Err(FileFault::TooLong) => Err(MediaFault::LongFile),
+        Err(FileFault::NoMemory) => Err(MediaFault::NoMemory),
+    }
+}
+
+/// Reads the chunk files that the script mentions, in order of first mention: the chunks of each.
+///
+/// `Unread` where a file is not there or a read of it failed. `LongFile` for a file of more than 268,435,456 bytes,
+/// `Chunks` for one that is no chunk file, `LongChunk` for a chunk of more than 16,777,216 bytes, and `MuchMedia` where
+/// the chunks read so far and all inline data have together more than 268,435,456 bytes; the first that applies, file
+/// after file.
+pub fn read_media<F: Files>(
+    alloc: Global,
+    script: &Script,
+    files: &mut F,
+) -> Result<Vec<List<Chunk>>, MediaFault>
+    ensures kept { F.content files.new ≡ F.content files.old }
+    ensures faults { F.faults files.old ≤ F.faults files.new }
+    ensures bytes { F.bytes_read files.old ≤ F.bytes_read files.new }
+    ensures ok { IfOk result (λ m. IfSome (F.content files.old) (λ c. GivesMedia c script.now (Ok m.items))) }
+    ensures each { IfOk result (λ m. length m.items ≡ length script.now.chunk_files) }
+    ensures err { IfErr result (λ e. MayFail (F.content files.old) script.now (F.faults files.old) (F.faults files.new) (F.bytes_read files.old) (F.bytes_read files.new) e) }
+{
+    let mut made = Vec::new(alloc);
+    let mut room = room_for_files(script);
+    for (n, name) in script.files().iter().enumerate() {
+        match read_file(alloc, n as u64, name.as_str(), room, files) {
+            Ok((chunks, left)) => {
+                made.push(chunks)?;
+                room = left;
+            }
+            Err(fault) => return Err(fault),
+        }
+    }
+    Ok(made)
+}
+
+// The bytes of media that a script's chunk files may have.
+fn room_for_files(script: &Script) -> u64
+    ensures { result ≡ most_media - script.now.inline }
+{
+    MOST_MEDIA.saturating_sub(script.data().inline)
+}

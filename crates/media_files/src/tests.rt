@@ -1,0 +1,108 @@
+// The chunk files of a script that mentions two, with ample memory.
+ghost use Rattle.std.specs.Prelude.{◌≡◌, ◌≤◌, IfOk};
+
+use crate::{MediaFault, read_media};
+use chunk_files::ChunkFault;
+use script_types::{CallerItem, ChunkSource, Script, ScriptData, Step};
+use std::alloc::Global;
+use std::test::Fail;
+use wc_base::{List, MemFiles, Text};
+
+fn text(alloc: Global, text: &str) -> Result<Text, Fail>
+    ensures { IfOk result (λ t. t ≡ text.now) }
+{
+    Ok(Text::of(String::from_str(alloc, text)?))
+}
+
+// A caller takes a chunk of each of the files x and y; the script has so many bytes of inline data.
+fn script(alloc: Global, inline: u64) -> Result<Script, Fail>
+    requires { inline ≤ 268435456 }
+{
+    let first = Step::Chunk {
+        bind: text(alloc, "c")?,
+        source: ChunkSource::File { file: 0, index: 0 },
+    };
+    let second = Step::Chunk {
+        bind: text(alloc, "e")?,
+        source: ChunkSource::File { file: 1, index: 0 },
+    };
+    let caller = CallerItem {
+        name: text(alloc, "a")?,
+        steps: List::of(vec![in alloc; first, second]?),
+    };
+    Ok(Script::of(ScriptData {
+        codecs: List::empty(alloc),
+        callers: List::of(vec![in alloc; caller]?),
+        order: None,
+        chunk_files: List::of(vec![in alloc; text(alloc, "x")?, text(alloc, "y")?]?),
+        inline,
+    }))
+}
+
+// The file of one chunk of two bytes.
+const ONE: &[u8] = b"WCC1\x00\x00\x00\x00\x00\x00\x00\x00\x07\x00\x00\x00\x00\x00\x00\x00\x00\x00\x00\x00\x00\x02\x01\x02";
+
+fn files(alloc: Global, y: &[u8], reads: Vec<u64>) -> Result<MemFiles, Fail> {
+    let x = (String::from_str(alloc, "x")?, ONE.to_vec(alloc)?);
+    let y = (String::from_str(alloc, "y")?, y.to_vec(alloc)?);
+    Ok(MemFiles::open(vec![in alloc; x, y]?, reads))
+}
+
+fn fault_of(alloc: Global, inline: u64, y: &[u8], reads: Vec<u64>) -> Result<Option<MediaFault>, Fail>
+    requires { inline ≤ 268435456 }
+{
+    let script = script(alloc, inline)?;
+    let mut files = files(alloc, y, reads)?;
+    match read_media(alloc, &script, &mut files) {
+        Ok(_) => Ok(None),
+        Err(fault) => Ok(Some(fault)),
+    }
+}
+
+#[test]
+fn two_files_are_read(rt: HostRuntime) -> Result<(), Fail> {
+    let alloc = rt.alloc();
+    let script = script(alloc, 0)?;
+    let mut files = files(alloc, b"WCC1", Vec::new(alloc))?;
+    let media = read_media(alloc, &script, &mut files)?;
+    assert_eq!(rt; media.len(), 2);
+    assert_eq!(rt; media[0].len(), 1);
+    assert_eq!(rt; media[0].as_slice()[0].timestamp, 7);
+    assert_eq!(rt; media[0].as_slice()[0].bytes.as_slice(), b"\x01\x02".as_slice());
+    assert_eq!(rt; media[1].len(), 0);
+    Ok(())
+}
+
+#[test]
+fn each_fault_names_its_file(rt: HostRuntime) -> Result<(), Fail> {
+    let alloc = rt.alloc();
+    let none = Vec::new(alloc);
+    assert_eq!(rt;
+        fault_of(alloc, 0, b"WCX1", none)?,
+        Some(MediaFault::Chunks { file: 1, fault: ChunkFault::BadMark { at: 2 } })
+    );
+    assert_eq!(rt;
+        fault_of(alloc, 0, b"WCC1\x02", Vec::new(alloc))?,
+        Some(MediaFault::Chunks { file: 1, fault: ChunkFault::BadKind { at: 4, found: 2 } })
+    );
+    assert_eq!(rt;
+        fault_of(alloc, 0, b"WCC1\x00\x00", Vec::new(alloc))?,
+        Some(MediaFault::Chunks { file: 1, fault: ChunkFault::Short { at: 5 } })
+    );
+    assert_eq!(rt;
+        fault_of(alloc, 0, ONE, vec![in alloc; 1]?)?,
+        Some(MediaFault::Unread { file: 1 })
+    );
+    Ok(())
+}
+
+#[test]
+fn media_have_a_limit(rt: HostRuntime) -> Result<(), Fail> {
+    let alloc = rt.alloc();
+    assert_eq!(rt; fault_of(alloc, 268_435_452, ONE, Vec::new(alloc))?, None);
+    assert_eq!(rt;
+        fault_of(alloc, 268_435_453, ONE, Vec::new(alloc))?,
+        Some(MediaFault::MuchMedia)
+    );
+    Ok(())
+}
