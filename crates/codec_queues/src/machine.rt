@@ -162,6 +162,16 @@ impl Machine {
         self.tasks.front()
     }
 
+    /// The item that a start would take: the front one, where none is at work and the codec is not halted.
+    pub fn start_item(&self) -> Option<&Item>
+        ensures { option_map (λ i. i.now) result ≡ start_item self.now }
+    {
+        if self.running.is_some() || self.halted {
+            return None;
+        }
+        self.work.front()
+    }
+
     /// The promises that are pending, in the order of their flushes.
     pub fn pending(&self) -> &[u64]
         ensures { result.now ≡ self.now.pending }
