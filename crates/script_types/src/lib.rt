@@ -9,9 +9,7 @@ mod steps;
 
 pub use fault::{Counted, Place, ScriptFault};
 pub use found::{FoundCodec, FoundVariable};
-pub use options::{
-    AudioOptions, FormatWord, FrameOptions, LayoutWords, Options, RectWords,
-};
+pub use options::{AudioOptions, FormatWord, FrameOptions, LayoutWords, Options, RectWords};
 pub use script::{CallerItem, CodecItem, KindWord, OrderItem, Script, ScriptData};
 pub use steps::{
     ChunkInit, ChunkSource, MediaStep, PictureInit, SoundInit, Step, Variable, VariableKind,
