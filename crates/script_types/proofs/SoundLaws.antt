@@ -40,7 +40,7 @@ pub record Parts (s : ScriptData) : Type 0 where
   pub codecs : are_sound_codecs [] s.codecs ≡ true
   pub callers : are_sound_callers s.codecs [] s.callers ≡ true
   pub few : are_few s.codecs s.callers ≡ true
-  pub small : is_small_media s.callers ≡ true
+  pub small : is_small_media s.inline s.callers ≡ true
   pub files : are_sound_files s.chunk_files s.callers ≡ true
   pub order : is_sound_order (length s.codecs) s.callers s.order ≡ true
 
@@ -49,7 +49,7 @@ parts_of s h =
     let a = and_parts (are_sound_codecs [] s.codecs) _ h in
     let b = and_parts (are_sound_callers s.codecs [] s.callers) _ a.1 in
     let c = and_parts (are_few s.codecs s.callers) _ b.1 in
-    let d = and_parts (is_small_media s.callers) _ c.1 in
+    let d = and_parts (is_small_media s.inline s.callers) _ c.1 in
     let e = and_parts (are_sound_files s.chunk_files s.callers) _ d.1 in
     record { codecs = a.0; callers = b.0; few = c.0; small = d.0; files = e.0; order = e.1 }
 

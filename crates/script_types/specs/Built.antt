@@ -1,5 +1,6 @@
 -- The first codec kind or step of a script that is not built.
 use Rattle.std.specs.Prelude.{ℕ, ◌+◌, Bool, true, false, if◌then◌else◌, List, [], ◌∷◌, Option, Some, None}
+use Rattle.std.specs.Option.{option_or}
 use Rattle.script_types.specs.declared.fault.Place.{Place}
 use Rattle.script_types.specs.declared.fault.Place.TheVariants as place
 use Rattle.script_types.specs.declared.script.KindWord.{KindWord}
@@ -18,11 +19,6 @@ abbrev pub is_built_step : Step → Bool
 is_built_step (step.Media s) = false
 is_built_step _ = true
 
--- the first answer decides
-abbrev pub or_else : Option Place → Option Place → Option Place
-or_else None b = b
-or_else (Some p) b = Some p
-
 abbrev pub unbuilt_codec : ℕ → List CodecItem → Option Place
 unbuilt_codec i [] = None
 unbuilt_codec i (c ∷ cs) = if is_built_kind c.kind then unbuilt_codec (i + 1) cs else Some (place.Codec i)
@@ -33,8 +29,8 @@ unbuilt_step i j (s ∷ ss) = if is_built_step s then unbuilt_step i (j + 1) ss 
 
 abbrev pub unbuilt_caller : ℕ → List CallerItem → Option Place
 unbuilt_caller i [] = None
-unbuilt_caller i (c ∷ cs) = or_else (unbuilt_step i 0 c.steps) (unbuilt_caller (i + 1) cs)
+unbuilt_caller i (c ∷ cs) = option_or (unbuilt_step i 0 c.steps) (unbuilt_caller (i + 1) cs)
 
 -- codecs come first, then callers with their steps
 abbrev pub unbuilt_in : ScriptData → Option Place
-unbuilt_in s = or_else (unbuilt_codec 0 s.codecs) (unbuilt_caller 0 s.callers)
+unbuilt_in s = option_or (unbuilt_codec 0 s.codecs) (unbuilt_caller 0 s.callers)

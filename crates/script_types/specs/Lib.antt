@@ -1,3 +1,4 @@
 pub mod Names
 pub mod Sound
 pub mod Built
+pub mod Places

@@ -1,4 +1,5 @@
 // Why a script is not read.
+use std::fmt;
 
 /// A place in a script, by the numbers of its codecs, callers, steps of a caller, and order items.
 #[derive(Clone, Copy, Debug, PartialEq, Eq)]
@@ -8,6 +9,23 @@ pub enum Place {
     Caller(u32),
     Step(u32, u32),
     Order(u32),
+}
+
+impl fmt::Display for Place {
+    ghost use Rattle.std.specs.Prelude.{Some};
+    ghost use Rattle.script_types.specs.Places.{place_text};
+
+    ghost output = { λ p. Some (place_text p) };
+
+    fn fmt<W: fmt::Write>(&self, f: &mut fmt::Formatter<W>) -> fmt::Result {
+        match self {
+            Place::Top => f.write_str("top"),
+            Place::Codec(i) => write!(f, "codec {i}"),
+            Place::Caller(i) => write!(f, "caller {i}"),
+            Place::Step(i, j) => write!(f, "step {i} {j}"),
+            Place::Order(i) => write!(f, "order {i}"),
+        }
+    }
 }
 
 /// What is counted against a limit: the codecs, the callers, the steps of all callers, the order items, the bytes of
