@@ -1,7 +1,7 @@
 use Rattle.std.proofs.Common.{codes, ◌++◌}
 use Rattle.wc_base.proofs.Parts.{part_more, part_after, part_whole, appended_twice}
 use Rattle.trace_text.specs.Report as spec
-use Rattle.trace_text.proofs.report.write_report.Goals as goal
+use Rattle.trace_text.proofs.report.write_whole.Goals as goal
 
 pub returns-in_err-write_all-clause-part : goal.returns-in_err-write_all-clause-part
 returns-in_err-write_all-clause-part g c = part_more _ (codes "wcrun report 1\n") ((spec.callers_text c.args.script.now c.args.run.now) ++ ((spec.codecs_text c.args.script.now c.args.run.now) ++ (spec.registry_text c.args.script.now c.args.run.now))) _ c.write_all.ensures.part
