@@ -29,7 +29,7 @@ use Rattle.script_types.specs.declared.script.OrderItem.{OrderItem}
 use Rattle.script_types.specs.declared.script.OrderItem.TheVariants as item
 use Rattle.trace_text.specs.declared.run.StepResult.{StepResult}
 use Rattle.trace_text.specs.declared.run.StepResult.TheVariants as result
-use Rattle.trace_text.specs.Follow.{Recorded, Course, BoxOut, Holding, at, append_at, with_entry, state_at, steps_of, chunk_at, init_error, with_result, with_state, with_call, removes, with_decode, with_look, with_box, give_of, gives_back, keeps_box, lets_go, lets_go_if, lets_go_unless, with_start, with_done, with_turn, recording, holding_at, holding_by, nothing_held, next_cause, outcome_by, outcome_for, follow_step, follow_next, follow_item}
+use Rattle.trace_text.specs.Follow.{Recorded, Course, BoxOut, Holding, at, append_at, with_entry, state_at, steps_of, chunk_at, source_error, with_result, with_state, with_call, removes, with_decode, with_look, with_box, give_of, gives_back, keeps_box, lets_go, lets_go_if, lets_go_unless, with_start, with_done, with_turn, recording, holding_at, holding_by, nothing_held, next_cause, outcome_by, outcome_for, follow_step, follow_next, follow_item}
 use Rattle.trace_text.specs.Fits.{step_in}
 use Rattle.wc_replay.specs.Sound.{IsSound}
 use Rattle.trace_text.specs.Accounts.{is_done}
@@ -121,24 +121,25 @@ removal_agrees : (s : ScriptData) (who : Who) (k : ℕ) (e : Entry) (v : Course)
 removal_agrees s who k e v None legal keeps agree = lets_agrees s k e v (removes s who k e) (state_at s v.recorded k).control.running (λ u. refl) (λ u q. ap (append_at k e) q) refl legal keeps agree
 removal_agrees s who k e v (Some error) legal keeps agree = still_agrees s k e v (removes s who k e) refl refl legal keeps agree
 
-step_agrees : (s : ScriptData) (c : ℕ) (x : Step) (v : Course) → IsSound s → FitsSoFar s v.recorded → step_in s c (length (at c v.recorded.callers)) ≡ Some x → Agree s v → Agree s (follow_step s (next_who v.recorded c) x v)
-step_agrees s c (does.Configure on config) v sound fits is agree = call_agrees s (next_who v.recorded c) on (call.Configure config) v (called_there s v c on (does.Configure on config) sound fits is refl) fits.legal agree
-step_agrees s c (does.Chunk bind init) v sound fits is agree = quiet_agrees s v (with_result c (result.Local (init_error init))) refl refl agree
-step_agrees s c (does.Decode on chunk) v sound fits is agree = decode_agrees s (next_who v.recorded c) on (chunk_at (steps_of s c) chunk.step) v (called_there s v c on (does.Decode on chunk) sound fits is refl) fits.legal agree
-step_agrees s c (does.Flush on bind) v sound fits is agree = call_agrees s (next_who v.recorded c) on call.Flush v (called_there s v c on (does.Flush on bind) sound fits is refl) fits.legal agree
-step_agrees s c (does.Poll promise) v sound fits is agree = look_agrees s (next_who v.recorded c) (slice_get (at c v.recorded.callers) promise.step) v agree
-step_agrees s c (does.Await promise) v sound fits is agree = look_agrees s (next_who v.recorded c) (slice_get (at c v.recorded.callers) promise.step) v agree
-step_agrees s c (does.Reset on) v sound fits is agree =
+step_agrees : (s : ScriptData) (media : List (List Chunk)) (c : ℕ) (x : Step) (v : Course) → IsSound s → FitsSoFar s media v.recorded → step_in s c (length (at c v.recorded.callers)) ≡ Some x → Agree s v → Agree s (follow_step s media (next_who v.recorded c) x v)
+step_agrees s media c (does.Configure on config) v sound fits is agree = call_agrees s (next_who v.recorded c) on (call.Configure config) v (called_there s media v c on (does.Configure on config) sound fits is refl) fits.legal agree
+step_agrees s media c (does.Chunk bind source) v sound fits is agree = quiet_agrees s v (with_result c (result.Local (source_error source))) refl refl agree
+step_agrees s media c (does.Decode on chunk) v sound fits is agree = decode_agrees s (next_who v.recorded c) on (chunk_at media (steps_of s c) chunk.step) v (called_there s media v c on (does.Decode on chunk) sound fits is refl) fits.legal agree
+step_agrees s media c (does.Flush on bind) v sound fits is agree = call_agrees s (next_who v.recorded c) on call.Flush v (called_there s media v c on (does.Flush on bind) sound fits is refl) fits.legal agree
+step_agrees s media c (does.Poll promise) v sound fits is agree = look_agrees s (next_who v.recorded c) (slice_get (at c v.recorded.callers) promise.step) v agree
+step_agrees s media c (does.Await promise) v sound fits is agree = look_agrees s (next_who v.recorded c) (slice_get (at c v.recorded.callers) promise.step) v agree
+step_agrees s media c (does.Reset on) v sound fits is agree =
     let who = next_who v.recorded c in
-    removal_agrees s who on (entry.Reset who) v (removal_error (state_at s v.recorded on).control) fits.legal (keeps_all s v on (entry.Reset who) (called_there s v c on (does.Reset on) sound fits is refl) refl refl (λ a b h. reset_keeps_running who a b h)) agree
-step_agrees s c (does.Close on) v sound fits is agree =
+    removal_agrees s who on (entry.Reset who) v (removal_error (state_at s v.recorded on).control) fits.legal (keeps_all s v on (entry.Reset who) (called_there s media v c on (does.Reset on) sound fits is refl) refl refl (λ a b h. reset_keeps_running who a b h)) agree
+step_agrees s media c (does.Close on) v sound fits is agree =
     let who = next_who v.recorded c in
-    removal_agrees s who on (entry.Close who) v (removal_error (state_at s v.recorded on).control) fits.legal (keeps_all s v on (entry.Close who) (called_there s v c on (does.Close on) sound fits is refl) refl refl (λ a b h. close_keeps_running who a b h)) agree
-step_agrees s c (does.State on) v sound fits is agree = quiet_agrees s v (with_state s (next_who v.recorded c) on) refl refl agree
+    removal_agrees s who on (entry.Close who) v (removal_error (state_at s v.recorded on).control) fits.legal (keeps_all s v on (entry.Close who) (called_there s media v c on (does.Close on) sound fits is refl) refl refl (λ a b h. close_keeps_running who a b h)) agree
+step_agrees s media c (does.State on) v sound fits is agree = quiet_agrees s v (with_state s (next_who v.recorded c) on) refl refl agree
+step_agrees s media c (does.Media x) v sound fits is agree = agree
 
-next_agrees : (s : ScriptData) (c : ℕ) (o : Option Step) (v : Course) → IsSound s → FitsSoFar s v.recorded → step_in s c (length (at c v.recorded.callers)) ≡ o → Agree s v → Agree s (follow_next s (next_who v.recorded c) o v)
-next_agrees s c None v sound fits is agree = agree
-next_agrees s c (Some x) v sound fits is agree = step_agrees s c x v sound fits is agree
+next_agrees : (s : ScriptData) (media : List (List Chunk)) (c : ℕ) (o : Option Step) (v : Course) → IsSound s → FitsSoFar s media v.recorded → step_in s c (length (at c v.recorded.callers)) ≡ o → Agree s v → Agree s (follow_next s media (next_who v.recorded c) o v)
+next_agrees s media c None v sound fits is agree = agree
+next_agrees s media c (Some x) v sound fits is agree = step_agrees s media c x v sound fits is agree
 
 turn_agrees : (s : ScriptData) (k : ℕ) (ts : List Task) (v : Course) → (state_at s v.recorded k).control.tasks ≡ ts → Legals s v.recorded → Agree s v → Agree s (with_turn k (state_at s v.recorded k).control.running ts v)
 turn_agrees s k [] v is legal agree = agree
@@ -253,9 +254,9 @@ start_agrees s made k (Some i) v is legal sizes agree = on (missing_coder (state
         (ap (λ (y : Holding). y.refusal) (held_here k h without within)) agree
 
 -- An item leaves refusals and ends in agreement.
-pub item_agrees : (s : ScriptData) (made : List CoderId) (wants : Bool) (x : OrderItem) (v : Course) → IsSound s → CourseFits s v → Accounted s made v → Agree s v → Agree s (follow_item s made wants x v)
-item_agrees s made wants (item.Caller c) v sound fits acc agree = next_agrees s c (step_in s c (length (at c v.recorded.callers))) v sound fits.recorded_fits refl agree
-item_agrees s made wants (item.Start k) v sound fits acc agree = start_agrees s made k (start_item (state_at s v.recorded k).control) v refl fits.recorded_fits.legal acc.sizes agree
-item_agrees s made wants (item.Done k moment) v sound fits acc agree = done_agrees s wants k moment (state_at s v.recorded k).control.running v refl agree
-item_agrees s made wants (item.Turn k) v sound fits acc agree = turn_agrees s k (state_at s v.recorded k).control.tasks v refl fits.recorded_fits.legal agree
-item_agrees s made wants (item.Reclaim k moment) v sound fits acc agree = reclaim_agrees s k moment v (may_reclaim moment (state_at s v.recorded k).control) refl fits.recorded_fits.legal agree
+pub item_agrees : (s : ScriptData) (media : List (List Chunk)) (made : List CoderId) (wants : Bool) (x : OrderItem) (v : Course) → IsSound s → CourseFits s media v → Accounted s made v → Agree s v → Agree s (follow_item s media made wants x v)
+item_agrees s media made wants (item.Caller c) v sound fits acc agree = next_agrees s media c (step_in s c (length (at c v.recorded.callers))) v sound fits.recorded_fits refl agree
+item_agrees s media made wants (item.Start k) v sound fits acc agree = start_agrees s made k (start_item (state_at s v.recorded k).control) v refl fits.recorded_fits.legal acc.sizes agree
+item_agrees s media made wants (item.Done k moment) v sound fits acc agree = done_agrees s wants k moment (state_at s v.recorded k).control.running v refl agree
+item_agrees s media made wants (item.Turn k) v sound fits acc agree = turn_agrees s k (state_at s v.recorded k).control.tasks v refl fits.recorded_fits.legal agree
+item_agrees s media made wants (item.Reclaim k moment) v sound fits acc agree = reclaim_agrees s k moment v (may_reclaim moment (state_at s v.recorded k).control) refl fits.recorded_fits.legal agree

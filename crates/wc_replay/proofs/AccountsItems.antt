@@ -30,7 +30,7 @@ use Rattle.script_types.specs.declared.script.OrderItem.{OrderItem}
 use Rattle.script_types.specs.declared.script.OrderItem.TheVariants as item
 use Rattle.trace_text.specs.declared.run.StepResult.{StepResult}
 use Rattle.trace_text.specs.declared.run.StepResult.TheVariants as result
-use Rattle.trace_text.specs.Follow.{Recorded, Course, Holding, at, append_at, with_entry, state_at, opening_at, state_after, steps_of, chunk_at, init_error, with_result, with_state, with_call, removes, with_removal, with_decode, with_look, with_box, give_of, gives_back, keeps_box, lets_go, lets_go_if, lets_go_unless, with_start, with_done, with_turn, recording, holding_at, holding_by, nothing_held, outcome_for, follow_step, follow_next, follow_item}
+use Rattle.trace_text.specs.Follow.{Recorded, Course, Holding, at, append_at, with_entry, state_at, opening_at, state_after, steps_of, chunk_at, source_error, with_result, with_state, with_call, removes, with_removal, with_decode, with_look, with_box, give_of, gives_back, keeps_box, lets_go, lets_go_if, lets_go_unless, with_start, with_done, with_turn, recording, holding_at, holding_by, nothing_held, outcome_for, follow_step, follow_next, follow_item}
 use Rattle.trace_text.specs.Fits.{step_in, called}
 use Rattle.wc_replay.specs.Sound.{IsSound}
 use Rattle.wc_replay.specs.Player.{AreHeld}
@@ -305,23 +305,24 @@ close_is : (who : Who) (t : State) → IsReset (entry.Close who) t (after_close 
 close_is who t = record { none = refl; removal = refl; done = refl; steps = refl; running = refl; epoch = refl }
 
 -- the codec that a step calls is there
-pub called_there : (s : ScriptData) (v : Course) (c k : ℕ) (x : Step) → IsSound s → FitsSoFar s v.recorded → step_in s c (length (at c v.recorded.callers)) ≡ Some x → called x ≡ Some k → k < length v.recorded.codecs
-called_there s v c k x sound fits is calls = omega (arith, fits.codecs, sound.called c (length (at c v.recorded.callers)) k x is calls)
+pub called_there : (s : ScriptData) (media : List (List Chunk)) (v : Course) (c k : ℕ) (x : Step) → IsSound s → FitsSoFar s media v.recorded → step_in s c (length (at c v.recorded.callers)) ≡ Some x → called x ≡ Some k → k < length v.recorded.codecs
+called_there s media v c k x sound fits is calls = omega (arith, fits.codecs, sound.called c (length (at c v.recorded.callers)) k x is calls)
 
-step_accounted : (s : ScriptData) (made : List CoderId) (c : ℕ) (x : Step) (v : Course) → IsSound s → FitsSoFar s v.recorded → step_in s c (length (at c v.recorded.callers)) ≡ Some x → Accounted s made v → AreHeld v → Accounted s made (follow_step s (next_who v.recorded c) x v)
-step_accounted s made c (does.Configure on config) v sound fits is acc are = call_accounted s made (next_who v.recorded c) on (call.Configure config) v fits.legal acc are (called_there s v c on (does.Configure on config) sound fits is refl)
-step_accounted s made c (does.Chunk bind init) v sound fits is acc are = quiet_accounted s made v (with_result c (result.Local (init_error init))) acc refl refl
-step_accounted s made c (does.Decode on chunk) v sound fits is acc are = decode_accounted s made (next_who v.recorded c) on (chunk_at (steps_of s c) chunk.step) v fits.legal acc are (called_there s v c on (does.Decode on chunk) sound fits is refl)
-step_accounted s made c (does.Flush on bind) v sound fits is acc are = call_accounted s made (next_who v.recorded c) on call.Flush v fits.legal acc are (called_there s v c on (does.Flush on bind) sound fits is refl)
-step_accounted s made c (does.Poll promise) v sound fits is acc are = look_accounted s made (next_who v.recorded c) (slice_get (at c v.recorded.callers) promise.step) v acc
-step_accounted s made c (does.Await promise) v sound fits is acc are = look_accounted s made (next_who v.recorded c) (slice_get (at c v.recorded.callers) promise.step) v acc
-step_accounted s made c (does.Reset on) v sound fits is acc are = removal_accounted s made (next_who v.recorded c) on (entry.Reset (next_who v.recorded c)) v _ fits.legal acc are (called_there s v c on (does.Reset on) sound fits is refl) (reset_is (next_who v.recorded c) (state_at s v.recorded on))
-step_accounted s made c (does.Close on) v sound fits is acc are = removal_accounted s made (next_who v.recorded c) on (entry.Close (next_who v.recorded c)) v _ fits.legal acc are (called_there s v c on (does.Close on) sound fits is refl) (close_is (next_who v.recorded c) (state_at s v.recorded on))
-step_accounted s made c (does.State on) v sound fits is acc are = quiet_accounted s made v (with_state s (next_who v.recorded c) on) acc refl refl
+step_accounted : (s : ScriptData) (media : List (List Chunk)) (made : List CoderId) (c : ℕ) (x : Step) (v : Course) → IsSound s → FitsSoFar s media v.recorded → step_in s c (length (at c v.recorded.callers)) ≡ Some x → Accounted s made v → AreHeld v → Accounted s made (follow_step s media (next_who v.recorded c) x v)
+step_accounted s media made c (does.Configure on config) v sound fits is acc are = call_accounted s made (next_who v.recorded c) on (call.Configure config) v fits.legal acc are (called_there s media v c on (does.Configure on config) sound fits is refl)
+step_accounted s media made c (does.Chunk bind source) v sound fits is acc are = quiet_accounted s made v (with_result c (result.Local (source_error source))) acc refl refl
+step_accounted s media made c (does.Decode on chunk) v sound fits is acc are = decode_accounted s made (next_who v.recorded c) on (chunk_at media (steps_of s c) chunk.step) v fits.legal acc are (called_there s media v c on (does.Decode on chunk) sound fits is refl)
+step_accounted s media made c (does.Flush on bind) v sound fits is acc are = call_accounted s made (next_who v.recorded c) on call.Flush v fits.legal acc are (called_there s media v c on (does.Flush on bind) sound fits is refl)
+step_accounted s media made c (does.Poll promise) v sound fits is acc are = look_accounted s made (next_who v.recorded c) (slice_get (at c v.recorded.callers) promise.step) v acc
+step_accounted s media made c (does.Await promise) v sound fits is acc are = look_accounted s made (next_who v.recorded c) (slice_get (at c v.recorded.callers) promise.step) v acc
+step_accounted s media made c (does.Reset on) v sound fits is acc are = removal_accounted s made (next_who v.recorded c) on (entry.Reset (next_who v.recorded c)) v _ fits.legal acc are (called_there s media v c on (does.Reset on) sound fits is refl) (reset_is (next_who v.recorded c) (state_at s v.recorded on))
+step_accounted s media made c (does.Close on) v sound fits is acc are = removal_accounted s made (next_who v.recorded c) on (entry.Close (next_who v.recorded c)) v _ fits.legal acc are (called_there s media v c on (does.Close on) sound fits is refl) (close_is (next_who v.recorded c) (state_at s v.recorded on))
+step_accounted s media made c (does.State on) v sound fits is acc are = quiet_accounted s made v (with_state s (next_who v.recorded c) on) acc refl refl
+step_accounted s media made c (does.Media x) v sound fits is acc are = acc
 
-next_accounted : (s : ScriptData) (made : List CoderId) (c : ℕ) (o : Option Step) (v : Course) → IsSound s → FitsSoFar s v.recorded → step_in s c (length (at c v.recorded.callers)) ≡ o → Accounted s made v → AreHeld v → Accounted s made (follow_next s (next_who v.recorded c) o v)
-next_accounted s made c None v sound fits is acc are = acc
-next_accounted s made c (Some x) v sound fits is acc are = step_accounted s made c x v sound fits is acc are
+next_accounted : (s : ScriptData) (media : List (List Chunk)) (made : List CoderId) (c : ℕ) (o : Option Step) (v : Course) → IsSound s → FitsSoFar s media v.recorded → step_in s c (length (at c v.recorded.callers)) ≡ o → Accounted s made v → AreHeld v → Accounted s made (follow_next s media (next_who v.recorded c) o v)
+next_accounted s media made c None v sound fits is acc are = acc
+next_accounted s media made c (Some x) v sound fits is acc are = step_accounted s media made c x v sound fits is acc are
 
 -- a codec whose state is not that of an empty history is there
 pub codec_there : (s : ScriptData) (w : Recorded) (k : ℕ) → (state_after (opening_at s k) [] ≡ state_at s w k → ⊥) → k < length w.codecs
@@ -415,9 +416,9 @@ done_on s made k moment r x v false same is steps acc are below =
     goes_back s made k e v (with_entry k e) refl refl acc are below refl
     (ap (stay_at e t (length (at k v.recorded.codecs))) was) (subst (λ (o : Option Running). IsOlder o d.epoch) (sym idle) tt)
 
-done_accounted : (s : ScriptData) (made : List CoderId) (wants : Bool) (k moment : ℕ) (o : Option Running) (v : Course) → (state_at s v.recorded k).control.running ≡ o → CourseFits s v → Accounted s made v → AreHeld v → Accounted s made (with_done wants k moment (state_at s v.recorded k) o v)
-done_accounted s made wants k moment None v is fits acc are = acc
-done_accounted s made wants k moment (Some r) v is fits acc are =
+done_accounted : (s : ScriptData) (media : List (List Chunk)) (made : List CoderId) (wants : Bool) (k moment : ℕ) (o : Option Running) (v : Course) → (state_at s v.recorded k).control.running ≡ o → CourseFits s media v → Accounted s made v → AreHeld v → Accounted s made (with_done wants k moment (state_at s v.recorded k) o v)
+done_accounted s media made wants k moment None v is fits acc are = acc
+done_accounted s media made wants k moment (Some r) v is fits acc are =
     let t = state_at s v.recorded k in
     let refusal = (holding_at k v.holdings).refusal in
     let x = outcome_for wants refusal (answer_to r.kind t.running_given) in
@@ -493,9 +494,9 @@ start_accounted s made k (Some i) v is legal acc are =
     }) acc are
 
 -- An item leaves the boxes accounted for.
-pub item_accounted : (s : ScriptData) (made : List CoderId) (wants : Bool) (x : OrderItem) (v : Course) → IsSound s → CourseFits s v → AreHeld v → Accounted s made v → Accounted s made (follow_item s made wants x v)
-item_accounted s made wants (item.Caller c) v sound fits are acc = next_accounted s made c (step_in s c (length (at c v.recorded.callers))) v sound fits.recorded_fits refl acc are
-item_accounted s made wants (item.Start k) v sound fits are acc = start_accounted s made k (start_item (state_at s v.recorded k).control) v refl fits.recorded_fits.legal acc are
-item_accounted s made wants (item.Done k moment) v sound fits are acc = done_accounted s made wants k moment (state_at s v.recorded k).control.running v refl fits acc are
-item_accounted s made wants (item.Turn k) v sound fits are acc = turn_accounted s made k (state_at s v.recorded k).control.tasks v refl fits.recorded_fits.legal acc are
-item_accounted s made wants (item.Reclaim k moment) v sound fits are acc = reclaim_accounted s made k moment v (may_reclaim moment (state_at s v.recorded k).control) refl fits.recorded_fits.legal acc are
+pub item_accounted : (s : ScriptData) (media : List (List Chunk)) (made : List CoderId) (wants : Bool) (x : OrderItem) (v : Course) → IsSound s → CourseFits s media v → AreHeld v → Accounted s made v → Accounted s made (follow_item s media made wants x v)
+item_accounted s media made wants (item.Caller c) v sound fits are acc = next_accounted s media made c (step_in s c (length (at c v.recorded.callers))) v sound fits.recorded_fits refl acc are
+item_accounted s media made wants (item.Start k) v sound fits are acc = start_accounted s made k (start_item (state_at s v.recorded k).control) v refl fits.recorded_fits.legal acc are
+item_accounted s media made wants (item.Done k moment) v sound fits are acc = done_accounted s media made wants k moment (state_at s v.recorded k).control.running v refl fits acc are
+item_accounted s media made wants (item.Turn k) v sound fits are acc = turn_accounted s made k (state_at s v.recorded k).control.tasks v refl fits.recorded_fits.legal acc are
+item_accounted s media made wants (item.Reclaim k moment) v sound fits are acc = reclaim_accounted s made k moment v (may_reclaim moment (state_at s v.recorded k).control) refl fits.recorded_fits.legal acc are

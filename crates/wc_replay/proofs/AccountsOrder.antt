@@ -7,6 +7,7 @@ use Rattle.wc_base.specs.declared.who.By.{By}
 use Rattle.wc_base.specs.declared.who.By.TheVariants as by
 use Rattle.wc_config.specs.declared.codec.CoderId.{CoderId}
 use Rattle.coder_api.specs.declared.slot.SlotEntry.{SlotEntry}
+use Rattle.wc_chunk.specs.declared.chunk.Chunk.{Chunk}
 use Rattle.codec_model.specs.declared.entry.Outcome.{Outcome}
 use Rattle.codec_model.specs.declared.entry.Outcome.TheVariants as outcome
 use Rattle.codec_model.specs.declared.entry.Entry.{Entry}
@@ -15,12 +16,12 @@ use Rattle.codec_model.specs.declared.entry.Running.{Running}
 use Rattle.script_types.specs.declared.script.ScriptData.{ScriptData}
 use Rattle.script_types.specs.declared.script.OrderItem.{OrderItem}
 use Rattle.trace_text.specs.declared.run.Run.{Run}
-use Rattle.trace_text.specs.Follow.{at, Course, Holding, opening_at, state_after, follow_item, Follows, nothing_yet}
+use Rattle.trace_text.specs.Follow.{order_items, at, Course, Holding, opening_at, state_after, follow_item, Follows, nothing_yet}
 use Rattle.trace_text.specs.Fits.{FollowsTheOrder, recorded_of}
 use Rattle.wc_replay.specs.Sound.{IsSound}
 use Rattle.wc_replay.specs.Player.{AreHeld}
 use Rattle.trace_text.specs.Accounts.{is_done, Kept, Leaving, left_by, asks_at, ComesBack, IsRefusedAt, IsFirstEnd, EndsAt, BoxesAccounted}
-use Rattle.wc_replay.proofs.Lists.{at_empty}
+use Rattle.wc_replay.proofs.Lists.{at_empty, get_from_front}
 use Rattle.wc_replay.proofs.Following.{CourseFits, none_held, nothing_fits, item_fits}
 use Rattle.wc_replay.proofs.Held.{held_item, held_nothing}
 use Rattle.wc_replay.proofs.Accounts.{last_out}
@@ -51,10 +52,10 @@ nothing_agrees s = record {
   tells = λ k q epoch number moment n h. absurd (let bad : None ≡ Some (entry.Done epoch number moment (outcome.NoSlot n)) = ap (λ (l : List Entry). slice_get l q) (sym (at_empty k s.codecs)) ∙ h in cc);
 }
 
-order_accounted : (s : ScriptData) (made : List CoderId) (xs : List OrderItem) (v u : Course) → IsSound s → CourseFits s v → AreHeld v → Accounted s made v → Agree s v → Follows s made xs v u → Accounted s made u × Agree s u
-order_accounted s made [] v u sound fits are acc agree follows = (subst (Accounted s made) (sym follows) acc, subst (Agree s) (sym follows) agree)
-order_accounted s made (x ∷ xs) v u sound fits are acc agree follows =
-    order_accounted s made xs (follow_item s made follows.0 x v) u sound (item_fits s made follows.0 x v sound fits) (held_item s made follows.0 x v are) (item_accounted s made follows.0 x v sound fits are acc) (item_agrees s made follows.0 x v sound fits acc agree) follows.1
+order_accounted : (s : ScriptData) (media : List (List Chunk)) (made : List CoderId) (xs : List OrderItem) (v u : Course) → IsSound s → CourseFits s media v → AreHeld v → Accounted s made v → Agree s v → Follows s media made xs v u → Accounted s made u × Agree s u
+order_accounted s media made [] v u sound fits are acc agree follows = (subst (Accounted s made) (sym follows) acc, subst (Agree s) (sym follows) agree)
+order_accounted s media made (x ∷ xs) v u sound fits are acc agree follows =
+    order_accounted s media made xs (follow_item s media made follows.0 x v) u sound (item_fits s media made follows.0 x v sound fits) (held_item s media made follows.0 x v are) (item_accounted s media made follows.0 x v sound fits are acc) (item_agrees s media made follows.0 x v sound fits acc agree) follows.1
 
 -- an element of a front
 get_taken : {X : Type 0} (xs : List X) (n m : ℕ) (x : X) → m < n → slice_get xs m ≡ Some x → slice_get (take n xs) m ≡ Some x
@@ -62,13 +63,6 @@ get_taken [] n m x lt h = absurd cc
 get_taken (y ∷ ys) zero m x lt h = absurd (omega (arith, lt))
 get_taken (y ∷ ys) (suc n) zero x lt h = h
 get_taken (y ∷ ys) (suc n) (suc m) x lt h = get_taken ys n m x (omega (arith, lt)) h
-
-get_from_front : {X : Type 0} (xs : List X) (n m : ℕ) (x : X) → slice_get (take n xs) m ≡ Some x → slice_get xs m ≡ Some x
-get_from_front [] zero m x h = absurd cc
-get_from_front [] (suc n) m x h = absurd cc
-get_from_front (y ∷ ys) zero m x h = absurd cc
-get_from_front (y ∷ ys) (suc n) zero x h = h
-get_from_front (y ∷ ys) (suc n) (suc m) x h = get_from_front ys n m x h
 
 -- a box does not come back again before it goes out again
 not_again : (s : ScriptData) (made : List CoderId) (codecs : List (List Entry)) (slots : List SlotEntry) (hs : List Holding) → AccountedIn s made codecs slots hs → (n m l number : ℕ) (id : CoderId) (holder giver other : By) → ComesBack slots n m id number holder giver → ComesBack slots n l id number holder other → m < l → ⊥
@@ -163,11 +157,11 @@ refused_ends s codecs slots hs agree k p q epoch number moment n o refused first
     ]
 
 -- The boxes of a run that follows the order of a sound script are accounted for.
-pub boxes_of : (s : ScriptData) → IsSound s → (made : List CoderId) (run : Run) → FollowsTheOrder s made run → BoxesAccounted s made (recorded_of run)
-boxes_of s sound made run follows =
+pub boxes_of : (s : ScriptData) (media : List (List Chunk)) → IsSound s → (made : List CoderId) (run : Run) → FollowsTheOrder s media made run → BoxesAccounted s made (recorded_of run)
+boxes_of s media sound made run follows =
     let w = recorded_of run in
     let hs = follows.holdings in
-    let all = order_accounted s made s.order (nothing_yet s) (record { recorded = w; holdings = hs }) sound (nothing_fits s) (held_nothing s) (nothing_accounted s made) (nothing_agrees s) follows.follows in
+    let all = order_accounted s media made (order_items s) (nothing_yet s) (record { recorded = w; holdings = hs }) sound (nothing_fits s media) (held_nothing s) (nothing_accounted s made) (nothing_agrees s) follows.follows in
     let acc : AccountedIn s made w.codecs w.slots hs = all.0 in
     let agree : RefusalsAgree s w.codecs w.slots hs = all.1 in
     record {

@@ -4,6 +4,7 @@ use Rattle.std.specs.Prelude.{option_and_then, slice_get}
 use Rattle.std.proofs.lemmas.Option.{slice_get_within}
 use Rattle.wc_base.specs.declared.error.DomError.{DomError}
 use Rattle.wc_base.specs.declared.who.Who.{Who}
+use Rattle.wc_chunk.specs.declared.chunk.Chunk.{Chunk}
 use Rattle.codec_model.specs.declared.entry.Entry.{Entry}
 use Rattle.codec_model.specs.declared.entry.Shown.{Shown}
 use Rattle.script_types.specs.declared.script.ScriptData.{ScriptData}
@@ -41,8 +42,8 @@ call_within s w calls c j k p error h =
     let m = calls.made c j (result.Call k p error) h in
     kept_within s w (record { caller = c; step = j }) k p error (called m.0) m.2
 
-pub calls_more : (s : ScriptData) (w v : Recorded) (R : ℕ → ℕ → StepResult → Type 0) (E : ℕ → ℕ → Entry → Type 0) → Grows w v R E → NewFits s w v R E → Legals s w → CallsAreIn s w → CallsAreIn s v
-calls_more s w v R E g new legal calls = record {
+pub calls_more : (s : ScriptData) (media : List (List Chunk)) (w v : Recorded) (R : ℕ → ℕ → StepResult → Type 0) (E : ℕ → ℕ → Entry → Type 0) → Grows w v R E → NewFits s media w v R E → Legals s w → CallsAreIn s w → CallsAreIn s v
+calls_more s media w v R E g new legal calls = record {
   made = λ c j r h. elim (g.results c j r h) [
     | inl k ↦ (let m = calls.made c j r k in (m.0, m.1, result_more s w v (record { caller = c; step = j }) legal g.more (called m.0) r m.2))
     | inr k ↦ (new.result c j r k).made

@@ -270,14 +270,6 @@ pub on_ok : {T E : Type 0} (r : Result T E) (P : Type 0) → P → OnOk r P
 on_ok (Ok x) P p = p
 on_ok (Err e) P p = tt
 
-pub on_ok_map : {T E : Type 0} (r : Result T E) (P Q : Type 0) → (P → Q) → OnOk r P → OnOk r Q
-on_ok_map (Ok x) P Q f p = f p
-on_ok_map (Err e) P Q f p = tt
-
-pub if_ok_map : {T E : Type 0} (r : Result T E) (P Q : T → Type 0) → ((x : T) → P x → Q x) → IfOk r P → IfOk r Q
-if_ok_map (Ok x) P Q f p = f x p
-if_ok_map (Err e) P Q f p = tt
-
 pub seen_done : (old new : Codec) (job : JobValue) (d : DoneValue) (refusal : Option ℕ) (moment : ℕ) (wants : Bool) → IsJobOf (state_at old) job → d.epoch ≡ job.epoch → d.number ≡ job.number → outcome_of d.ended ≡ outcome_for wants refusal (answer_to (kind_of job.work) (state_at old).running_given) → option_map box_out d.coder ≡ option_map box_out job.coder → Makes old new (entry.Done d.epoch d.number moment (outcome_of d.ended)) → new.slot ≡ kept_box (d.epoch == (state_at old).control.epoch) d.coder → seen new None None ≡ after_done wants moment (seen old (Some job) refusal)
 seen_done old new job d refusal moment wants is epoch number ends box made slot =
     let s = state_at old in
@@ -363,11 +355,3 @@ slots_started old job0 refusal job made k slots matches st =
 
 pub not_started : (made : List CoderId) (k : ℕ) (slots : List SlotEntry) (d : DeskValue) → start_item (state_of d).control ≡ None → (d ≡ after_start made k slots d) × (slots ≡ start_slots made k slots d)
 not_started made k slots d is = (rw is refl, rw is refl)
-
-pub if_ok_at : {T E : Type 0} (r : Result T E) (x : T) (P : T → Type 0) → r ≡ Ok x → IfOk r P → P x
-if_ok_at (Ok y) x P is p = let same : y ≡ x = cc in subst P same p
-if_ok_at (Err e) x P is p = absurd cc
-
-pub on_ok_at : {T E : Type 0} (r : Result T E) (x : T) (P : Type 0) → r ≡ Ok x → OnOk r P → P
-on_ok_at (Ok y) x P is p = p
-on_ok_at (Err e) x P is p = absurd cc

@@ -1,9 +1,10 @@
 -- The beginning and the end of a replay.
-use Rattle.std.proofs.Common.{ℕ, ◌≡◌, ◌+◌, ◌<◌, ◌≤◌, List, [], ◌∷◌, ◌++◌, map, length, get_or, append-nil, refl, ap, sym, subst, ◌∙◌}
+use Rattle.std.proofs.Common.{ℕ, ◌≡◌, ◌+◌, ◌<◌, ◌≤◌, List, [], ◌∷◌, ◌++◌, map, length, get_or, append_assoc, append-nil, refl, ap, sym, subst, ◌∙◌}
 use Rattle.std.specs.Prelude.{take, slice_get, Some, Result, Ok, Err, IfOk}
 use Rattle.std.proofs.lemmas.List.{length-map, map-append, take_all}
 use Rattle.std.proofs.lemmas.Option.{slice_get_read, slice_get-get_or}
 use Rattle.coder_api.specs.declared.slot.SlotEntry.{SlotEntry}
+use Rattle.wc_chunk.specs.declared.chunk.Chunk.{Chunk}
 use Rattle.codec_model.specs.declared.entry.Entry.{Entry}
 use Rattle.codec_model.specs.declared.entry.Opening.{Opening}
 use Rattle.wc_config.specs.declared.codec.CoderId.{CoderId}
@@ -14,7 +15,7 @@ use Rattle.trace_text.specs.declared.run.CodecTrace.{CodecTrace}
 use Rattle.trace_text.specs.declared.run.Run.{Run}
 use Rattle.trace_text.specs.declared.run.StepResult.{StepResult}
 use Rattle.trace_text.specs.Fits.{FollowsTheOrder, recorded_of}
-use Rattle.trace_text.specs.Follow.{Recorded, Holding, Course, Follows, nothing_yet, nothing_held, opening_of}
+use Rattle.trace_text.specs.Follow.{order_items, Recorded, Holding, Course, Follows, nothing_yet, nothing_held, opening_of}
 use Rattle.wc_replay.specs.Desk.{DeskValue}
 use Rattle.wc_replay.proofs.Following.{take_next}
 use Rattle.wc_replay.specs.Player.{PlayerValue, course, course_of, openings_of, AreOpened, KeepsShape, new_desk, new_results, trace_of, caller_trace, IsRunOf, AreShownTraces}
@@ -23,10 +24,6 @@ use Rattle.wc_replay.specs.Player.{PlayerValue, course, course_of, openings_of, 
 
 pub one_more : {X Y : Type 0} (f : X → Y) (made new : List Y) (x : X) (rest left all : List X) → made ++ map f left ≡ map f all → left ≡ x ∷ rest → new ≡ made ++ f x ∷ [] → new ++ map f rest ≡ map f all
 one_more f made new x rest left all before is more = rw more (append_assoc made (f x ∷ []) (map f rest) ∙ (ap (λ (l : List _). made ++ map f l) (sym is) ∙ before))
-  where
-    append_assoc : {Z : Type 0} (a b c : List Z) → (a ++ b) ++ c ≡ a ++ (b ++ c)
-    append_assoc [] b c = refl
-    append_assoc (z ∷ zs) b c = ap (λ (l : List _). z ∷ l) (append_assoc zs b c)
 
 pub all_made : {X Y : Type 0} (f : X → Y) (made : List Y) (left all : List X) → made ++ map f left ≡ map f all → left ≡ [] → made ≡ map f all
 all_made f made left all before is = sym (append-nil made) ∙ (ap (λ (l : List _). made ++ map f l) (sym is) ∙ before)
@@ -76,10 +73,10 @@ run_recorded p run is =
     same : (a b : List (List StepResult)) (hs is : List (List Entry)) (s t : List SlotEntry) → a ≡ b → hs ≡ is → s ≡ t → ◌≡◌ {A = Recorded} (record { callers = a; codecs = hs; slots = s }) (record { callers = b; codecs = is; slots = t })
     same a b hs is s t p q r = cc
 
-pub run_follows : (s : ScriptData) (made : List CoderId) (p : PlayerValue) (run : Run) → Follows s made s.order (nothing_yet s) (course p) → IsRunOf p run → FollowsTheOrder s made run
-run_follows s made p run follows is = record {
+pub run_follows : (s : ScriptData) (media : List (List Chunk)) (made : List CoderId) (p : PlayerValue) (run : Run) → Follows s media made (order_items s) (nothing_yet s) (course p) → IsRunOf p run → FollowsTheOrder s media made run
+run_follows s media made p run follows is = record {
   holdings = (course p).holdings;
-  follows = subst (λ (w : Recorded). Follows s made s.order (nothing_yet s) (record { recorded = w; holdings = (course p).holdings })) (sym (run_recorded p run is)) follows;
+  follows = subst (λ (w : Recorded). Follows s media made (order_items s) (nothing_yet s) (record { recorded = w; holdings = (course p).holdings })) (sym (run_recorded p run is)) follows;
 }
 
 shown_traces : (cs : List CodecItem) (ds : List DeskValue) → openings_of ds ≡ map opening_of cs → AreShownTraces cs (map trace_of ds)

@@ -20,7 +20,7 @@ use Rattle.codec_model.specs.Replay.{IsLegal, removal_error, answer_to, missing_
 use Rattle.script_types.specs.declared.script.ScriptData.{ScriptData}
 use Rattle.script_types.specs.declared.script.CallerItem.{CallerItem}
 use Rattle.script_types.specs.declared.script.CodecItem.{CodecItem}
-use Rattle.script_types.specs.declared.steps.ChunkInit.{ChunkInit}
+use Rattle.script_types.specs.declared.steps.ChunkSource.{ChunkSource}
 use Rattle.script_types.specs.declared.steps.Variable.{Variable}
 use Rattle.script_types.specs.declared.steps.Step.{Step}
 use Rattle.script_types.specs.declared.steps.Step.TheVariants as step
@@ -29,7 +29,7 @@ use Rattle.script_types.specs.declared.script.OrderItem.TheVariants as item
 use Rattle.trace_text.specs.declared.run.Run.{Run}
 use Rattle.trace_text.specs.declared.run.StepResult.{StepResult}
 use Rattle.trace_text.specs.declared.run.StepResult.TheVariants as result
-use Rattle.trace_text.specs.Follow.{Recorded, Course, Holding, at, append_at, with_result, with_entry, opening_at, state_after, state_at, promise_after, steps_in, steps_of, chunk_at, init_error, with_call, removes, with_removal, with_decode, with_look, with_state, lets_go, lets_go_unless, with_start, with_done, with_turn, recording, holding_at, nothing_held, outcome_for, follow_step, follow_next, follow_item, Follows, nothing_yet}
+use Rattle.trace_text.specs.Follow.{order_items, Recorded, Course, Holding, at, append_at, with_result, with_entry, opening_at, state_after, state_at, promise_after, steps_in, steps_of, chunk_at, source_error, with_call, removes, with_removal, with_decode, with_look, with_state, lets_go, lets_go_unless, with_start, with_done, with_turn, recording, holding_at, nothing_held, outcome_for, follow_step, follow_next, follow_item, Follows, nothing_yet}
 use Rattle.trace_text.specs.Fits.{result_in, step_in, called, recorded_of, IsResultOf, IsLocalAnswer, FollowsTheOrder}
 use Rattle.wc_replay.specs.Sound.{IsSound, promise_of, IsFlush}
 use Rattle.wc_replay.proofs.Lists.{at_empty, get_some, result_kept}
@@ -50,8 +50,8 @@ IsNext s w c x = step_in s c (length (at c w.callers)) ≡ Some x
 abbrev pub next_who : Recorded → ℕ → Who
 next_who w c = record { caller = c; step = length (at c w.callers) }
 
-configure_fits : (s : ScriptData) (w : Recorded) (c k : ℕ) (config : Config) → IsSound s → FitsSoFar s w → IsNext s w c (step.Configure k config) → FitsSoFar s (with_call s (next_who w c) k (call.Configure config) w)
-configure_fits s w c k config sound fits is = fits_call s w c k (step.Configure k config) (entry.Configure (next_who w c) config) _ fits (record {
+configure_fits : (s : ScriptData) (media : List (List Chunk)) (w : Recorded) (c k : ℕ) (config : Config) → IsSound s → FitsSoFar s media w → IsNext s w c (step.Configure k config) → FitsSoFar s media (with_call s (next_who w c) k (call.Configure config) w)
+configure_fits s media w c k config sound fits is = fits_call s media w c k (step.Configure k config) (entry.Configure (next_who w c) config) _ fits (record {
   is_step = is;
   calls = refl;
   caller = steps_within s.callers c (length (at c w.callers)) (step.Configure k config) is;
@@ -62,8 +62,8 @@ configure_fits s w c k config sound fits is = fits_call s w c k (step.Configure 
   shown = call_shows (next_who w c) (call.Configure config) (state_at s w k);
 })
 
-flush_fits : (s : ScriptData) (w : Recorded) (c k : ℕ) (bind : List ℕ) → IsSound s → FitsSoFar s w → IsNext s w c (step.Flush k bind) → FitsSoFar s (with_call s (next_who w c) k call.Flush w)
-flush_fits s w c k bind sound fits is = fits_call s w c k (step.Flush k bind) (entry.Flush (next_who w c)) _ fits (record {
+flush_fits : (s : ScriptData) (media : List (List Chunk)) (w : Recorded) (c k : ℕ) (bind : List ℕ) → IsSound s → FitsSoFar s media w → IsNext s w c (step.Flush k bind) → FitsSoFar s media (with_call s (next_who w c) k call.Flush w)
+flush_fits s media w c k bind sound fits is = fits_call s media w c k (step.Flush k bind) (entry.Flush (next_who w c)) _ fits (record {
   is_step = is;
   calls = refl;
   caller = steps_within s.callers c (length (at c w.callers)) (step.Flush k bind) is;
@@ -74,15 +74,15 @@ flush_fits s w c k bind sound fits is = fits_call s w c k (step.Flush k bind) (e
   shown = call_shows (next_who w c) call.Flush (state_at s w k);
 })
 
-decode_fits : (s : ScriptData) (w : Recorded) (c k : ℕ) (chunk : Variable) (o : Option Chunk) → IsSound s → FitsSoFar s w → IsNext s w c (step.Decode k chunk) → chunk_at (steps_of s c) chunk.step ≡ o → FitsSoFar s (with_decode s (next_who w c) k o w)
-decode_fits s w c k chunk None sound fits is none = fits_result s w c (step.Decode k chunk) result.Absent fits is (record {
+decode_fits : (s : ScriptData) (media : List (List Chunk)) (w : Recorded) (c k : ℕ) (chunk : Variable) (o : Option Chunk) → IsSound s → FitsSoFar s media w → IsNext s w c (step.Decode k chunk) → chunk_at media (steps_of s c) chunk.step ≡ o → FitsSoFar s media (with_decode s (next_who w c) k o w)
+decode_fits s media w c k chunk None sound fits is none = fits_result s media w c (step.Decode k chunk) result.Absent fits is (record {
   made = tt;
   shows = tt;
   answers = none;
   no_call = λ n p f h. absurd cc;
   look = λ n m h. absurd cc;
 })
-decode_fits s w c k chunk (Some value) sound fits is some = fits_call s w c k (step.Decode k chunk) (entry.Decode (next_who w c) value) _ fits (record {
+decode_fits s media w c k chunk (Some value) sound fits is some = fits_call s media w c k (step.Decode k chunk) (entry.Decode (next_who w c) value) _ fits (record {
   is_step = is;
   calls = refl;
   caller = steps_within s.callers c (length (at c w.callers)) (step.Decode k chunk) is;
@@ -93,8 +93,8 @@ decode_fits s w c k chunk (Some value) sound fits is some = fits_call s w c k (s
   shown = call_shows (next_who w c) (call.Decode value) (state_at s w k);
 })
 
-reset_fits : (s : ScriptData) (w : Recorded) (c k : ℕ) → IsSound s → FitsSoFar s w → IsNext s w c (step.Reset k) → FitsSoFar s (removes s (next_who w c) k (entry.Reset (next_who w c)) w)
-reset_fits s w c k sound fits is = fits_call s w c k (step.Reset k) (entry.Reset (next_who w c)) _ fits (record {
+reset_fits : (s : ScriptData) (media : List (List Chunk)) (w : Recorded) (c k : ℕ) → IsSound s → FitsSoFar s media w → IsNext s w c (step.Reset k) → FitsSoFar s media (removes s (next_who w c) k (entry.Reset (next_who w c)) w)
+reset_fits s media w c k sound fits is = fits_call s media w c k (step.Reset k) (entry.Reset (next_who w c)) _ fits (record {
   is_step = is;
   calls = refl;
   caller = steps_within s.callers c (length (at c w.callers)) (step.Reset k) is;
@@ -105,8 +105,8 @@ reset_fits s w c k sound fits is = fits_call s w c k (step.Reset k) (entry.Reset
   shown = removal_is_shown (removal_error (state_at s w k).control) (state_at s w k).control.pending;
 })
 
-close_fits : (s : ScriptData) (w : Recorded) (c k : ℕ) → IsSound s → FitsSoFar s w → IsNext s w c (step.Close k) → FitsSoFar s (removes s (next_who w c) k (entry.Close (next_who w c)) w)
-close_fits s w c k sound fits is = fits_call s w c k (step.Close k) (entry.Close (next_who w c)) _ fits (record {
+close_fits : (s : ScriptData) (media : List (List Chunk)) (w : Recorded) (c k : ℕ) → IsSound s → FitsSoFar s media w → IsNext s w c (step.Close k) → FitsSoFar s media (removes s (next_who w c) k (entry.Close (next_who w c)) w)
+close_fits s media w c k sound fits is = fits_call s media w c k (step.Close k) (entry.Close (next_who w c)) _ fits (record {
   is_step = is;
   calls = refl;
   caller = steps_within s.callers c (length (at c w.callers)) (step.Close k) is;
@@ -118,20 +118,21 @@ close_fits s w c k sound fits is = fits_call s w c k (step.Close k) (entry.Close
 })
 
 -- the earlier flush came to a call
-flush_came : (s : ScriptData) (w : Recorded) (c j : ℕ) (y : Step) (r : StepResult) → IsFlush y → IsResultOf s w (record { caller = c; step = j }) (called y) r → IsLocalAnswer s c y r → (k : ℕ) × (p : ℕ) × (error : Option DomError) × (r ≡ result.Call k p error)
-flush_came s w c j (step.Flush on bind) (result.Call k p error) flush made answers = (k, p, error, refl)
-flush_came s w c j (step.Flush on bind) result.Absent flush made answers = absurd answers
-flush_came s w c j (step.Flush on bind) (result.Local error) flush made answers = absurd made
-flush_came s w c j (step.Flush on bind) (result.Look k n end) flush made answers = absurd made
-flush_came s w c j (step.Flush on bind) (result.State k n state size) flush made answers = absurd made
-flush_came s w c j (step.Configure on config) r flush made answers = absurd flush
-flush_came s w c j (step.Chunk bind init) r flush made answers = absurd flush
-flush_came s w c j (step.Decode on chunk) r flush made answers = absurd flush
-flush_came s w c j (step.Poll promise) r flush made answers = absurd flush
-flush_came s w c j (step.Await promise) r flush made answers = absurd flush
-flush_came s w c j (step.Reset on) r flush made answers = absurd flush
-flush_came s w c j (step.Close on) r flush made answers = absurd flush
-flush_came s w c j (step.State on) r flush made answers = absurd flush
+flush_came : (s : ScriptData) (media : List (List Chunk)) (w : Recorded) (c j : ℕ) (y : Step) (r : StepResult) → IsFlush y → IsResultOf s w (record { caller = c; step = j }) (called y) r → IsLocalAnswer s media c y r → (k : ℕ) × (p : ℕ) × (error : Option DomError) × (r ≡ result.Call k p error)
+flush_came s media w c j (step.Flush on bind) (result.Call k p error) flush made answers = (k, p, error, refl)
+flush_came s media w c j (step.Flush on bind) result.Absent flush made answers = absurd answers
+flush_came s media w c j (step.Flush on bind) (result.Local error) flush made answers = absurd made
+flush_came s media w c j (step.Flush on bind) (result.Look k n end) flush made answers = absurd made
+flush_came s media w c j (step.Flush on bind) (result.State k n state size) flush made answers = absurd made
+flush_came s media w c j (step.Configure on config) r flush made answers = absurd flush
+flush_came s media w c j (step.Chunk bind source) r flush made answers = absurd flush
+flush_came s media w c j (step.Decode on chunk) r flush made answers = absurd flush
+flush_came s media w c j (step.Poll promise) r flush made answers = absurd flush
+flush_came s media w c j (step.Await promise) r flush made answers = absurd flush
+flush_came s media w c j (step.Reset on) r flush made answers = absurd flush
+flush_came s media w c j (step.Close on) r flush made answers = absurd flush
+flush_came s media w c j (step.State on) r flush made answers = absurd flush
+flush_came s media w c j (step.Media x) r flush made answers = absurd flush
 
 one_step : (s : ScriptData) (c j : ℕ) (x y : Step) → step_in s c j ≡ Some x → step_in s c j ≡ Some y → x ≡ y
 one_step s c j x y a b = cc
@@ -140,14 +141,14 @@ is_call : (w : Recorded) (c j k p : ℕ) (error : Option DomError) (r : StepResu
 is_call w c j k p error r h is = h ∙ ap (λ (q : StepResult). Some q) is
 
 -- a step that looks at an earlier promise finds the call of its flush
-pub promise_call : (s : ScriptData) (w : Recorded) (c : ℕ) (x : Step) (promise : Variable) → IsSound s → FitsSoFar s w → IsNext s w c x → promise_of x ≡ Some promise → (k : ℕ) × (p : ℕ) × (error : Option DomError) × (result_in w c promise.step ≡ Some (result.Call k p error))
-promise_call s w c x promise sound fits is looks =
+pub promise_call : (s : ScriptData) (media : List (List Chunk)) (w : Recorded) (c : ℕ) (x : Step) (promise : Variable) → IsSound s → FitsSoFar s media w → IsNext s w c x → promise_of x ≡ Some promise → (k : ℕ) × (p : ℕ) × (error : Option DomError) × (result_in w c promise.step ≡ Some (result.Call k p error))
+promise_call s media w c x promise sound fits is looks =
     let before : promise.step < length (at c w.callers) = sound.earlier c (length (at c w.callers)) x promise is looks in
     let there = get_some (at c w.callers) promise.step before in
     let flush = sound.promised c (length (at c w.callers)) x promise is looks in
     let made = fits.calls.made c promise.step there.0 there.1 in
     let same = one_step s c promise.step made.0 flush.0 made.1 flush.1 in
-    let came = flush_came s w c promise.step flush.0 there.0 flush.2 (subst (λ (y : Step). IsResultOf s w (record { caller = c; step = promise.step }) (called y) there.0) same made.2) (fits.locals c promise.step flush.0 there.0 flush.1 there.1) in
+    let came = flush_came s media w c promise.step flush.0 there.0 flush.2 (subst (λ (y : Step). IsResultOf s w (record { caller = c; step = promise.step }) (called y) there.0) same made.2) (fits.locals c promise.step flush.0 there.0 flush.1 there.1) in
     (came.0, came.1, came.2, is_call w c promise.step came.0 came.1 came.2 there.0 there.1 came.3)
 
 -- what a look at a promise comes to
@@ -162,11 +163,11 @@ look_place w k n m h =
     let parts = some_pair_parts k n (length (at k w.codecs)) m h in
     sym parts.1 ∙ ap (λ (i : ℕ). length (at i w.codecs)) parts.0
 
-poll_fits : (s : ScriptData) (w : Recorded) (c : ℕ) (promise : Variable) → IsSound s → FitsSoFar s w → IsNext s w c (step.Poll promise) → FitsSoFar s (with_look s (next_who w c) (slice_get (at c w.callers) promise.step) w)
-poll_fits s w c promise sound fits is =
-    let found = promise_call s w c (step.Poll promise) promise sound fits is refl in
-    subst (λ (o : Option StepResult). FitsSoFar s (with_look s (next_who w c) o w)) (sym found.3)
-    (fits_result s w c (step.Poll promise) (look_result s w found.0 found.1) fits is (record {
+poll_fits : (s : ScriptData) (media : List (List Chunk)) (w : Recorded) (c : ℕ) (promise : Variable) → IsSound s → FitsSoFar s media w → IsNext s w c (step.Poll promise) → FitsSoFar s media (with_look s (next_who w c) (slice_get (at c w.callers) promise.step) w)
+poll_fits s media w c promise sound fits is =
+    let found = promise_call s media w c (step.Poll promise) promise sound fits is refl in
+    subst (λ (o : Option StepResult). FitsSoFar s media (with_look s (next_who w c) o w)) (sym found.3)
+    (fits_result s media w c (step.Poll promise) (look_result s w found.0 found.1) fits is (record {
       made = tt;
       shows = (found.1, found.2, result_kept c c promise.step (look_result s w found.0 found.1) (result.Call found.0 found.1 found.2) w.callers found.3, whole s w found.0 found.1);
       answers = tt;
@@ -174,11 +175,11 @@ poll_fits s w c promise sound fits is =
       look = λ n m h. look_place w found.0 n m h;
     }))
 
-await_fits : (s : ScriptData) (w : Recorded) (c : ℕ) (promise : Variable) → IsSound s → FitsSoFar s w → IsNext s w c (step.Await promise) → FitsSoFar s (with_look s (next_who w c) (slice_get (at c w.callers) promise.step) w)
-await_fits s w c promise sound fits is =
-    let found = promise_call s w c (step.Await promise) promise sound fits is refl in
-    subst (λ (o : Option StepResult). FitsSoFar s (with_look s (next_who w c) o w)) (sym found.3)
-    (fits_result s w c (step.Await promise) (look_result s w found.0 found.1) fits is (record {
+await_fits : (s : ScriptData) (media : List (List Chunk)) (w : Recorded) (c : ℕ) (promise : Variable) → IsSound s → FitsSoFar s media w → IsNext s w c (step.Await promise) → FitsSoFar s media (with_look s (next_who w c) (slice_get (at c w.callers) promise.step) w)
+await_fits s media w c promise sound fits is =
+    let found = promise_call s media w c (step.Await promise) promise sound fits is refl in
+    subst (λ (o : Option StepResult). FitsSoFar s media (with_look s (next_who w c) o w)) (sym found.3)
+    (fits_result s media w c (step.Await promise) (look_result s w found.0 found.1) fits is (record {
       made = tt;
       shows = (found.1, found.2, result_kept c c promise.step (look_result s w found.0 found.1) (result.Call found.0 found.1 found.2) w.callers found.3, whole s w found.0 found.1);
       answers = tt;
@@ -186,10 +187,10 @@ await_fits s w c promise sound fits is =
       look = λ n m h. look_place w found.0 n m h;
     }))
 
-state_fits : (s : ScriptData) (w : Recorded) (c k : ℕ) → FitsSoFar s w → IsNext s w c (step.State k) → FitsSoFar s (with_state s (next_who w c) k w)
-state_fits s w c k fits is =
+state_fits : (s : ScriptData) (media : List (List Chunk)) (w : Recorded) (c k : ℕ) → FitsSoFar s media w → IsNext s w c (step.State k) → FitsSoFar s media (with_state s (next_who w c) k w)
+state_fits s media w c k fits is =
     let all : at k w.codecs ≡ take (length (at k w.codecs)) (at k w.codecs) = sym (take-length (at k w.codecs)) in
-    fits_result s w c (step.State k) (result.State k (length (at k w.codecs)) (state_at s w k).control.phase (state_at s w k).control.size) fits is (record {
+    fits_result s media w c (step.State k) (result.State k (length (at k w.codecs)) (state_at s w k).control.phase (state_at s w k).control.size) fits is (record {
       made = tt;
       shows = (refl, ap (λ (h : List Entry). (state_after (opening_at s k) h).control.phase) all, ap (λ (h : List Entry). (state_after (opening_at s k) h).control.size) all);
       answers = tt;
@@ -197,8 +198,8 @@ state_fits s w c k fits is =
       look = λ n m h. look_place w k n m h;
     })
 
-chunk_step_fits : (s : ScriptData) (w : Recorded) (c : ℕ) (bind : List ℕ) (init : Option ChunkInit) → FitsSoFar s w → IsNext s w c (step.Chunk bind init) → FitsSoFar s (with_result c (result.Local (init_error init)) w)
-chunk_step_fits s w c bind init fits is = fits_result s w c (step.Chunk bind init) (result.Local (init_error init)) fits is (record {
+chunk_step_fits : (s : ScriptData) (media : List (List Chunk)) (w : Recorded) (c : ℕ) (bind : List ℕ) (source : ChunkSource) → FitsSoFar s media w → IsNext s w c (step.Chunk bind source) → FitsSoFar s media (with_result c (result.Local (source_error source)) w)
+chunk_step_fits s media w c bind source fits is = fits_result s media w c (step.Chunk bind source) (result.Local (source_error source)) fits is (record {
   made = tt;
   shows = tt;
   answers = refl;
@@ -218,90 +219,91 @@ removes_same s who k e w u same =
 entry_same : (k : ℕ) (e : Entry) (w u : Recorded) → SameParts w u → SameParts (with_entry k e w) (with_entry k e u)
 entry_same k e w u same = record { callers = same.callers; codecs = ap (λ cs. append_at k e cs) same.codecs }
 
-removal_fits : (s : ScriptData) (who : Who) (k : ℕ) (e : Entry) (v : Course) → FitsSoFar s (removes s who k e v.recorded) → FitsSoFar s (with_removal s who k e v).recorded
-removal_fits s who k e v fits =
+removal_fits : (s : ScriptData) (media : List (List Chunk)) (who : Who) (k : ℕ) (e : Entry) (v : Course) → FitsSoFar s media (removes s who k e v.recorded) → FitsSoFar s media (with_removal s who k e v).recorded
+removal_fits s media who k e v fits =
     let c = (state_at s v.recorded k).control in
     let u = lets_go_unless (removal_error c) k c.running v in
-    fits_same s _ _ (removes_same s who k e v.recorded u.recorded (lets_go_unless_eases (removal_error c) k c.running v).parts) fits
+    fits_same s media _ _ (removes_same s who k e v.recorded u.recorded (lets_go_unless_eases (removal_error c) k c.running v).parts) fits
 
-step_fits : (s : ScriptData) (v : Course) (c : ℕ) (x : Step) → IsSound s → FitsSoFar s v.recorded → IsNext s v.recorded c x → FitsSoFar s (follow_step s (next_who v.recorded c) x v).recorded
-step_fits s v c (step.Configure on config) sound fits is = configure_fits s v.recorded c on config sound fits is
-step_fits s v c (step.Chunk bind init) sound fits is = chunk_step_fits s v.recorded c bind init fits is
-step_fits s v c (step.Decode on chunk) sound fits is = decode_fits s v.recorded c on chunk (chunk_at (steps_of s c) chunk.step) sound fits is refl
-step_fits s v c (step.Flush on bind) sound fits is = flush_fits s v.recorded c on bind sound fits is
-step_fits s v c (step.Poll promise) sound fits is = poll_fits s v.recorded c promise sound fits is
-step_fits s v c (step.Await promise) sound fits is = await_fits s v.recorded c promise sound fits is
-step_fits s v c (step.Reset on) sound fits is = removal_fits s (next_who v.recorded c) on (entry.Reset (next_who v.recorded c)) v (reset_fits s v.recorded c on sound fits is)
-step_fits s v c (step.Close on) sound fits is = removal_fits s (next_who v.recorded c) on (entry.Close (next_who v.recorded c)) v (close_fits s v.recorded c on sound fits is)
-step_fits s v c (step.State on) sound fits is = state_fits s v.recorded c on fits is
+step_fits : (s : ScriptData) (media : List (List Chunk)) (v : Course) (c : ℕ) (x : Step) → IsSound s → FitsSoFar s media v.recorded → IsNext s v.recorded c x → FitsSoFar s media (follow_step s media (next_who v.recorded c) x v).recorded
+step_fits s media v c (step.Configure on config) sound fits is = configure_fits s media v.recorded c on config sound fits is
+step_fits s media v c (step.Chunk bind source) sound fits is = chunk_step_fits s media v.recorded c bind source fits is
+step_fits s media v c (step.Decode on chunk) sound fits is = decode_fits s media v.recorded c on chunk (chunk_at media (steps_of s c) chunk.step) sound fits is refl
+step_fits s media v c (step.Flush on bind) sound fits is = flush_fits s media v.recorded c on bind sound fits is
+step_fits s media v c (step.Poll promise) sound fits is = poll_fits s media v.recorded c promise sound fits is
+step_fits s media v c (step.Await promise) sound fits is = await_fits s media v.recorded c promise sound fits is
+step_fits s media v c (step.Reset on) sound fits is = removal_fits s media (next_who v.recorded c) on (entry.Reset (next_who v.recorded c)) v (reset_fits s media v.recorded c on sound fits is)
+step_fits s media v c (step.Close on) sound fits is = removal_fits s media (next_who v.recorded c) on (entry.Close (next_who v.recorded c)) v (close_fits s media v.recorded c on sound fits is)
+step_fits s media v c (step.State on) sound fits is = state_fits s media v.recorded c on fits is
+step_fits s media v c (step.Media x) sound fits is = fits
 
 -- What was recorded fits the script, and each codec that was refused a box needs one.
-pub record CourseFits (s : ScriptData) (v : Course) : Type 0 where
-  pub recorded_fits : FitsSoFar s v.recorded
+pub record CourseFits (s : ScriptData) (media : List (List Chunk)) (v : Course) : Type 0 where
+  pub recorded_fits : FitsSoFar s media v.recorded
   pub refusals : RefusalsStand s v
 
-next_fits : (s : ScriptData) (v : Course) (c : ℕ) (o : Option Step) → IsSound s → CourseFits s v → step_in s c (length (at c v.recorded.callers)) ≡ o → CourseFits s (follow_next s (next_who v.recorded c) o v)
-next_fits s v c None sound fits is = fits
-next_fits s v c (Some x) sound fits is = record {
-  recorded_fits = step_fits s v c x sound fits.recorded_fits is;
-  refusals = step_stands s (next_who v.recorded c) x v fits.recorded_fits.legal fits.refusals;
+next_fits : (s : ScriptData) (media : List (List Chunk)) (v : Course) (c : ℕ) (o : Option Step) → IsSound s → CourseFits s media v → step_in s c (length (at c v.recorded.callers)) ≡ o → CourseFits s media (follow_next s media (next_who v.recorded c) o v)
+next_fits s media v c None sound fits is = fits
+next_fits s media v c (Some x) sound fits is = record {
+  recorded_fits = step_fits s media v c x sound fits.recorded_fits is;
+  refusals = step_stands s media (next_who v.recorded c) x v fits.recorded_fits.legal fits.refusals;
 }
 
-start_fits : (s : ScriptData) (made : List CoderId) (v : Course) (k : ℕ) (o : Option Item) → CourseFits s v → start_item (state_at s v.recorded k).control ≡ o → CourseFits s (with_start made k (state_at s v.recorded k).control.epoch (state_at s v.recorded k).given o v)
-start_fits s made v k None fits is = fits
-start_fits s made v k (Some i) fits is =
+start_fits : (s : ScriptData) (media : List (List Chunk)) (made : List CoderId) (v : Course) (k : ℕ) (o : Option Item) → CourseFits s media v → start_item (state_at s v.recorded k).control ≡ o → CourseFits s media (with_start made k (state_at s v.recorded k).control.epoch (state_at s v.recorded k).given o v)
+start_fits s media made v k None fits is = fits
+start_fits s media made v k (Some i) fits is =
     let x = state_at s v.recorded k in
     let e = entry.Start x.control.epoch i.number in
     record {
-      recorded_fits = fits_same s (with_entry k e v.recorded) _ (entry_same k e v.recorded _ (with_box_parts made k (missing_coder x.given i.work) v)) (fits_entry s v.recorded k e fits.recorded_fits refl (start_legal x i is));
+      recorded_fits = fits_same s media (with_entry k e v.recorded) _ (entry_same k e v.recorded _ (with_box_parts made k (missing_coder x.given i.work) v)) (fits_entry s media v.recorded k e fits.recorded_fits refl (start_legal x i is));
       refusals = start_stands s made k i v fits.recorded_fits.legal fits.refusals is;
     }
 
-done_fits : (s : ScriptData) (wants : Bool) (v : Course) (k moment : ℕ) (o : Option Running) → CourseFits s v → (state_at s v.recorded k).control.running ≡ o → CourseFits s (with_done wants k moment (state_at s v.recorded k) o v)
-done_fits s wants v k moment None fits is = fits
-done_fits s wants v k moment (Some r) fits is =
+done_fits : (s : ScriptData) (media : List (List Chunk)) (wants : Bool) (v : Course) (k moment : ℕ) (o : Option Running) → CourseFits s media v → (state_at s v.recorded k).control.running ≡ o → CourseFits s media (with_done wants k moment (state_at s v.recorded k) o v)
+done_fits s media wants v k moment None fits is = fits
+done_fits s media wants v k moment (Some r) fits is =
     let x = state_at s v.recorded k in
     let refusal = (holding_at k v.holdings).refusal in
     let e = entry.Done r.epoch r.number moment (outcome_for wants refusal (answer_to r.kind x.running_given)) in
     let may = may_be_refused s v k r refusal refl is fits.refusals in
     record {
-      recorded_fits = fits_same s (with_entry k e v.recorded) _ (entry_same k e v.recorded _ (keeps_box_eases (r.epoch == x.control.epoch) k v).parts) (fits_entry s v.recorded k e fits.recorded_fits refl (done_legal x r moment wants refusal is may));
+      recorded_fits = fits_same s media (with_entry k e v.recorded) _ (entry_same k e v.recorded _ (keeps_box_eases (r.epoch == x.control.epoch) k v).parts) (fits_entry s media v.recorded k e fits.recorded_fits refl (done_legal x r moment wants refusal is may));
       refusals = done_stands s wants k moment r v fits.recorded_fits.legal fits.refusals is;
     }
 
-turn_fits : (s : ScriptData) (v : Course) (k : ℕ) (ts : List Task) → CourseFits s v → (state_at s v.recorded k).control.tasks ≡ ts → CourseFits s (with_turn k (state_at s v.recorded k).control.running ts v)
-turn_fits s v k [] fits is = fits
-turn_fits s v k (t ∷ ts) fits is =
+turn_fits : (s : ScriptData) (media : List (List Chunk)) (v : Course) (k : ℕ) (ts : List Task) → CourseFits s media v → (state_at s v.recorded k).control.tasks ≡ ts → CourseFits s media (with_turn k (state_at s v.recorded k).control.running ts v)
+turn_fits s media v k [] fits is = fits
+turn_fits s media v k (t ∷ ts) fits is =
     let x = state_at s v.recorded k in
     record {
-      recorded_fits = fits_same s (with_entry k entry.Turn v.recorded) _ (entry_same k entry.Turn v.recorded _ (lets_go_if_eases (is_close t) k x.control.running v).parts) (fits_entry s v.recorded k entry.Turn fits.recorded_fits refl (turn_legal x t ts is));
+      recorded_fits = fits_same s media (with_entry k entry.Turn v.recorded) _ (entry_same k entry.Turn v.recorded _ (lets_go_if_eases (is_close t) k x.control.running v).parts) (fits_entry s media v.recorded k entry.Turn fits.recorded_fits refl (turn_legal x t ts is));
       refusals = turn_stands s k t ts v fits.recorded_fits.legal fits.refusals is;
     }
 
-reclaim_fits : (s : ScriptData) (v : Course) (k moment : ℕ) (b : Bool) → CourseFits s v → may_reclaim moment (state_at s v.recorded k).control ≡ b → CourseFits s (cond b (recording (with_entry k (entry.Reclaim moment)) (lets_go k (state_at s v.recorded k).control.running v)) v)
-reclaim_fits s v k moment false fits is = fits
-reclaim_fits s v k moment true fits is =
+reclaim_fits : (s : ScriptData) (media : List (List Chunk)) (v : Course) (k moment : ℕ) (b : Bool) → CourseFits s media v → may_reclaim moment (state_at s v.recorded k).control ≡ b → CourseFits s media (cond b (recording (with_entry k (entry.Reclaim moment)) (lets_go k (state_at s v.recorded k).control.running v)) v)
+reclaim_fits s media v k moment false fits is = fits
+reclaim_fits s media v k moment true fits is =
     let x = state_at s v.recorded k in
     let e = entry.Reclaim moment in
     record {
-      recorded_fits = fits_same s (with_entry k e v.recorded) _ (entry_same k e v.recorded _ (lets_go_eases k x.control.running v).parts) (fits_entry s v.recorded k e fits.recorded_fits refl (reclaim_legal x moment is));
+      recorded_fits = fits_same s media (with_entry k e v.recorded) _ (entry_same k e v.recorded _ (lets_go_eases k x.control.running v).parts) (fits_entry s media v.recorded k e fits.recorded_fits refl (reclaim_legal x moment is));
       refusals = reclaim_stands s k moment v fits.recorded_fits.legal fits.refusals is;
     }
 
-pub item_fits : (s : ScriptData) (made : List CoderId) (wants : Bool) (x : OrderItem) (v : Course) → IsSound s → CourseFits s v → CourseFits s (follow_item s made wants x v)
-item_fits s made wants (item.Caller c) v sound fits = next_fits s v c (step_in s c (length (at c v.recorded.callers))) sound fits refl
-item_fits s made wants (item.Start k) v sound fits = start_fits s made v k (start_item (state_at s v.recorded k).control) fits refl
-item_fits s made wants (item.Done k moment) v sound fits = done_fits s wants v k moment (state_at s v.recorded k).control.running fits refl
-item_fits s made wants (item.Turn k) v sound fits = turn_fits s v k (state_at s v.recorded k).control.tasks fits refl
-item_fits s made wants (item.Reclaim k moment) v sound fits = reclaim_fits s v k moment (may_reclaim moment (state_at s v.recorded k).control) fits refl
+pub item_fits : (s : ScriptData) (media : List (List Chunk)) (made : List CoderId) (wants : Bool) (x : OrderItem) (v : Course) → IsSound s → CourseFits s media v → CourseFits s media (follow_item s media made wants x v)
+item_fits s media made wants (item.Caller c) v sound fits = next_fits s media v c (step_in s c (length (at c v.recorded.callers))) sound fits refl
+item_fits s media made wants (item.Start k) v sound fits = start_fits s media made v k (start_item (state_at s v.recorded k).control) fits refl
+item_fits s media made wants (item.Done k moment) v sound fits = done_fits s media wants v k moment (state_at s v.recorded k).control.running fits refl
+item_fits s media made wants (item.Turn k) v sound fits = turn_fits s media v k (state_at s v.recorded k).control.tasks fits refl
+item_fits s media made wants (item.Reclaim k moment) v sound fits = reclaim_fits s media v k moment (may_reclaim moment (state_at s v.recorded k).control) fits refl
 
-pub order_fits : (s : ScriptData) (made : List CoderId) (xs : List OrderItem) (v u : Course) → IsSound s → CourseFits s v → Follows s made xs v u → CourseFits s u
-order_fits s made [] v u sound fits follows = subst (CourseFits s) (sym follows) fits
-order_fits s made (x ∷ xs) v u sound fits follows = order_fits s made xs (follow_item s made follows.0 x v) u sound (item_fits s made follows.0 x v sound fits) follows.1
+pub order_fits : (s : ScriptData) (media : List (List Chunk)) (made : List CoderId) (xs : List OrderItem) (v u : Course) → IsSound s → CourseFits s media v → Follows s media made xs v u → CourseFits s media u
+order_fits s media made [] v u sound fits follows = subst (CourseFits s media) (sym follows) fits
+order_fits s media made (x ∷ xs) v u sound fits follows = order_fits s media made xs (follow_item s media made follows.0 x v) u sound (item_fits s media made follows.0 x v sound fits) follows.1
 
 -- nothing is recorded yet
-recorded_nothing : (s : ScriptData) → FitsSoFar s (nothing_yet s).recorded
-recorded_nothing s = record {
+recorded_nothing : (s : ScriptData) (media : List (List Chunk)) → FitsSoFar s media (nothing_yet s).recorded
+recorded_nothing s media = record {
   callers = length-map s.callers _;
   codecs = length-map s.codecs _;
   legal = λ k. subst (λ (h : List Entry). IsLegal (opening_at s k) h) (sym (at_empty k s.codecs)) refl;
@@ -332,16 +334,16 @@ none_held k [] = refl
 none_held zero (c ∷ cs) = refl
 none_held (suc k) (c ∷ cs) = none_held k cs
 
-pub nothing_fits : (s : ScriptData) → CourseFits s (nothing_yet s)
-nothing_fits s = record {
-  recorded_fits = recorded_nothing s;
+pub nothing_fits : (s : ScriptData) (media : List (List Chunk)) → CourseFits s media (nothing_yet s)
+nothing_fits s media = record {
+  recorded_fits = recorded_nothing s media;
   refusals = λ k e h. absurd (let bad : None ≡ Some e = sym (ap (λ (x : Holding). x.refusal) (none_held k s.codecs)) ∙ h in cc);
 }
 
 -- one more item of an order
-pub follows_more : (s : ScriptData) (made : List CoderId) (xs : List OrderItem) (x : OrderItem) (wants : Bool) (v u : Course) → Follows s made xs v u → Follows s made (xs ++ x ∷ []) v (follow_item s made wants x u)
-follows_more s made [] x wants v u follows = (wants, ap (follow_item s made wants x) follows)
-follows_more s made (y ∷ ys) x wants v u follows = (follows.0, follows_more s made ys x wants (follow_item s made follows.0 y v) u follows.1)
+pub follows_more : (s : ScriptData) (media : List (List Chunk)) (made : List CoderId) (xs : List OrderItem) (x : OrderItem) (wants : Bool) (v u : Course) → Follows s media made xs v u → Follows s media made (xs ++ x ∷ []) v (follow_item s media made wants x u)
+follows_more s media made [] x wants v u follows = (wants, ap (follow_item s media made wants x) follows)
+follows_more s media made (y ∷ ys) x wants v u follows = (follows.0, follows_more s media made ys x wants (follow_item s media made follows.0 y v) u follows.1)
 
 take_one : {X : Type 0} (xs : List X) (i : ℕ) (x : X) → slice_get xs i ≡ Some x → take (suc i) xs ≡ take i xs ++ x ∷ []
 take_one [] i x h = absurd cc
@@ -352,25 +354,25 @@ pub take_next : {X : Type 0} (xs : List X) (i : ℕ) (x : X) → slice_get xs i 
 take_next xs i x h = let one : i + 1 ≡ suc i = omega arith in ap (λ (n : ℕ). take n xs) one ∙ take_one xs i x h
 
 -- what is followed before the item with this number, and after it
-pub follows_next : (s : ScriptData) (made : List CoderId) (i : ℕ) (x : OrderItem) (wants : Bool) (v u : Course) → slice_get s.order i ≡ Some x → Follows s made (take i s.order) v u → Follows s made (take (i + 1) s.order) v (follow_item s made wants x u)
-follows_next s made i x wants v u h follows = subst (λ (xs : List OrderItem). Follows s made xs v (follow_item s made wants x u)) (sym (take_next s.order i x h)) (follows_more s made (take i s.order) x wants v u follows)
+pub follows_next : (s : ScriptData) (media : List (List Chunk)) (made : List CoderId) (i : ℕ) (x : OrderItem) (wants : Bool) (v u : Course) → slice_get (order_items s) i ≡ Some x → Follows s media made (take i (order_items s)) v u → Follows s media made (take (i + 1) (order_items s)) v (follow_item s media made wants x u)
+follows_next s media made i x wants v u h follows = subst (λ (xs : List OrderItem). Follows s media made xs v (follow_item s media made wants x u)) (sym (take_next (order_items s) i x h)) (follows_more s media made (take i (order_items s)) x wants v u follows)
 
 -- the item with this number leads to this course
-pub follows_to : (s : ScriptData) (made : List CoderId) (i : ℕ) (x : OrderItem) (wants : Bool) (v u next : Course) → slice_get s.order i ≡ Some x → Follows s made (take i s.order) v u → next ≡ follow_item s made wants x u → Follows s made (take (i + 1) s.order) v next
-follows_to s made i x wants v u next h follows is = subst (λ (c : Course). Follows s made (take (i + 1) s.order) v c) (sym is) (follows_next s made i x wants v u h follows)
+pub follows_to : (s : ScriptData) (media : List (List Chunk)) (made : List CoderId) (i : ℕ) (x : OrderItem) (wants : Bool) (v u next : Course) → slice_get (order_items s) i ≡ Some x → Follows s media made (take i (order_items s)) v u → next ≡ follow_item s media made wants x u → Follows s media made (take (i + 1) (order_items s)) v next
+follows_to s media made i x wants v u next h follows is = subst (λ (c : Course). Follows s media made (take (i + 1) (order_items s)) v c) (sym is) (follows_next s media made i x wants v u h follows)
 
 -- all items are followed
-pub follows_all : (s : ScriptData) (made : List CoderId) (i : ℕ) (v u : Course) → length s.order ≤ i → Follows s made (take i s.order) v u → Follows s made s.order v u
-follows_all s made i v u all follows = subst (λ (xs : List OrderItem). Follows s made xs v u) (take_all i s.order all) follows
+pub follows_all : (s : ScriptData) (media : List (List Chunk)) (made : List CoderId) (i : ℕ) (v u : Course) → length (order_items s) ≤ i → Follows s media made (take i (order_items s)) v u → Follows s media made (order_items s) v u
+follows_all s media made i v u all follows = subst (λ (xs : List OrderItem). Follows s media made xs v u) (take_all i (order_items s) all) follows
 
 -- a course that follows a front of the order fits the script
-pub fits_before : (s : ScriptData) (made : List CoderId) (i : ℕ) (u : Course) → IsSound s → Follows s made (take i s.order) (nothing_yet s) u → CourseFits s u
-fits_before s made i u sound follows = order_fits s made (take i s.order) (nothing_yet s) u sound (nothing_fits s) follows
+pub fits_before : (s : ScriptData) (media : List (List Chunk)) (made : List CoderId) (i : ℕ) (u : Course) → IsSound s → Follows s media made (take i (order_items s)) (nothing_yet s) u → CourseFits s media u
+fits_before s media made i u sound follows = order_fits s media made (take i (order_items s)) (nothing_yet s) u sound (nothing_fits s media) follows
 
 -- what a run that follows a sound script's order recorded fits the script
-pub order_makes : (s : ScriptData) → IsSound s → (made : List CoderId) (run : Run) → FollowsTheOrder s made run → FitsSoFar s (recorded_of run)
-order_makes s sound made run follows = (order_fits s made s.order (nothing_yet s) (record { recorded = recorded_of run; holdings = follows.holdings }) sound (nothing_fits s) follows.follows).recorded_fits
+pub order_makes : (s : ScriptData) (media : List (List Chunk)) → IsSound s → (made : List CoderId) (run : Run) → FollowsTheOrder s media made run → FitsSoFar s media (recorded_of run)
+order_makes s media sound made run follows = (order_fits s media made (order_items s) (nothing_yet s) (record { recorded = recorded_of run; holdings = follows.holdings }) sound (nothing_fits s media) follows.follows).recorded_fits
 
 -- Each codec's history in a run that follows the order of a sound script is legal.
-pub legal_of : (s : ScriptData) → IsSound s → (made : List CoderId) (run : Run) → FollowsTheOrder s made run → (k : ℕ) → IsLegal (opening_at s k) (at k (recorded_of run).codecs)
-legal_of s sound made run follows k = (order_makes s sound made run follows).legal k
+pub legal_of : (s : ScriptData) (media : List (List Chunk)) → IsSound s → (made : List CoderId) (run : Run) → FollowsTheOrder s media made run → (k : ℕ) → IsLegal (opening_at s k) (at k (recorded_of run).codecs)
+legal_of s media sound made run follows k = (order_makes s media sound made run follows).legal k

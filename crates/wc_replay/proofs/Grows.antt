@@ -4,6 +4,7 @@ use Rattle.std.proofs.Common.{length, Option, Some, ap, sym, ◌∙◌, append-n
 use Rattle.std.specs.Prelude.{slice_get}
 use Rattle.wc_base.specs.declared.who.Who.{Who}
 use Rattle.wc_base.specs.declared.error.DomError.{DomError}
+use Rattle.wc_chunk.specs.declared.chunk.Chunk.{Chunk}
 use Rattle.codec_model.specs.declared.entry.Entry.{Entry}
 use Rattle.script_types.specs.declared.script.ScriptData.{ScriptData}
 use Rattle.script_types.specs.declared.steps.Step.{Step}
@@ -22,21 +23,21 @@ pub record Grows (w v : Recorded) (R : ℕ → ℕ → StepResult → Type 0) (E
   pub entries : (k p : ℕ) (e : Entry) → entry_in v k p ≡ Some e → (entry_in w k p ≡ Some e) ⊎ E k p e
 
 -- A new result fits: the script's step that it answers, and what it shows.
-pub record ResultFits (s : ScriptData) (w v : Recorded) (c j : ℕ) (r : StepResult) : Type 0 where
+pub record ResultFits (s : ScriptData) (media : List (List Chunk)) (w v : Recorded) (c j : ℕ) (r : StepResult) : Type 0 where
   pub made : (x : Step) × (step_in s c j ≡ Some x) × IsResultOf s v (record { caller = c; step = j }) (called x) r
   pub shows : (x : Step) → step_in s c j ≡ Some x → LookShows s v c x r
-  pub answers : (x : Step) → step_in s c j ≡ Some x → IsLocalAnswer s c x r
+  pub answers : (x : Step) → step_in s c j ≡ Some x → IsLocalAnswer s media c x r
   pub place : (k p : ℕ) (error : Option DomError) → r ≡ result.Call k p error → p ≡ length (at k w.codecs)
   pub look : (k n : ℕ) → look_of r ≡ Some (k, n) → n ≡ length (at k w.codecs)
 
 -- A new entry that names a caller's step fits: that step's result is its call, and it has the step's arguments.
-pub record EntryFits (s : ScriptData) (v : Recorded) (k p : ℕ) (e : Entry) : Type 0 where
+pub record EntryFits (s : ScriptData) (media : List (List Chunk)) (v : Recorded) (k p : ℕ) (e : Entry) : Type 0 where
   pub call : (who : Who) → who_of e ≡ Some who → (error : Option DomError) × (result_in v who.caller who.step ≡ Some (result.Call k p error))
-  pub arguments : (who : Who) → who_of e ≡ Some who → (x : Step) × (step_in s who.caller who.step ≡ Some x) × HasArguments s who e x
+  pub arguments : (who : Who) → who_of e ≡ Some who → (x : Step) × (step_in s who.caller who.step ≡ Some x) × HasArguments s media who e x
 
-pub record NewFits (s : ScriptData) (w v : Recorded) (R : ℕ → ℕ → StepResult → Type 0) (E : ℕ → ℕ → Entry → Type 0) : Type 0 where
-  pub result : (c j : ℕ) (r : StepResult) → R c j r → ResultFits s w v c j r
-  pub entry : (k p : ℕ) (e : Entry) → E k p e → EntryFits s v k p e
+pub record NewFits (s : ScriptData) (media : List (List Chunk)) (w v : Recorded) (R : ℕ → ℕ → StepResult → Type 0) (E : ℕ → ℕ → Entry → Type 0) : Type 0 where
+  pub result : (c j : ℕ) (r : StepResult) → R c j r → ResultFits s media w v c j r
+  pub entry : (k p : ℕ) (e : Entry) → E k p e → EntryFits s media v k p e
 
 -- nothing is new
 abbrev pub Nothing : {X : Type 0} → ℕ → ℕ → X → Type 0

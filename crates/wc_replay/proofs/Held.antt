@@ -32,7 +32,7 @@ use Rattle.script_types.specs.declared.script.OrderItem.{OrderItem}
 use Rattle.script_types.specs.declared.script.OrderItem.TheVariants as item
 use Rattle.trace_text.specs.declared.run.StepResult.{StepResult}
 use Rattle.trace_text.specs.declared.run.StepResult.TheVariants as result
-use Rattle.trace_text.specs.Follow.{Recorded, Course, BoxOut, Holding, at, append_at, with_entry, state_at, steps_of, chunk_at, init_error, with_result, with_state, with_call, removes, with_removal, with_decode, with_look, with_box, asks_for_box, give_of, gives_back, keeps_box, lets_go, lets_go_if, lets_go_unless, with_start, with_done, with_turn, recording, holding_at, holding_by, nothing_held, next_cause, outcome_for, follow_step, follow_next, follow_item, Follows, nothing_yet}
+use Rattle.trace_text.specs.Follow.{order_items, Recorded, Course, BoxOut, Holding, at, append_at, with_entry, state_at, steps_of, chunk_at, source_error, with_result, with_state, with_call, removes, with_removal, with_decode, with_look, with_box, asks_for_box, give_of, gives_back, keeps_box, lets_go, lets_go_if, lets_go_unless, with_start, with_done, with_turn, recording, holding_at, holding_by, nothing_held, next_cause, outcome_for, follow_step, follow_next, follow_item, Follows, nothing_yet}
 use Rattle.wc_replay.specs.Boxes.{IsGivable}
 use Rattle.wc_replay.specs.Player.{AreHeld}
 use Rattle.wc_replay.proofs.Lists.{at_grows, at_same}
@@ -205,20 +205,21 @@ removal_held s who k e v are =
     let u = lets_go_unless (removal_error c) k c.running v in
     recording_held u (removes s who k e) (lets_go_unless_held (removal_error c) k c.running v are) refl (λ n. longer_by k e u.recorded.codecs n)
 
-step_held : (s : ScriptData) (who : Who) (x : Step) (v : Course) → AreHeld v → AreHeld (follow_step s who x v)
-step_held s who (step.Configure on config) v are = call_held s who on (call.Configure config) (entry.Configure who config) v refl are
-step_held s who (step.Chunk bind init) v are = quiet_held v (with_result who.caller (result.Local (init_error init))) are refl refl
-step_held s who (step.Decode on chunk) v are = decode_held s who on (chunk_at (steps_of s who.caller) chunk.step) v are
-step_held s who (step.Flush on bind) v are = call_held s who on call.Flush (entry.Flush who) v refl are
-step_held s who (step.Poll promise) v are = look_held s who (slice_get (at who.caller v.recorded.callers) promise.step) v are
-step_held s who (step.Await promise) v are = look_held s who (slice_get (at who.caller v.recorded.callers) promise.step) v are
-step_held s who (step.Reset on) v are = removal_held s who on (entry.Reset who) v are
-step_held s who (step.Close on) v are = removal_held s who on (entry.Close who) v are
-step_held s who (step.State on) v are = quiet_held v (with_state s who on) are refl refl
+step_held : (s : ScriptData) (media : List (List Chunk)) (who : Who) (x : Step) (v : Course) → AreHeld v → AreHeld (follow_step s media who x v)
+step_held s media who (step.Configure on config) v are = call_held s who on (call.Configure config) (entry.Configure who config) v refl are
+step_held s media who (step.Chunk bind source) v are = quiet_held v (with_result who.caller (result.Local (source_error source))) are refl refl
+step_held s media who (step.Decode on chunk) v are = decode_held s who on (chunk_at media (steps_of s who.caller) chunk.step) v are
+step_held s media who (step.Flush on bind) v are = call_held s who on call.Flush (entry.Flush who) v refl are
+step_held s media who (step.Poll promise) v are = look_held s who (slice_get (at who.caller v.recorded.callers) promise.step) v are
+step_held s media who (step.Await promise) v are = look_held s who (slice_get (at who.caller v.recorded.callers) promise.step) v are
+step_held s media who (step.Reset on) v are = removal_held s who on (entry.Reset who) v are
+step_held s media who (step.Close on) v are = removal_held s who on (entry.Close who) v are
+step_held s media who (step.State on) v are = quiet_held v (with_state s who on) are refl refl
+step_held s media who (step.Media x) v are = are
 
-next_held : (s : ScriptData) (who : Who) (o : Option Step) (v : Course) → AreHeld v → AreHeld (follow_next s who o v)
-next_held s who None v are = are
-next_held s who (Some x) v are = step_held s who x v are
+next_held : (s : ScriptData) (media : List (List Chunk)) (who : Who) (o : Option Step) (v : Course) → AreHeld v → AreHeld (follow_next s media who o v)
+next_held s media who None v are = are
+next_held s media who (Some x) v are = step_held s media who x v are
 
 -- the codec's box goes out by its next entry
 ask_held : (made : List CoderId) (k : ℕ) (id : CoderId) (e : Entry) (v : Course) → k < length v.recorded.codecs → AreHeld v → AreHeld (recording (with_entry k e) (asks_for_box made k id v))
@@ -264,22 +265,22 @@ reclaim_held k moment running v false are = are
 reclaim_held k moment running v true are = entry_held (lets_go k running v) k (entry.Reclaim moment) (lets_go_held k running v are)
 
 -- An item keeps the boxes that are held.
-pub held_item : (s : ScriptData) (made : List CoderId) (wants : Bool) (x : OrderItem) (v : Course) → AreHeld v → AreHeld (follow_item s made wants x v)
-held_item s made wants (item.Caller c) v are = next_held s (record { caller = c; step = length (at c v.recorded.callers) }) (slice_get (steps_of s c) (length (at c v.recorded.callers))) v are
-held_item s made wants (item.Start k) v are = start_held s made k v (start_item (state_at s v.recorded k).control) refl are
-held_item s made wants (item.Done k moment) v are = done_held s wants k moment v (state_at s v.recorded k).control.running are
-held_item s made wants (item.Turn k) v are = turn_held k (state_at s v.recorded k).control.running (state_at s v.recorded k).control.tasks v are
-held_item s made wants (item.Reclaim k moment) v are = reclaim_held k moment (state_at s v.recorded k).control.running v (may_reclaim moment (state_at s v.recorded k).control) are
+pub held_item : (s : ScriptData) (media : List (List Chunk)) (made : List CoderId) (wants : Bool) (x : OrderItem) (v : Course) → AreHeld v → AreHeld (follow_item s media made wants x v)
+held_item s media made wants (item.Caller c) v are = next_held s media (record { caller = c; step = length (at c v.recorded.callers) }) (slice_get (steps_of s c) (length (at c v.recorded.callers))) v are
+held_item s media made wants (item.Start k) v are = start_held s made k v (start_item (state_at s v.recorded k).control) refl are
+held_item s media made wants (item.Done k moment) v are = done_held s wants k moment v (state_at s v.recorded k).control.running are
+held_item s media made wants (item.Turn k) v are = turn_held k (state_at s v.recorded k).control.running (state_at s v.recorded k).control.tasks v are
+held_item s media made wants (item.Reclaim k moment) v are = reclaim_held k moment (state_at s v.recorded k).control.running v (may_reclaim moment (state_at s v.recorded k).control) are
 
 -- no codec holds a box yet
 pub held_nothing : (s : ScriptData) → AreHeld (nothing_yet s)
 held_nothing s k = no_box [] (next_cause k (nothing_yet s)) (holding_at k (nothing_yet s).holdings) (ap (λ (x : Holding). x.box) (none_held k s.codecs))
 
 -- An order keeps them.
-pub held_order : (s : ScriptData) (made : List CoderId) (xs : List OrderItem) (v u : Course) → AreHeld v → Follows s made xs v u → AreHeld u
-held_order s made [] v u are follows = subst AreHeld (sym follows) are
-held_order s made (x ∷ xs) v u are follows = held_order s made xs (follow_item s made follows.0 x v) u (held_item s made follows.0 x v are) follows.1
+pub held_order : (s : ScriptData) (media : List (List Chunk)) (made : List CoderId) (xs : List OrderItem) (v u : Course) → AreHeld v → Follows s media made xs v u → AreHeld u
+held_order s media made [] v u are follows = subst AreHeld (sym follows) are
+held_order s media made (x ∷ xs) v u are follows = held_order s media made xs (follow_item s media made follows.0 x v) u (held_item s media made follows.0 x v are) follows.1
 
 -- each box that is held after a front of the order is out
-pub held_before : (s : ScriptData) (made : List CoderId) (i : ℕ) (u : Course) → Follows s made (take i s.order) (nothing_yet s) u → AreHeld u
-held_before s made i u follows = held_order s made (take i s.order) (nothing_yet s) u (held_nothing s) follows
+pub held_before : (s : ScriptData) (media : List (List Chunk)) (made : List CoderId) (i : ℕ) (u : Course) → Follows s media made (take i (order_items s)) (nothing_yet s) u → AreHeld u
+held_before s media made i u follows = held_order s media made (take i (order_items s)) (nothing_yet s) u (held_nothing s) follows

@@ -117,3 +117,19 @@ pub at_empty : {X Y : Type 0} (c : ℕ) (ys : List Y) → at {X = X} c (map (λ 
 at_empty c [] = refl
 at_empty zero (y ∷ ys) = refl
 at_empty (suc c) (y ∷ ys) = at_empty c ys
+
+-- an element of a front
+pub get_from_front : {X : Type 0} (xs : List X) (n m : ℕ) (x : X) → slice_get (take n xs) m ≡ Some x → slice_get xs m ≡ Some x
+get_from_front [] zero m x h = absurd cc
+get_from_front [] (suc n) m x h = absurd cc
+get_from_front (y ∷ ys) zero m x h = absurd cc
+get_from_front (y ∷ ys) (suc n) zero x h = h
+get_from_front (y ∷ ys) (suc n) (suc m) x h = get_from_front ys n m x h
+
+-- it stands before the front's end
+pub taken_before : {X : Type 0} (xs : List X) (n m : ℕ) (x : X) → slice_get (take n xs) m ≡ Some x → m < n
+taken_before [] zero m x h = absurd cc
+taken_before [] (suc n) m x h = absurd cc
+taken_before (y ∷ ys) zero m x h = absurd cc
+taken_before (y ∷ ys) (suc n) zero x h = omega arith
+taken_before (y ∷ ys) (suc n) (suc m) x h = omega (arith, taken_before ys n m x h)

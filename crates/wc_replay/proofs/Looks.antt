@@ -1,6 +1,7 @@
 -- Looks stand between their caller's calls, as what is recorded grows.
 use Rattle.std.proofs.Common.{ℕ, ◌≡◌, ◌≤◌, ◌++◌, inl, inr, List, take, length, length-append, Some, refl, ap, sym, ◌∙◌, arith}
 use Rattle.std.proofs.lemmas.List.{take-append-le}
+use Rattle.wc_chunk.specs.declared.chunk.Chunk.{Chunk}
 use Rattle.codec_model.specs.declared.entry.Entry.{Entry}
 use Rattle.script_types.specs.declared.script.ScriptData.{ScriptData}
 use Rattle.script_types.specs.declared.steps.Step.{Step}
@@ -25,15 +26,16 @@ shows_more s w v R E g c (step.State on) (result.State k n state size) within h 
     let t = taken w v k n (g.more k) (within k n refl) in
     (h.0, h.1 ∙ ap (λ (t : List Entry). (state_after (opening_at s k) t).control.phase) t, h.2 ∙ ap (λ (t : List Entry). (state_after (opening_at s k) t).control.size) t)
 shows_more s w v R E g c (step.Configure on config) result.Absent within h = h
-shows_more s w v R E g c (step.Chunk bind init) result.Absent within h = h
+shows_more s w v R E g c (step.Chunk bind source) result.Absent within h = h
 shows_more s w v R E g c (step.Decode on chunk) result.Absent within h = h
 shows_more s w v R E g c (step.Flush on bind) result.Absent within h = h
 shows_more s w v R E g c (step.Reset on) result.Absent within h = h
 shows_more s w v R E g c (step.Close on) result.Absent within h = h
+shows_more s w v R E g c (step.Media y) result.Absent within h = h
 shows_more s w v R E g c x r within h = h
 
-pub looks_more : (s : ScriptData) (w v : Recorded) (R : ℕ → ℕ → StepResult → Type 0) (E : ℕ → ℕ → Entry → Type 0) → Grows w v R E → NewFits s w v R E → CallsAreIn s w → LooksAreIn s w → LooksAreIn s v
-looks_more s w v R E g new calls looks = record {
+pub looks_more : (s : ScriptData) (media : List (List Chunk)) (w v : Recorded) (R : ℕ → ℕ → StepResult → Type 0) (E : ℕ → ℕ → Entry → Type 0) → Grows w v R E → NewFits s media w v R E → CallsAreIn s w → LooksAreIn s w → LooksAreIn s v
+looks_more s media w v R E g new calls looks = record {
   within = λ c j k n r h l. elim (g.results c j r h) [
     | inl o ↦ omega (arith, looks.within c j k n r o l, longer k)
     | inr b ↦ omega (arith, (new.result c j r b).look k n l, longer k)

@@ -7,6 +7,7 @@ use Rattle.wc_base.specs.declared.who.By.{By}
 use Rattle.wc_base.specs.declared.who.By.TheVariants as by
 use Rattle.wc_config.specs.declared.codec.CoderId.{CoderId}
 use Rattle.coder_api.specs.declared.slot.SlotEntry.{SlotEntry}
+use Rattle.wc_chunk.specs.declared.chunk.Chunk.{Chunk}
 use Rattle.codec_model.specs.declared.entry.Call.{Call}
 use Rattle.codec_model.specs.declared.entry.Entry.{Entry}
 use Rattle.codec_model.specs.declared.entry.Entry.TheVariants as entry
@@ -94,20 +95,20 @@ on_ok_both (Ok x) P Q R f p q = f p q
 on_ok_both (Err e) P Q R f p q = tt
 
 -- what an item made, said of the player as it was
-pub item_made : (s : ScriptData) (p q : PlayerValue) (x y : OrderItem) (wants : Bool) (u : Course) → p ≡ q → y ≡ x → u ≡ follow_item s p.slots.made wants x (course p) → u ≡ follow_item s q.slots.made wants y (course q)
-item_made s p q x y wants u is same made = made ∙ rw (is, same) refl
+pub item_made : (s : ScriptData) (media : List (List Chunk)) (p q : PlayerValue) (x y : OrderItem) (wants : Bool) (u : Course) → p ≡ q → y ≡ x → u ≡ follow_item s media p.slots.made wants x (course p) → u ≡ follow_item s media q.slots.made wants y (course q)
+item_made s media p q x y wants u is same made = made ∙ rw (is, same) refl
 
-pub started : (s : ScriptData) (p : PlayerValue) (k : ℕ) (desks : List DeskValue) (slots : SlotsValue) → AreOpened s p.desks → RefusalsStand s (course p) → desks ≡ slice_set p.desks k (after_start p.slots.made k p.slots.history (desk_at k p.desks)) → slots ≡ record p.slots { history = start_slots p.slots.made k p.slots.history (desk_at k p.desks) } → course_of p.callers desks slots.history ≡ follow_item s p.slots.made false (item.Start k) (course p)
-started s p k desks slots opened stands moved went = rw (moved, went) (start_course s p.slots.made false k p.callers p.desks p.slots.history opened stands)
+pub started : (s : ScriptData) (media : List (List Chunk)) (p : PlayerValue) (k : ℕ) (desks : List DeskValue) (slots : SlotsValue) → AreOpened s p.desks → RefusalsStand s (course p) → desks ≡ slice_set p.desks k (after_start p.slots.made k p.slots.history (desk_at k p.desks)) → slots ≡ record p.slots { history = start_slots p.slots.made k p.slots.history (desk_at k p.desks) } → course_of p.callers desks slots.history ≡ follow_item s media p.slots.made false (item.Start k) (course p)
+started s media p k desks slots opened stands moved went = rw (moved, went) (start_course s media p.slots.made false k p.callers p.desks p.slots.history opened stands)
 
-pub ended : (s : ScriptData) (p : PlayerValue) (wants : Bool) (k moment : ℕ) (desks : List DeskValue) (slots : SlotsValue) → AreOpened s p.desks → desks ≡ slice_set p.desks k (after_done wants moment (desk_at k p.desks)) → slots ≡ record p.slots { history = p.slots.history ++ give_of (next_by k (desk_at k p.desks)) (done_box (desk_at k p.desks)) } → course_of p.callers desks slots.history ≡ follow_item s p.slots.made wants (item.Done k moment) (course p)
-ended s p wants k moment desks slots opened moved went = rw (moved, went) (done_course s p.slots.made wants k moment p.callers p.desks p.slots.history opened)
+pub ended : (s : ScriptData) (media : List (List Chunk)) (p : PlayerValue) (wants : Bool) (k moment : ℕ) (desks : List DeskValue) (slots : SlotsValue) → AreOpened s p.desks → desks ≡ slice_set p.desks k (after_done wants moment (desk_at k p.desks)) → slots ≡ record p.slots { history = p.slots.history ++ give_of (next_by k (desk_at k p.desks)) (done_box (desk_at k p.desks)) } → course_of p.callers desks slots.history ≡ follow_item s media p.slots.made wants (item.Done k moment) (course p)
+ended s media p wants k moment desks slots opened moved went = rw (moved, went) (done_course s media p.slots.made wants k moment p.callers p.desks p.slots.history opened)
 
-pub turned : (s : ScriptData) (p : PlayerValue) (k : ℕ) (desks : List DeskValue) (slots : SlotsValue) → AreOpened s p.desks → desks ≡ slice_set p.desks k (after_turn (desk_at k p.desks)) → slots ≡ record p.slots { history = p.slots.history ++ give_of (next_by k (desk_at k p.desks)) (turn_box (desk_at k p.desks)) } → course_of p.callers desks slots.history ≡ follow_item s p.slots.made false (item.Turn k) (course p)
-turned s p k desks slots opened moved went = rw (moved, went) (turn_course s p.slots.made false k p.callers p.desks p.slots.history opened)
+pub turned : (s : ScriptData) (media : List (List Chunk)) (p : PlayerValue) (k : ℕ) (desks : List DeskValue) (slots : SlotsValue) → AreOpened s p.desks → desks ≡ slice_set p.desks k (after_turn (desk_at k p.desks)) → slots ≡ record p.slots { history = p.slots.history ++ give_of (next_by k (desk_at k p.desks)) (turn_box (desk_at k p.desks)) } → course_of p.callers desks slots.history ≡ follow_item s media p.slots.made false (item.Turn k) (course p)
+turned s media p k desks slots opened moved went = rw (moved, went) (turn_course s media p.slots.made false k p.callers p.desks p.slots.history opened)
 
-pub reclaimed : (s : ScriptData) (p : PlayerValue) (k moment : ℕ) (desks : List DeskValue) (slots : SlotsValue) → AreOpened s p.desks → desks ≡ slice_set p.desks k (after_reclaim moment (desk_at k p.desks)) → slots ≡ record p.slots { history = p.slots.history ++ give_of (next_by k (desk_at k p.desks)) (reclaim_box moment (desk_at k p.desks)) } → course_of p.callers desks slots.history ≡ follow_item s p.slots.made false (item.Reclaim k moment) (course p)
-reclaimed s p k moment desks slots opened moved went = rw (moved, went) (reclaim_course s p.slots.made false k moment p.callers p.desks p.slots.history opened)
+pub reclaimed : (s : ScriptData) (media : List (List Chunk)) (p : PlayerValue) (k moment : ℕ) (desks : List DeskValue) (slots : SlotsValue) → AreOpened s p.desks → desks ≡ slice_set p.desks k (after_reclaim moment (desk_at k p.desks)) → slots ≡ record p.slots { history = p.slots.history ++ give_of (next_by k (desk_at k p.desks)) (reclaim_box moment (desk_at k p.desks)) } → course_of p.callers desks slots.history ≡ follow_item s media p.slots.made false (item.Reclaim k moment) (course p)
+reclaimed s media p k moment desks slots opened moved went = rw (moved, went) (reclaim_course s media p.slots.made false k moment p.callers p.desks p.slots.history opened)
 
 -- each keeps how the codec was opened
 start_opens : (made : List CoderId) (k : ℕ) (slots : List SlotEntry) (o : Option Item) (d : DeskValue) → (started_with made k slots o d).opening ≡ d.opening

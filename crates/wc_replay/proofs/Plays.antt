@@ -7,6 +7,7 @@ use Rattle.wc_base.specs.declared.who.By.{By}
 use Rattle.wc_base.specs.declared.who.By.TheVariants as by
 use Rattle.wc_config.specs.declared.codec.CoderId.{CoderId}
 use Rattle.coder_api.specs.declared.slot.SlotEntry.{SlotEntry}
+use Rattle.wc_chunk.specs.declared.chunk.Chunk.{Chunk}
 use Rattle.codec_model.specs.declared.entry.Call.{Call}
 use Rattle.codec_model.specs.declared.entry.Entry.{Entry}
 use Rattle.codec_model.specs.declared.entry.Entry.TheVariants as entry
@@ -168,8 +169,8 @@ turn_on : (callers : List (List StepResult)) (desks : List DeskValue) (slots : L
 turn_on callers desks slots k [] = unmoved_with_none callers desks slots k
 turn_on callers desks slots k (t ∷ ts) = let_go_if_course callers desks slots k entry.Turn (is_close t) (state_of (desk_at k desks)).control.running
 
-pub turn_course : (s : ScriptData) (made : List CoderId) (wants : Bool) (k : ℕ) (callers : List (List StepResult)) (desks : List DeskValue) (slots : List SlotEntry) → AreOpened s desks → course_of callers (slice_set desks k (after_turn (desk_at k desks))) (slots ++ give_of (next_by k (desk_at k desks)) (turn_box (desk_at k desks))) ≡ follow_item s made wants (item.Turn k) (course_of callers desks slots)
-turn_course s made wants k callers desks slots opened =
+pub turn_course : (s : ScriptData) (media : List (List Chunk)) (made : List CoderId) (wants : Bool) (k : ℕ) (callers : List (List StepResult)) (desks : List DeskValue) (slots : List SlotEntry) → AreOpened s desks → course_of callers (slice_set desks k (after_turn (desk_at k desks))) (slots ++ give_of (next_by k (desk_at k desks)) (turn_box (desk_at k desks))) ≡ follow_item s media made wants (item.Turn k) (course_of callers desks slots)
+turn_course s media made wants k callers desks slots opened =
     turn_on callers desks slots k (state_of (desk_at k desks)).control.tasks
     ∙ ap (λ (x : State). with_turn k x.control.running x.control.tasks (course_of callers desks slots)) (sym (state_desk s k callers desks slots opened))
 
@@ -177,8 +178,8 @@ reclaim_on : (callers : List (List StepResult)) (desks : List DeskValue) (slots 
 reclaim_on callers desks slots k moment running true = let_go_course callers desks slots k (entry.Reclaim moment) running
 reclaim_on callers desks slots k moment running false = unmoved_with_none callers desks slots k
 
-pub reclaim_course : (s : ScriptData) (made : List CoderId) (wants : Bool) (k moment : ℕ) (callers : List (List StepResult)) (desks : List DeskValue) (slots : List SlotEntry) → AreOpened s desks → course_of callers (slice_set desks k (after_reclaim moment (desk_at k desks))) (slots ++ give_of (next_by k (desk_at k desks)) (reclaim_box moment (desk_at k desks))) ≡ follow_item s made wants (item.Reclaim k moment) (course_of callers desks slots)
-reclaim_course s made wants k moment callers desks slots opened =
+pub reclaim_course : (s : ScriptData) (media : List (List Chunk)) (made : List CoderId) (wants : Bool) (k moment : ℕ) (callers : List (List StepResult)) (desks : List DeskValue) (slots : List SlotEntry) → AreOpened s desks → course_of callers (slice_set desks k (after_reclaim moment (desk_at k desks))) (slots ++ give_of (next_by k (desk_at k desks)) (reclaim_box moment (desk_at k desks))) ≡ follow_item s media made wants (item.Reclaim k moment) (course_of callers desks slots)
+reclaim_course s media made wants k moment callers desks slots opened =
     let c = (state_of (desk_at k desks)).control in
     reclaim_on callers desks slots k moment c.running (may_reclaim moment c)
     ∙ ap (λ (x : State). with_reclaim k moment x.control (course_of callers desks slots)) (sym (state_desk s k callers desks slots opened))
@@ -198,8 +199,8 @@ done_on wants moment callers desks slots k t (Some r) =
     kept_on callers desks slots k (entry.Done r.epoch r.number moment (outcome_for wants d.holding.refusal (answer_to r.kind t.running_given))) (r.epoch == t.control.epoch)
     ∙ ap (λ (h : Holding). recording (with_entry k (entry.Done r.epoch r.number moment (outcome_for wants h.refusal (answer_to r.kind t.running_given)))) (keeps_box (r.epoch == t.control.epoch) k (course_of callers desks slots))) (sym (holding_desk k desks))
 
-pub done_course : (s : ScriptData) (made : List CoderId) (wants : Bool) (k moment : ℕ) (callers : List (List StepResult)) (desks : List DeskValue) (slots : List SlotEntry) → AreOpened s desks → course_of callers (slice_set desks k (after_done wants moment (desk_at k desks))) (slots ++ give_of (next_by k (desk_at k desks)) (done_box (desk_at k desks))) ≡ follow_item s made wants (item.Done k moment) (course_of callers desks slots)
-done_course s made wants k moment callers desks slots opened =
+pub done_course : (s : ScriptData) (media : List (List Chunk)) (made : List CoderId) (wants : Bool) (k moment : ℕ) (callers : List (List StepResult)) (desks : List DeskValue) (slots : List SlotEntry) → AreOpened s desks → course_of callers (slice_set desks k (after_done wants moment (desk_at k desks))) (slots ++ give_of (next_by k (desk_at k desks)) (done_box (desk_at k desks))) ≡ follow_item s media made wants (item.Done k moment) (course_of callers desks slots)
+done_course s media made wants k moment callers desks slots opened =
     let t = state_of (desk_at k desks) in
     done_on wants moment callers desks slots k t t.control.running
     ∙ ap (λ (x : State). with_done wants k moment x x.control.running (course_of callers desks slots)) (sym (state_desk s k callers desks slots opened))
@@ -252,8 +253,8 @@ none_refused s v k i (Some e) stands starts is =
     busy : (c : Control) (r : Running) → c.running ≡ Some r → may_start c ≡ true → ⊥
     busy c r is may = let no : false ≡ true = sym (rw is refl) ∙ may in absurd cc
 
-pub start_course : (s : ScriptData) (made : List CoderId) (wants : Bool) (k : ℕ) (callers : List (List StepResult)) (desks : List DeskValue) (slots : List SlotEntry) → AreOpened s desks → RefusalsStand s (course_of callers desks slots) → course_of callers (slice_set desks k (after_start made k slots (desk_at k desks))) (start_slots made k slots (desk_at k desks)) ≡ follow_item s made wants (item.Start k) (course_of callers desks slots)
-start_course s made wants k callers desks slots opened stands =
+pub start_course : (s : ScriptData) (media : List (List Chunk)) (made : List CoderId) (wants : Bool) (k : ℕ) (callers : List (List StepResult)) (desks : List DeskValue) (slots : List SlotEntry) → AreOpened s desks → RefusalsStand s (course_of callers desks slots) → course_of callers (slice_set desks k (after_start made k slots (desk_at k desks))) (start_slots made k slots (desk_at k desks)) ≡ follow_item s media made wants (item.Start k) (course_of callers desks slots)
+start_course s media made wants k callers desks slots opened stands =
     let v = course_of callers desks slots in
     let t = state_of (desk_at k desks) in
     let state = state_desk s k callers desks slots opened in

@@ -25,7 +25,7 @@ use Rattle.script_types.specs.declared.steps.Step.{Step}
 use Rattle.script_types.specs.declared.steps.Step.TheVariants as step
 use Rattle.trace_text.specs.declared.run.StepResult.{StepResult}
 use Rattle.trace_text.specs.declared.run.StepResult.TheVariants as result
-use Rattle.trace_text.specs.Follow.{Recorded, Course, Holding, at, append_at, with_result, with_entry, opening_at, state_after, state_at, steps_of, chunk_at, init_error, with_call, with_state, removes, with_removal, with_decode, with_look, with_box, keeps_box, lets_go, lets_go_if, lets_go_unless, with_start, with_done, with_turn, recording, holding_at, outcome_for, follow_step}
+use Rattle.trace_text.specs.Follow.{Recorded, Course, Holding, at, append_at, with_result, with_entry, opening_at, state_after, state_at, steps_of, chunk_at, source_error, with_call, with_state, removes, with_removal, with_decode, with_look, with_box, keeps_box, lets_go, lets_go_if, lets_go_unless, with_start, with_done, with_turn, recording, holding_at, outcome_for, follow_step}
 use Rattle.wc_replay.proofs.Lists.{there}
 use Rattle.wc_replay.proofs.Legal.{Legals, Steps, MayBeRefused, cond_some, call_legal, start_legal, done_legal, turn_legal, reclaim_legal}
 use Rattle.wc_replay.proofs.Courses.{StateStays, StateSteps, Eases, NeedsBox, eases_itself, RefusalsStand, state_more, state_steps, entry_keeps, same_keeps, refusals_stay, no_more, with_box_parts, with_box_others, keeps_box_eases, keeps_box_clears, lets_go_eases, lets_go_if_eases, lets_go_unless_eases}
@@ -71,16 +71,17 @@ removal_stands s who k e v legal stand steps keeps =
     let c = (state_at s v.recorded k).control in
     eased_entry s v (lets_go_unless (removal_error c) k c.running v) k e legal stand steps (lets_go_unless_eases (removal_error c) k c.running v) keeps (removes s who k e) refl
 
-pub step_stands : (s : ScriptData) (who : Who) (x : Step) (v : Course) → Legals s v.recorded → RefusalsStand s v → RefusalsStand s (follow_step s who x v)
-step_stands s who (step.Configure on config) v legal stand = call_stands s who on (call.Configure config) v legal stand
-step_stands s who (step.Chunk bind init) v legal stand = quiet_stands s v (with_result who.caller (result.Local (init_error init))) stand refl
-step_stands s who (step.Decode on chunk) v legal stand = decode_stands s who on (chunk_at (steps_of s who.caller) chunk.step) v legal stand
-step_stands s who (step.Flush on bind) v legal stand = call_stands s who on call.Flush v legal stand
-step_stands s who (step.Poll promise) v legal stand = quiet_stands s v (with_look s who (slice_get (at who.caller v.recorded.callers) promise.step)) stand (look_codecs s who (slice_get (at who.caller v.recorded.callers) promise.step) v.recorded)
-step_stands s who (step.Await promise) v legal stand = quiet_stands s v (with_look s who (slice_get (at who.caller v.recorded.callers) promise.step)) stand (look_codecs s who (slice_get (at who.caller v.recorded.callers) promise.step) v.recorded)
-step_stands s who (step.Reset on) v legal stand = removal_stands s who on (entry.Reset who) v legal stand refl (λ a b h. reset_keeps_running who a b h)
-step_stands s who (step.Close on) v legal stand = removal_stands s who on (entry.Close who) v legal stand refl (λ a b h. close_keeps_running who a b h)
-step_stands s who (step.State on) v legal stand = quiet_stands s v (with_state s who on) stand refl
+pub step_stands : (s : ScriptData) (media : List (List Chunk)) (who : Who) (x : Step) (v : Course) → Legals s v.recorded → RefusalsStand s v → RefusalsStand s (follow_step s media who x v)
+step_stands s media who (step.Configure on config) v legal stand = call_stands s who on (call.Configure config) v legal stand
+step_stands s media who (step.Chunk bind source) v legal stand = quiet_stands s v (with_result who.caller (result.Local (source_error source))) stand refl
+step_stands s media who (step.Decode on chunk) v legal stand = decode_stands s who on (chunk_at media (steps_of s who.caller) chunk.step) v legal stand
+step_stands s media who (step.Flush on bind) v legal stand = call_stands s who on call.Flush v legal stand
+step_stands s media who (step.Poll promise) v legal stand = quiet_stands s v (with_look s who (slice_get (at who.caller v.recorded.callers) promise.step)) stand (look_codecs s who (slice_get (at who.caller v.recorded.callers) promise.step) v.recorded)
+step_stands s media who (step.Await promise) v legal stand = quiet_stands s v (with_look s who (slice_get (at who.caller v.recorded.callers) promise.step)) stand (look_codecs s who (slice_get (at who.caller v.recorded.callers) promise.step) v.recorded)
+step_stands s media who (step.Reset on) v legal stand = removal_stands s who on (entry.Reset who) v legal stand refl (λ a b h. reset_keeps_running who a b h)
+step_stands s media who (step.Close on) v legal stand = removal_stands s who on (entry.Close who) v legal stand refl (λ a b h. close_keeps_running who a b h)
+step_stands s media who (step.State on) v legal stand = quiet_stands s v (with_state s who on) stand refl
+step_stands s media who (step.Media x) v legal stand = stand
 
 -- the state of another codec is as it was
 other_state : (s : ScriptData) (w v : Recorded) (k : ℕ) (e : Entry) → Legals s w → Steps e (state_at s w k) → v.codecs ≡ append_at k e w.codecs → (n : ℕ) → n ≢ k → state_at s v n ≡ state_at s w n

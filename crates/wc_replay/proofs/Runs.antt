@@ -1,6 +1,7 @@
 -- A run that follows the order of a sound script is legal.
 use Rattle.std.proofs.Common.{ℕ, zero, suc, ◌≡◌, List, [], ◌∷◌, map, sym, subst, ◌∙◌}
 use Rattle.std.proofs.lemmas.List.{length-map}
+use Rattle.wc_chunk.specs.declared.chunk.Chunk.{Chunk}
 use Rattle.codec_model.specs.declared.entry.Opening.{Opening}
 use Rattle.codec_model.specs.Replay.{IsLegal}
 use Rattle.wc_config.specs.declared.codec.CoderId.{CoderId}
@@ -29,9 +30,9 @@ legal_traces (c ∷ cs) (t ∷ ts) shown legal = (
 )
 
 -- A run that follows the order of a sound script, with traces that show what they must and nothing held, is legal.
-pub legal_run_of : (s : ScriptData) → IsSound s → (made : List CoderId) (run : Run) → FollowsTheOrder s made run → AreShownTraces s.codecs run.codecs → run.held ≡ 0 → IsLegalRun s run
-legal_run_of s sound made run follows shown held = record {
-  callers = sym (length-map run.callers (λ (c : CallerTrace). c.results)) ∙ (order_makes s sound made run follows).callers;
-  codecs = legal_traces s.codecs run.codecs shown (λ k. legal_of s sound made run follows k);
+pub legal_run_of : (s : ScriptData) (media : List (List Chunk)) → IsSound s → (made : List CoderId) (run : Run) → FollowsTheOrder s media made run → AreShownTraces s.codecs run.codecs → run.held ≡ 0 → IsLegalRun s run
+legal_run_of s media sound made run follows shown held = record {
+  callers = sym (length-map run.callers (λ (c : CallerTrace). c.results)) ∙ (order_makes s media sound made run follows).callers;
+  codecs = legal_traces s.codecs run.codecs shown (λ k. legal_of s media sound made run follows k);
   held = held;
 }

@@ -1,5 +1,5 @@
 -- A replay: its codecs, its callers and its registry.
-use Rattle.std.specs.Prelude.{ℕ, ◌≡◌, ◌<◌, List, [], ◌∷◌, map, length, slice_get, unwrap_or, Option, Some, None}
+use Rattle.std.specs.Prelude.{ℕ, ◌≡◌, ◌<◌, ◌&&◌, nat_le, Bool, List, [], ◌∷◌, map, length, slice_get, unwrap_or, Option, Some, None}
 use Rattle.codec_model.specs.declared.entry.Kind.TheVariants as kind
 use Rattle.codec_model.specs.declared.entry.Opening.{Opening}
 use Rattle.coder_api.specs.declared.slot.SlotEntry.{SlotEntry}
@@ -17,10 +17,11 @@ use Rattle.trace_text.specs.declared.run.CodecTrace.{CodecTrace}
 use Rattle.trace_text.specs.declared.run.Run.{Run}
 use Rattle.trace_text.specs.declared.run.StepResult.{StepResult}
 use Rattle.trace_text.specs.declared.run.StepResult.TheVariants as result
-use Rattle.trace_text.specs.Fits.{step_in, called}
-use Rattle.trace_text.specs.Follow.{Course, nothing_held, holding_at, next_cause, opening_of, opening_at, promise_after}
+use Rattle.trace_text.specs.Fits.{step_in}
+use Rattle.trace_text.specs.Follow.{order_items, Course, nothing_held, holding_at, next_cause, opening_of, opening_at, promise_after}
 use Rattle.wc_replay.specs.Boxes.{IsGivable}
 use Rattle.wc_replay.specs.Desk.{DeskValue, state_of}
+use Rattle.wc_replay.specs.Sound.{IsSound}
 
 -- the codecs, each caller's results so far, and the registry
 pub record PlayerValue : Type 0 where
@@ -71,11 +72,13 @@ abbrev pub LooksInRange : ℕ → Step → Type 0
 LooksInRange n (step.State k) = k < n
 LooksInRange n x = Unit {0}
 
--- Each step of the callers names codecs of the script, and its number fits in 32 bits.
+-- The script is sound, each look at a state names one of its codecs, each step's number fits in 32 bits, and every item of
+-- the order names one of the codecs, if it names one.
 pub record IsPlayable (s : ScriptData) : Type 0 where
-  pub calls : (c j k : ℕ) (x : Step) → step_in s c j ≡ Some x → called x ≡ Some k → k < length s.codecs
+  pub sound : IsSound s
   pub looks : (c j : ℕ) (x : Step) → step_in s c j ≡ Some x → LooksInRange (length s.codecs) x
   pub few : (c j : ℕ) (x : Step) → step_in s c j ≡ Some x → j < 4294967296
+  pub items : (i : ℕ) (x : OrderItem) → slice_get (order_items s) i ≡ Some x → IsInRange (length s.codecs) x
 
 -- the codec and the place of a call, if the result is one
 abbrev pub call_in : Option StepResult → Option (ℕ × ℕ)
@@ -96,6 +99,10 @@ state_look k desks = let c = (state_of (desk_at k desks)).control in result.Stat
 
 -- ---- the beginning and the end of a replay
 
+-- a codec's saturation number is one that codecs are opened with
+abbrev pub is_openable : CodecItem → Bool
+is_openable c = nat_le 1 c.saturation && nat_le c.saturation 64
+
 -- a codec of the script, with an empty history
 abbrev pub new_desk : CodecItem → DeskValue
 new_desk c = record { opening = opening_of c; history = []; holding = nothing_held }
@@ -103,10 +110,6 @@ new_desk c = record { opening = opening_of c; history = []; holding = nothing_he
 -- a caller of the script, none of whose steps is made
 abbrev pub new_results : CallerItem → List StepResult
 new_results c = []
-
--- every item of the order names one of the script's codecs, if it names one
-abbrev pub AreInRange : ScriptData → Type 0
-AreInRange s = (i : ℕ) (x : OrderItem) → slice_get s.order i ≡ Some x → IsInRange (length s.codecs) x
 
 abbrev pub trace_of : DeskValue → CodecTrace
 trace_of d = record { opening = d.opening; entries = d.history; shown = each_shown d.opening d.history }

@@ -2,6 +2,7 @@
 #![tactic(auto)]
 
 mod boxes;
+mod chunks;
 mod desk;
 mod events;
 mod laws;

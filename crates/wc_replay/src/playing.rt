@@ -1,11 +1,11 @@
 // Replays a script.
-ghost use Rattle.std.specs.Prelude.{◌≡◌, ◌≤◌, [], IfOk, OnOk, map, length, true};
+ghost use Rattle.std.specs.Prelude.{◌≡◌, ◌≤◌, [], IfOk, OnOk, IsSome, None, map, length, true};
 ghost use Rattle.std.specs.List.{list_all};
 ghost use Rattle.trace_text.specs.Fits.{IsLegalRun, Fits, FollowsTheOrder};
-ghost use Rattle.trace_text.specs.Follow.{Follows, nothing_yet, opening_of, kind_of_word};
-ghost use Rattle.wc_replay.specs.Player.{course, AreOpened, KeepsShape, IsPlayable, AreInRange, new_desk, new_results, trace_of, caller_trace, IsRunOf, AreShownTraces};
-ghost use Rattle.wc_replay.specs.Sound.{IsSound};
-ghost use Rattle.script_types.specs.Sound.{is_built, is_built_codec};
+ghost use Rattle.trace_text.specs.Follow.{Follows, nothing_yet, opening_of, kind_of_word, order_items};
+ghost use Rattle.trace_text.specs.Missing.{missing_in};
+ghost use Rattle.wc_replay.specs.Player.{course, AreOpened, KeepsShape, IsPlayable, is_openable, new_desk, new_results, trace_of, caller_trace, IsRunOf, AreShownTraces};
+ghost use Rattle.script_types.specs.Built.{unbuilt_in};
 
 use crate::desk::Desk;
 use crate::events::append;
@@ -17,7 +17,8 @@ use slot_registry::Slots;
 use std::alloc::Global;
 use trace_text::{CallerTrace, CodecTrace, Run};
 use wc_base::{List, NoMemory};
-use script_types::{CallerItem, CodecItem, KindWord, ScriptData};
+use wc_chunk::Chunk;
+use script_types::{CallerItem, CodecItem, KindWord, OrderItem, Script, ScriptData};
 
 fn kind_of_word(word: KindWord) -> Kind
     ensures { result ≡ kind_of_word word }
@@ -40,7 +41,7 @@ fn opening_of(codec: &CodecItem) -> Opening
 
 /// A codec of the script, with an empty history.
 fn open_desk<C: Coder>(alloc: Global, codec: &CodecItem) -> Result<Desk<C>, NoMemory>
-    requires { is_built_codec codec.now ≡ true }
+    requires { is_openable codec.now ≡ true }
     ensures { IfOk result (λ d. d ≡ new_desk codec.now) }
 {
     Desk::open(alloc, opening_of(codec))
@@ -48,7 +49,7 @@ fn open_desk<C: Coder>(alloc: Global, codec: &CodecItem) -> Result<Desk<C>, NoMe
 
 /// The codecs of a script, each with an empty history.
 fn open_desks<C: Coder>(alloc: Global, codecs: &[CodecItem]) -> Result<Vec<Desk<C>>, NoMemory>
-    requires { list_all is_built_codec codecs.now ≡ true }
+    requires { list_all is_openable codecs.now ≡ true }
     ensures { IfOk result (λ desks. desks.items ≡ map new_desk codecs.now) }
 {
     let mut desks = Vec::new(alloc);
@@ -70,22 +71,31 @@ fn open_callers(alloc: Global, callers: &[CallerItem]) -> Result<Vec<Results>, N
     Ok(results)
 }
 
+/// The items of the script's order; none where there is no order.
+fn items_of(script: &ScriptData) -> &[OrderItem]
+    ensures { result.now ≡ order_items script.now }
+{
+    match &script.order {
+        Some(items) => items.as_slice(),
+        None => &[],
+    }
+}
+
 /// Takes the items of the order, one after another.
 fn take_items<C: Coder>(
     player: &mut Player<C>,
     alloc: Global,
     script: &ScriptData,
+    media: &[List<Chunk>],
 ) -> Result<(), NoMemory>
     requires opened { AreOpened script.now player.old.desks }
     requires playable { IsPlayable script.now }
-    requires sound { IsSound script.now }
-    requires range { AreInRange script.now }
     requires nothing { course player.old ≡ nothing_yet script.now }
-    ensures made { OnOk result (Follows script.now player.old.slots.made script.now.order (course player.old) (course player.new)) }
+    ensures made { OnOk result (Follows script.now media.now player.old.slots.made (order_items script.now) (course player.old) (course player.new)) }
     ensures shape { OnOk result (KeepsShape player.old player.new) }
 {
-    for item in script.order.as_slice() {
-        player.take(alloc, script, *item)?;
+    for item in items_of(script) {
+        player.take(alloc, script, media, *item)?;
     }
     Ok(())
 }
@@ -132,7 +142,7 @@ fn open_player<C: Coder>(
     script: &ScriptData,
     coders: Vec<C>,
 ) -> Result<Player<C>, NoMemory>
-    requires { list_all is_built_codec script.now.codecs ≡ true }
+    requires { list_all is_openable script.now.codecs ≡ true }
     ensures opened { IfOk result (λ p. AreOpened script.now p.desks) }
     ensures nothing { IfOk result (λ p. course p ≡ nothing_yet script.now) }
     ensures made { IfOk result (λ p. p.slots.made ≡ map C.coder coders.items) }
@@ -162,27 +172,41 @@ fn run_of<C: Coder>(alloc: Global, player: Player<C>) -> Result<Run, NoMemory>
 }
 
 /// Follows the script's order item after item.
-fn play<C: Coder>(alloc: Global, script: &ScriptData, coders: Vec<C>) -> Result<Run, NoMemory>
-    requires codecs { list_all is_built_codec script.now.codecs ≡ true }
+fn play<C: Coder>(
+    alloc: Global,
+    script: &ScriptData,
+    media: &[List<Chunk>],
+    coders: Vec<C>,
+) -> Result<Run, NoMemory>
+    requires codecs { list_all is_openable script.now.codecs ≡ true }
     requires playable { IsPlayable script.now }
-    requires sound { IsSound script.now }
-    requires range { AreInRange script.now }
-    ensures follows { IfOk result (λ run. FollowsTheOrder script.now (map C.coder coders.items) run) }
+    ensures follows { IfOk result (λ run. FollowsTheOrder script.now media.now (map C.coder coders.items) run) }
     ensures shows { IfOk result (λ run. AreShownTraces script.now.codecs run.codecs) }
     ensures held { IfOk result (λ run. run.held ≡ 0) }
 {
     let mut player = open_player(alloc, script, coders)?;
-    take_items(&mut player, alloc, script)?;
+    take_items(&mut player, alloc, script, media)?;
     run_of(alloc, player)
 }
 
 /// Follows the script's order item after item, with these coders for its codecs: each item is a caller's next step, the
 /// start or end of a work item, the turn of an event task, or a reclaim; one that finds nothing to do is passed over. The
 /// answer is a legal run that fits the script.
-pub fn replay<C: Coder>(alloc: Global, script: &ScriptData, coders: Vec<C>) -> Result<Run, NoMemory>
-    requires { is_built script.now ≡ true }
+///
+/// The script has an order, and each of its codec kinds and steps is built. `media` has the chunks of each of the script's
+/// chunk files, in their order, and each chunk that a step takes is there.
+pub fn replay<C: Coder>(
+    alloc: Global,
+    script: &Script,
+    media: &[List<Chunk>],
+    coders: Vec<C>,
+) -> Result<Run, NoMemory>
+    requires order { IsSome script.now.order }
+    requires built { unbuilt_in script.now ≡ None }
+    requires files { length media.now ≡ length script.now.chunk_files }
+    requires chunks { missing_in script.now media.now ≡ None }
     ensures legal { IfOk result (λ run. IsLegalRun script.now run) }
-    ensures fits { IfOk result (λ run. Fits script.now (map C.coder coders.items) run) }
+    ensures fits { IfOk result (λ run. Fits script.now media.now (map C.coder coders.items) run) }
 {
-    play(alloc, script, coders)
+    play(alloc, script.data(), media, coders)
 }

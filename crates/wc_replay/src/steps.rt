@@ -2,12 +2,13 @@
 ghost use Rattle.std.specs.Prelude.{◌≡◌, ◌≤◌, ◌<◌, Bool, false, Some, OnOk, IfOk, length, slice_get, option_copied};
 ghost use Rattle.codec_model.specs.declared.entry.Entry.TheVariants as entry;
 ghost use Rattle.trace_text.specs.Fits.{called};
-ghost use Rattle.trace_text.specs.Follow.{recording, with_call, with_decode, with_look, with_state, with_result, with_removal, follow_step, follow_item, steps_of, chunk_at, init_error, chunk_of, chunk_by};
+ghost use Rattle.trace_text.specs.Follow.{recording, with_call, with_decode, with_look, with_state, with_result, with_removal, follow_step, follow_item, steps_of, source_error};
 ghost use Rattle.trace_text.specs.declared.run.StepResult.TheVariants as came;
 ghost use Rattle.script_types.specs.declared.script.OrderItem.TheVariants as item;
 ghost use Rattle.wc_replay.specs.Player.{course, AreOpened, KeepsShape, AreHeld, IsInRange, IsPlayable, call_in, look_at};
 ghost use Rattle.wc_replay.specs.Refusals.{RefusalsStand};
 
+use crate::chunks::find_chunk;
 use crate::desk::Desk;
 use crate::moving::{call_at, close_at, done_at, reclaim_at, reset_at, start_at, turn_at};
 use crate::results::{Results, made_by, note, result_of};
@@ -17,9 +18,9 @@ use slot_registry::Slots;
 use std::alloc::Global;
 use std::marker::Model;
 use trace_text::StepResult;
-use wc_base::{DomError, NoMemory, Who};
+use wc_base::{DomError, List, NoMemory, Who};
 use wc_chunk::Chunk;
-use script_types::{ChunkInit, OrderItem, ScriptData, Step};
+use script_types::{ChunkSource, OrderItem, ScriptData, Step};
 
 /// The codecs, each caller's results so far, and the registry of the boxes.
 #[derive(Drop)]
@@ -37,48 +38,14 @@ impl<C: Coder> Model for Player<C> {
     ghost view = { λ p. record { desks = p.desks.items; callers = p.callers.items; slots = p.slots } };
 }
 
-/// The chunk that an init makes.
-fn chunk_with(init: &ChunkInit) -> Result<Chunk, NoMemory>
-    ensures { IfOk result (λ c. c ≡ chunk_of init.now) }
+/// The exception of a chunk's init; a chunk of a file has none.
+fn local_result(source: &ChunkSource) -> StepResult
+    ensures { result ≡ came.Local (source_error source.now) }
 {
-    Ok(Chunk {
-        key: init.key,
-        timestamp: init.timestamp,
-        duration: init.duration,
-        bytes: init.content.clone()?,
-    })
-}
-
-/// The chunk that a step makes, if it makes one.
-fn chunk_made(step: &Step) -> Result<Option<Chunk>, NoMemory>
-    ensures { IfOk result (λ o. o ≡ chunk_by step.now) }
-{
-    match step {
-        Step::Chunk {
-            bind: _,
-            init: Some(init),
-        } => Ok(Some(chunk_with(init)?)),
-        _ => Ok(None),
-    }
-}
-
-/// The chunk of the variable that the step with this number defines.
-fn find_chunk(steps: &[Step], step: u32) -> Result<Option<Chunk>, NoMemory>
-    ensures { IfOk result (λ o. o ≡ chunk_at steps.now step) }
-{
-    match steps.get(step as usize) {
-        Some(step) => chunk_made(step),
-        None => Ok(None),
-    }
-}
-
-/// The exception of a chunk's init.
-fn local_result(init: &Option<ChunkInit>) -> StepResult
-    ensures { result ≡ came.Local (init_error init.now) }
-{
-    let error = match init {
-        Some(_) => None,
-        None => Some(DomError::TypeErr),
+    let error = match source {
+        ChunkSource::Init(None) => Some(DomError::TypeErr),
+        ChunkSource::Init(Some(_)) => None,
+        ChunkSource::File { file: _, index: _ } => None,
     };
     StepResult::Local { error }
 }
@@ -277,11 +244,12 @@ impl<C: Coder> Player<C> {
         note(&mut self.callers, who.caller, came)
     }
 
-    /// A step of a caller, one of these steps of its own.
+    /// A step of a caller, one of these steps of its own. A step on media is not built, and makes nothing.
     fn step(
         &mut self,
         alloc: Global,
         script: &ScriptData,
+        media: &[List<Chunk>],
         steps: &[Step],
         who: Who,
         step: &Step,
@@ -291,7 +259,7 @@ impl<C: Coder> Player<C> {
         requires range { (k : Rattle.std.specs.Prelude.ℕ) → called step.now ≡ Some k → k < length self.old.desks }
         requires state { Rattle.wc_replay.specs.Player.LooksInRange (length self.old.desks) step.now }
         requires held { AreHeld (course self.old) }
-        ensures made { OnOk result (course self.new ≡ follow_step script.now who step.now (course self.old)) }
+        ensures made { OnOk result (course self.new ≡ follow_step script.now media.now who step.now (course self.old)) }
         ensures shape { OnOk result (KeepsShape self.old self.new) }
     {
         match step {
@@ -299,9 +267,9 @@ impl<C: Coder> Player<C> {
                 let call = Call::Configure(config.copy()?);
                 self.call(alloc, script, who, *on, call)
             }
-            Step::Chunk { bind: _, init } => self.came_to(who, local_result(init)),
+            Step::Chunk { bind: _, source } => self.came_to(who, local_result(source)),
             Step::Decode { on, chunk } => {
-                let chunk = find_chunk(steps, chunk.step)?;
+                let chunk = find_chunk(media, steps, chunk.step)?;
                 self.decode(alloc, script, who, *on, chunk)
             }
             Step::Flush { on, bind: _ } => self.call(alloc, script, who, *on, Call::Flush),
@@ -310,15 +278,22 @@ impl<C: Coder> Player<C> {
             Step::Reset { on } => self.reset(alloc, script, who, *on),
             Step::Close { on } => self.close(alloc, script, who, *on),
             Step::State { on } => self.look_at_state(script, who, *on),
+            Step::Media(_) => Ok(()),
         }
     }
 
     /// The next step of a caller, if it has one.
-    fn next(&mut self, alloc: Global, script: &ScriptData, caller: u32) -> Result<(), NoMemory>
+    fn next(
+        &mut self,
+        alloc: Global,
+        script: &ScriptData,
+        media: &[List<Chunk>],
+        caller: u32,
+    ) -> Result<(), NoMemory>
         requires opened { AreOpened script.now self.old.desks }
         requires playable { IsPlayable script.now }
         requires held { AreHeld (course self.old) }
-        ensures made { OnOk result (course self.new ≡ follow_item script.now self.old.slots.made false (item.Caller caller) (course self.old)) }
+        ensures made { OnOk result (course self.new ≡ follow_item script.now media.now self.old.slots.made false (item.Caller caller) (course self.old)) }
         ensures shape { OnOk result (KeepsShape self.old self.new) }
     {
         let steps = steps_of(script, caller);
@@ -329,7 +304,7 @@ impl<C: Coder> Player<C> {
                     caller,
                     step: number as u32,
                 };
-                self.step(alloc, script, steps, who, step)
+                self.step(alloc, script, media, steps, who, step)
             }
             None => Ok(()),
         }
@@ -340,6 +315,7 @@ impl<C: Coder> Player<C> {
         &mut self,
         alloc: Global,
         script: &ScriptData,
+        media: &[List<Chunk>],
         item: OrderItem,
     ) -> Result<(), NoMemory>
         requires opened { AreOpened script.now self.old.desks }
@@ -347,11 +323,11 @@ impl<C: Coder> Player<C> {
         requires range { IsInRange (length self.old.desks) item }
         requires held { AreHeld (course self.old) }
         requires stands { RefusalsStand script.now (course self.old) }
-        ensures made { OnOk result ((wants : Bool) × (course self.new ≡ follow_item script.now self.old.slots.made wants item (course self.old))) }
+        ensures made { OnOk result ((wants : Bool) × (course self.new ≡ follow_item script.now media.now self.old.slots.made wants item (course self.old))) }
         ensures shape { OnOk result (KeepsShape self.old self.new) }
     {
         match item {
-            OrderItem::Caller(caller) => self.next(alloc, script, caller),
+            OrderItem::Caller(caller) => self.next(alloc, script, media, caller),
             OrderItem::Start(codec) => start_at(&mut self.desks, &mut self.slots, codec, alloc),
             OrderItem::Done { codec, at } => {
                 done_at(&mut self.desks, &mut self.slots, codec, alloc, at)

@@ -1,9 +1,8 @@
 use Rattle.std.proofs.Common.{◌++◌, ◌∷◌, [], length, refl, ap, ◌∙◌}
 use Rattle.std.proofs.lemmas.Option.{slice_get_read}
-use Rattle.script_types.specs.Sound.{is_built_codec}
 use Rattle.wc_replay.specs.Desk.{DeskValue}
-use Rattle.wc_replay.specs.Player.{new_desk}
-use Rattle.wc_replay.proofs.Built.{all_at}
+use Rattle.wc_replay.specs.Player.{is_openable, new_desk}
+use Rattle.script_types.proofs.SoundLaws.{all_at}
 use Rattle.wc_replay.proofs.Ends.{next_made, whole_made}
 use Rattle.wc_replay.proofs.playing.open_desks.Goals as goal
 
@@ -11,7 +10,7 @@ pub open_desk-requires-after_bounds : goal.open_desk-requires-after_bounds
 open_desk-requires-after_bounds g c κs within =
     let xs = c.args.codecs.now in
     let x = c.codec-item.result in
-    all_at is_built_codec xs c.loop-codec.codec-index x c.requires (slice_get_read xs (length xs) c.loop-codec.codec-index x refl c.loop-codec-test.true c.codec-item.is)
+    all_at is_openable xs c.loop-codec.codec-index x c.requires (slice_get_read xs (length xs) c.loop-codec.codec-index x refl c.loop-codec-test.true c.codec-item.is)
 
 pub loop-codec-preserved : goal.loop-codec-preserved
 loop-codec-preserved g c =

@@ -1,8 +1,8 @@
 use Rattle.std.proofs.Common.{refl, sym, ap, ◌∙◌}
+use Rattle.std.proofs.lemmas.Result.{on_ok_weaker}
 use Rattle.trace_text.specs.declared.run.StepResult.{StepResult}
 use Rattle.trace_text.specs.Follow.{recording, with_result}
 use Rattle.wc_replay.specs.Player.{course}
-use Rattle.wc_replay.proofs.Desks.{on_ok_map}
 use Rattle.wc_replay.proofs.Players.{state_made}
 use Rattle.wc_replay.proofs.steps.Player.look_at_state.Goals as goal
 
@@ -10,5 +10,5 @@ pub returns-clause-made : goal.returns-clause-made
 returns-clause-made g c =
     let s = c.args.script.now in
     let p = c.args.self.now in
-    on_ok_map c.came_to.result _ _
+    on_ok_weaker c.came_to.result
     (λ made. made ∙ (ap (λ (r : StepResult). recording (with_result c.args.who.caller r) (course p)) (c.state_result-came.ensures ∙ rw (sym c.self.view_is, c.deref.ensures.value) refl) ∙ state_made s c.args.who p c.args.codec c.requires.opened)) c.came_to.ensures.made

@@ -19,7 +19,7 @@ returns-in-Start-clause-made g c =
     let p : PlayerValue = record { desks = v.desks.items; callers = v.callers.items; slots = v.slots } in
     let k = c.in-Start.codec in
     let opened : AreOpened c.args.script.now p.desks = subst (λ (q : PlayerValue). AreOpened c.args.script.now q.desks) (sym c.self.view_is) c.requires.opened in
-    on_ok_both c.start_at.result _ _ _ (λ moved went. (false, item_made c.args.script.now p c.args.self.now (item.Start k) c.args.item false _ c.self.view_is c.in-Start.is (started c.args.script.now p k c.start_at.new.desks.items c.start_at.new.slots opened (subst (λ (q : PlayerValue). RefusalsStand c.args.script.now (course q)) (sym c.self.view_is) c.requires.stands) moved went))) c.start_at.ensures.made c.start_at.ensures.slots
+    on_ok_both c.start_at.result _ _ _ (λ moved went. (false, item_made c.args.script.now c.args.media.now p c.args.self.now (item.Start k) c.args.item false _ c.self.view_is c.in-Start.is (started c.args.script.now c.args.media.now p k c.start_at.new.desks.items c.start_at.new.slots opened (subst (λ (q : PlayerValue). RefusalsStand c.args.script.now (course q)) (sym c.self.view_is) c.requires.stands) moved went))) c.start_at.ensures.made c.start_at.ensures.slots
 
 pub returns-in-Start-clause-shape : goal.returns-in-Start-clause-shape
 returns-in-Start-clause-shape g c =
@@ -41,7 +41,7 @@ returns-in-Done-clause-made g c =
     let p : PlayerValue = record { desks = v.desks.items; callers = v.callers.items; slots = v.slots } in
     let k = c.in-Done.codec in
     let opened : AreOpened c.args.script.now p.desks = subst (λ (q : PlayerValue). AreOpened c.args.script.now q.desks) (sym c.self-in-Done.view_is) c.requires.opened in
-    on_ok_both c.done_at.result _ _ _ (λ moved went. (moved.0, item_made c.args.script.now p c.args.self.now (item.Done k c.in-Done.at) c.args.item moved.0 _ c.self-in-Done.view_is c.in-Done.is (ended c.args.script.now p moved.0 k c.in-Done.at c.done_at.new.desks.items c.done_at.new.slots opened moved.1 went))) c.done_at.ensures.made c.done_at.ensures.slots
+    on_ok_both c.done_at.result _ _ _ (λ moved went. (moved.0, item_made c.args.script.now c.args.media.now p c.args.self.now (item.Done k c.in-Done.at) c.args.item moved.0 _ c.self-in-Done.view_is c.in-Done.is (ended c.args.script.now c.args.media.now p moved.0 k c.in-Done.at c.done_at.new.desks.items c.done_at.new.slots opened moved.1 went))) c.done_at.ensures.made c.done_at.ensures.slots
 
 pub returns-in-Done-clause-shape : goal.returns-in-Done-clause-shape
 returns-in-Done-clause-shape g c =
@@ -63,7 +63,7 @@ returns-in-Turn-clause-made g c =
     let p : PlayerValue = record { desks = v.desks.items; callers = v.callers.items; slots = v.slots } in
     let k = c.in-Turn.codec in
     let opened : AreOpened c.args.script.now p.desks = subst (λ (q : PlayerValue). AreOpened c.args.script.now q.desks) (sym c.self-in-Turn.view_is) c.requires.opened in
-    on_ok_both c.turn_at.result _ _ _ (λ moved went. (false, item_made c.args.script.now p c.args.self.now (item.Turn k) c.args.item false _ c.self-in-Turn.view_is c.in-Turn.is (turned c.args.script.now p k c.turn_at.new.desks.items c.turn_at.new.slots opened moved went))) c.turn_at.ensures.made c.turn_at.ensures.slots
+    on_ok_both c.turn_at.result _ _ _ (λ moved went. (false, item_made c.args.script.now c.args.media.now p c.args.self.now (item.Turn k) c.args.item false _ c.self-in-Turn.view_is c.in-Turn.is (turned c.args.script.now c.args.media.now p k c.turn_at.new.desks.items c.turn_at.new.slots opened moved went))) c.turn_at.ensures.made c.turn_at.ensures.slots
 
 pub returns-in-Turn-clause-shape : goal.returns-in-Turn-clause-shape
 returns-in-Turn-clause-shape g c =
@@ -85,7 +85,7 @@ returns-in-Reclaim-clause-made g c =
     let p : PlayerValue = record { desks = v.desks.items; callers = v.callers.items; slots = v.slots } in
     let k = c.in-Reclaim.codec in
     let opened : AreOpened c.args.script.now p.desks = subst (λ (q : PlayerValue). AreOpened c.args.script.now q.desks) (sym c.self-in-Reclaim.view_is) c.requires.opened in
-    on_ok_both c.reclaim_at.result _ _ _ (λ moved went. (false, item_made c.args.script.now p c.args.self.now (item.Reclaim k c.in-Reclaim.at) c.args.item false _ c.self-in-Reclaim.view_is c.in-Reclaim.is (reclaimed c.args.script.now p k c.in-Reclaim.at c.reclaim_at.new.desks.items c.reclaim_at.new.slots opened moved went))) c.reclaim_at.ensures.made c.reclaim_at.ensures.slots
+    on_ok_both c.reclaim_at.result _ _ _ (λ moved went. (false, item_made c.args.script.now c.args.media.now p c.args.self.now (item.Reclaim k c.in-Reclaim.at) c.args.item false _ c.self-in-Reclaim.view_is c.in-Reclaim.is (reclaimed c.args.script.now c.args.media.now p k c.in-Reclaim.at c.reclaim_at.new.desks.items c.reclaim_at.new.slots opened moved went))) c.reclaim_at.ensures.made c.reclaim_at.ensures.slots
 
 pub returns-in-Reclaim-clause-shape : goal.returns-in-Reclaim-clause-shape
 returns-in-Reclaim-clause-shape g c =
