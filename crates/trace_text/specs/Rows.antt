@@ -1,7 +1,8 @@
 -- The ordinary run of one decoder, in which a caller configures, makes a chunk, decodes, flushes and awaits: its script,
 -- what was recorded, and the text of its report, as plain data.
-use Rattle.std.specs.Prelude.{ℕ, ◌≡◌, true, pos, List, [], ◌∷◌, ◌++◌, Some, None, codes}
+use Rattle.std.specs.Prelude.{ℕ, ◌≡◌, true, false, pos, List, [], ◌∷◌, ◌++◌, Some, None, codes}
 use Rattle.wc_base.specs.declared.who.By.TheVariants as by
+use Rattle.wc_chunk.specs.declared.chunk.Chunk.{Chunk}
 use Rattle.wc_config.specs.declared.codec.CoderId.{CoderId}
 use Rattle.wc_config.specs.declared.codec.CodecId.TheVariants.{PcmS16}
 use Rattle.wc_config.specs.declared.codec.Role.TheVariants as role
@@ -14,11 +15,13 @@ use Rattle.codec_model.specs.declared.entry.Shown.{Shown}
 use Rattle.codec_model.specs.declared.entry.TurnWord.{TurnWord}
 use Rattle.codec_model.specs.declared.entry.TurnWord.TheVariants as turn
 use Rattle.codec_model.specs.Shown.{each_shown}
-use Rattle.codec_model.specs.Rows.{four, pcm, unit, ordinary}
+use Rattle.codec_model.specs.Rows.{four, pcm, unit, chunk, ordinary}
+use Rattle.script_types.specs.declared.fault.Place.TheVariants as place
 use Rattle.script_types.specs.declared.script.ScriptData.{ScriptData}
 use Rattle.script_types.specs.declared.script.KindWord.TheVariants as word
 use Rattle.script_types.specs.declared.script.CodecItem.{CodecItem}
 use Rattle.script_types.specs.declared.steps.ChunkInit.{ChunkInit}
+use Rattle.script_types.specs.declared.steps.ChunkSource.{ChunkSource}
 use Rattle.script_types.specs.declared.steps.ChunkSource.TheVariants as source
 use Rattle.script_types.specs.declared.steps.VariableKind.TheVariants as holds
 use Rattle.script_types.specs.declared.steps.Step.{Step}
@@ -29,6 +32,7 @@ use Rattle.trace_text.specs.declared.run.Run.{Run}
 use Rattle.trace_text.specs.declared.run.StepResult.{StepResult}
 use Rattle.trace_text.specs.declared.run.StepResult.TheVariants as result
 use Rattle.trace_text.specs.Fits.{FollowsTheOrder}
+use Rattle.trace_text.specs.Missing.{missing_in}
 use Rattle.trace_text.specs.Report.{report_of}
 
 -- ---- the script
@@ -39,9 +43,10 @@ decoder = record { name = codes "d"; kind = word.AudioDecoder; saturation = 4 }
 abbrev pub init : ChunkInit
 init = record { key = true; timestamp = pos 0; duration = None; content = 1 ∷ 0 ∷ 2 ∷ 0 ∷ [] }
 
-abbrev pub steps : List Step
-steps =
-    step.Configure 0 pcm ∷ step.Chunk (codes "c") (source.Init (Some init)) ∷ step.Decode 0 (record { name = codes "c"; step = 1; kind = holds.Chunk })
+-- the caller's steps, with its chunk from this source
+abbrev pub steps_with : ChunkSource → List Step
+steps_with from =
+    step.Configure 0 pcm ∷ step.Chunk (codes "c") from ∷ step.Decode 0 (record { name = codes "c"; step = 1; kind = holds.Chunk })
     ∷ step.Flush 0 (codes "p") ∷ step.Await (record { name = codes "p"; step = 3; kind = holds.Promise }) ∷ []
 
 abbrev pub order : List OrderItem
@@ -52,7 +57,7 @@ order =
     ∷ item.Start 0 ∷ item.Done 0 3 ∷ item.Turn 0 ∷ item.Caller 0 ∷ []
 
 abbrev pub ordinary_script : ScriptData
-ordinary_script = record { codecs = decoder ∷ []; callers = record { name = codes "a"; steps = steps } ∷ []; order = Some order; chunk_files = []; inline = 4 }
+ordinary_script = record { codecs = decoder ∷ []; callers = record { name = codes "a"; steps = steps_with (source.Init (Some init)) } ∷ []; order = Some order; chunk_files = []; inline = 4 }
 
 -- ---- the run
 
@@ -117,3 +122,31 @@ OrdinaryShown = shown ≡ each_shown four ordinary
 
 abbrev pub OrdinaryReport : Type 0
 OrdinaryReport = report_of ordinary_script ordinary_run ≡ ordinary_text
+
+-- ---- the same run, with its chunk from a file
+
+abbrev pub file_script : ScriptData
+file_script = record {
+  codecs = decoder ∷ [];
+  callers = record { name = codes "a"; steps = steps_with (source.File 0 1) } ∷ [];
+  order = Some order;
+  chunk_files = codes "a.chunks" ∷ [];
+  inline = 0;
+}
+
+abbrev pub other : Chunk
+other = record { key = false; timestamp = pos 250; duration = None; bytes = 3 ∷ 0 ∷ [] }
+
+-- the file's chunks
+abbrev pub two_chunks : List Chunk
+two_chunks = other ∷ chunk ∷ []
+
+abbrev pub FileFollows : Type 0
+FileFollows = FollowsTheOrder file_script (two_chunks ∷ []) (coder ∷ []) ordinary_run
+
+abbrev pub NothingMissing : Type 0
+NothingMissing = missing_in file_script (two_chunks ∷ []) ≡ None
+
+-- a file of one chunk lacks the one that is named
+abbrev pub SecondMissing : Type 0
+SecondMissing = missing_in file_script ((chunk ∷ []) ∷ []) ≡ Some (0, place.Step 0 1)

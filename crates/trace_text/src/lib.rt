@@ -11,5 +11,5 @@ mod tests;
 mod words;
 
 pub use report::{WriteFault, write_report};
-pub use rows::{boxes_of_histories, ordinary_report};
+pub use rows::{boxes_of_histories, ordinary_report, run_from_a_file};
 pub use run::{CallerTrace, CodecTrace, Run, StepResult};

@@ -1,6 +1,6 @@
 // The report of a whole run and the boxes of whole histories, computed by the checker.
 ghost use Rattle.trace_text.specs.AccountsRows.{KeepsOne, LeavesAtTheEnd, LeavesForAnother};
-ghost use Rattle.trace_text.specs.Rows.{OrdinaryFollows, OrdinaryShown, OrdinaryReport};
+ghost use Rattle.trace_text.specs.Rows.{OrdinaryFollows, OrdinaryShown, OrdinaryReport, FileFollows, NothingMissing, SecondMissing};
 
 /// One configure, one chunk, one decode, one flush and one look at its promise: what the script's order makes, what the
 /// entries show, and the text of the report.
@@ -8,6 +8,14 @@ pub fn ordinary_report()
     ensures follows { OrdinaryFollows }
     ensures shown { OrdinaryShown }
     ensures report { OrdinaryReport }
+{}
+
+/// The same run, whose chunk is the second one of a file: what the script's order makes, and which chunk is missing where
+/// the file has one or two.
+pub fn run_from_a_file()
+    ensures follows { FileFollows }
+    ensures there { NothingMissing }
+    ensures missing { SecondMissing }
 {}
 
 /// Which entries ask for a box, and by which it leaves: in an ordinary run, in one with a reset while an item is at work,
