@@ -1,0 +1,187 @@
+-- What is shown with blanks, and filled.
+use Rattle.std.proofs.Common.{ℕ, ◌≡◌, ◌+◌, ◌≤◌, ◌&&◌, not, Bool, true, false, List, [], ◌∷◌, ◌++◌, append_assoc, length, length-append, map, take, Option, Some, None, is_some, refl, ap, sym, subst, ◌∙◌, arith}
+use Rattle.std.specs.Prelude.{option_map, option_and_then, unwrap_or}
+use Rattle.std.proofs.lemmas.List.{map-append, length-replicate}
+use Rattle.std.proofs.Math.Seq.{take-append_seam}
+use Rattle.wc_base.specs.declared.error.DomError.{DomError}
+use Rattle.wc_base.specs.declared.error.DomError.TheVariants as dom
+use Rattle.coder_api.specs.declared.unit.Unit as media
+use Rattle.codec_model.specs.declared.entry.Opening.{Opening}
+use Rattle.codec_model.specs.declared.entry.Entry.{Entry}
+use Rattle.codec_model.specs.declared.entry.Entry.TheVariants as entry
+use Rattle.codec_model.specs.declared.entry.Event.{Event}
+use Rattle.codec_model.specs.declared.entry.Event.TheVariants as event
+use Rattle.codec_model.specs.declared.entry.Shown.{Shown}
+use Rattle.codec_model.specs.declared.entry.Task.{Task}
+use Rattle.codec_model.specs.declared.entry.Task.TheVariants as task
+use Rattle.codec_model.specs.Control.{Control}
+use Rattle.codec_model.specs.Replay.{State, opening_state, step, replay_from, removal_error, configure_error, decode_error, flush_error}
+use Rattle.codec_model.specs.Shown.{shows, refusal, rejection, rejections, outputs_from, task_shows, removal_shows, shown_from, shown_at, each_shown_from, turn_word, word_at, event_units, units_in, outputs_of}
+use Rattle.codec_follow.specs.Follow.{blank, blanks, follow_step, follow_from, filled, filled_at, with_unit, units_after, each_filled_from, units_shown}
+use Rattle.codec_follow.specs.Laws.{refuses_flush, answers_flushes_from, LegalFollows, LegalFills, UnitsInOrder}
+use Rattle.codec_follow.proofs.Erased.{erased_task, erased, erased_state, step_erased}
+
+abbrev erased_event : Event → Event
+erased_event (event.Refusal x) = event.Refusal x
+erased_event (event.Output number unit) = event.Output number blank
+erased_event (event.Resolve promise) = event.Resolve promise
+erased_event (event.Reject promise x) = event.Reject promise x
+erased_event event.Dequeue = event.Dequeue
+erased_event (event.ErrorCall x) = event.ErrorCall x
+
+refusal_erased : (o : Option DomError) → refusal o ≡ map erased_event (refusal o)
+refusal_erased None = refl
+refusal_erased (Some x) = refl
+
+rejection_erased : (place : ℕ) (o : Option DomError) → rejection place o ≡ map erased_event (rejection place o)
+rejection_erased place None = refl
+rejection_erased place (Some x) = refl
+
+rejections_erased : (x : DomError) (ps : List ℕ) → rejections x ps ≡ map erased_event (rejections x ps)
+rejections_erased x [] = refl
+rejections_erased x (p ∷ ps) = ap (λ (xs : List Event). event.Reject p x ∷ xs) (rejections_erased x ps)
+
+closes_erased : (x : DomError) (ps : List ℕ) → rejections x ps ++ event.ErrorCall x ∷ [] ≡ map erased_event (rejections x ps ++ event.ErrorCall x ∷ [])
+closes_erased x ps = ap (λ (xs : List Event). xs ++ event.ErrorCall x ∷ []) (rejections_erased x ps) ∙ sym (map-append erased_event (rejections x ps) (event.ErrorCall x ∷ []))
+
+removal_erased : (o : Option DomError) (ps : List ℕ) → removal_shows o ps ≡ map erased_event (removal_shows o ps)
+removal_erased None ps = rejections_erased dom.Abort ps
+removal_erased (Some x) ps = refl
+
+outputs_erased : (n : ℕ) (us : List media.Unit) → outputs_from n (blanks (length us)) ≡ map erased_event (outputs_from n us)
+outputs_erased n [] = refl
+outputs_erased n (u ∷ us) = ap (λ (xs : List Event). event.Output n blank ∷ xs) (outputs_erased (n + 1) us)
+
+outputs_after : (shown us : List media.Unit) → outputs_from (length (blanks (length shown))) (blanks (length us)) ≡ map erased_event (outputs_from (length shown) us)
+outputs_after shown us = rw (length-replicate (length shown) blank) (outputs_erased (length shown) us)
+
+task_shown : (ts : List Task) (c : Control) → task_shows (map erased_task ts) (erased c) ≡ map erased_event (task_shows ts c)
+task_shown [] c = refl
+task_shown (task.Unblock ∷ ts) c = refl
+task_shown (task.Process ∷ ts) c = refl
+task_shown (task.Desaturate ∷ ts) c = refl
+task_shown (task.Output units ∷ ts) c = outputs_after c.shown units
+task_shown (task.Flushed promise units ∷ ts) c =
+    ap (λ (xs : List Event). xs ++ event.Resolve promise ∷ []) (outputs_after c.shown units) ∙ sym (map-append erased_event (outputs_from (length c.shown) units) (event.Resolve promise ∷ []))
+task_shown (task.Dequeue ∷ ts) c = refl
+task_shown (task.Close x ∷ ts) c = closes_erased x c.pending
+
+shows_erased : (e : Entry) (s : State) → shows e (erased_state s) ≡ map erased_event (shows e s)
+shows_erased (entry.Configure who config) s = refusal_erased (configure_error config s.control)
+shows_erased (entry.Decode who chunk) s = refusal_erased (decode_error chunk s.control)
+shows_erased (entry.Flush who) s = rejection_erased s.control.place (flush_error s.control)
+shows_erased (entry.Reset who) s = removal_erased (removal_error s.control) s.control.pending
+shows_erased (entry.Close who) s = removal_erased (removal_error s.control) s.control.pending
+shows_erased (entry.Start epoch item) s = refl
+shows_erased (entry.Done epoch item moment o) s = refl
+shows_erased entry.Turn s = task_shown s.control.tasks s.control
+shows_erased (entry.Reclaim moment) s = closes_erased dom.QuotaExceeded s.control.pending
+
+word_erased_on : (ts : List Task) → turn_word (map erased_task ts) ≡ turn_word ts
+word_erased_on [] = refl
+word_erased_on (task.Unblock ∷ ts) = refl
+word_erased_on (task.Process ∷ ts) = refl
+word_erased_on (task.Desaturate ∷ ts) = refl
+word_erased_on (task.Output units ∷ ts) = refl
+word_erased_on (task.Flushed promise units ∷ ts) = refl
+word_erased_on (task.Dequeue ∷ ts) = refl
+word_erased_on (task.Close x ∷ ts) = refl
+
+word_erased : (e : Entry) (s : State) → word_at e (erased_state s) ≡ word_at e s
+word_erased entry.Turn s = word_erased_on s.control.tasks
+word_erased (entry.Configure who config) s = refl
+word_erased (entry.Decode who chunk) s = refl
+word_erased (entry.Flush who) s = refl
+word_erased (entry.Reset who) s = refl
+word_erased (entry.Close who) s = refl
+word_erased (entry.Start epoch item) s = refl
+word_erased (entry.Done epoch item moment o) s = refl
+word_erased (entry.Reclaim moment) s = refl
+
+-- blanks that are filled with what was there
+fill_erased : (xs : List Event) (us : List media.Unit) → filled (map erased_event xs) (units_in xs ++ us) ≡ (xs, us)
+fill_erased [] us = refl
+fill_erased (event.Refusal x ∷ xs) us = ap (λ (p : List Event × List media.Unit). (event.Refusal x ∷ p.0, p.1)) (fill_erased xs us)
+fill_erased (event.Output number unit ∷ xs) us = ap (λ (p : List Event × List media.Unit). (event.Output number unit ∷ p.0, p.1)) (fill_erased xs us)
+fill_erased (event.Resolve promise ∷ xs) us = ap (λ (p : List Event × List media.Unit). (event.Resolve promise ∷ p.0, p.1)) (fill_erased xs us)
+fill_erased (event.Reject promise x ∷ xs) us = ap (λ (p : List Event × List media.Unit). (event.Reject promise x ∷ p.0, p.1)) (fill_erased xs us)
+fill_erased (event.Dequeue ∷ xs) us = ap (λ (p : List Event × List media.Unit). (event.Dequeue ∷ p.0, p.1)) (fill_erased xs us)
+fill_erased (event.ErrorCall x ∷ xs) us = ap (λ (p : List Event × List media.Unit). (event.ErrorCall x ∷ p.0, p.1)) (fill_erased xs us)
+
+outputs_tagged : (place : ℕ) (xs : List Event) (ys : List (ℕ × Event)) → outputs_of (map (λ x. (place, x)) xs ++ ys) ≡ units_in xs ++ outputs_of ys
+outputs_tagged place [] ys = refl
+outputs_tagged place (x ∷ xs) ys = ap (λ (us : List media.Unit). event_units x ++ us) (outputs_tagged place xs ys) ∙ sym (append_assoc (event_units x) (units_in xs) (outputs_of ys))
+
+-- what an entry shows, from blanks and what it shows
+filled_shown : (e : Entry) (s : State) (us : List media.Unit) → filled (shows e (erased_state s)) (units_in (shows e s) ++ us) ≡ (shows e s, us)
+filled_shown e s us = rw (shows_erased e s) (fill_erased (shows e s) us)
+
+at_shown : (e : Entry) (s : State) (us : List media.Unit) → filled_at e (erased_state s) (units_in (shows e s) ++ us) ≡ shown_at e s
+at_shown e s us = rw (word_erased e s, filled_shown e s us) refl
+
+apart : (a b : Bool) → (not a && b) ≡ true → (a ≡ false) × (b ≡ true)
+apart true b h = absurd cc
+apart false b h = (refl, h)
+
+-- a legal history follows
+follows_rest : (es : List Entry) (e : Entry) (s : State) (o : Option State) → step e s ≡ o → is_some (option_and_then (replay_from es) o) ≡ true → (not (refuses_flush e s) && unwrap_or (option_map (answers_flushes_from es) o) true) ≡ true → ((t : State) → is_some (replay_from es t) ≡ true → answers_flushes_from es t ≡ true → is_some (follow_from es (erased_state t)) ≡ true) → is_some (option_and_then (follow_from es) (follow_step e (erased_state s))) ≡ true
+follows_rest es e s None is legal fine ih = absurd cc
+follows_rest es e s (Some t) is legal fine ih =
+    let k = apart (refuses_flush e s) (answers_flushes_from es t) fine in
+    rw (step_erased e s t k.0 is) (ih t legal k.1)
+
+follows_all : (h : List Entry) (s : State) → is_some (replay_from h s) ≡ true → answers_flushes_from h s ≡ true → is_some (follow_from h (erased_state s)) ≡ true
+follows_all [] s legal fine = refl
+follows_all (e ∷ es) s legal fine = follows_rest es e s (step e s) refl legal fine (follows_all es)
+
+pub legal_follows : LegalFollows
+legal_follows o h legal fine = follows_all h (opening_state o) legal fine
+
+-- and shows the same, with its own outputs
+fills_rest : (es : List Entry) (e : Entry) (s : State) (o : Option State) → step e s ≡ o → is_some (option_and_then (replay_from es) o) ≡ true → (not (refuses_flush e s) && unwrap_or (option_map (answers_flushes_from es) o) true) ≡ true → ((t : State) → is_some (replay_from es t) ≡ true → answers_flushes_from es t ≡ true → each_shown_from es t ≡ each_filled_from es (erased_state t) (outputs_of (shown_from es t))) → shown_at e s ∷ unwrap_or (option_map (each_shown_from es) o) [] ≡ each_filled_from (e ∷ es) (erased_state s) (outputs_of (map (λ x. (s.control.place, x)) (shows e s) ++ unwrap_or (option_map (shown_from es) o) []))
+fills_rest es e s None is legal fine ih = absurd cc
+fills_rest es e s (Some t) is legal fine ih =
+    let k = apart (refuses_flush e s) (answers_flushes_from es t) fine in
+    rw (outputs_tagged s.control.place (shows e s) (shown_from es t), step_erased e s t k.0 is, at_shown e s (outputs_of (shown_from es t)), filled_shown e s (outputs_of (shown_from es t)))
+    (ap (λ (xs : List Shown). shown_at e s ∷ xs) (ih t legal k.1))
+
+fills_all : (h : List Entry) (s : State) → is_some (replay_from h s) ≡ true → answers_flushes_from h s ≡ true → each_shown_from h s ≡ each_filled_from h (erased_state s) (outputs_of (shown_from h s))
+fills_all [] s legal fine = refl
+fills_all (e ∷ es) s legal fine = fills_rest es e s (step e s) refl legal fine (fills_all es)
+
+pub legal_fills : LegalFills
+legal_fills o h legal fine = fills_all h (opening_state o) legal fine
+
+-- the units come in order
+fill_order : (xs : List Event) (us : List media.Unit) → length (units_in (filled xs us).0) ≤ length us → us ≡ units_in (filled xs us).0 ++ (filled xs us).1
+fill_order [] us few = refl
+fill_order (event.Refusal x ∷ xs) us few = fill_order xs us few
+fill_order (event.Output number unit ∷ xs) [] few = absurd (omega (arith, few))
+fill_order (event.Output number unit ∷ xs) (u ∷ us) few = ap (λ (l : List media.Unit). u ∷ l) (fill_order xs us (omega (arith, few)))
+fill_order (event.Resolve promise ∷ xs) us few = fill_order xs us few
+fill_order (event.Reject promise x ∷ xs) us few = fill_order xs us few
+fill_order (event.Dequeue ∷ xs) us few = fill_order xs us few
+fill_order (event.ErrorCall x ∷ xs) us few = fill_order xs us few
+
+abbrev Begins : List media.Unit → List media.Unit → Type 0
+Begins us front = (rest : List media.Unit) × (us ≡ front ++ rest)
+
+order_rest : (es : List Entry) (e : Entry) (s : State) (us : List media.Unit) (o : Option State) → ((t : State) (vs : List media.Unit) → length (units_shown (each_filled_from es t vs)) ≤ length vs → Begins vs (units_shown (each_filled_from es t vs))) → length (units_shown (unwrap_or (option_map (λ t. filled_at e s us ∷ each_filled_from es t (filled (shows e s) us).1) o) [])) ≤ length us → Begins us (units_shown (unwrap_or (option_map (λ t. filled_at e s us ∷ each_filled_from es t (filled (shows e s) us).1) o) []))
+order_rest es e s us None ih few = (us, refl)
+order_rest es e s us (Some t) ih few =
+    let front = units_in (filled (shows e s) us).0 in
+    let more = units_shown (each_filled_from es t (filled (shows e s) us).1) in
+    let here = fill_order (shows e s) us (omega (arith, few, length-append front more)) in
+    let long : length us ≡ length front + length (filled (shows e s) us).1 = ap (λ (l : List media.Unit). length l) here ∙ length-append front (filled (shows e s) us).1 in
+    let later = ih t (filled (shows e s) us).1 (omega (arith, few, length-append front more, long)) in
+    (later.0, here ∙ (ap (λ (l : List media.Unit). front ++ l) later.1 ∙ sym (append_assoc front more later.0)))
+
+order_all : (h : List Entry) (s : State) (us : List media.Unit) → length (units_shown (each_filled_from h s us)) ≤ length us → Begins us (units_shown (each_filled_from h s us))
+order_all [] s us few = (us, refl)
+order_all (e ∷ es) s us few = order_rest es e s us (follow_step e s) (order_all es) few
+
+pub units_in_order : UnitsInOrder
+units_in_order o h us few =
+    let front = units_shown (each_filled_from h (opening_state o) us) in
+    let begins = order_all h (opening_state o) us few in
+    sym (ap (λ (l : List media.Unit). take (length front) l) begins.1 ∙ take-append_seam front begins.0)

@@ -1,0 +1,3 @@
+pub mod Follow
+pub mod Laws
+pub mod Rows

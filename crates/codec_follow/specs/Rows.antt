@@ -1,0 +1,43 @@
+-- Whole runs, followed.
+use Rattle.std.specs.Prelude.{ℕ, ◌≡◌, List, [], ◌∷◌, Some, None, map, option_map}
+use Rattle.coder_api.specs.declared.unit.Unit as media
+use Rattle.codec_model.specs.declared.entry.Outcome.{Outcome}
+use Rattle.codec_model.specs.declared.entry.Outcome.TheVariants as outcome
+use Rattle.codec_model.specs.declared.entry.Entry.{Entry}
+use Rattle.codec_model.specs.declared.entry.Entry.TheVariants as entry
+use Rattle.codec_model.specs.declared.entry.Event.{Event}
+use Rattle.codec_model.specs.declared.entry.Event.TheVariants.{Output, Dequeue, Resolve}
+use Rattle.codec_model.specs.Control.{Control}
+use Rattle.codec_model.specs.Shown.{each_shown}
+use Rattle.codec_model.specs.Rows.{four, step_of, pcm, chunk, unit, ordinary, quiet_after}
+use Rattle.codec_follow.specs.Follow.{blank, follows, each_filled}
+
+-- the ordinary run follows, and its output is blank
+abbrev pub OrdinaryFollows : Type 0
+OrdinaryFollows = option_map (λ s. s.control) (follows four ordinary) ≡ Some (record quiet_after { shown = blank ∷ [] })
+
+-- with its own output it shows what it shows
+abbrev pub OrdinaryFills : Type 0
+OrdinaryFills = each_filled four ordinary (unit ∷ []) ≡ each_shown four ordinary
+
+-- a decode whose item is told to have given so many units
+abbrev pub decoding : ℕ → List Entry
+decoding units =
+    entry.Configure (step_of 0) pcm ∷ entry.Decode (step_of 1) chunk
+    ∷ entry.Start 0 0 ∷ entry.Done 0 0 1 (outcome.Ran 0) ∷ entry.Turn ∷ entry.Turn
+    ∷ entry.Start 0 1 ∷ entry.Done 0 1 2 (outcome.Ran units) ∷ entry.Turn ∷ entry.Turn ∷ []
+
+-- three units are told; two of them are given
+abbrev pub ThreeShown : Type 0
+ThreeShown =
+    map (λ x. x.events) (each_filled four (decoding 3) (unit ∷ unit ∷ []))
+    ≡ [] ∷ [] ∷ [] ∷ [] ∷ [] ∷ [] ∷ [] ∷ [] ∷ (Dequeue ∷ []) ∷ (Output 0 unit ∷ Output 1 unit ∷ Output 2 blank ∷ []) ∷ []
+
+-- a configure item gives no unit, and a flush item is never refused
+abbrev pub ConfigureGivesNone : Type 0
+ConfigureGivesNone = follows four (entry.Configure (step_of 0) pcm ∷ entry.Start 0 0 ∷ entry.Done 0 0 1 (outcome.Ran 1) ∷ []) ≡ None
+
+abbrev pub FlushIsAnswered : Type 0
+FlushIsAnswered =
+    follows four (entry.Configure (step_of 0) pcm ∷ entry.Flush (step_of 1) ∷ entry.Start 0 0 ∷ entry.Done 0 0 1 (outcome.Ran 0) ∷ entry.Turn ∷ entry.Turn
+    ∷ entry.Start 0 1 ∷ entry.Done 0 1 2 outcome.Refused ∷ []) ≡ None

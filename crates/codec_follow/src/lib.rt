@@ -1,0 +1,9 @@
+//! Histories that follow: each entry is legal after those before it, where each end of an item is taken as it stands. What
+//! a coder would give is not computed; outputs are blank.
+#![tactic(auto)]
+
+mod laws;
+mod rows;
+
+pub use laws::legal_histories_follow;
+pub use rows::{decoding_followed, ordinary_followed};

@@ -1,0 +1,15 @@
+// The definitions on whole runs, computed by the checker.
+ghost use Rattle.codec_follow.specs.Rows.{OrdinaryFollows, OrdinaryFills, ThreeShown, ConfigureGivesNone, FlushIsAnswered};
+
+/// One configure, one decode, one flush: the state after the run as it is followed, and what it shows with its output.
+pub fn ordinary_followed()
+    ensures follows { OrdinaryFollows }
+    ensures fills { OrdinaryFills }
+{}
+
+/// A decode that is told to have given three units; and ends that do not follow.
+pub fn decoding_followed()
+    ensures shown { ThreeShown }
+    ensures configure { ConfigureGivesNone }
+    ensures flush { FlushIsAnswered }
+{}
