@@ -225,7 +225,7 @@ refused_ends_by kind.Configure a e not_flush h = refused_ends a e h
 refused_ends_by kind.Coded a e not_flush h = refused_ends a e h
 refused_ends_by kind.Flush a e not_flush h = absurd (not_flush refl)
 
-no_slot_ends : (k : WorkKind) (g : Given) (n : ℕ) (e : Ended) → ended_of k g (outcome.NoSlot n) ≡ Some e → ended_of k g (outcome.NoSlot n) ≡ Some (erased_end e)
+no_slot_ends : (k : WorkKind) (g : Given) (n : ℕ) (e : Ended) → ended_of k g (outcome.NoSlot n) ≡ Some e → ended_as k g (outcome.NoSlot n) ≡ Some (erased_end e)
 no_slot_ends kind.Configure g n e h = h ∙ ap (λ (x : Ended). Some x) (same e (some_same (ended.NoSlot n) e (cond_is (is_supported g.config) (Some (ended.NoSlot n)) e h).1))
   where
     same : (x : Ended) → ended.NoSlot n ≡ x → x ≡ erased_end x

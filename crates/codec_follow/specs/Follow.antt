@@ -1,6 +1,7 @@
 -- Histories that follow: each entry is legal after those before it, where each end of an item is taken as it stands (our
 -- choice). What the outputs hold is left open.
 use Rattle.std.specs.Prelude.{ℕ, ◌≡◌, ◌==◌, ◌&&◌, Bool, true, false, pos, List, [], ◌∷◌, ◌++◌, replicate, Option, Some, None, is_some, option_map, option_and_then, unwrap_or, if◌then◌else◌}
+use Rattle.wc_config.specs.Configs.{is_supported}
 use Rattle.coder_api.specs.declared.unit.Unit as media
 use Rattle.coder_api.specs.declared.unit.Unit.TheVariants as unit
 use Rattle.codec_model.specs.declared.entry.Opening.{Opening}
@@ -16,7 +17,7 @@ use Rattle.codec_model.specs.declared.entry.Entry.TheVariants as entry
 use Rattle.codec_model.specs.declared.entry.Event.{Event}
 use Rattle.codec_model.specs.declared.entry.Event.TheVariants as event
 use Rattle.codec_model.specs.declared.entry.Shown.{Shown}
-use Rattle.codec_model.specs.Replay.{State, Given, opening_state, ended_of, done_ended, step}
+use Rattle.codec_model.specs.Replay.{State, Given, opening_state, done_ended, step}
 use Rattle.codec_model.specs.Shown.{shows, word_at, units_in}
 
 -- the place of an output whose content the history does not tell
@@ -38,12 +39,22 @@ refused_as kind.Configure = Some ended.Refused
 refused_as kind.Coded = Some ended.Refused
 refused_as kind.Flush = None
 
--- how an item of this kind ends with this outcome as it stands; none where no definition of a codec gives it
+-- only a configure item is refused a coder, where its config is supported
+abbrev pub no_slot_as : WorkKind → Bool → ℕ → Option Ended
+no_slot_as kind.Configure supported e = if supported then Some (ended.NoSlot e) else None
+no_slot_as kind.Coded supported e = None
+no_slot_as kind.Flush supported e = None
+
+-- how an item of this kind ends with this outcome as it stands, where the config that was last given is supported or not;
+-- none where that does not follow
+abbrev pub ended_by : WorkKind → Bool → Outcome → Option Ended
+ended_by k supported (outcome.Ran units) = ran_as k units
+ended_by k supported outcome.Refused = refused_as k
+ended_by k supported (outcome.NoSlot e) = no_slot_as k supported e
+ended_by k supported outcome.NoMemory = Some ended.NoMemory
+
 abbrev pub ended_as : WorkKind → Given → Outcome → Option Ended
-ended_as k g (outcome.Ran units) = ran_as k units
-ended_as k g outcome.Refused = refused_as k
-ended_as k g (outcome.NoSlot e) = ended_of k g (outcome.NoSlot e)
-ended_as k g outcome.NoMemory = ended_of k g outcome.NoMemory
+ended_as k g o = ended_by k (is_supported g.config) o
 
 abbrev pub follow_done : Option Running → ℕ → ℕ → ℕ → Outcome → State → Option State
 follow_done None epoch item moment o s = None

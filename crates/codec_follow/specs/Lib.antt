@@ -1,3 +1,5 @@
 pub mod Follow
 pub mod Laws
+pub mod Events
+pub mod Followed
 pub mod Rows

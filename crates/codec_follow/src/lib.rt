@@ -2,8 +2,14 @@
 //! a coder would give is not computed; outputs are blank.
 #![tactic(auto)]
 
+mod ends;
+mod events;
+mod follower;
 mod laws;
 mod rows;
+#[cfg(test)]
+mod tests;
 
+pub use follower::Follower;
 pub use laws::legal_histories_follow;
 pub use rows::{decoding_followed, ordinary_followed};

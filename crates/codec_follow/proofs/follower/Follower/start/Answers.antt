@@ -1,0 +1,20 @@
+use Rattle.std.proofs.Common.{rules, ◌≡◌, refl, ap, sym, subst, ◌∙◌, List, [], Option, Some}
+use Rattle.codec_model.specs.declared.entry.Entry.TheVariants as entry
+use Rattle.codec_model.specs.declared.entry.Event.{Event}
+use Rattle.codec_follow.specs.Events.{noted}
+use Rattle.codec_follow.specs.Followed.{FollowerValue, Follows}
+use Rattle.codec_follow.proofs.Moves.{start_follows}
+use Rattle.codec_follow.proofs.follower.Follower.start.Goals as goal
+
+pub returns-clause-follows : goal.returns-clause-follows
+returns-clause-follows c =
+    let f = c.self.inside in
+    subst (λ (v : FollowerValue). Follows (entry.Start c.args.epoch c.args.item) v (Some c.note.result) (record { control = c.start.new.self; supported = c.supported_after-supported.result; running_supported = c.supported_after-supported.result }))
+    c.self.view_is
+    (start_follows c.args.epoch c.args.item c.in-Some.next.now (record { control = f.machine; supported = f.supported; running_supported = f.running_supported }) (Some c.note.result) c.start.new.self c.supported_after-supported.result
+    (sym c.in-Some.ensures)
+    (search rules)
+    (search rules)
+    (ap (λ (x : _). Some x) (c.note.ensures ∙ ap (λ (l : List Event). noted l) c.empty.ensures))
+    c.start.ensures.after
+    c.supported_after-supported.ensures)
