@@ -1,6 +1,6 @@
 -- A codec with blanks for its outputs takes the same steps.
 use Rattle.std.proofs.Common.{ℕ, ◌≡◌, ◌+◌, ◌&&◌, ◌||◌, not, Bool, true, false, eqb, cond, List, [], ◌∷◌, ◌++◌, length, length-append, map, filter, count_by, Option, Some, None, refl, ap, sym, subst, ◌∙◌, arith}
-use Rattle.std.specs.Prelude.{option_map, replicate, max, unwrap_or}
+use Rattle.std.specs.Prelude.{option_map, max, unwrap_or}
 use Rattle.std.proofs.lemmas.Bool.{eqb-true}
 use Rattle.std.proofs.lemmas.List.Sums.{sum_by-cons}
 use Rattle.std.proofs.lemmas.List.{map-append, length-replicate, replicate-append-replicate}
@@ -26,8 +26,8 @@ use Rattle.codec_model.specs.declared.entry.Ended.{Ended}
 use Rattle.codec_model.specs.declared.entry.Ended.TheVariants as ended
 use Rattle.codec_model.specs.declared.entry.Outcome.{Outcome}
 use Rattle.codec_model.specs.declared.entry.Outcome.TheVariants as outcome
-use Rattle.codec_model.specs.Control.{Control, is_decoder, is_dequeue, is_desaturate, is_taken, after_message, process_queue, process, entered, run_task, done_running, settled, settled_ran, after_reset, after_close, after_reclaim, may_reclaim, may_start}
-use Rattle.codec_model.specs.Replay.{State, Given, step, done_ended, ended_of, ended_run, ended_refused, answer_to, start_step, done_step, turn_step, removed, accepted, refused, after_call, call_error, call_step, removal_error, removal_step, with_control}
+use Rattle.codec_model.specs.Control.{Control, is_decoder, is_dequeue, is_desaturate, is_taken, after_message, process_queue, entered, run_task, done_running, settled, settled_ran, after_reset, after_close, after_reclaim, may_reclaim, may_start}
+use Rattle.codec_model.specs.Replay.{State, Given, step, done_ended, ended_of, ended_run, ended_refused, answer_to, start_step, done_step, turn_step, removed, accepted, after_call, call_error, call_step, removal_error, removal_step, with_control}
 use Rattle.codec_model.proofs.FactLaws.{cond_is, some_same, with_event}
 use Rattle.codec_follow.specs.Follow.{blank, blanks, ran_as, refused_as, ended_as, follow_done, follow_step}
 use Rattle.codec_follow.specs.Laws.{is_refusal, is_flush, refuses_flush}

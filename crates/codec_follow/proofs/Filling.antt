@@ -1,12 +1,11 @@
 -- What is shown with blanks, and filled.
-use Rattle.std.proofs.Common.{ℕ, ◌≡◌, ◌+◌, ◌≤◌, ◌&&◌, not, Bool, true, false, List, [], ◌∷◌, ◌++◌, append_assoc, length, length-append, map, take, Option, Some, None, is_some, refl, ap, sym, subst, ◌∙◌, arith}
+use Rattle.std.proofs.Common.{ℕ, ◌≡◌, ◌+◌, ◌≤◌, ◌&&◌, not, Bool, true, false, List, [], ◌∷◌, ◌++◌, append_assoc, length, length-append, map, take, Option, Some, None, is_some, refl, ap, sym, ◌∙◌, arith}
 use Rattle.std.specs.Prelude.{option_map, option_and_then, unwrap_or}
 use Rattle.std.proofs.lemmas.List.{map-append, length-replicate}
 use Rattle.std.proofs.Math.Seq.{take-append_seam}
 use Rattle.wc_base.specs.declared.error.DomError.{DomError}
 use Rattle.wc_base.specs.declared.error.DomError.TheVariants as dom
 use Rattle.coder_api.specs.declared.unit.Unit as media
-use Rattle.codec_model.specs.declared.entry.Opening.{Opening}
 use Rattle.codec_model.specs.declared.entry.Entry.{Entry}
 use Rattle.codec_model.specs.declared.entry.Entry.TheVariants as entry
 use Rattle.codec_model.specs.declared.entry.Event.{Event}
@@ -17,7 +16,7 @@ use Rattle.codec_model.specs.declared.entry.Task.TheVariants as task
 use Rattle.codec_model.specs.Control.{Control}
 use Rattle.codec_model.specs.Replay.{State, opening_state, step, replay_from, removal_error, configure_error, decode_error, flush_error}
 use Rattle.codec_model.specs.Shown.{shows, refusal, rejection, rejections, outputs_from, task_shows, removal_shows, shown_from, shown_at, each_shown_from, turn_word, word_at, event_units, units_in, outputs_of}
-use Rattle.codec_follow.specs.Follow.{blank, blanks, follow_step, follow_from, filled, filled_at, with_unit, units_after, each_filled_from, units_shown}
+use Rattle.codec_follow.specs.Follow.{blank, blanks, follow_step, follow_from, filled, filled_at, each_filled_from, units_shown}
 use Rattle.codec_follow.specs.Laws.{refuses_flush, answers_flushes_from, LegalFollows, LegalFills, UnitsInOrder}
 use Rattle.codec_follow.proofs.Erased.{erased_task, erased, erased_state, step_erased}
 

@@ -1,5 +1,5 @@
 -- What a follower keeps of a state, and what an entry does to it.
-use Rattle.std.specs.Prelude.{◌≡◌, Bool, Option, Some, None, option_map, unwrap_or}
+use Rattle.std.specs.Prelude.{◌≡◌, Bool, Option, option_map, unwrap_or}
 use Rattle.wc_config.specs.Configs.{is_supported}
 use Rattle.codec_model.specs.declared.entry.Work.{Work}
 use Rattle.codec_model.specs.declared.entry.Work.TheVariants as work

@@ -1,13 +1,9 @@
 -- Whole runs, followed.
 use Rattle.std.specs.Prelude.{ℕ, ◌≡◌, List, [], ◌∷◌, Some, None, map, option_map}
-use Rattle.coder_api.specs.declared.unit.Unit as media
-use Rattle.codec_model.specs.declared.entry.Outcome.{Outcome}
 use Rattle.codec_model.specs.declared.entry.Outcome.TheVariants as outcome
 use Rattle.codec_model.specs.declared.entry.Entry.{Entry}
 use Rattle.codec_model.specs.declared.entry.Entry.TheVariants as entry
-use Rattle.codec_model.specs.declared.entry.Event.{Event}
-use Rattle.codec_model.specs.declared.entry.Event.TheVariants.{Output, Dequeue, Resolve}
-use Rattle.codec_model.specs.Control.{Control}
+use Rattle.codec_model.specs.declared.entry.Event.TheVariants.{Output, Dequeue}
 use Rattle.codec_model.specs.Shown.{each_shown}
 use Rattle.codec_model.specs.Rows.{four, step_of, pcm, chunk, unit, ordinary, quiet_after}
 use Rattle.codec_follow.specs.Follow.{blank, follows, each_filled}

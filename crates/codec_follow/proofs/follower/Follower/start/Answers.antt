@@ -1,4 +1,4 @@
-use Rattle.std.proofs.Common.{rules, ◌≡◌, refl, ap, sym, subst, ◌∙◌, List, [], Option, Some}
+use Rattle.std.proofs.Common.{rules, ap, sym, subst, ◌∙◌, List, Some}
 use Rattle.codec_model.specs.declared.entry.Entry.TheVariants as entry
 use Rattle.codec_model.specs.declared.entry.Event.{Event}
 use Rattle.codec_follow.specs.Events.{noted}
