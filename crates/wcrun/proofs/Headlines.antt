@@ -15,10 +15,15 @@ use Rattle.wcrun.specs.Stops.{MayStop}
 -- no refusal has status 0
 not_zero : (x : Refusal) → status_of x ≢ 0
 not_zero refusal.Usage = λ e. omega arith
-not_zero (refusal.ReadFault name) = λ e. omega arith
-not_zero refusal.TooLong = λ e. omega arith
 not_zero refusal.NotJson = λ e. omega arith
-not_zero refusal.Unbuilt = λ e. omega arith
+not_zero (refusal.Shape p) = λ e. omega arith
+not_zero (refusal.UnknownName p) = λ e. omega arith
+not_zero (refusal.Twice p) = λ e. omega arith
+not_zero (refusal.Unbuilt p) = λ e. omega arith
+not_zero (refusal.Chunks name f) = λ e. omega arith
+not_zero (refusal.NoIndex name p) = λ e. omega arith
+not_zero (refusal.ReadFault name) = λ e. omega arith
+not_zero (refusal.Limit what) = λ e. omega arith
 
 not_five : (n : ℕ) → n ≡ 0 → n ≢ 5
 not_five n e = λ q. omega arith

@@ -1,2 +1,5 @@
-pub mod Headlines
-pub mod Texts
+mod Files
+mod Outcomes
+mod Prepared
+mod Headlines
+mod Texts

@@ -2,20 +2,22 @@
 --
 -- Status 0 is a whole report, 6 is want of memory, 5 is a failed sink, and 2, 3, 4 and 7 are refusals. What is said of the
 -- bytes of files and of the sink holds where they tell them.
-use Rattle.std.specs.Prelude.{ℕ, ◌≡◌, ◌≢◌, ◌<◌, ◌≤◌, ◌⊎◌, nat_lt, if◌then◌else◌, List, [], ◌++◌, length, Option, Some, None, IfSome, IsSomeAnd, MatchOption, Result, Ok, Err, IsOk}
+use Rattle.std.specs.Prelude.{ℕ, ◌≡◌, ◌≢◌, ◌⊎◌, List, [], ◌++◌, Option, Some, None, IfSome, IsSomeAnd, MatchOption, Result, Ok, Err}
+use Rattle.std.specs.List.{slice_get}
 use Rattle.wc_base.specs.Causes.{Rose, RoseBy}
 use Rattle.wc_base.specs.Told.{appended, AppendsPart}
 use Rattle.wc_config.specs.declared.codec.CoderId.{CoderId}
-use Rattle.wc_script.specs.declared.script.Script.{Script}
-use Rattle.wc_script.specs.declared.script.ScriptFault.{ScriptFault}
-use Rattle.wc_script.specs.declared.script.ScriptFault.TheVariants as fault
-use Rattle.wc_script.specs.Read.{script_of}
+use Rattle.script_types.specs.declared.script.ScriptData.{ScriptData}
 use Rattle.trace_text.specs.declared.run.Run.{Run}
 use Rattle.trace_text.specs.Fits.{IsLegalRun, Fits}
 use Rattle.trace_text.specs.Report.{report_of}
 use Rattle.wcrun.specs.declared.refusal.Refusal.{Refusal}
 use Rattle.wcrun.specs.declared.refusal.Refusal.TheVariants as refusal
+use Rattle.wcrun.specs.declared.refusal.Limited.TheVariants as limited
+use Rattle.wcrun.specs.declared.stop.Stop.{Stop}
+use Rattle.wcrun.specs.declared.stop.Stop.TheVariants as stop
 use Rattle.wcrun.specs.Refusals.{status_of, line_of, memory_line}
+use Rattle.wcrun.specs.Outcome.{Ready, playable_of, IsOutcome}
 
 -- What a call was told to do, and what it read: the file that the words name, what the files hold, where they tell it, and
 -- their counts of faults and of bytes, before the call and after it.
@@ -44,27 +46,35 @@ abbrev pub writing : Option (List ℕ) → Option (List ℕ) → ℕ → ℕ →
 writing before after faults_before faults_after answer =
     record { before = before; after = after; faults_before = faults_before; faults_after = faults_after; answer = answer }
 
--- The words name a file, which is there and within the limit, and P holds of its bytes.
-abbrev pub OfFile : Reading → (List ℕ → Type 0) → Type 0
-OfFile r P = IsSomeAnd r.command (λ name. IfSome r.content (λ files. IsSomeAnd (files name) (λ bytes. (length bytes ≤ 16777216) × P bytes)))
+-- What the files hold, as far as they tell it.
+abbrev pub Holding : Type 0
+Holding = List ℕ → Option (List ℕ)
 
--- P holds of the bytes of the file that the words name, if it is there.
-abbrev pub IfFile : Reading → (List ℕ → Type 0) → Type 0
-IfFile r P = IfSome r.command (λ name. IfSome r.content (λ files. IfSome (files name) P))
+-- The words name a file, which is there, and P holds of what the files hold and of its bytes.
+abbrev pub OfFile : Reading → (Holding → List ℕ → Type 0) → Type 0
+OfFile r P = IsSomeAnd r.command (λ name. IfSome r.content (λ files. IsSomeAnd (files name) (P files)))
 
--- A run that is legal and fits the script that the file's bytes spell; `coders` has the ids of the coders that were handed
--- in.
-pub record IsRunOf (r : Reading) (coders : List CoderId) (script : Script) (run : Run) : Type 0 where
-  pub spelled : OfFile r (λ bytes. script_of bytes ≡ Ok script)
-  pub legal : IsLegalRun script run
-  pub fits : Fits script coders run
+-- P holds of what the files hold and of the bytes of the file that the words name, if it is there.
+abbrev pub IfFile : Reading → (Holding → List ℕ → Type 0) → Type 0
+IfFile r P = IfSome r.command (λ name. IfSome r.content (λ files. IfSome (files name) (P files)))
+
+-- The file's bytes come to this.
+abbrev pub ComesTo : Reading → Result Ready Stop → Type 0
+ComesTo r outcome = OfFile r (λ files bytes. IsOutcome files bytes outcome)
+
+-- A run that is legal and fits the script that the file's bytes spell, with the chunks of its chunk files; `coders` has the
+-- ids of the coders that were handed in.
+pub record IsRunOf (r : Reading) (coders : List CoderId) (ready : Ready) (run : Run) : Type 0 where
+  pub spelled : ComesTo r (Ok ready)
+  pub legal : IsLegalRun ready.script run
+  pub fits : Fits ready.script ready.media coders run
 
 -- The text is the report of such a run.
 pub record IsReport (r : Reading) (coders : List CoderId) (text : List ℕ) : Type 0 where
-  pub script : Script
+  pub ready : Ready
   pub run : Run
-  pub ran : IsRunOf r coders script run
-  pub whole : text ≡ report_of script run
+  pub ran : IsRunOf r coders ready run
+  pub whole : text ≡ report_of ready.script run
 
 -- The text is a beginning of such a report.
 pub record IsBegun (r : Reading) (coders : List CoderId) (text : List ℕ) : Type 0 where
@@ -79,15 +89,25 @@ pub record IsCut (r : Reading) (coders : List CoderId) (text : List ℕ) : Type 
   pub begun : (part ≡ []) ⊎ IsBegun r coders part
   pub whole : text ≡ part ++ memory_line
 
--- When a refusal may come.
+-- The name is that of the script file, or of a chunk file that its script mentions.
+abbrev pub IsMentioned : List ℕ → ScriptData → Type 0
+IsMentioned name s = (n : ℕ) × (slice_get s.chunk_files n ≡ Some name)
+
+abbrev pub IsNamed : Reading → List ℕ → Type 0
+IsNamed r name = (r.command ≡ Some name) ⊎ OfFile r (λ files bytes. (s : ScriptData) × (playable_of bytes ≡ Ok s) × IsMentioned name s)
+
+-- When a refusal may come: each as the file's bytes come to it. A file that was not read only where the count of faults
+-- rose; and one that is too long, where it is not told, only where the count of bytes read rose by as much.
 abbrev pub Comes : Reading → Refusal → Type 0
 Comes r refusal.Usage = r.command ≡ None
-Comes r (refusal.ReadFault name) = (r.command ≡ Some name) × Rose r.faults_before r.faults_after
-Comes r refusal.TooLong =
+Comes r (refusal.ReadFault name) = IsNamed r name × Rose r.faults_before r.faults_after
+Comes r (refusal.Limit limited.Script) =
     IsSomeAnd r.command (λ name. MatchOption r.content (RoseBy 16777217 r.bytes_before r.bytes_after) (λ files.
-    IfSome (files name) (λ bytes. 16777216 < length bytes)))
-Comes r refusal.NotJson = OfFile r (λ bytes. script_of bytes ≡ Err fault.NotJson)
-Comes r refusal.Unbuilt = OfFile r (λ bytes. script_of bytes ≡ Err fault.Unbuilt)
+    IsSomeAnd (files name) (λ bytes. IsOutcome files bytes (Err (stop.Refused (refusal.Limit limited.Script))))))
+Comes r (refusal.Limit limited.File) =
+    IsSomeAnd r.command (λ name. MatchOption r.content (RoseBy 268435457 r.bytes_before r.bytes_after) (λ files.
+    IsSomeAnd (files name) (λ bytes. IsOutcome files bytes (Err (stop.Refused (refusal.Limit limited.File))))))
+Comes r x = ComesTo r (Err (stop.Refused x))
 
 -- The text is the line of a refusal that may come, and the status is its own.
 pub record IsRefusal (r : Reading) (status : ℕ) (text : List ℕ) : Type 0 where
@@ -128,22 +148,20 @@ pub record Headline (r : Reading) (coders : List CoderId) (w : Writing) : Type 0
   pub sink_failed : w.answer ≡ 5 → SinkFailed r coders w
   pub refused : w.answer ≢ 0 → w.answer ≢ 5 → w.answer ≢ 6 → Refused r w
 
--- the status for a script, where nothing fails
-abbrev pub status_for : Result Script ScriptFault → ℕ
-status_for (Ok s) = 0
-status_for (Err e) = 3
+-- the status for what a file's bytes come to, where nothing fails
+abbrev pub status_for : Result Ready Stop → ℕ
+status_for (Ok ready) = 0
+status_for (Err (stop.Refused x)) = status_of x
+status_for (Err stop.NoMemory) = 6
 
--- the status for the bytes of a file, where nothing fails
-abbrev pub expected : List ℕ → ℕ
-expected bytes = if nat_lt 16777216 (length bytes) then 7 else status_for (script_of bytes)
-
--- Where no read, no write and no memory fails, the words and the file's bytes alone give the status: so 2 comes exactly
--- where the words are no command, 7 exactly where the file is longer than the limit, and 3 exactly where its bytes spell
--- no script.
+-- Where no read, no write and no memory fails, the words and what the files hold alone give the status: so 2 comes exactly
+-- where the words are no command, 7 exactly where a count is above its limit, and 3 exactly where the bytes spell no script
+-- that is built and has an order, a chunk file is none, or a chunk file lacks a chunk that is taken.
 pub record Decides (r : Reading) (w : Writing) : Type 0 where
   pub words : r.command ≡ None → w.answer ≢ 5 → w.answer ≢ 6 → w.answer ≡ 2
-  pub file : IfFile r (λ bytes. w.answer ≢ 4 → w.answer ≢ 5 → w.answer ≢ 6 → w.answer ≡ expected bytes)
+  pub file : IfFile r (λ files bytes. (outcome : Result Ready Stop) → IsOutcome files bytes outcome → w.answer ≢ 4 → w.answer ≢ 5 → w.answer ≢ 6 → w.answer ≡ status_for outcome)
 
--- Where the file holds a script within the limit, and no count of faults rose, the status is 0 or want of memory.
+-- Where the file's bytes come to a script that can be replayed, and no count of faults rose, the status is 0 or want of
+-- memory.
 abbrev pub IsComplete : Reading → Writing → Type 0
-IsComplete r w = IfFile r (λ bytes. length bytes ≤ 16777216 → IsOk (script_of bytes) → ¬ Rose r.faults_before r.faults_after → ¬ Rose w.faults_before w.faults_after → w.answer ≢ 6 → w.answer ≡ 0)
+IsComplete r w = IfFile r (λ files bytes. (ready : Ready) → IsOutcome files bytes (Ok ready) → ¬ Rose r.faults_before r.faults_after → ¬ Rose w.faults_before w.faults_after → w.answer ≢ 6 → w.answer ≡ 0)

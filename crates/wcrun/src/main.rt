@@ -1,8 +1,11 @@
 //! Replays a script of calls on codecs, and writes the report of the run.
 #![tactic(auto)]
 
+mod built;
 mod calls;
 mod command;
+mod missing;
+mod prepare;
 mod refusal;
 #[cfg(test)]
 mod rows;
@@ -15,7 +18,7 @@ use calls::want_memory;
 use coder_api::CoderBox;
 use g711_coder::G711Coder;
 use pcm_coder::PcmCoder;
-pub use refusal::Refusal;
+pub use refusal::{Limited, Refusal};
 use std::alloc::Global;
 use std::process::ExitCode;
 use std::rt::Env;

@@ -1,13 +1,25 @@
 // A script's run, or why there is none.
-use crate::Refusal;
+ghost use Rattle.std.specs.Prelude.{◌≡◌};
+ghost use Rattle.wcrun.specs.Outcome as spec;
+
+use crate::{Limited, Refusal};
+use script_types::{Counted, Script, ScriptFault};
 use trace_text::Run;
+use wc_base::List;
 use wc_base::NoMemory as Want;
-use wc_script::{Script, ScriptFault};
+use wc_chunk::Chunk;
+
+/// A script that can be replayed, with the chunks of its chunk files.
+#[derive(Drop)]
+pub struct Prepared {
+    pub script: Script,
+    pub media: Vec<List<Chunk>>,
+}
 
 /// A script, and the run of it.
 #[derive(Drop)]
 pub struct Replayed {
-    pub script: Script,
+    pub prepared: Prepared,
     pub run: Run,
 }
 
@@ -16,6 +28,19 @@ pub struct Replayed {
 pub enum Stop {
     Refused(Refusal),
     NoMemory,
+}
+
+fn limited_of(what: Counted) -> Limited
+    ensures { result ≡ spec.limited_of what }
+{
+    match what {
+        Counted::Codecs => Limited::Codecs,
+        Counted::Callers => Limited::Callers,
+        Counted::Steps => Limited::Steps,
+        Counted::Order => Limited::Order,
+        Counted::Chunk => Limited::Chunk,
+        Counted::Media => Limited::Media,
+    }
 }
 
 impl From<Want> for Stop {
@@ -31,14 +56,19 @@ impl From<Want> for Stop {
 
 impl From<ScriptFault> for Stop {
     ghost use Rattle.std.specs.Prelude.{◌≡◌};
-    ghost use Rattle.wcrun.specs.Stops.{stop_for};
+    ghost use Rattle.wcrun.specs.Outcome.{stop_for};
 
     ghost from_gives = { λ f e. e ≡ stop_for f };
 
     fn from(fault: ScriptFault) -> Stop {
         match fault {
             ScriptFault::NotJson => Stop::Refused(Refusal::NotJson),
-            ScriptFault::Unbuilt => Stop::Refused(Refusal::Unbuilt),
+            ScriptFault::Shape { place } => Stop::Refused(Refusal::Shape(place)),
+            ScriptFault::UnknownName { place } => Stop::Refused(Refusal::UnknownName(place)),
+            ScriptFault::Twice { place } => Stop::Refused(Refusal::Twice(place)),
+            ScriptFault::TooMany { what, count: _ } => {
+                Stop::Refused(Refusal::Limit(limited_of(what)))
+            }
             ScriptFault::NoMemory => Stop::NoMemory,
         }
     }

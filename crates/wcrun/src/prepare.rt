@@ -1,0 +1,168 @@
+// Reads a script and its chunk files, up to where it can be replayed.
+ghost use Rattle.std.specs.Prelude.{◌≡◌, ◌≤◌, ◌⊎◌, IfOk, IfErr, IfSome, IsSome, IsSomeAnd, Some, None, Ok, Err, length, ◌≢◌};
+ghost use Rattle.script_types.specs.Built.{unbuilt_in};
+ghost use Rattle.trace_text.specs.Missing.{missing_in};
+ghost use Rattle.wcrun.specs.Headline.{reading, ComesTo};
+ghost use Rattle.wcrun.specs.Outcome.{playable_of, Becomes, name_of, stop_by};
+ghost use Rattle.wcrun.specs.Outcome as spec;
+ghost use Rattle.wcrun.specs.Stops.{MayStop, MayStopFor};
+
+use crate::built::unbuilt;
+use crate::missing::missing_chunk;
+use crate::stop::{Prepared, Stop};
+use crate::{Limited, Refusal};
+use media_files::{MediaFault, read_media};
+use script_types::{Place, Script};
+use std::alloc::Global;
+use wc_base::{FileFault, Files, List, NoMemory, Text};
+use wc_chunk::Chunk;
+use wc_script::read_script;
+
+// The most bytes of a script file.
+const LIMIT: u64 = 16_777_216;
+
+fn copied(alloc: Global, text: &str) -> Result<Text, NoMemory>
+    ensures { IfOk result (λ t. t ≡ text.now) }
+{
+    match String::from_str(alloc, text) {
+        Ok(text) => Ok(Text::of(text)),
+        Err(_) => Err(NoMemory),
+    }
+}
+
+// The answer where the file of this name was not read.
+fn read_fault(alloc: Global, name: &str) -> Stop
+    ensures { result ≡ Stop.NoMemory ⊎ result ≡ Stop.Refused (Refusal.ReadFault name.now) }
+{
+    match copied(alloc, name) {
+        Ok(name) => Stop::Refused(Refusal::ReadFault(name)),
+        Err(_) => Stop::NoMemory,
+    }
+}
+
+// A script that can be replayed: it has an order, and is built.
+fn if_playable(script: Script) -> Result<Script, Stop>
+    ensures ok { IfOk result (λ s. spec.if_playable script.order script ≡ Ok s) }
+    ensures order { IfOk result (λ s. IsSome s.order) }
+    ensures built { IfOk result (λ s. unbuilt_in s ≡ None) }
+    ensures err { IfErr result (λ e. spec.if_playable script.order script ≡ Err e) }
+{
+    if script.data().order.is_none() {
+        return Err(Stop::Refused(Refusal::Shape(Place::Top)));
+    }
+    match unbuilt(&script) {
+        Some(place) => Err(Stop::Refused(Refusal::Unbuilt(place))),
+        None => Ok(script),
+    }
+}
+
+// The script that bytes spell, where they are no more than a script may have.
+fn read_playable(alloc: Global, bytes: &[u8]) -> Result<Script, Stop>
+    requires { length bytes.now ≤ 16777216 }
+    ensures ok { IfOk result (λ s. playable_of bytes.now ≡ Ok s) }
+    ensures order { IfOk result (λ s. IsSome s.order) }
+    ensures built { IfOk result (λ s. unbuilt_in s ≡ None) }
+    ensures err { IfErr result (λ e. e ≢ Stop.NoMemory → playable_of bytes.now ≡ Err e) }
+{
+    let script = read_script(alloc, bytes)?;
+    if_playable(script)
+}
+
+// The script of the file with this name, which can be replayed.
+fn read_named<F: Files>(alloc: Global, name: &str, files: &mut F) -> Result<Script, Stop>
+    ensures kept { F.content files.new ≡ F.content files.old }
+    ensures faults { F.faults files.old ≤ F.faults files.new }
+    ensures bytes { F.bytes_read files.old ≤ F.bytes_read files.new }
+    ensures ok { IfOk result (λ s. IfSome (F.content files.old) (λ held. IsSomeAnd (held name.now) (λ bytes. playable_of bytes ≡ Ok s))) }
+    ensures order { IfOk result (λ s. IsSome s.order) }
+    ensures built { IfOk result (λ s. unbuilt_in s ≡ None) }
+    ensures stop { IfErr result (λ e. MayStop (reading (Some name.now) (F.content files.old) (F.faults files.old) (F.faults files.new)
+        (F.bytes_read files.old) (F.bytes_read files.new)) e) }
+{
+    match files.read_all(alloc, name, LIMIT) {
+        Ok(bytes) => read_playable(alloc, &bytes),
+        Err(FileFault::Failed) => Err(read_fault(alloc, name)),
+        Err(FileFault::TooLong) => Err(Stop::Refused(Refusal::Limit(Limited::Script))),
+        Err(FileFault::NoMemory) => Err(Stop::NoMemory),
+    }
+}
+
+// The name of a chunk file; an empty one where there is none of this number.
+fn file_name(alloc: Global, script: &Script, file: u64) -> Result<Text, NoMemory>
+    ensures { IfOk result (λ t. t ≡ name_of script.now file) }
+{
+    match script.files().get(file as usize) {
+        Some(name) => copied(alloc, name.as_str()),
+        None => copied(alloc, ""),
+    }
+}
+
+// The answer where the chunk files have a fault.
+fn media_fault(alloc: Global, script: &Script, fault: MediaFault) -> Stop
+    ensures { result ≡ Stop.NoMemory ⊎ result ≡ stop_by script.now fault }
+{
+    match fault {
+        MediaFault::Unread { file } => match file_name(alloc, script, file) {
+            Ok(name) => Stop::Refused(Refusal::ReadFault(name)),
+            Err(_) => Stop::NoMemory,
+        },
+        MediaFault::Chunks { file, fault } => match file_name(alloc, script, file) {
+            Ok(name) => Stop::Refused(Refusal::Chunks { name, fault }),
+            Err(_) => Stop::NoMemory,
+        },
+        MediaFault::LongFile => Stop::Refused(Refusal::Limit(Limited::File)),
+        MediaFault::LongChunk => Stop::Refused(Refusal::Limit(Limited::Chunk)),
+        MediaFault::MuchMedia => Stop::Refused(Refusal::Limit(Limited::Media)),
+        MediaFault::NoMemory => Stop::NoMemory,
+    }
+}
+
+// The answer where a chunk file lacks the chunk of a step.
+fn no_index(alloc: Global, script: &Script, file: u32, place: Place) -> Stop
+    ensures { result ≡ Stop.NoMemory ⊎ result ≡ Stop.Refused (Refusal.NoIndex (name_of script.now file) place) }
+{
+    match file_name(alloc, script, u64::from(file)) {
+        Ok(name) => Stop::Refused(Refusal::NoIndex { name, place }),
+        Err(_) => Stop::NoMemory,
+    }
+}
+
+// The chunks of the script's chunk files, in which each chunk that a step takes is there.
+fn read_chunk_files<F: Files>(
+    alloc: Global,
+    script: &Script,
+    files: &mut F,
+) -> Result<Vec<List<Chunk>>, Stop>
+    ensures kept { F.content files.new ≡ F.content files.old }
+    ensures faults { F.faults files.old ≤ F.faults files.new }
+    ensures bytes { F.bytes_read files.old ≤ F.bytes_read files.new }
+    ensures ok { IfOk result (λ m. IfSome (F.content files.old) (λ held. Becomes held (Ok script.now) (Ok (record { script = script.now; media = m.items })))) }
+    ensures each { IfOk result (λ m. length m.items ≡ length script.now.chunk_files) }
+    ensures there { IfOk result (λ m. missing_in script.now m.items ≡ None) }
+    ensures stop { IfErr result (λ e. MayStopFor (F.content files.old) script.now (F.faults files.old) (F.faults files.new)
+        (F.bytes_read files.old) (F.bytes_read files.new) e) }
+{
+    match read_media(alloc, script, files) {
+        Err(fault) => Err(media_fault(alloc, script, fault)),
+        Ok(media) => match missing_chunk(script, &media) {
+            Some((file, place)) => Err(no_index(alloc, script, file, place)),
+            None => Ok(media),
+        },
+    }
+}
+
+/// The script of the file with this name, and the chunks of its chunk files, where it can be replayed.
+pub fn prepare<F: Files>(alloc: Global, name: &str, files: &mut F) -> Result<Prepared, Stop>
+    ensures ok { IfOk result (λ p. ComesTo (reading (Some name.now) (F.content files.old) (F.faults files.old) (F.faults files.new)
+        (F.bytes_read files.old) (F.bytes_read files.new)) (Ok (record { script = p.script; media = p.media.items }))) }
+    ensures order { IfOk result (λ p. IsSome p.script.order) }
+    ensures built { IfOk result (λ p. unbuilt_in p.script ≡ None) }
+    ensures each { IfOk result (λ p. length p.media.items ≡ length p.script.chunk_files) }
+    ensures there { IfOk result (λ p. missing_in p.script p.media.items ≡ None) }
+    ensures stop { IfErr result (λ e. MayStop (reading (Some name.now) (F.content files.old) (F.faults files.old) (F.faults files.new)
+        (F.bytes_read files.old) (F.bytes_read files.new)) e) }
+{
+    let script = read_named(alloc, name, files)?;
+    let media = read_chunk_files(alloc, &script, files)?;
+    Ok(Prepared { script, media })
+}
