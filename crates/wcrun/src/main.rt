@@ -4,6 +4,8 @@
 mod built;
 mod calls;
 mod command;
+#[cfg(test)]
+mod faults;
 mod missing;
 mod prepare;
 mod refusal;

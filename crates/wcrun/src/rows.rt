@@ -516,7 +516,7 @@ fn calls_are_answered_as_the_codec_stands(rt: HostRuntime) -> Result<(), Fail> {
         (NOTHING, 0, NOTHING_REPORT),
         (ORDER_OF_REFUSALS, 0, ORDER_OF_REFUSALS_REPORT),
         (RANGE_OF_A_RATE, 0, RANGE_OF_A_RATE_REPORT),
-        (RATE_WITH_A_FRACTION, 3, "script: unbuilt\n"),
+        (RATE_WITH_A_FRACTION, 3, "script: shape at step 0 0\n"),
         (KEY_RULE, 0, KEY_RULE_REPORT),
         (TWO_FLUSHES_THEN_CLOSE, 0, TWO_FLUSHES_THEN_CLOSE_REPORT),
     ];

@@ -113,12 +113,23 @@ pub(crate) fn call(
     reads: Vec<u64>,
     writes: Vec<u64>,
 ) -> Result<(u8, MemSink), Fail> {
+    let name = String::from_str(alloc, "s.json")?;
+    call_on(alloc, vec![in alloc; (name, file)]?, words, reads, writes)
+}
+
+// The same on these files.
+pub(crate) fn call_on(
+    alloc: Global,
+    entries: Vec<(String, Vec<u8>)>,
+    words: &[&str],
+    reads: Vec<u64>,
+    writes: Vec<u64>,
+) -> Result<(u8, MemSink), Fail> {
     let mut given = Vec::new(alloc);
     for word in words {
         given.push(String::from_str(alloc, word)?)?;
     }
-    let name = String::from_str(alloc, "s.json")?;
-    let mut files = MemFiles::open(vec![in alloc; (name, file)]?, reads);
+    let mut files = MemFiles::open(entries, reads);
     let mut sink = MemSink::open(alloc, 4096, writes)?;
     let mut coders = Vec::new(alloc);
     let role = Role::Decode;
@@ -147,7 +158,7 @@ fn each_call_ends_with_its_status_and_text(rt: HostRuntime) -> Result<(), Fail> 
         (&replay, ULAW, 0, ULAW_REPORT),
         (&replay, UNCONFIGURED, 0, UNCONFIGURED_REPORT),
         (&replay, "{", 3, "script: not json\n"),
-        (&replay, "[]", 3, "script: unbuilt\n"),
+        (&replay, "[]", 3, "script: shape at top\n"),
         (&["replay", "other"], ORDINARY, 4, "read fault: other\n"),
         (&["replay", "-s"], ORDINARY, 2, usage),
         (&["replay"], ORDINARY, 2, usage),

@@ -1,0 +1,8 @@
+//! Drives codecs: does their jobs.
+#![tactic(auto)]
+
+mod job;
+#[cfg(test)]
+mod tests;
+
+pub use job::run;

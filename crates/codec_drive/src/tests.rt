@@ -1,0 +1,75 @@
+// A decoder's jobs, done with ample memory.
+use crate::run;
+use bytes::Bytes;
+use codec_core::Core;
+use codec_model::{Call, Kind};
+use coder_api::{Coder, SlotBox, Unit};
+use pcm_coder::PcmCoder;
+use std::alloc::Global;
+use std::test::Fail;
+use wc_base::{By, Text, Who};
+use wc_chunk::Chunk;
+use wc_config::{AudioDecoderConfig, CodecId, CoderId, Config, Role};
+
+fn pcm(alloc: Global) -> Result<Call, Fail> {
+    Ok(Call::Configure(Config::AudioDecoder(AudioDecoderConfig {
+        codec: Text::of(String::from_str(alloc, "pcm-s16")?),
+        rate: 8000,
+        channels: 1,
+        description: None,
+    })))
+}
+
+fn chunk(alloc: Global, content: &[u8]) -> Result<Call, Fail> {
+    Ok(Call::Decode(Chunk {
+        key: true,
+        timestamp: 0,
+        duration: None,
+        bytes: Bytes::copy_from_slice(alloc, content)?,
+    }))
+}
+
+// Starts the front item, does its job and ends it; whether memory was there and an item was.
+fn work(alloc: Global, core: &mut Core<PcmCoder>, moment: u64) -> bool {
+    let Some(mut job) = core.start() else {
+        return false;
+    };
+    if let Some(id) = job.lacks() {
+        let by = By::Codec {
+            codec: 0,
+            place: job.place(),
+        };
+        let coder = SlotBox::new(PcmCoder::new(CoderId { role: Role::Decode, codec: CodecId::PcmS16 }), 0, by);
+        if coder.id() != id {
+            return false;
+        }
+        job.put_box(coder);
+    }
+    let done = run(alloc, job);
+    let fine = !done.wants_memory();
+    core.done(done, moment);
+    fine
+}
+
+#[test]
+fn jobs_are_done(rt: HostRuntime) -> Result<(), Fail> {
+    let alloc = rt.alloc();
+    let who = Who { caller: 0, step: 0 };
+    let mut core = Core::open(alloc, Kind::AudioDecoder, 4, 2)?;
+    core.call(who, pcm(alloc)?).expect(&rt, "configure");
+    core.call(who, chunk(alloc, b"\x01\x00\x02\x00")?).expect(&rt, "decode");
+    assert!(rt; work(alloc, &mut core, 1));
+    assert!(rt; core.turn().is_some() && core.turn().is_some());
+    assert!(rt; work(alloc, &mut core, 2));
+    assert!(rt; core.turn().is_some() && core.turn().is_some());
+    let outputs = core.outputs();
+    assert_eq!(rt; outputs.len(), 1);
+    match outputs[0].as_slice() {
+        [Unit::Sound(samples)] => {
+            assert_eq!(rt; samples.shape.frames, 2);
+            assert_eq!(rt; samples.bytes.as_slice(), b"\x01\x00\x02\x00".as_slice());
+        }
+        _ => assert!(rt; false),
+    }
+    Ok(())
+}
