@@ -19,7 +19,7 @@ fn chunk_of(init: &ChunkInit) -> Result<Chunk, NoMemory>
 }
 
 /// The chunks of a file; none where no file has the number.
-fn chunks_of(media: &[List<Chunk>], file: u32) -> &[Chunk]
+pub fn chunks_of(media: &[List<Chunk>], file: u32) -> &[Chunk]
     ensures { result.now ≡ at file media.now }
 {
     match media.get(file as usize) {

@@ -6,10 +6,12 @@ mod chunks;
 mod desk;
 mod events;
 mod laws;
+mod missing;
 mod moving;
 mod playing;
 mod results;
 mod steps;
 
 pub use laws::following_fits;
+pub use missing::missing_chunk;
 pub use playing::replay;

@@ -27,7 +27,7 @@ pub one_outcome : OneReading → (files : Holding) (bytes : List ℕ) (a b : Res
 one_outcome one files bytes a b h g = same_becomes one files (playable_of bytes) a b h g
 
 not_none : (r : Reading) (name : List ℕ) → r.command ≡ None → r.command ≡ Some name → ⊥
-not_none r name no is = let e : ◌≡◌ {A = Option (List ℕ)} None (Some name) = sym no ∙ is in absurd cc
+not_none r name none is = let e : ◌≡◌ {A = Option (List ℕ)} None (Some name) = sym none ∙ is in absurd cc
 
 -- a refusal that may come is that of a read, or what the file's bytes come to
 caused : (r : Reading) (x : Refusal) (name : List ℕ) (files : Holding) (bytes : List ℕ) → Comes r x → r.command ≡ Some name → r.content ≡ Some files → files name ≡ Some bytes →
@@ -58,14 +58,14 @@ zero_of (suc n) only n5 n6 = absurd (n5 (only (λ e. omega arith) n6))
 
 -- what comes to something has a command
 no_usage : (P : List ℕ → Type 0) (command : Option (List ℕ)) → IsSomeAnd command P → command ≡ None → ⊥
-no_usage P None h no = h
-no_usage P (Some name) h no = absurd cc
+no_usage P None h none = h
+no_usage P (Some name) h none = absurd cc
 
 -- ---- a report
 
 pub decides_report : OneReading → (r : Reading) (w : Writing) (ready : Ready) (text : List ℕ) → ComesTo r (Ok ready) → WritesText text w → Decides r w
 decides_report one r w ready text c p = record {
-  words = λ no n5 n6. absurd (no_usage _ r.command c no);
+  words = λ none n5 n6. absurd (no_usage _ r.command c none);
   file = if_file r _ (λ name files bytes is holds there outcome h n4 n5 n6.
     zero_of w.answer p.only n5 n6 ∙ sym (ap status_for (one_outcome one files bytes outcome (Ok ready) h (of_file r _ name files bytes c is holds there))));
 }
@@ -81,35 +81,35 @@ decided r w x one files bytes outcome h (inl c) is n4 = absurd (n4 (is ∙ c.0))
 decided r w x one files bytes outcome h (inr c) is n4 = is ∙ sym (ap status_for (one_outcome one files bytes outcome (Err (stop.Refused x)) h c))
 
 two_for_usage : (r : Reading) (w : Writing) (x : Refusal) → Comes r x → r.command ≡ None → w.answer ≡ status_of x → w.answer ≡ 2
-two_for_usage r w refusal.Usage c no is = is
-two_for_usage r w refusal.NotJson c no is = absurd (no_usage _ r.command c no)
-two_for_usage r w (refusal.Shape p) c no is = absurd (no_usage _ r.command c no)
-two_for_usage r w (refusal.UnknownName p) c no is = absurd (no_usage _ r.command c no)
-two_for_usage r w (refusal.Twice p) c no is = absurd (no_usage _ r.command c no)
-two_for_usage r w (refusal.Unbuilt p) c no is = absurd (no_usage _ r.command c no)
-two_for_usage r w (refusal.Chunks n f) c no is = absurd (no_usage _ r.command c no)
-two_for_usage r w (refusal.NoIndex n p) c no is = absurd (no_usage _ r.command c no)
-two_for_usage r w (refusal.ReadFault n) (inl c, rose) no is = absurd (not_none r n no c)
-two_for_usage r w (refusal.ReadFault n) (inr c, rose) no is = absurd (no_usage _ r.command c no)
-two_for_usage r w (refusal.Limit limited.Script) c no is = absurd (no_usage _ r.command c no)
-two_for_usage r w (refusal.Limit limited.Codecs) c no is = absurd (no_usage _ r.command c no)
-two_for_usage r w (refusal.Limit limited.Callers) c no is = absurd (no_usage _ r.command c no)
-two_for_usage r w (refusal.Limit limited.Steps) c no is = absurd (no_usage _ r.command c no)
-two_for_usage r w (refusal.Limit limited.Order) c no is = absurd (no_usage _ r.command c no)
-two_for_usage r w (refusal.Limit limited.Chunk) c no is = absurd (no_usage _ r.command c no)
-two_for_usage r w (refusal.Limit limited.File) c no is = absurd (no_usage _ r.command c no)
-two_for_usage r w (refusal.Limit limited.Media) c no is = absurd (no_usage _ r.command c no)
+two_for_usage r w refusal.Usage c none is = is
+two_for_usage r w refusal.NotJson c none is = absurd (no_usage _ r.command c none)
+two_for_usage r w (refusal.Shape p) c none is = absurd (no_usage _ r.command c none)
+two_for_usage r w (refusal.UnknownName p) c none is = absurd (no_usage _ r.command c none)
+two_for_usage r w (refusal.Twice p) c none is = absurd (no_usage _ r.command c none)
+two_for_usage r w (refusal.Unbuilt p) c none is = absurd (no_usage _ r.command c none)
+two_for_usage r w (refusal.Chunks n f) c none is = absurd (no_usage _ r.command c none)
+two_for_usage r w (refusal.NoIndex n p) c none is = absurd (no_usage _ r.command c none)
+two_for_usage r w (refusal.ReadFault n) (inl c, rose) none is = absurd (not_none r n none c)
+two_for_usage r w (refusal.ReadFault n) (inr c, rose) none is = absurd (no_usage _ r.command c none)
+two_for_usage r w (refusal.Limit limited.Script) c none is = absurd (no_usage _ r.command c none)
+two_for_usage r w (refusal.Limit limited.Codecs) c none is = absurd (no_usage _ r.command c none)
+two_for_usage r w (refusal.Limit limited.Callers) c none is = absurd (no_usage _ r.command c none)
+two_for_usage r w (refusal.Limit limited.Steps) c none is = absurd (no_usage _ r.command c none)
+two_for_usage r w (refusal.Limit limited.Order) c none is = absurd (no_usage _ r.command c none)
+two_for_usage r w (refusal.Limit limited.Chunk) c none is = absurd (no_usage _ r.command c none)
+two_for_usage r w (refusal.Limit limited.File) c none is = absurd (no_usage _ r.command c none)
+two_for_usage r w (refusal.Limit limited.Media) c none is = absurd (no_usage _ r.command c none)
 
 pub decides_refusal : OneReading → (r : Reading) (w : Writing) (x : Refusal) → Comes r x → WritesLine (status_of x) (line_of x) w → Decides r w
 decides_refusal one r w x c p = record {
-  words = λ no n5 n6. two_for_usage r w x c no (p.done n5 n6);
+  words = λ none n5 n6. two_for_usage r w x c none (p.done n5 n6);
   file = if_file r _ (λ name files bytes is holds there outcome h n4 n5 n6. decided r w x one files bytes outcome h (caused r x name files bytes c is holds there) (p.done n5 n6) n4);
 }
 
 not_refused : (r : Reading) (x : Refusal) (one : OneReading) (files : Holding) (bytes : List ℕ) (ready : Ready) → IsOutcome files bytes (Ok ready) →
     ((status_of x ≡ 4) × Rose r.faults_before r.faults_after) ⊎ IsOutcome files bytes (Err (stop.Refused x)) → (Rose r.faults_before r.faults_after → ⊥) → ⊥
-not_refused r x one files bytes ready h (inl c) no = no c.1
-not_refused r x one files bytes ready h (inr c) no = let is = one_outcome one files bytes (Ok ready) (Err (stop.Refused x)) h c in absurd cc
+not_refused r x one files bytes ready h (inl c) none = none c.1
+not_refused r x one files bytes ready h (inr c) none = let is = one_outcome one files bytes (Ok ready) (Err (stop.Refused x)) h c in absurd cc
 
 pub complete_refusal : OneReading → (r : Reading) (w : Writing) (x : Refusal) → Comes r x → IsComplete r w
 complete_refusal one r w x c = if_file r _ (λ name files bytes is holds there ready h reads writes n6. absurd (not_refused r x one files bytes ready h (caused r x name files bytes c is holds there) reads))
@@ -121,7 +121,7 @@ no_answer w p n5 n6 = n6 (p.done n5 n6)
 
 pub decides_memory : (r : Reading) (w : Writing) → WritesLine 6 memory_line w → Decides r w
 decides_memory r w p = record {
-  words = λ no n5 n6. absurd (no_answer w p n5 n6);
+  words = λ none n5 n6. absurd (no_answer w p n5 n6);
   file = if_file r _ (λ name files bytes is holds there outcome h n4 n5 n6. absurd (no_answer w p n5 n6));
 }
 

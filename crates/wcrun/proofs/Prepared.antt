@@ -1,5 +1,5 @@
 -- How a script is read, from its file and its chunk files.
-use Rattle.std.proofs.Common.{◌≡◌, ◌≢◌, ◌<◌, ◌≤◌, ◌⊎◌, inl, inr, ℕ, List, length, Bool, true, Option, Some, None, IfSome, Result, Ok, Err, refl, sym, ap, subst, ◌∙◌, arith}
+use Rattle.std.proofs.Common.{◌≡◌, ◌≢◌, ◌<◌, ◌≤◌, ◌⊎◌, inl, inr, ℕ, List, length, Bool, true, false, Option, Some, None, IfSome, Result, Ok, Err, refl, sym, ap, subst, ◌∙◌, arith}
 use Rattle.std.specs.Prelude.{IsSomeAnd, MatchOption, nat_lt, if◌then◌else◌}
 use Rattle.wc_base.specs.Causes.{Rose, RoseBy}
 use Rattle.script_types.specs.declared.fault.Counted.{Counted}
@@ -114,7 +114,9 @@ of_spelled (Err f) e is = subst OfScript (err_same is) (of_fault f)
     err_same q = cc
 
 not_long : (bytes : List ℕ) → length bytes ≤ 16777216 → playable_of bytes ≡ if_spelled (script_of bytes)
-not_long bytes le = ap (λ (b : Bool). if b then Err (stop.Refused (refusal.Limit limited.Script)) else if_spelled (script_of bytes)) (search arith)
+not_long bytes le =
+    let few : nat_lt 16777216 (length bytes) ≡ false = search arith in
+    ap (λ (b : Bool). if b then Err (stop.Refused (refusal.Limit limited.Script)) else if_spelled (script_of bytes)) few
 
 refused_at : (held : Holding) (e : Stop) (bytes : List ℕ) (b : Option (List ℕ)) → b ≡ Some bytes → playable_of bytes ≡ Err e → IsSomeAnd b (λ bytes. IsOutcome held bytes (Err e))
 refused_at held e bytes b is q = subst (λ o. IsSomeAnd o (λ bytes. IsOutcome held bytes (Err e))) (sym is) (subst (λ p. Becomes held p (Err e)) (sym q) refl)
@@ -154,7 +156,9 @@ long_at held None h = elim h [ ]
 long_at held (Some bytes) h = subst (λ p. Becomes held p (Err (stop.Refused (refusal.Limit limited.Script)))) (sym (long bytes h)) refl
   where
     long : (bytes : List ℕ) → 16777216 < length bytes → playable_of bytes ≡ Err (stop.Refused (refusal.Limit limited.Script))
-    long bytes lt = ap (λ (b : Bool). if b then Err (stop.Refused (refusal.Limit limited.Script)) else if_spelled (script_of bytes)) (search arith)
+    long bytes lt =
+        let many : nat_lt 16777216 (length bytes) ≡ true = search arith in
+        ap (λ (b : Bool). if b then Err (stop.Refused (refusal.Limit limited.Script)) else if_spelled (script_of bytes)) many
 
 -- a script file that is too long
 pub script_is_long : (content : Option Holding) (name : List ℕ) (b c : ℕ) → MatchOption content (RoseBy 16777217 b c) (λ files. IsSomeAnd (files name) (λ bytes. 16777216 < length bytes)) → MatchOption content (RoseBy 16777217 b c) (λ files. IsSomeAnd (files name) (λ bytes. IsOutcome files bytes (Err (stop.Refused (refusal.Limit limited.Script)))))

@@ -6,7 +6,6 @@ mod calls;
 mod command;
 #[cfg(test)]
 mod faults;
-mod missing;
 mod prepare;
 mod refusal;
 #[cfg(test)]

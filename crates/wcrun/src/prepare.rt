@@ -8,7 +8,6 @@ ghost use Rattle.wcrun.specs.Outcome as spec;
 ghost use Rattle.wcrun.specs.Stops.{MayStop, MayStopFor};
 
 use crate::built::unbuilt;
-use crate::missing::missing_chunk;
 use crate::stop::{Prepared, Stop};
 use crate::{Limited, Refusal};
 use media_files::{MediaFault, read_media};
@@ -16,6 +15,7 @@ use script_types::{Place, Script};
 use std::alloc::Global;
 use wc_base::{FileFault, Files, List, NoMemory, Text};
 use wc_chunk::Chunk;
+use wc_replay::missing_chunk;
 use wc_script::read_script;
 
 // The most bytes of a script file.
@@ -163,6 +163,8 @@ pub fn prepare<F: Files>(alloc: Global, name: &str, files: &mut F) -> Result<Pre
         (F.bytes_read files.old) (F.bytes_read files.new)) e) }
 {
     let script = read_named(alloc, name, files)?;
-    let media = read_chunk_files(alloc, &script, files)?;
-    Ok(Prepared { script, media })
+    match read_chunk_files(alloc, &script, files) {
+        Ok(media) => Ok(Prepared { script, media }),
+        Err(stop) => Err(stop),
+    }
 }

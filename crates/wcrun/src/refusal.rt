@@ -84,6 +84,7 @@ impl fmt::Display for Limited {
 }
 
 // The first fault of a chunk file, as a line tells it.
+#[derive(Clone, Copy)]
 struct FaultText(ChunkFault);
 
 impl fmt::Display for FaultText {

@@ -4,6 +4,7 @@ ghost use Rattle.script_types.specs.declared.script.CallerItem.{CallerItem};
 ghost use Rattle.trace_text.specs.Missing.{missing_in};
 ghost use Rattle.trace_text.specs.Missing as spec;
 
+use crate::chunks::chunks_of;
 use script_types::{CallerItem, ChunkSource, Place, Script, Step};
 use wc_base::List;
 use wc_chunk::Chunk;
@@ -14,10 +15,12 @@ fn lacking_source(media: &[List<Chunk>], source: &ChunkSource) -> Option<u32>
 {
     match source {
         ChunkSource::Init(_) => None,
-        ChunkSource::File { file, index } => match media.get(*file as usize) {
-            Some(chunks) if (*index as usize) < chunks.len() => None,
-            _ => Some(*file),
-        },
+        ChunkSource::File { file, index } => {
+            match chunks_of(media, *file).get(*index as usize) {
+                Some(_) => None,
+                None => Some(*file),
+            }
+        }
     }
 }
 

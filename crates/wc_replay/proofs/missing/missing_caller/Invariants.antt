@@ -1,6 +1,6 @@
 use Rattle.std.proofs.Common.{◌≡◌, drop}
 use Rattle.trace_text.specs.Missing.{missing_caller}
-use Rattle.wcrun.proofs.missing.missing_caller.Given as goal
+use Rattle.wc_replay.proofs.missing.missing_caller.Given as goal
 
 abbrev pub invariant-loop-i : goal.invariant-loop-i
 invariant-loop-i l = missing_caller l.media 0 l.callers ≡ missing_caller l.media l.i (drop l.i l.callers)
