@@ -1,0 +1,143 @@
+// The variables of a caller.
+ghost use Rattle.std.specs.Prelude.{◌≡◌, ◌≤◌, ◌++◌, ◌∷◌, [], IfSome, OnOk, OnErr, Some, None, Option, option_map, bytes_eq, length};
+ghost use Rattle.std.specs.List.{position};
+ghost use Rattle.script_types.specs.Names.{variable_named, is_variable_name, variable_at, binds, binds_media};
+ghost use Rattle.script_types.specs.Names as spec;
+
+use script_types::{FoundVariable, MediaStep, Step, VariableKind};
+use std::alloc::Global;
+use std::marker::Model;
+use wc_base::NoMemory;
+
+/// The steps of a caller so far, with the variables that they define.
+#[derive(Drop)]
+pub struct Variables {
+    steps: Vec<Step>,
+}
+
+impl Model for Variables {
+    ghost use Rattle.std.specs.Prelude.{List};
+    ghost use Rattle.script_types.specs.declared.steps.Step.{Step};
+
+    ghost Value = { List Step };
+
+    ghost view = { λ v. v.steps.items };
+}
+
+// The variable that a step defines, and what it holds.
+fn bound_media(step: &MediaStep) -> Option<(&str, VariableKind)>
+    ensures { option_map (λ b. (b.0.now, b.1)) result ≡ binds_media step.now }
+{
+    match step {
+        MediaStep::Audio { bind, init: _ } => Some((bind.as_str(), VariableKind::Audio)),
+        MediaStep::Frame { bind, init: _ } => Some((bind.as_str(), VariableKind::Frame)),
+        MediaStep::Take { on: _, bind, kind } => Some((bind.as_str(), *kind)),
+        MediaStep::Clone { of, bind } => Some((bind.as_str(), of.kind)),
+        MediaStep::Transfer { of, bind } => Some((bind.as_str(), of.kind)),
+        MediaStep::Encode { on: _, content: _ } => None,
+        MediaStep::CloseData { of: _ } => None,
+        MediaStep::Copy {
+            of: _,
+            options: _,
+            size: _,
+        } => None,
+        MediaStep::Size { of: _, options: _ } => None,
+    }
+}
+
+fn bound(step: &Step) -> Option<(&str, VariableKind)>
+    ensures { option_map (λ b. (b.0.now, b.1)) result ≡ binds step.now }
+{
+    match step {
+        Step::Chunk { bind, source: _ } => Some((bind.as_str(), VariableKind::Chunk)),
+        Step::Flush { on: _, bind } => Some((bind.as_str(), VariableKind::Promise)),
+        Step::Media(step) => bound_media(step),
+        Step::Configure { on: _, config: _ } => None,
+        Step::Decode { on: _, chunk: _ } => None,
+        Step::Poll { promise: _ } | Step::Await { promise: _ } => None,
+        Step::Reset { on: _ } | Step::Close { on: _ } | Step::State { on: _ } => None,
+    }
+}
+
+fn defines(name: &str, step: &Step) -> bool
+    ensures { result ≡ spec.defines name.now step.now }
+{
+    match bound(step) {
+        Some((bind, _)) => bind == name,
+        None => false,
+    }
+}
+
+fn variable_position(steps: &[Step], name: &str) -> Option<usize>
+    ensures { result ≡ position (λ s. spec.defines name.now s) steps.now }
+{
+    steps.iter().position(|s| defines(name, s))
+}
+
+// The variable that step `number` defines.
+fn found_at(number: u32, step: &Step) -> Option<FoundVariable>
+    ensures { result ≡ variable_at number (Some step.now) }
+{
+    let (_, kind) = bound(step)?;
+    Some(FoundVariable { step: number, kind })
+}
+
+fn find_variable(steps: &[Step], name: &str) -> Option<FoundVariable>
+    requires { length steps.now ≤ 100000 }
+    ensures { result ≡ variable_named steps.now name.now }
+{
+    let number = variable_position(steps, name)?;
+    let step = steps.get(number)?;
+    found_at(number as u32, step)
+}
+
+impl Variables {
+    /// No steps yet.
+    pub fn new(alloc: Global) -> Variables
+        ensures { result ≡ [] }
+    {
+        Variables {
+            steps: Vec::new(alloc),
+        }
+    }
+
+    /// How many steps there are.
+    pub fn len(&self) -> usize
+        ensures { result ≡ length self.now }
+    {
+        self.steps.len()
+    }
+
+    /// The variable of this name, after these steps.
+    pub fn find(&self, name: &str) -> Option<FoundVariable>
+        requires { length self.now ≤ 100000 }
+        ensures { result ≡ variable_named self.now name.now }
+    {
+        find_variable(&self.steps, name)
+    }
+
+    /// Whether one of the steps defines a variable of this name.
+    pub fn defines(&self, name: &str) -> bool
+        ensures { result ≡ is_variable_name self.now name.now }
+    {
+        self.steps.iter().any(|s| defines(name, s))
+    }
+
+    /// Adds a step. Want of memory leaves the steps as they were.
+    pub fn push(&mut self, step: Step) -> Result<(), NoMemory>
+        ensures ok { OnOk result (self.new ≡ self.old ++ step ∷ []) }
+        ensures err { OnErr result (self.new ≡ self.old) }
+    {
+        match self.steps.push(step) {
+            Ok(()) => Ok(()),
+            Err(_) => Err(NoMemory),
+        }
+    }
+
+    /// The steps.
+    pub fn into_steps(self) -> Vec<Step>
+        ensures { result.items ≡ self }
+    {
+        self.steps
+    }
+}
