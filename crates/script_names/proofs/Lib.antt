@@ -1,2 +1,4 @@
 mod FileLaws
+mod PlaceLaws
 mod Positions
+mod StepTables

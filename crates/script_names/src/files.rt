@@ -1,9 +1,12 @@
 // The chunk files that a script mentions.
-ghost use Rattle.std.specs.Prelude.{◌≡◌, ◌≤◌, ◌++◌, ◌∷◌, [], IfOk, OnOk, OnErr, bytes_eq, length};
+ghost use Rattle.std.specs.Prelude.{◌≡◌, ◌≤◌, ◌++◌, ◌∷◌, [], IfOk, OnOk, OnErr, None, bytes_eq, length};
 ghost use Rattle.std.specs.List.{position};
+ghost use Rattle.script_names.specs.Places.{IsTable};
 ghost use Rattle.script_names.specs.Files.{file_number, with_file};
 
+use crate::places::{place_of, put};
 use std::alloc::Global;
+use std::collections::BTreeMap;
 use std::marker::Model;
 use wc_base::{NoMemory, Text};
 
@@ -12,20 +15,35 @@ use wc_base::{NoMemory, Text};
 pub struct Files {
     alloc: Global,
     names: Vec<Text>,
+    places: BTreeMap<String, usize>,
 }
 
 impl Model for Files {
-    ghost use Rattle.std.specs.Prelude.{ℕ, List};
+    ghost use Rattle.std.specs.Prelude.{ℕ, List, bytes_eq};
+    ghost use Rattle.std.specs.List.{position};
+    ghost use Rattle.script_names.specs.Places.{IsTable};
 
     ghost Value = { List (List ℕ) };
 
     ghost view = { λ f. f.names.items };
+
+    ghost invariant = { λ f. IsTable f.places (λ name. position (λ t. bytes_eq t name) f.names.items) };
 }
 
-fn position_of(names: &[Text], name: &str) -> Option<usize>
-    ensures { result ≡ position (λ f. bytes_eq f name.now) names.now }
+// Notes a file that none of these is. Want of memory leaves the table as it was.
+#[tactic(auto, using(crate::proofs::FileLaws::file_put))]
+fn note(
+    alloc: Global,
+    places: &mut BTreeMap<String, usize>,
+    names: &[Text],
+    name: &str,
+) -> Result<(), NoMemory>
+    requires table { IsTable places.old (λ q. position (λ f. bytes_eq f q) names.now) }
+    requires new { position (λ f. bytes_eq f name.now) names.now ≡ None }
+    ensures ok { OnOk result (IsTable places.new (λ q. position (λ f. bytes_eq f q) (names.now ++ name.now ∷ []))) }
+    ensures err { OnErr result (IsTable places.new (λ q. position (λ f. bytes_eq f q) names.now)) }
 {
-    names.iter().position(|f| f.as_str() == name)
+    put(alloc, places, name, names.len())
 }
 
 impl Files {
@@ -36,6 +54,7 @@ impl Files {
         Files {
             alloc,
             names: Vec::new(alloc),
+            places: BTreeMap::new(alloc),
         }
     }
 
@@ -46,8 +65,32 @@ impl Files {
         self.names.len()
     }
 
-    #[tactic(auto, using(crate::proofs::FileLaws::old_file, crate::proofs::FileLaws::new_file))]
+    // The number of a file that was mentioned before.
+    fn position(&self, name: &str) -> Option<u32>
+        requires { length self.now ≤ 100000 }
+        ensures { result ≡ position (λ f. bytes_eq f name.now) self.now }
+    {
+        let number = place_of(&self.places, name)?;
+        Some(number as u32)
+    }
+
+    // Adds a file that was not mentioned before.
+    fn add(&mut self, name: &str) -> Result<(), NoMemory>
+        requires { position (λ f. bytes_eq f name.now) self.old ≡ None }
+        ensures ok { OnOk result (self.new ≡ self.old ++ name.now ∷ []) }
+        ensures err { OnErr result (self.new ≡ self.old) }
+    {
+        self.names.reserve(1)?;
+        let Ok(text) = String::from_str(self.alloc, name) else {
+            return Err(NoMemory);
+        };
+        note(self.alloc, &mut self.places, &self.names, name)?;
+        self.names.push_reserved(Text::of(text));
+        Ok(())
+    }
+
     /// The number of a file, which is added if it was not mentioned before. Want of memory leaves the files as they were.
+    #[tactic(auto, using(crate::proofs::FileLaws::old_file, crate::proofs::FileLaws::new_file))]
     pub fn number(&mut self, name: &str) -> Result<u32, NoMemory>
         requires { length self.old ≤ 100000 }
         ensures number { IfOk result (λ n. n ≡ file_number self.old name.now) }
@@ -61,29 +104,6 @@ impl Files {
                 self.add(name)?;
                 Ok(next)
             }
-        }
-    }
-
-    // The number of a file that was mentioned before.
-    fn position(&self, name: &str) -> Option<u32>
-        requires { length self.now ≤ 100000 }
-        ensures { result ≡ position (λ f. bytes_eq f name.now) self.now }
-    {
-        let number = position_of(&self.names, name)?;
-        Some(number as u32)
-    }
-
-    // Adds a file that was not mentioned before.
-    fn add(&mut self, name: &str) -> Result<(), NoMemory>
-        ensures ok { OnOk result (self.new ≡ self.old ++ name.now ∷ []) }
-        ensures err { OnErr result (self.new ≡ self.old) }
-    {
-        let Ok(name) = String::from_str(self.alloc, name) else {
-            return Err(NoMemory);
-        };
-        match self.names.push(Text::of(name)) {
-            Ok(()) => Ok(()),
-            Err(_) => Err(NoMemory),
         }
     }
 

@@ -3,6 +3,7 @@
 
 mod files;
 mod heads;
+mod places;
 mod variables;
 
 pub use files::Files;

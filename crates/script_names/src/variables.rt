@@ -1,27 +1,38 @@
 // The variables of a caller.
 ghost use Rattle.std.specs.Prelude.{◌≡◌, ◌≤◌, ◌++◌, ◌∷◌, [], IfSome, OnOk, OnErr, Some, None, Option, option_map, bytes_eq, length};
 ghost use Rattle.std.specs.List.{position};
+ghost use Rattle.script_names.specs.Places.{IsTable};
 ghost use Rattle.script_types.specs.Names.{variable_named, is_variable_name, variable_at, binds, binds_media};
 ghost use Rattle.script_types.specs.Names as spec;
 
+use crate::places::{place_of, put};
 use script_types::{FoundVariable, MediaStep, Step, VariableKind};
 use std::alloc::Global;
+use std::collections::BTreeMap;
 use std::marker::Model;
 use wc_base::NoMemory;
 
 /// The steps of a caller so far, with the variables that they define.
 #[derive(Drop)]
 pub struct Variables {
+    alloc: Global,
     steps: Vec<Step>,
+    // the first step that defines a name
+    places: BTreeMap<String, usize>,
 }
 
 impl Model for Variables {
     ghost use Rattle.std.specs.Prelude.{List};
+    ghost use Rattle.std.specs.List.{position};
     ghost use Rattle.script_types.specs.declared.steps.Step.{Step};
+    ghost use Rattle.script_types.specs.Names.{defines};
+    ghost use Rattle.script_names.specs.Places.{IsTable};
 
     ghost Value = { List Step };
 
     ghost view = { λ v. v.steps.items };
+
+    ghost invariant = { λ v. IsTable v.places (λ name. position (λ s. defines name s) v.steps.items) };
 }
 
 // The variable that a step defines, and what it holds.
@@ -59,21 +70,6 @@ fn bound(step: &Step) -> Option<(&str, VariableKind)>
     }
 }
 
-fn defines(name: &str, step: &Step) -> bool
-    ensures { result ≡ spec.defines name.now step.now }
-{
-    match bound(step) {
-        Some((bind, _)) => bind == name,
-        None => false,
-    }
-}
-
-fn variable_position(steps: &[Step], name: &str) -> Option<usize>
-    ensures { result ≡ position (λ s. spec.defines name.now s) steps.now }
-{
-    steps.iter().position(|s| defines(name, s))
-}
-
 // The variable that step `number` defines.
 fn found_at(number: u32, step: &Step) -> Option<FoundVariable>
     ensures { result ≡ variable_at number (Some step.now) }
@@ -82,13 +78,26 @@ fn found_at(number: u32, step: &Step) -> Option<FoundVariable>
     Some(FoundVariable { step: number, kind })
 }
 
-fn find_variable(steps: &[Step], name: &str) -> Option<FoundVariable>
-    requires { length steps.now ≤ 100000 }
-    ensures { result ≡ variable_named steps.now name.now }
+// Notes the variable that a step after these defines.
+#[tactic(auto, using(crate::proofs::StepTables::step_same))]
+fn note(
+    alloc: Global,
+    places: &mut BTreeMap<String, usize>,
+    steps: &[Step],
+    step: &Step,
+) -> Result<(), NoMemory>
+    requires { IsTable places.old (λ q. position (λ s. spec.defines q s) steps.now) }
+    ensures ok { OnOk result (IsTable places.new (λ q. position (λ s. spec.defines q s) (steps.now ++ step.now ∷ []))) }
+    ensures err { OnErr result (IsTable places.new (λ q. position (λ s. spec.defines q s) steps.now)) }
 {
-    let number = variable_position(steps, name)?;
-    let step = steps.get(number)?;
-    found_at(number as u32, step)
+    let name = match bound(step) {
+        None => return Ok(()),
+        Some((name, _)) => name,
+    };
+    match place_of(places, name) {
+        Some(_) => Ok(()),
+        None => put(alloc, places, name, steps.len()),
+    }
 }
 
 impl Variables {
@@ -97,7 +106,9 @@ impl Variables {
         ensures { result ≡ [] }
     {
         Variables {
+            alloc,
             steps: Vec::new(alloc),
+            places: BTreeMap::new(alloc),
         }
     }
 
@@ -113,14 +124,16 @@ impl Variables {
         requires { length self.now ≤ 100000 }
         ensures { result ≡ variable_named self.now name.now }
     {
-        find_variable(&self.steps, name)
+        let number = place_of(&self.places, name)?;
+        let step = self.steps.get(number)?;
+        found_at(number as u32, step)
     }
 
     /// Whether one of the steps defines a variable of this name.
     pub fn defines(&self, name: &str) -> bool
         ensures { result ≡ is_variable_name self.now name.now }
     {
-        self.steps.iter().any(|s| defines(name, s))
+        self.places.contains_key(name)
     }
 
     /// Adds a step. Want of memory leaves the steps as they were.
@@ -128,10 +141,10 @@ impl Variables {
         ensures ok { OnOk result (self.new ≡ self.old ++ step ∷ []) }
         ensures err { OnErr result (self.new ≡ self.old) }
     {
-        match self.steps.push(step) {
-            Ok(()) => Ok(()),
-            Err(_) => Err(NoMemory),
-        }
+        self.steps.reserve(1)?;
+        note(self.alloc, &mut self.places, &self.steps, &step)?;
+        self.steps.push_reserved(step);
+        Ok(())
     }
 
     /// The steps.
