@@ -1,0 +1,5 @@
+pub mod Members
+pub mod ConfigRead
+pub mod Media
+pub mod CopyOptions
+pub mod Sources
