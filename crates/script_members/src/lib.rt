@@ -12,7 +12,8 @@ mod wrong;
 pub use config::read_config;
 pub use media::{read_chunk_init, read_picture_init, read_sound_init, read_step_data};
 pub use members::{
-    array_member, as_name, copied, has, name_member, natural_member, object_member, text_member,
+    array_member, as_name, copied, has, name_member, natural_member, object_member,
+    optional_object, text_member,
 };
 pub use options::read_options;
 pub use source::{SourceWords, read_source};

@@ -1,0 +1,5 @@
+pub mod Words
+pub mod References
+pub mod MediaSteps
+pub mod Steps
+pub mod Soundness

@@ -1,0 +1,85 @@
+-- The step of media resources that an object spells.
+use Rattle.std.specs.Prelude.{ℕ, nat_le, List, codes, if◌then◌else◌, Option, Some, None, option_and_then, Result, Ok, Err}
+use Rattle.serde_json.specs.Data.{Data}
+use Rattle.serde_json.specs.Find.{get}
+use Rattle.script_types.specs.declared.script.CodecItem.{CodecItem}
+use Rattle.script_types.specs.declared.found.FoundVariable.{FoundVariable}
+use Rattle.script_types.specs.declared.options.Options.{Options}
+use Rattle.script_types.specs.declared.options.Options.TheVariants as options
+use Rattle.script_types.specs.declared.steps.Step.{Step}
+use Rattle.script_types.specs.declared.steps.MediaStep.{MediaStep}
+use Rattle.script_types.specs.declared.steps.MediaStep.TheVariants as media
+use Rattle.script_types.specs.Names.{outputs_of}
+use Rattle.script_types.specs.Sound.{most_chunk, encodes}
+use Rattle.script_members.specs.declared.wrong.Wrong.{Wrong}
+use Rattle.script_members.specs.Members.{and_then, needed as there, known, name_in, object_in, object_if_there, natural_of}
+use Rattle.script_members.specs.Media.{sound_of, picture_of}
+use Rattle.script_members.specs.CopyOptions.{options_for}
+use Rattle.script_steps.specs.declared.words.MediaWord.{MediaWord}
+use Rattle.script_steps.specs.declared.words.MediaWord.TheVariants as medium
+use Rattle.script_steps.specs.declared.references.Needed.TheVariants as needed
+use Rattle.script_steps.specs.References.{unused, variable_if, variable_of, variable_in, bound_on, given_to, bound_from}
+
+abbrev pub audio_of : List Step → Data → Result MediaStep Wrong
+audio_of before d =
+    and_then (name_in (codes "as") d) (λ name. and_then (object_in (codes "init") d) (λ object.
+    and_then (sound_of object) (λ init. and_then (unused before name) (λ bind. Ok (media.Audio bind init)))))
+
+abbrev pub frame_of : List Step → Data → Result MediaStep Wrong
+frame_of before d =
+    and_then (name_in (codes "as") d) (λ name. and_then (object_in (codes "init") d) (λ object.
+    and_then (picture_of object) (λ init. and_then (unused before name) (λ bind. Ok (media.Frame bind init)))))
+
+abbrev pub encode_of : List CodecItem → List Step → Data → Result MediaStep Wrong
+encode_of codecs before d = and_then (given_to encodes (codes "data") needed.Audio codecs before d) (λ g. Ok (media.Encode g.0 g.1))
+
+abbrev pub take_of : List CodecItem → List Step → Data → Result MediaStep Wrong
+take_of codecs before d = and_then (bound_on codecs before d) (λ b. Ok (media.Take b.0.number b.1 (outputs_of b.0.kind)))
+
+abbrev pub clone_of : List Step → Data → Result MediaStep Wrong
+clone_of before d = and_then (bound_from before d) (λ b. Ok (media.Clone b.0 b.1))
+
+abbrev pub transfer_of : List Step → Data → Result MediaStep Wrong
+transfer_of before d = and_then (bound_from before d) (λ b. Ok (media.Transfer b.0 b.1))
+
+abbrev pub close_data_of : List Step → Data → Result MediaStep Wrong
+close_data_of before d = and_then (variable_in (codes "of") needed.Medium before d) (λ v. Ok (media.CloseData v))
+
+-- ---- copies
+
+-- a count of bytes within the limit
+abbrev pub checked_size : ℕ → Option ℕ
+checked_size n = if nat_le n most_chunk then Some n else None
+
+abbrev pub size_in : Data → Result ℕ Wrong
+size_in d = there (option_and_then checked_size (option_and_then natural_of (get (codes "size") d)))
+
+-- the options of a variable that was found; for another they have to be an object, if they are there
+abbrev pub options_in : Option FoundVariable → Data → Result Options Wrong
+options_in None d = and_then (object_if_there (get (codes "options") d)) (λ o. Ok options.Nothing)
+options_in (Some found) d = options_for found.kind (get (codes "options") d)
+
+abbrev pub copy_of : List Step → Data → Result MediaStep Wrong
+copy_of before d =
+    and_then (name_in (codes "of") d) (λ of. and_then (size_in d) (λ size.
+    and_then (variable_if needed.Copied before of) (λ maybe_variable. and_then (options_in maybe_variable d) (λ options.
+    and_then (known maybe_variable) (λ found. Ok (media.Copy (variable_of of found) options size))))))
+
+abbrev pub size_of : List Step → Data → Result MediaStep Wrong
+size_of before d =
+    and_then (name_in (codes "of") d) (λ of.
+    and_then (variable_if needed.Medium before of) (λ maybe_variable. and_then (options_in maybe_variable d) (λ options.
+    and_then (known maybe_variable) (λ found. Ok (media.Size (variable_of of found) options)))))
+
+-- ---- by the word
+
+abbrev pub media_by : List CodecItem → List Step → Data → MediaWord → Result MediaStep Wrong
+media_by codecs before d medium.Audio = audio_of before d
+media_by codecs before d medium.Frame = frame_of before d
+media_by codecs before d medium.Encode = encode_of codecs before d
+media_by codecs before d medium.Take = take_of codecs before d
+media_by codecs before d medium.Clone = clone_of before d
+media_by codecs before d medium.Transfer = transfer_of before d
+media_by codecs before d medium.CloseData = close_data_of before d
+media_by codecs before d medium.Copy = copy_of before d
+media_by codecs before d medium.Size = size_of before d

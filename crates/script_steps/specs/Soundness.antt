@@ -1,0 +1,21 @@
+-- What is known of a step that was read.
+use Rattle.std.specs.Prelude.{◌≡◌, ◌≤◌, ℕ, true, List, [], length, Option, Some, Result, Ok}
+use Rattle.serde_json.specs.Data.{Data}
+use Rattle.script_types.specs.declared.script.CodecItem.{CodecItem}
+use Rattle.script_types.specs.declared.steps.Step.{Step}
+use Rattle.script_types.specs.Sound.{is_sound_step, bytes_of_step, file_after, are_apart}
+use Rattle.script_steps.specs.Words.{inline_data, byte_count}
+use Rattle.script_steps.specs.Steps.{step_of}
+
+-- nothing in the step is at fault, it holds no more than its inline data, and the files after it are those before it and
+-- at most the one that it mentions, no two of one name
+pub record IsSoundAfter (codecs : List CodecItem) (files : List (List ℕ)) (before : List Step) (d : Data) (s : Step) (after : List (List ℕ)) : Type 0 where
+  pub step : is_sound_step codecs before s ≡ true
+  pub bytes : bytes_of_step s ≤ byte_count (inline_data d)
+  pub count : file_after (length files) s ≡ Some (length after)
+  pub apart : are_apart [] files ≡ true → are_apart [] after ≡ true
+
+abbrev pub StepsAreSound : Type 0
+StepsAreSound =
+    (codecs : List CodecItem) (files : List (List ℕ)) (before : List Step) (d : Data) (s : Step) (after : List (List ℕ))
+    → step_of codecs files before d ≡ Ok (s, after) → IsSoundAfter codecs files before d s after

@@ -1,0 +1,211 @@
+// Reads what the names in a step name.
+ghost use Rattle.std.specs.Prelude.{◌≡◌, ◌≢◌, ◌≤◌, IfOk, IfErr, length, codes};
+ghost use Rattle.serde_json.specs.View.{view};
+ghost use Rattle.script_types.specs.Names as names;
+ghost use Rattle.script_types.specs.Sound.{encodes};
+ghost use Rattle.script_steps.specs.References.{unused, codec_if, variable_if, variable_of, variable_in, on_of, bound_on, given_to, bound_from};
+ghost use Rattle.script_steps.specs.References as spec;
+ghost use Rattle.script_steps.specs.declared.references.Needed.TheVariants as needed;
+
+use crate::references::Needed;
+use script_members::{Wrong, copied, name_member};
+use script_names::{Variables, find_codec};
+use script_types::{CodecItem, FoundCodec, FoundVariable, KindWord, Variable, VariableKind};
+use serde_json::Value;
+use std::alloc::Global;
+use wc_base::{NoMemory, Text};
+
+fn is_right(needed: Needed, kind: VariableKind) -> bool
+    ensures { result ≡ spec.is_right needed kind }
+{
+    match needed {
+        Needed::Chunk => kind == VariableKind::Chunk,
+        Needed::Audio => kind == VariableKind::Audio,
+        Needed::Medium => matches!(kind, VariableKind::Audio | VariableKind::Frame),
+        Needed::Copied => kind != VariableKind::Promise,
+        Needed::Promise => kind == VariableKind::Promise,
+    }
+}
+
+fn decodes(kind: KindWord) -> bool
+    ensures { result ≡ names.decodes kind }
+{
+    match kind {
+        KindWord::AudioDecoder | KindWord::VideoDecoder => true,
+        KindWord::AudioEncoder => false,
+    }
+}
+
+/// A name that no step before defines, copied. `Twice` for another.
+pub fn read_unused(alloc: Global, before: &Variables, name: &str) -> Result<Text, Wrong>
+    ensures ok { IfOk result (λ t. unused before.now name.now ≡ Ok t) }
+    ensures err { IfErr result (λ e. e ≢ Wrong.NoMemory → unused before.now name.now ≡ Err e) }
+{
+    if before.defines(name) {
+        return Err(Wrong::Twice);
+    }
+    Ok(copied(alloc, name)?)
+}
+
+// The decoder of this name. `Shape` for a codec of another kind.
+fn find_decoder(codecs: &[CodecItem], name: &str) -> Result<Option<FoundCodec>, Wrong>
+    requires { length codecs.now ≤ 64 }
+    ensures { result ≡ codec_if names.decodes codecs.now name.now }
+{
+    match find_codec(codecs, name) {
+        None => Ok(None),
+        Some(codec) if decodes(codec.kind) => Ok(Some(codec)),
+        Some(_) => Err(Wrong::Shape),
+    }
+}
+
+// The encoder of this name. `Shape` for a codec of another kind.
+fn find_encoder(codecs: &[CodecItem], name: &str) -> Result<Option<FoundCodec>, Wrong>
+    requires { length codecs.now ≤ 64 }
+    ensures { result ≡ codec_if encodes codecs.now name.now }
+{
+    match find_codec(codecs, name) {
+        None => Ok(None),
+        Some(codec) if decodes(codec.kind) => Err(Wrong::Shape),
+        Some(codec) => Ok(Some(codec)),
+    }
+}
+
+/// The variable of this name, if there is one. `Shape` for one of another kind.
+pub fn find_variable(
+    before: &Variables,
+    name: &str,
+    needed: Needed,
+) -> Result<Option<FoundVariable>, Wrong>
+    requires { length before.now ≤ 100000 }
+    ensures { result ≡ variable_if needed before.now name.now }
+{
+    match before.find(name) {
+        None => Ok(None),
+        Some(variable) if is_right(needed, variable.kind) => Ok(Some(variable)),
+        Some(_) => Err(Wrong::Shape),
+    }
+}
+
+/// A variable that was found under this name.
+pub fn variable_of(alloc: Global, name: &str, found: FoundVariable) -> Result<Variable, NoMemory>
+    ensures { IfOk result (λ v. v ≡ spec.variable_of name.now found) }
+{
+    let name = copied(alloc, name)?;
+    Ok(Variable {
+        name,
+        step: found.step,
+        kind: found.kind,
+    })
+}
+
+/// The variable that a step names, where it names nothing else.
+pub fn read_variable(
+    alloc: Global,
+    before: &Variables,
+    value: &Value,
+    key: &str,
+    needed: Needed,
+) -> Result<Variable, Wrong>
+    requires { length before.now ≤ 100000 }
+    ensures ok { IfOk result (λ v. variable_in key.now needed before.now (view value.now) ≡ Ok v) }
+    ensures err { IfErr result (λ e. e ≢ Wrong.NoMemory → variable_in key.now needed before.now (view value.now) ≡ Err e) }
+{
+    let name = name_member(value, key)?;
+    let found = find_variable(before, name, needed)?.ok_or(Wrong::UnknownName)?;
+    Ok(variable_of(alloc, name, found)?)
+}
+
+/// The codec that a step names, where it names nothing else.
+pub fn read_on(codecs: &[CodecItem], value: &Value) -> Result<u32, Wrong>
+    requires { length codecs.now ≤ 64 }
+    ensures { result ≡ on_of codecs.now (view value.now) }
+{
+    let on = name_member(value, "on")?;
+    match find_codec(codecs, on) {
+        Some(codec) => Ok(codec.number),
+        None => Err(Wrong::UnknownName),
+    }
+}
+
+/// A codec of any kind, and a new name.
+pub fn read_bound_on(
+    alloc: Global,
+    codecs: &[CodecItem],
+    before: &Variables,
+    value: &Value,
+) -> Result<(FoundCodec, Text), Wrong>
+    requires { length codecs.now ≤ 64 }
+    ensures ok { IfOk result (λ b. bound_on codecs.now before.now (view value.now) ≡ Ok b) }
+    ensures err { IfErr result (λ e. e ≢ Wrong.NoMemory → bound_on codecs.now before.now (view value.now) ≡ Err e) }
+{
+    let on = name_member(value, "on")?;
+    let name = name_member(value, "as")?;
+    let bind = read_unused(alloc, before, name)?;
+    match find_codec(codecs, on) {
+        Some(codec) => Ok((codec, bind)),
+        None => Err(Wrong::UnknownName),
+    }
+}
+
+/// A decoder, and the chunk that it is given.
+pub fn read_decoder_chunk(
+    alloc: Global,
+    codecs: &[CodecItem],
+    before: &Variables,
+    value: &Value,
+) -> Result<(u32, Variable), Wrong>
+    requires codecs { length codecs.now ≤ 64 }
+    requires steps { length before.now ≤ 100000 }
+    ensures ok { IfOk result (λ g. given_to names.decodes (codes "chunk") needed.Chunk codecs.now before.now (view value.now) ≡ Ok g) }
+    ensures err { IfErr result (λ e. e ≢ Wrong.NoMemory → given_to names.decodes (codes "chunk") needed.Chunk codecs.now before.now (view value.now) ≡ Err e) }
+{
+    let on = name_member(value, "on")?;
+    let name = name_member(value, "chunk")?;
+    let codec = find_decoder(codecs, on)?;
+    let variable = find_variable(before, name, Needed::Chunk)?;
+    let (Some(codec), Some(found)) = (codec, variable) else {
+        return Err(Wrong::UnknownName);
+    };
+    Ok((codec.number, variable_of(alloc, name, found)?))
+}
+
+/// An encoder, and the audio data that it is given.
+pub fn read_encoder_data(
+    alloc: Global,
+    codecs: &[CodecItem],
+    before: &Variables,
+    value: &Value,
+) -> Result<(u32, Variable), Wrong>
+    requires codecs { length codecs.now ≤ 64 }
+    requires steps { length before.now ≤ 100000 }
+    ensures ok { IfOk result (λ g. given_to encodes (codes "data") needed.Audio codecs.now before.now (view value.now) ≡ Ok g) }
+    ensures err { IfErr result (λ e. e ≢ Wrong.NoMemory → given_to encodes (codes "data") needed.Audio codecs.now before.now (view value.now) ≡ Err e) }
+{
+    let on = name_member(value, "on")?;
+    let name = name_member(value, "data")?;
+    let codec = find_encoder(codecs, on)?;
+    let variable = find_variable(before, name, Needed::Audio)?;
+    let (Some(codec), Some(found)) = (codec, variable) else {
+        return Err(Wrong::UnknownName);
+    };
+    Ok((codec.number, variable_of(alloc, name, found)?))
+}
+
+/// A medium, and a new name.
+pub fn read_bound_from(
+    alloc: Global,
+    before: &Variables,
+    value: &Value,
+) -> Result<(Variable, Text), Wrong>
+    requires { length before.now ≤ 100000 }
+    ensures ok { IfOk result (λ b. bound_from before.now (view value.now) ≡ Ok b) }
+    ensures err { IfErr result (λ e. e ≢ Wrong.NoMemory → bound_from before.now (view value.now) ≡ Err e) }
+{
+    let of = name_member(value, "of")?;
+    let name = name_member(value, "as")?;
+    let variable = find_variable(before, of, Needed::Medium)?;
+    let bind = read_unused(alloc, before, name)?;
+    let found = variable.ok_or(Wrong::UnknownName)?;
+    Ok((variable_of(alloc, of, found)?, bind))
+}

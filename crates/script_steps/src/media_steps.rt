@@ -1,0 +1,182 @@
+// Reads steps of media resources.
+ghost use Rattle.std.specs.Prelude.{◌≡◌, ◌≢◌, ◌≤◌, IfOk, IfErr, Some, length, codes};
+ghost use Rattle.serde_json.specs.View.{view};
+ghost use Rattle.script_types.specs.Names as names;
+ghost use Rattle.script_members.specs.Media.{data_of_step};
+ghost use Rattle.script_steps.specs.declared.words.StepWord.TheVariants as step_word;
+ghost use Rattle.script_steps.specs.Words.{data_of_word};
+ghost use Rattle.script_steps.specs.MediaSteps.{audio_of, frame_of, take_of, size_in, options_in, copy_of, size_of, media_by};
+
+use crate::MediaWord;
+use crate::lookups::{
+    find_variable, read_bound_from, read_bound_on, read_encoder_data, read_unused, read_variable,
+    variable_of,
+};
+use crate::references::Needed;
+use bytes::Bytes;
+use script_members::{
+    Wrong, name_member, natural_member, object_member, optional_object, read_options,
+    read_picture_init, read_sound_init,
+};
+use script_names::Variables;
+use script_types::{CodecItem, FoundVariable, KindWord, MediaStep, Options, VariableKind};
+use serde_json::Value;
+use std::alloc::Global;
+
+const MOST_CHUNK: u64 = 16_777_216;
+
+fn read_audio(
+    alloc: Global,
+    before: &Variables,
+    value: &Value,
+    content: Option<Bytes>,
+) -> Result<MediaStep, Wrong>
+    requires { content ≡ data_of_step (view value.now) }
+    ensures ok { IfOk result (λ s. audio_of before.now (view value.now) ≡ Ok s) }
+    ensures err { IfErr result (λ e. e ≢ Wrong.NoMemory → audio_of before.now (view value.now) ≡ Err e) }
+{
+    let name = name_member(value, "as")?;
+    let init = read_sound_init(object_member(value, "init")?, content)?;
+    let bind = read_unused(alloc, before, name)?;
+    Ok(MediaStep::Audio { bind, init })
+}
+
+fn read_frame(
+    alloc: Global,
+    before: &Variables,
+    value: &Value,
+    content: Option<Bytes>,
+) -> Result<MediaStep, Wrong>
+    requires { content ≡ data_of_step (view value.now) }
+    ensures ok { IfOk result (λ s. frame_of before.now (view value.now) ≡ Ok s) }
+    ensures err { IfErr result (λ e. e ≢ Wrong.NoMemory → frame_of before.now (view value.now) ≡ Err e) }
+{
+    let name = name_member(value, "as")?;
+    let init = read_picture_init(object_member(value, "init")?, content)?;
+    let bind = read_unused(alloc, before, name)?;
+    Ok(MediaStep::Frame { bind, init })
+}
+
+// What the outputs of a codec are.
+fn outputs_of(kind: KindWord) -> VariableKind
+    ensures { result ≡ names.outputs_of kind }
+{
+    match kind {
+        KindWord::AudioDecoder => VariableKind::Audio,
+        KindWord::AudioEncoder => VariableKind::Chunk,
+        KindWord::VideoDecoder => VariableKind::Frame,
+    }
+}
+
+fn read_take(
+    alloc: Global,
+    codecs: &[CodecItem],
+    before: &Variables,
+    value: &Value,
+) -> Result<MediaStep, Wrong>
+    requires { length codecs.now ≤ 64 }
+    ensures ok { IfOk result (λ s. take_of codecs.now before.now (view value.now) ≡ Ok s) }
+    ensures err { IfErr result (λ e. e ≢ Wrong.NoMemory → take_of codecs.now before.now (view value.now) ≡ Err e) }
+{
+    let (codec, bind) = read_bound_on(alloc, codecs, before, value)?;
+    Ok(MediaStep::Take {
+        on: codec.number,
+        bind,
+        kind: outputs_of(codec.kind),
+    })
+}
+
+// A count of bytes within the limit. `Shape` for anything else.
+fn size_member(value: &Value) -> Result<u64, Wrong>
+    ensures { result ≡ size_in (view value.now) }
+{
+    match natural_member(value, "size") {
+        Some(size) if size <= MOST_CHUNK => Ok(size),
+        _ => Err(Wrong::Shape),
+    }
+}
+
+// The options of a variable that was found. For another they have to be an object, if they are there.
+fn options_member(
+    alloc: Global,
+    variable: Option<FoundVariable>,
+    value: &Value,
+) -> Result<Options, Wrong>
+    ensures ok { IfOk result (λ o. options_in variable (view value.now) ≡ Ok o) }
+    ensures err { IfErr result (λ e. e ≢ Wrong.NoMemory → options_in variable (view value.now) ≡ Err e) }
+{
+    let options = value.get("options");
+    match variable {
+        Some(found) => read_options(alloc, found.kind, options),
+        None => {
+            optional_object(options)?;
+            Ok(Options::Nothing)
+        }
+    }
+}
+
+fn read_copy(alloc: Global, before: &Variables, value: &Value) -> Result<MediaStep, Wrong>
+    requires { length before.now ≤ 100000 }
+    ensures ok { IfOk result (λ s. copy_of before.now (view value.now) ≡ Ok s) }
+    ensures err { IfErr result (λ e. e ≢ Wrong.NoMemory → copy_of before.now (view value.now) ≡ Err e) }
+{
+    let of = name_member(value, "of")?;
+    let size = size_member(value)?;
+    let variable = find_variable(before, of, Needed::Copied)?;
+    let options = options_member(alloc, variable, value)?;
+    let found = variable.ok_or(Wrong::UnknownName)?;
+    let of = variable_of(alloc, of, found)?;
+    Ok(MediaStep::Copy { of, options, size })
+}
+
+fn read_size(alloc: Global, before: &Variables, value: &Value) -> Result<MediaStep, Wrong>
+    requires { length before.now ≤ 100000 }
+    ensures ok { IfOk result (λ s. size_of before.now (view value.now) ≡ Ok s) }
+    ensures err { IfErr result (λ e. e ≢ Wrong.NoMemory → size_of before.now (view value.now) ≡ Err e) }
+{
+    let of = name_member(value, "of")?;
+    let variable = find_variable(before, of, Needed::Medium)?;
+    let options = options_member(alloc, variable, value)?;
+    let found = variable.ok_or(Wrong::UnknownName)?;
+    let of = variable_of(alloc, of, found)?;
+    Ok(MediaStep::Size { of, options })
+}
+
+/// Reads a step of media resources after those before it; its inline data was read before.
+pub fn read_media_step(
+    alloc: Global,
+    codecs: &[CodecItem],
+    before: &Variables,
+    value: &Value,
+    word: MediaWord,
+    content: Option<Bytes>,
+) -> Result<MediaStep, Wrong>
+    requires codecs { length codecs.now ≤ 64 }
+    requires steps { length before.now ≤ 100000 }
+    requires content { content ≡ data_of_word (Some (step_word.Media word)) (view value.now) }
+    ensures ok { IfOk result (λ s. media_by codecs.now before.now (view value.now) word ≡ Ok s) }
+    ensures err { IfErr result (λ e. e ≢ Wrong.NoMemory → media_by codecs.now before.now (view value.now) word ≡ Err e) }
+{
+    match word {
+        MediaWord::Audio => read_audio(alloc, before, value, content),
+        MediaWord::Frame => read_frame(alloc, before, value, content),
+        MediaWord::Encode => {
+            let (on, content) = read_encoder_data(alloc, codecs, before, value)?;
+            Ok(MediaStep::Encode { on, content })
+        }
+        MediaWord::Take => read_take(alloc, codecs, before, value),
+        MediaWord::Clone => {
+            let (of, bind) = read_bound_from(alloc, before, value)?;
+            Ok(MediaStep::Clone { of, bind })
+        }
+        MediaWord::Transfer => {
+            let (of, bind) = read_bound_from(alloc, before, value)?;
+            Ok(MediaStep::Transfer { of, bind })
+        }
+        MediaWord::CloseData => Ok(MediaStep::CloseData {
+            of: read_variable(alloc, before, value, "of", Needed::Medium)?,
+        }),
+        MediaWord::Copy => read_copy(alloc, before, value),
+        MediaWord::Size => read_size(alloc, before, value),
+    }
+}

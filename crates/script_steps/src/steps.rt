@@ -1,0 +1,127 @@
+// Reads steps.
+ghost use Rattle.std.specs.Prelude.{◌≡◌, ◌≢◌, ◌≤◌, IfOk, IfErr, OnErr, Some, length, codes};
+ghost use Rattle.serde_json.specs.View.{view};
+ghost use Rattle.script_members.specs.Media.{data_of_step};
+ghost use Rattle.script_steps.specs.Words.{data_of_word};
+ghost use Rattle.script_steps.specs.Steps.{configure_of, numbered, chunk_step_of, step_by};
+
+use crate::lookups::{read_bound_on, read_decoder_chunk, read_on, read_unused, read_variable};
+use crate::media_steps::read_media_step;
+use crate::references::Needed;
+use crate::StepWord;
+use bytes::Bytes;
+use script_members::{SourceWords, Wrong, name_member, object_member, read_config, read_source};
+use script_names::{Files, Variables, find_codec};
+use script_types::{ChunkSource, CodecItem, Step};
+use serde_json::Value;
+use std::alloc::Global;
+use wc_base::NoMemory;
+
+fn read_configure(alloc: Global, codecs: &[CodecItem], value: &Value) -> Result<Step, Wrong>
+    requires { length codecs.now ≤ 64 }
+    ensures ok { IfOk result (λ s. configure_of codecs.now (view value.now) ≡ Ok s) }
+    ensures err { IfErr result (λ e. e ≢ Wrong.NoMemory → configure_of codecs.now (view value.now) ≡ Err e) }
+{
+    let on = name_member(value, "on")?;
+    let object = object_member(value, "config")?;
+    let Some(codec) = find_codec(codecs, on) else {
+        return Err(Wrong::UnknownName);
+    };
+    let config = read_config(alloc, codec.kind, object)?;
+    Ok(Step::Configure {
+        on: codec.number,
+        config,
+    })
+}
+
+// A chunk's source with its file numbered.
+fn number_source(files: &mut Files, source: SourceWords) -> Result<ChunkSource, NoMemory>
+    requires { length files.old ≤ 100000 }
+    ensures ok { IfOk result (λ s. (s, files.new) ≡ numbered files.old source) }
+    ensures err { OnErr result (files.new ≡ files.old) }
+{
+    match source {
+        SourceWords::Init(init) => Ok(ChunkSource::Init(init)),
+        SourceWords::File { name, index } => Ok(ChunkSource::File {
+            file: files.number(name.as_str())?,
+            index,
+        }),
+    }
+}
+
+fn read_chunk_step(
+    alloc: Global,
+    files: &mut Files,
+    before: &Variables,
+    value: &Value,
+    content: Option<Bytes>,
+) -> Result<Step, Wrong>
+    requires files { length files.old ≤ 100000 }
+    requires content { content ≡ data_of_step (view value.now) }
+    ensures ok { IfOk result (λ s. chunk_step_of files.old before.now (view value.now) ≡ Ok (s, files.new)) }
+    ensures err { IfErr result (λ e. e ≢ Wrong.NoMemory → chunk_step_of files.old before.now (view value.now) ≡ Err e) }
+    ensures kept { OnErr result (files.new ≡ files.old) }
+{
+    let name = name_member(value, "as")?;
+    let source = read_source(alloc, value, content)?;
+    let bind = read_unused(alloc, before, name)?;
+    let source = number_source(files, source)?;
+    Ok(Step::Chunk { bind, source })
+}
+
+/// Reads a step after those before it; its inline data was read before. A chunk file that was not mentioned before is
+/// added to `files`; an `Err` leaves them as they were.
+///
+/// `Shape` comes first: a member is missing or of another JSON kind or form, or a name is that of another kind of codec or
+/// variable than is needed. Then `Twice`, where an earlier step defines the new name, and then `UnknownName`.
+pub fn read_step(
+    alloc: Global,
+    codecs: &[CodecItem],
+    files: &mut Files,
+    before: &Variables,
+    value: &Value,
+    word: StepWord,
+    content: Option<Bytes>,
+) -> Result<Step, Wrong>
+    requires codecs { length codecs.now ≤ 64 }
+    requires files { length files.old ≤ 100000 }
+    requires steps { length before.now ≤ 100000 }
+    requires content { content ≡ data_of_word (Some word) (view value.now) }
+    ensures ok { IfOk result (λ s. step_by codecs.now files.old before.now (view value.now) word ≡ Ok (s, files.new)) }
+    ensures err { IfErr result (λ e. e ≢ Wrong.NoMemory → step_by codecs.now files.old before.now (view value.now) word ≡ Err e) }
+    ensures kept { OnErr result (files.new ≡ files.old) }
+{
+    match word {
+        StepWord::Configure => read_configure(alloc, codecs, value),
+        StepWord::Chunk => read_chunk_step(alloc, files, before, value, content),
+        StepWord::Decode => {
+            let (on, chunk) = read_decoder_chunk(alloc, codecs, before, value)?;
+            Ok(Step::Decode { on, chunk })
+        }
+        StepWord::Flush => {
+            let (codec, bind) = read_bound_on(alloc, codecs, before, value)?;
+            let on = codec.number;
+            Ok(Step::Flush { on, bind })
+        }
+        StepWord::Poll => {
+            let promise = read_variable(alloc, before, value, "promise", Needed::Promise)?;
+            Ok(Step::Poll { promise })
+        }
+        StepWord::Await => {
+            let promise = read_variable(alloc, before, value, "promise", Needed::Promise)?;
+            Ok(Step::Await { promise })
+        }
+        StepWord::Reset => Ok(Step::Reset {
+            on: read_on(codecs, value)?,
+        }),
+        StepWord::Close => Ok(Step::Close {
+            on: read_on(codecs, value)?,
+        }),
+        StepWord::State => Ok(Step::State {
+            on: read_on(codecs, value)?,
+        }),
+        StepWord::Media(word) => Ok(Step::Media(read_media_step(
+            alloc, codecs, before, value, word, content,
+        )?)),
+    }
+}

@@ -1,0 +1,30 @@
+// Words of steps.
+
+/// What a step of media resources does.
+#[derive(Clone, Copy, Debug, PartialEq, Eq)]
+pub enum MediaWord {
+    Audio,
+    Frame,
+    Encode,
+    Take,
+    Clone,
+    Transfer,
+    CloseData,
+    Copy,
+    Size,
+}
+
+/// What a step does.
+#[derive(Clone, Copy, Debug, PartialEq, Eq)]
+pub enum StepWord {
+    Configure,
+    Chunk,
+    Decode,
+    Flush,
+    Poll,
+    Await,
+    Reset,
+    Close,
+    State,
+    Media(MediaWord),
+}
