@@ -1,5 +1,5 @@
 -- What a table has at each name after a name was put into it, and after its list has one item more.
-use Rattle.std.proofs.Common.{◌≡◌, ◌+◌, ◌≤◌, ℕ, List, [], ◌∷◌, ◌++◌, length, Bool, true, false, cond, bytes_eq, Option, Some, None, string_bytes, refl, sym, ap, subst, ◌∙◌, nat_lt, nat_eq, arith}
+use Rattle.std.proofs.Common.{◌≡◌, ◌+◌, ℕ, List, [], ◌∷◌, ◌++◌, length, Bool, true, false, cond, bytes_eq, Option, Some, None, string_bytes, refl, sym, ap, subst, ◌∙◌, nat_lt, arith}
 use Rattle.std.specs.List.{position, position_or_len}
 use Rattle.std.specs.declared.alloc.Global.{Global}
 use Rattle.std.specs.declared.string.String.{String}
@@ -9,9 +9,6 @@ use Rattle.std.specs.Map.{update}
 use Rattle.std.proofs.lemmas.List.{length_push}
 use Rattle.std.proofs.lemmas.Map.Text.{btree_map_updates_text}
 use Rattle.std.proofs.lemmas.Slice.Eq.{bytes_eq-Decides}
-use Rattle.script_types.specs.declared.steps.Step.{Step}
-use Rattle.script_types.specs.declared.steps.VariableKind.{VariableKind}
-use Rattle.script_types.specs.Names.{binds, defines}
 use Rattle.script_names.specs.Places.{IsTable, first_of, place_if}
 
 abbrev pub Table : Type 0

@@ -1,9 +1,7 @@
 -- The table of the variables after one more step.
-use Rattle.std.proofs.Common.{◌≡◌, ℕ, List, [], ◌∷◌, ◌++◌, length, bytes_eq, Option, Some, None, is_some, refl, ap, ◌∙◌}
-use Rattle.std.specs.List.{position, list_any}
-use Rattle.std.specs.declared.alloc.Global.{Global}
-use Rattle.std.specs.declared.string.String.{String}
-use Rattle.std.specs.BTreeMap.{BTreeMap, get_by_text}
+use Rattle.std.proofs.Common.{◌≡◌, ℕ, List, [], ◌∷◌, ◌++◌, length, bytes_eq, Some, None, is_some, ap, ◌∙◌}
+use Rattle.std.specs.List.{position}
+use Rattle.std.specs.BTreeMap.{get_by_text}
 use Rattle.std.specs.Map.{update}
 use Rattle.script_types.specs.declared.steps.Step.{Step}
 use Rattle.script_types.specs.declared.steps.VariableKind.{VariableKind}

@@ -1,4 +1,4 @@
-mod BuiltLaws
 mod CountLaws
-pub mod FormLaws
+mod FileLaws
+mod SoundLaws
 mod ValueLaws

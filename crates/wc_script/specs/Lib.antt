@@ -1,7 +1,7 @@
-pub mod Members
-pub mod Names
-pub mod ConfigRead
-pub mod Steps
+pub mod Faults
+pub mod Codecs
+pub mod Callers
+pub mod Order
 pub mod Walk
-pub mod Form
 pub mod Read
+pub mod Laws

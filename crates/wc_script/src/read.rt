@@ -1,13 +1,12 @@
 // Reads scripts.
-ghost use Rattle.std.specs.Prelude.{◌≡◌, ◌≢◌, true, IfOk, IfErr, IfSome, Some, option_map};
+ghost use Rattle.std.specs.Prelude.{◌≡◌, ◌≢◌, IfOk, IfErr, IfSome, Some, option_map, true};
 ghost use Rattle.serde_json.specs.View.{view};
+ghost use Rattle.script_types.specs.Sound.{is_sound};
 ghost use Rattle.wc_script.specs.Walk.{walk_of};
-ghost use Rattle.wc_script.specs.Form as spec;
-ghost use Rattle.wc_script.specs.Read.{value_of, built_of, script_of};
+ghost use Rattle.wc_script.specs.Read.{value_of, script_of};
 
-use crate::form::is_built;
-use crate::top::read_value;
-use crate::{Fault, Script, ScriptFault};
+use crate::walk::read_value;
+use script_types::{Script, ScriptData, ScriptFault};
 use serde_json::Value;
 use std::alloc::Global;
 
@@ -21,34 +20,28 @@ fn read_json(alloc: Global, bytes: &[u8]) -> Option<Option<Value>>
     }
 }
 
-// A script of the form that is built.
-fn read_built(alloc: Global, value: &Value) -> Result<Script, ScriptFault>
-    ensures ok { IfOk result (λ s. built_of (walk_of (view value.now)) ≡ Ok s) }
-    ensures err { IfErr result (λ e. e ≢ ScriptFault.NoMemory → built_of (walk_of (view value.now)) ≡ Err e) }
-    ensures built { IfOk result (λ s. spec.is_built s ≡ true) }
+#[tactic(auto, using(crate::proofs::SoundLaws::walk_is_sound))]
+fn read_sound(alloc: Global, value: &Value) -> Result<ScriptData, ScriptFault>
+    ensures ok { IfOk result (λ s. walk_of (view value.now) ≡ Ok s) }
+    ensures sound { IfOk result (λ s. is_sound s ≡ true) }
+    ensures err { IfErr result (λ e. e ≢ ScriptFault.NoMemory → walk_of (view value.now) ≡ Err e) }
 {
-    match read_value(alloc, value) {
-        Ok(script) if is_built(&script) => Ok(script),
-        Ok(_) => Err(ScriptFault::Unbuilt),
-        Err(Fault::NoMemory) => Err(ScriptFault::NoMemory),
-        Err(_) => Err(ScriptFault::Unbuilt),
-    }
+    read_value(alloc, value)
 }
 
-/// Reads a script from JSON.
+/// Reads a script from JSON (our choice of form).
 ///
-/// `NotJson` where the bytes are no JSON value, and `Unbuilt` where the value is no script, or one that is not of the
-/// form that is built: its codecs are decoders of audio, each with a saturation number from 1 to 64, and no step takes
-/// a chunk from a file or is of another word than `configure`, `chunk`, `decode`, `flush`, `poll`, `await`, `reset`,
-/// `close` and `state`. What configs and chunks hold is not judged here.
+/// `NotJson` where the bytes are no JSON value. Else the first fault, with its place, on a walk through the top value,
+/// the codecs, each caller with its steps, and the order: at each place `TooMany` is tried first, then `Shape`, then
+/// `Twice`, then `UnknownName`. `Shape` at the top is tried last where a caller does not stand in the order as often as
+/// it has steps. `NoMemory` where memory runs out.
 pub fn read_script(alloc: Global, bytes: &[u8]) -> Result<Script, ScriptFault>
     ensures ok { IfOk result (λ s. script_of bytes.now ≡ Ok s) }
     ensures err { IfErr result (λ e. e ≢ ScriptFault.NoMemory → script_of bytes.now ≡ Err e) }
-    ensures built { IfOk result (λ s. spec.is_built s ≡ true) }
 {
     match read_json(alloc, bytes) {
         None => Err(ScriptFault::NoMemory),
         Some(None) => Err(ScriptFault::NotJson),
-        Some(Some(value)) => read_built(alloc, &value),
+        Some(Some(value)) => Ok(Script::of(read_sound(alloc, &value)?)),
     }
 }

@@ -1,6 +1,0 @@
-use Rattle.std.proofs.Common.{◌≡◌, drop}
-use Rattle.wc_script.specs.Walk.{counts_agree}
-use Rattle.wc_script.proofs.top.counts_agree.Given as goal
-
-abbrev pub invariant-loop-i : goal.invariant-loop-i
-invariant-loop-i l = counts_agree 0 l.callers l.order ≡ counts_agree l.i (drop l.i l.callers) l.order

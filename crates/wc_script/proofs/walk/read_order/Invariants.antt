@@ -1,8 +1,0 @@
-use Rattle.std.proofs.Common.{◌≡◌, [], drop}
-use Rattle.serde_json.specs.View.{items_view}
-use Rattle.wc_script.specs.Walk.{order_of}
-use Rattle.wc_script.proofs.walk.read_order.Given as goal
-
-abbrev pub invariant-loop-i : goal.invariant-loop-i
-invariant-loop-i l =
-    order_of l.codecs l.callers 0 [] (items_view l.items) ≡ order_of l.codecs l.callers l.i l.order.items (items_view (drop l.i l.items))

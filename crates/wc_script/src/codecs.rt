@@ -1,0 +1,95 @@
+// Reads codecs.
+ghost use Rattle.std.specs.Prelude.{◌≡◌, ◌≢◌, ◌≤◌, [], IfOk, IfErr, Some, None, Option, option_and_then, length, codes};
+ghost use Rattle.serde_json.specs.View.{view, items_view};
+ghost use Rattle.serde_json.specs.Find.{get};
+ghost use Rattle.script_members.specs.Members.{text_in};
+ghost use Rattle.wc_script.specs.Faults as faults;
+ghost use Rattle.wc_script.specs.Codecs.{kind_of, saturation_of, codec_of, codecs_of};
+
+use crate::faults::fault_at;
+use script_members::{Wrong, copied, name_member, text_member};
+use script_names::is_codec_name;
+use script_types::{CodecItem, KindWord, Place, ScriptFault};
+use serde_json::Value;
+use std::alloc::Global;
+
+fn read_kind(text: &str) -> Option<KindWord>
+    ensures { result ≡ kind_of text.now }
+{
+    match text {
+        "audio-decoder" => Some(KindWord::AudioDecoder),
+        "audio-encoder" => Some(KindWord::AudioEncoder),
+        "video-decoder" => Some(KindWord::VideoDecoder),
+        _ => None,
+    }
+}
+
+fn kind_member(value: &Value) -> Option<KindWord>
+    ensures { result ≡ option_and_then kind_of (text_in (codes "kind") (view value.now)) }
+{
+    read_kind(text_member(value, "kind")?)
+}
+
+// The saturation number of a codec, 4 where the script says nothing. `Shape` outside 1 to 64.
+fn saturation_member(value: &Value) -> Result<u32, Wrong>
+    ensures { result ≡ saturation_of (get (codes "saturation") (view value.now)) }
+{
+    let Some(number) = value.get("saturation") else {
+        return Ok(4);
+    };
+    match number.as_u64() {
+        Some(n) if (1..=64).contains(&n) => Ok(n as u32),
+        _ => Err(Wrong::Shape),
+    }
+}
+
+// A codec, after those before it.
+#[tactic(auto, unfolding(crate::specs::Codecs::codec_of))]
+fn read_codec(alloc: Global, before: &[CodecItem], value: &Value) -> Result<CodecItem, Wrong>
+    ensures ok { IfOk result (λ c. codec_of before.now (view value.now) ≡ Ok c) }
+    ensures err { IfErr result (λ e. e ≢ Wrong.NoMemory → codec_of before.now (view value.now) ≡ Err e) }
+{
+    let name = name_member(value, "name")?;
+    let kind = kind_member(value).ok_or(Wrong::Shape)?;
+    let saturation = saturation_member(value)?;
+    if is_codec_name(before, name) {
+        return Err(Wrong::Twice);
+    }
+    let name = copied(alloc, name)?;
+    Ok(CodecItem {
+        name,
+        kind,
+        saturation,
+    })
+}
+
+fn read_codec_at(
+    alloc: Global,
+    i: u32,
+    before: &[CodecItem],
+    value: &Value,
+) -> Result<CodecItem, ScriptFault>
+    ensures ok { IfOk result (λ c. faults.at (Place.Codec i) (codec_of before.now (view value.now)) ≡ Ok c) }
+    ensures err { IfErr result (λ e. e ≢ ScriptFault.NoMemory → faults.at (Place.Codec i) (codec_of before.now (view value.now)) ≡ Err e) }
+{
+    match read_codec(alloc, before, value) {
+        Ok(codec) => Ok(codec),
+        Err(wrong) => Err(fault_at(Place::Codec(i), wrong)),
+    }
+}
+
+pub fn read_codecs(alloc: Global, items: &[Value]) -> Result<Vec<CodecItem>, ScriptFault>
+    requires { length items.now ≤ 64 }
+    ensures ok { IfOk result (λ v. codecs_of 0 [] (items_view items.now) ≡ Ok v.items) }
+    ensures few { IfOk result (λ v. length v.items ≤ 64) }
+    ensures err { IfErr result (λ e. e ≢ ScriptFault.NoMemory → codecs_of 0 [] (items_view items.now) ≡ Err e) }
+{
+    let mut codecs = Vec::new(alloc);
+    for (i, value) in items.iter().enumerate() {
+        let codec = read_codec_at(alloc, i as u32, &codecs, value)?;
+        if codecs.push(codec).is_err() {
+            return Err(ScriptFault::NoMemory);
+        }
+    }
+    Ok(codecs)
+}

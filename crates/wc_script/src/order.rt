@@ -1,0 +1,144 @@
+// Reads the order.
+ghost use Rattle.std.specs.Prelude.{◌≡◌, ◌≢◌, ◌≤◌, [], IfOk, IfErr, Some, None, Option, length, codes};
+ghost use Rattle.serde_json.specs.View.{view, items_view};
+ghost use Rattle.wc_script.specs.Faults as faults;
+ghost use Rattle.wc_script.specs.Order.{order_word_of, codec_in, codec_at, order_by, order_item_of, order_of};
+
+use crate::faults::fault_at;
+use script_members::{Wrong, as_name, has, name_member, natural_member};
+use script_names::{find_caller, find_codec};
+use script_types::{CallerItem, CodecItem, OrderItem, Place, ScriptFault};
+use serde_json::Value;
+use std::alloc::Global;
+
+/// What an order item does to a codec.
+#[derive(Clone, Copy, Debug, PartialEq, Eq)]
+pub enum OrderWord {
+    Start,
+    Done,
+    Turn,
+    Reclaim,
+}
+
+// Just one of the four words is a member.
+fn order_word(value: &Value) -> Option<OrderWord>
+    ensures { result ≡ order_word_of (view value.now) }
+{
+    let words = (
+        has(value, "start"),
+        has(value, "done"),
+        has(value, "turn"),
+        has(value, "reclaim"),
+    );
+    match words {
+        (true, false, false, false) => Some(OrderWord::Start),
+        (false, true, false, false) => Some(OrderWord::Done),
+        (false, false, true, false) => Some(OrderWord::Turn),
+        (false, false, false, true) => Some(OrderWord::Reclaim),
+        _ => None,
+    }
+}
+
+// The codec that an item names.
+fn read_codec_in(codecs: &[CodecItem], value: &Value, key: &str) -> Result<u32, Wrong>
+    requires { length codecs.now ≤ 64 }
+    ensures { result ≡ codec_in key.now codecs.now (view value.now) }
+{
+    let name = name_member(value, key)?;
+    match find_codec(codecs, name) {
+        Some(codec) => Ok(codec.number),
+        None => Err(Wrong::UnknownName),
+    }
+}
+
+// The codec that an item names, and the moment, in microseconds.
+fn read_codec_at(codecs: &[CodecItem], value: &Value, key: &str) -> Result<(u32, u64), Wrong>
+    requires { length codecs.now ≤ 64 }
+    ensures { result ≡ codec_at key.now codecs.now (view value.now) }
+{
+    let name = name_member(value, key)?;
+    let at = natural_member(value, "at").ok_or(Wrong::Shape)?;
+    match find_codec(codecs, name) {
+        Some(codec) => Ok((codec.number, at)),
+        None => Err(Wrong::UnknownName),
+    }
+}
+
+// What is done to a codec.
+fn read_codec_item(codecs: &[CodecItem], value: &Value, word: OrderWord) -> Result<OrderItem, Wrong>
+    requires { length codecs.now ≤ 64 }
+    ensures { result ≡ order_by codecs.now (view value.now) word }
+{
+    match word {
+        OrderWord::Start => Ok(OrderItem::Start(read_codec_in(codecs, value, "start")?)),
+        OrderWord::Done => {
+            let (codec, at) = read_codec_at(codecs, value, "done")?;
+            Ok(OrderItem::Done { codec, at })
+        }
+        OrderWord::Turn => Ok(OrderItem::Turn(read_codec_in(codecs, value, "turn")?)),
+        OrderWord::Reclaim => {
+            let (codec, at) = read_codec_at(codecs, value, "reclaim")?;
+            Ok(OrderItem::Reclaim { codec, at })
+        }
+    }
+}
+
+#[tactic(auto, unfolding(crate::specs::Order::order_item_of))]
+fn read_order_item(
+    codecs: &[CodecItem],
+    callers: &[CallerItem],
+    value: &Value,
+) -> Result<OrderItem, Wrong>
+    requires codecs { length codecs.now ≤ 64 }
+    requires callers { length callers.now ≤ 16 }
+    ensures { result ≡ order_item_of codecs.now callers.now (view value.now) }
+{
+    let Some(text) = value.as_str() else {
+        let word = order_word(value).ok_or(Wrong::Shape)?;
+        return read_codec_item(codecs, value, word);
+    };
+    let name = as_name(text).ok_or(Wrong::Shape)?;
+    match find_caller(callers, name) {
+        Some(caller) => Ok(OrderItem::Caller(caller)),
+        None => Err(Wrong::UnknownName),
+    }
+}
+
+fn read_order_item_at(
+    codecs: &[CodecItem],
+    callers: &[CallerItem],
+    i: u32,
+    value: &Value,
+) -> Result<OrderItem, ScriptFault>
+    requires codecs { length codecs.now ≤ 64 }
+    requires callers { length callers.now ≤ 16 }
+    ensures { result ≡ faults.at (Place.Order i) (order_item_of codecs.now callers.now (view value.now)) }
+{
+    match read_order_item(codecs, callers, value) {
+        Ok(item) => Ok(item),
+        Err(wrong) => Err(fault_at(Place::Order(i), wrong)),
+    }
+}
+
+/// The items of the order.
+pub fn read_order(
+    alloc: Global,
+    codecs: &[CodecItem],
+    callers: &[CallerItem],
+    items: &[Value],
+) -> Result<Vec<OrderItem>, ScriptFault>
+    requires codecs { length codecs.now ≤ 64 }
+    requires callers { length callers.now ≤ 16 }
+    requires order { length items.now ≤ 1000000 }
+    ensures ok { IfOk result (λ v. order_of codecs.now callers.now 0 [] (items_view items.now) ≡ Ok v.items) }
+    ensures err { IfErr result (λ e. e ≢ ScriptFault.NoMemory → order_of codecs.now callers.now 0 [] (items_view items.now) ≡ Err e) }
+{
+    let mut order = Vec::new(alloc);
+    for (i, value) in items.iter().enumerate() {
+        let item = read_order_item_at(codecs, callers, i as u32, value)?;
+        if order.push(item).is_err() {
+            return Err(ScriptFault::NoMemory);
+        }
+    }
+    Ok(order)
+}
