@@ -1,0 +1,9 @@
+mod Chains
+mod ConfigLaws
+mod FileLaws
+mod NameLaws
+mod OptionLaws
+mod ReferenceLaws
+mod SourceLaws
+mod MediaLaws
+mod StepLaws

@@ -1,0 +1,80 @@
+-- What is known of the references of a step that was read.
+use Rattle.std.proofs.Common.{◌≡◌, ℕ, codes, Bool, true, List, Option, Result, Ok, subst, ◌∙◌}
+use Rattle.serde_json.specs.Data.{Data}
+use Rattle.script_types.specs.declared.script.KindWord.{KindWord}
+use Rattle.script_types.specs.declared.script.CodecItem.{CodecItem}
+use Rattle.script_types.specs.declared.found.FoundCodec.{FoundCodec}
+use Rattle.script_types.specs.declared.steps.Step.{Step}
+use Rattle.script_types.specs.declared.steps.Variable.{Variable}
+use Rattle.script_types.specs.Names.{codec_named, is_medium}
+use Rattle.script_types.specs.Sound.{is_codec, any_kind, is_variable, is_free}
+use Rattle.script_members.specs.Members.{known, name_in}
+use Rattle.script_steps.specs.declared.references.Needed.{Needed}
+use Rattle.script_steps.specs.declared.references.Needed.TheVariants as needed
+use Rattle.script_steps.specs.References.{is_right, unused, codec_if, variable_if, variable_of, variable_in, on_of, bound_on, given_to, bound_from}
+use Rattle.script_steps.proofs.Chains.{same_Ok, chain}
+use Rattle.script_steps.proofs.NameLaws.{name_is_name, name_is_free, codec_is_there, codec_is_right, variable_is_right}
+
+pub variable_sound : (key : List ℕ) (kind : Needed) (before : List Step) (d : Data) (v : Variable) → variable_in key kind before d ≡ Ok v
+    → is_variable before (is_right kind) v ≡ true
+variable_sound key kind before d v h =
+    let name = chain (name_in key d) _ v h in
+    let maybe = chain (variable_if kind before name.value) _ v name.rest in
+    let found = chain (known maybe.value) _ v maybe.rest in
+    subst (λ x. is_variable before (is_right kind) x ≡ true) (same_Ok _ v found.rest)
+    (variable_is_right before kind name.value maybe.value found.value maybe.first found.first).variable
+
+pub on_sound : (codecs : List CodecItem) (d : Data) (on : ℕ) → on_of codecs d ≡ Ok on → is_codec codecs any_kind on ≡ true
+on_sound codecs d on h =
+    let name = chain (name_in (codes "on") d) _ on h in
+    let codec = chain (known (codec_named codecs name.value)) _ on name.rest in
+    subst (λ n. is_codec codecs any_kind n ≡ true) (same_Ok _ on codec.rest) (codec_is_there codecs any_kind name.value codec.value codec.first)
+
+pub record BoundOn (codecs : List CodecItem) (before : List Step) (b : FoundCodec × List ℕ) : Type 0 where
+  pub codec : (right : KindWord → Bool) → is_codec codecs right b.0.number ≡ right b.0.kind
+  pub free : is_free before b.1 ≡ true
+
+pub bound_on_sound : (codecs : List CodecItem) (before : List Step) (d : Data) (b : FoundCodec × List ℕ) → bound_on codecs before d ≡ Ok b → BoundOn codecs before b
+bound_on_sound codecs before d b h =
+    let on = chain (name_in (codes "on") d) _ b h in
+    let name = chain (name_in (codes "as") d) _ b on.rest in
+    let bind = chain (unused before name.value) _ b name.rest in
+    let codec = chain (known (codec_named codecs on.value)) _ b bind.rest in
+    subst (λ x. BoundOn codecs before x) (same_Ok _ b codec.rest) (record {
+      codec = λ right. codec_is_there codecs right on.value codec.value codec.first;
+      free = name_is_free before name.value bind.value (name_is_name (codes "as") name.value d name.first) bind.first;
+    })
+
+pub record GivenTo (codecs : List CodecItem) (right : KindWord → Bool) (before : List Step) (kind : Needed) (g : ℕ × Variable) : Type 0 where
+  pub codec : is_codec codecs right g.0 ≡ true
+  pub variable : is_variable before (is_right kind) g.1 ≡ true
+
+pub given_to_sound : (right : KindWord → Bool) (key : List ℕ) (kind : Needed) (codecs : List CodecItem) (before : List Step) (d : Data) (g : ℕ × Variable)
+    → given_to right key kind codecs before d ≡ Ok g → GivenTo codecs right before kind g
+given_to_sound right key kind codecs before d g h =
+    let on = chain (name_in (codes "on") d) _ g h in
+    let name = chain (name_in key d) _ g on.rest in
+    let maybe_codec = chain (codec_if right codecs on.value) _ g name.rest in
+    let maybe_variable = chain (variable_if kind before name.value) _ g maybe_codec.rest in
+    let codec = chain (known maybe_codec.value) _ g maybe_variable.rest in
+    let found = chain (known maybe_variable.value) _ g codec.rest in
+    subst (λ x. GivenTo codecs right before kind x) (same_Ok _ g found.rest) (record {
+      codec = codec_is_right codecs right on.value maybe_codec.value codec.value maybe_codec.first codec.first;
+      variable = (variable_is_right before kind name.value maybe_variable.value found.value maybe_variable.first found.first).variable;
+    })
+
+pub record BoundFrom (before : List Step) (b : Variable × List ℕ) : Type 0 where
+  pub variable : is_variable before is_medium b.0 ≡ true
+  pub free : is_free before b.1 ≡ true
+
+pub bound_from_sound : (before : List Step) (d : Data) (b : Variable × List ℕ) → bound_from before d ≡ Ok b → BoundFrom before b
+bound_from_sound before d b h =
+    let of = chain (name_in (codes "of") d) _ b h in
+    let name = chain (name_in (codes "as") d) _ b of.rest in
+    let maybe = chain (variable_if needed.Medium before of.value) _ b name.rest in
+    let bind = chain (unused before name.value) _ b maybe.rest in
+    let found = chain (known maybe.value) _ b bind.rest in
+    subst (λ x. BoundFrom before x) (same_Ok _ b found.rest) (record {
+      variable = (variable_is_right before needed.Medium of.value maybe.value found.value maybe.first found.first).variable;
+      free = name_is_free before name.value bind.value (name_is_name (codes "as") name.value d name.first) bind.first;
+    })
