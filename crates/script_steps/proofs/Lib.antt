@@ -1,9 +1,9 @@
-mod Chains
+pub mod Chains
 mod ConfigLaws
 mod FileLaws
-mod NameLaws
+pub mod NameLaws
 mod OptionLaws
 mod ReferenceLaws
 mod SourceLaws
 mod MediaLaws
-mod StepLaws
+pub mod StepLaws

@@ -1,4 +1,8 @@
+mod Proceeds
+mod CodecLaws
+mod StepLaws
+mod CallerLaws
+mod OrderLaws
 mod CountLaws
-mod FileLaws
 mod SoundLaws
 mod ValueLaws

@@ -1,9 +1,126 @@
 -- Nothing is at fault in a script that was read.
-use Rattle.std.proofs.Common.{◌≡◌, true, Ok}
-use Rattle.serde_json.specs.Data.{Data}
+use Rattle.std.proofs.Common.{◌≡◌, ℕ, ◌+◌, ◌≤◌, ◌==◌, ◌&&◌, nat_le, Bool, true, false, if◌then◌else◌, List, [], length, codes, sum_by, Option, Some, None, Result, Ok, Err, refl, sym, ap, subst, ◌∙◌, arith}
+use Rattle.std.specs.List.{list_all}
+use Rattle.std.proofs.lemmas.Bool.{leb-true, le-leb, eq-eqb}
+use Rattle.std.proofs.lemmas.Option.{same_Some}
+use Rattle.serde_json.specs.Data.{Data, Items}
+use Rattle.serde_json.specs.Find.{get}
+use Rattle.script_types.specs.declared.fault.Place.TheVariants as place
+use Rattle.script_types.specs.declared.fault.Counted.{Counted}
+use Rattle.script_types.specs.declared.fault.Counted.TheVariants as counted
+use Rattle.script_types.specs.declared.fault.ScriptFault.{ScriptFault}
+use Rattle.script_types.specs.declared.fault.ScriptFault.TheVariants as fault
+use Rattle.script_types.specs.declared.script.CodecItem.{CodecItem}
+use Rattle.script_types.specs.declared.script.CallerItem.{CallerItem}
+use Rattle.script_types.specs.declared.script.OrderItem.{OrderItem}
 use Rattle.script_types.specs.declared.script.ScriptData.{ScriptData}
-use Rattle.script_types.specs.Sound.{is_sound}
-use Rattle.wc_script.specs.Walk.{walk_of}
+use Rattle.script_types.specs.Sound.{most_codecs, most_callers, most_steps, most_order, most_media, are_sound_codecs, are_sound_callers, are_small, bytes_of_caller, files_in, is_count, are_apart, are_sound_files, is_sound_item, counts_agree, is_sound_order, are_few, is_small_media, is_sound}
+use Rattle.script_members.specs.declared.wrong.Wrong.{Wrong}
+use Rattle.script_members.specs.declared.wrong.Wrong.TheVariants as wrong
+use Rattle.script_members.specs.Members.{and_then, needed, array_in}
+use Rattle.script_members.specs.Sources.{has}
+use Rattle.script_steps.proofs.Chains.{same_Ok, chain, needed_some, all_true}
+use Rattle.wc_script.specs.declared.callers.Room.{Room}
+use Rattle.wc_script.specs.Faults.{limit_of, at}
+use Rattle.wc_script.specs.Codecs.{codecs_of}
+use Rattle.wc_script.specs.Callers.{callers_of}
+use Rattle.wc_script.specs.Order.{order_of}
+use Rattle.wc_script.specs.Walk.{count_of, few, Parts, order_if_there, parts_of, checked_order, ordered, whole_room, walk_of}
+use Rattle.wc_script.proofs.Proceeds.{proceeds, read_at}
+use Rattle.wc_script.proofs.CodecLaws.{codecs_sound}
+use Rattle.wc_script.proofs.CallerLaws.{SoundCallers, callers_sound}
+use Rattle.wc_script.proofs.OrderLaws.{items_sound}
+
+-- ---- the arrays
+
+few_if : (what : Counted) (ds es : Items) (b : Bool) → nat_le (count_of ds) (limit_of what) ≡ b
+    → Path (Result (Option Items) Wrong) (if b then Ok (Some ds) else Err (wrong.TooMany what)) (Ok (Some es)) → nat_le (count_of es) (limit_of what) ≡ true
+few_if what ds es true e h = subst (λ x. nat_le (count_of x) (limit_of what) ≡ true) (same_Some ds es (same_Ok (Some ds) (Some es) h)) e
+few_if what ds es false e h = absurd cc
+
+few_of : (what : Counted) (o : Option Items) (ds : Items) → few what o ≡ Ok (Some ds) → nat_le (count_of ds) (limit_of what) ≡ true
+few_of what None ds h = absurd cc
+few_of what (Some es) ds h = few_if what es ds (nat_le (count_of es) (limit_of what)) refl h
+
+same_order : (there : Bool) (o p : Option Items) → order_if_there there o ≡ Ok p → o ≡ p
+same_order there (Some ds) p h = same_Ok (Some ds) p h
+same_order true None p h = absurd cc
+same_order false None p h = same_Ok None p h
+
+-- each array is within its limit
+record AreFew (p : Parts) : Type 0 where
+  pub codecs : nat_le (count_of p.codecs) most_codecs ≡ true
+  pub callers : nat_le (count_of p.callers) most_callers ≡ true
+  pub order : (ds : Items) → p.order ≡ Some ds → nat_le (count_of ds) most_order ≡ true
+
+few_parts : (d : Data) (p : Parts) → parts_of d ≡ Ok p → AreFew p
+unfolding parts_of
+few_parts d p h =
+    let a = chain (few counted.Codecs (array_in (codes "codecs") d)) _ p h in
+    let b = chain (few counted.Callers (array_in (codes "callers") d)) _ p a.rest in
+    let c = chain (few counted.Order (array_in (codes "order") d)) _ p b.rest in
+    let codecs = chain (needed a.value) _ p c.rest in
+    let callers = chain (needed b.value) _ p codecs.rest in
+    let order = chain (order_if_there (has (codes "order") d) c.value) _ p callers.rest in
+    subst (λ x. AreFew x) (same_Ok _ p order.rest) (record {
+      codecs = few_of counted.Codecs (array_in (codes "codecs") d) codecs.value (a.first ∙ ap (λ o. Ok o) (needed_some a.value codecs.value codecs.first));
+      callers = few_of counted.Callers (array_in (codes "callers") d) callers.value (b.first ∙ ap (λ o. Ok o) (needed_some b.value callers.value callers.first));
+      order = λ ds e. few_of counted.Order (array_in (codes "order") d) ds (c.first ∙ ap (λ o. Ok o) (same_order (has (codes "order") d) c.value order.value order.first ∙ e));
+    })
+
+-- ---- the order
+
+checked_if : (codecs : List CodecItem) (callers : List CallerItem) (items : List OrderItem) (o : Option (List OrderItem)) (b : Bool) → counts_agree 0 callers items ≡ b
+    → nat_le (length items) most_order ≡ true → list_all (is_sound_item (length codecs) (length callers)) items ≡ true
+    → Path (Result (Option (List OrderItem)) ScriptFault) (if b then Ok (Some items) else Err (fault.Shape place.Top)) (Ok o)
+    → is_sound_order (length codecs) callers o ≡ true
+checked_if codecs callers items o true e n s h =
+    subst (λ x. is_sound_order (length codecs) callers x ≡ true) (same_Ok (Some items) o h) (all_true (nat_le (length items) most_order) _ n (all_true _ _ s e))
+checked_if codecs callers items o false e n s h = absurd cc
+
+order_sound : (codecs : List CodecItem) (callers : List CallerItem) (m : Option Items) (o : Option (List OrderItem))
+    → ((ds : Items) → m ≡ Some ds → nat_le (count_of ds) most_order ≡ true) → ordered codecs callers m ≡ Ok o → is_sound_order (length codecs) callers o ≡ true
+unfolding ordered
+order_sound codecs callers None o k h = subst (λ x. is_sound_order (length codecs) callers x ≡ true) (same_Ok None o h) refl
+order_sound codecs callers (Some ds) o k h =
+    let items = proceeds (order_of codecs callers 0 [] ds) _ o h in
+    let t = items_sound codecs callers 0 [] ds items.value refl items.first in
+    let n : length items.value ≡ count_of ds = omega (arith, t.count) in
+    checked_if codecs callers items.value o (counts_agree 0 callers items.value) refl (ap (λ x. nat_le x most_order) n ∙ k ds refl) t.sound items.rest
+
+-- ---- the whole
+
+no_callers : (codecs : List CodecItem) → SoundCallers codecs [] [] whole_room
+no_callers codecs = record { callers = refl; steps = refl; small = refl; media = omega arith; files = refl; apart = refl }
+
+counted_files : (n : ℕ) (o : Option ℕ) → o ≡ Some n → is_count n o ≡ true
+counted_files n None h = absurd cc
+counted_files n (Some m) h = eq-eqb m n (same_Some m n h)
 
 pub walk_is_sound : (d : Data) (s : ScriptData) → walk_of d ≡ Ok s → is_sound s ≡ true
-walk_is_sound d s h = ?
+unfolding walk_of
+walk_is_sound d s h =
+    let parts = proceeds (at place.Top (parts_of d)) _ s h in
+    let codecs = proceeds (codecs_of 0 [] parts.value.codecs) _ s parts.rest in
+    let r = proceeds (callers_of codecs.value [] [] whole_room parts.value.callers) _ s codecs.rest in
+    let order = proceeds (ordered codecs.value r.value.0 parts.value.order) _ s r.rest in
+    let few_are = few_parts d parts.value (read_at place.Top (parts_of d) parts.value parts.first) in
+    let cs = codecs_sound 0 [] parts.value.codecs codecs.value refl codecs.first in
+    let t = callers_sound codecs.value [] [] whole_room parts.value.callers r.value (no_callers codecs.value) r.first in
+    let a : length codecs.value ≡ count_of parts.value.codecs = omega (arith, cs.count) in
+    let b : length r.value.0 ≡ count_of parts.value.callers = omega (arith, t.count) in
+    let steps : nat_le (sum_by (λ c. length c.steps) r.value.0) most_steps ≡ true = le-leb _ _ (omega (arith, t.sound.steps)) in
+    let media : nat_le (sum_by bytes_of_caller r.value.0) most_media ≡ true = le-leb _ _ (omega (arith, t.sound.media)) in
+    let are : are_few codecs.value r.value.0 ≡ true =
+    all_true (nat_le (length codecs.value) most_codecs) _ (ap (λ n. nat_le n most_codecs) a ∙ few_are.codecs)
+      (all_true (nat_le (length r.value.0) most_callers) _ (ap (λ n. nat_le n most_callers) b ∙ few_are.callers) steps) in
+    let small : is_small_media r.value.0 ≡ true = all_true (list_all are_small r.value.0) _ t.sound.small media in
+    let files : are_sound_files r.value.1 r.value.0 ≡ true =
+    all_true (are_apart [] r.value.1) _ t.sound.apart (counted_files (length r.value.1) (files_in 0 r.value.0) t.sound.files) in
+    let last = order_sound codecs.value r.value.0 parts.value.order order.value few_are.order order.first in
+    subst (λ x. is_sound x ≡ true) (same_Ok _ s order.rest)
+      (all_true (are_sound_codecs [] codecs.value) _ cs.sound
+      (all_true (are_sound_callers codecs.value [] r.value.0) _ t.sound.callers
+      (all_true (are_few codecs.value r.value.0) _ are
+      (all_true (is_small_media r.value.0) _ small
+      (all_true (are_sound_files r.value.1 r.value.0) _ files last)))))

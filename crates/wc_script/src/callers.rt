@@ -101,7 +101,7 @@ fn read_counted_step(
     Ok(())
 }
 
-#[tactic(auto, using(crate::proofs::FileLaws::files_grow, crate::proofs::FileLaws::steps_grow))]
+#[tactic(auto, using(crate::proofs::StepLaws::files_grow, crate::proofs::StepLaws::steps_grow))]
 fn read_step_at(
     alloc: Global,
     codecs: &[CodecItem],

@@ -1,0 +1,126 @@
+-- Nothing is at fault in callers that were read.
+use Rattle.std.proofs.Common.{◌≡◌, ℕ, ◌+◌, ◌≤◌, ◌&&◌, ◌||◌, not, nat_le, Bool, true, false, if◌then◌else◌, List, [], ◌∷◌, ◌++◌, length, codes, sum_by, Option, Some, None, option_and_then, Result, Ok, Err, refl, sym, ap, subst, ◌∙◌, arith}
+use Rattle.std.specs.List.{list_all}
+use Rattle.std.proofs.lemmas.List.{append_assoc, append-nil, length_push}
+use Rattle.std.proofs.lemmas.List.Sums.{sum_by_push}
+use Rattle.std.proofs.lemmas.Option.{same_Some}
+use Rattle.serde_json.specs.Data.{Data, Items, no_items, item}
+use Rattle.script_types.specs.declared.fault.Place.TheVariants as place
+use Rattle.script_types.specs.declared.script.CodecItem.{CodecItem}
+use Rattle.script_types.specs.declared.script.CallerItem.{CallerItem}
+use Rattle.script_types.specs.Names.{is_name, is_codec_name, is_caller_name}
+use Rattle.script_types.specs.Sound.{most_steps, most_chunk, most_media, is_sound_caller, are_sound_callers, are_sound_steps, bytes_of_step, are_small, bytes_of_caller, files_after, files_in, are_apart}
+use Rattle.script_members.specs.declared.wrong.Wrong.{Wrong}
+use Rattle.script_members.specs.declared.wrong.Wrong.TheVariants as wrong
+use Rattle.script_members.specs.Members.{and_then, needed, name_in, array_in}
+use Rattle.script_steps.proofs.Chains.{same_Ok, chain, all_true}
+use Rattle.script_steps.proofs.NameLaws.{name_is_name}
+use Rattle.wc_script.specs.declared.callers.Room.{Room}
+use Rattle.wc_script.specs.declared.callers.Walked.{Walked}
+use Rattle.wc_script.specs.declared.callers.Heard.{Heard}
+use Rattle.wc_script.specs.Faults.{at}
+use Rattle.wc_script.specs.Callers.{heading_of, steps_of, caller_of, callers_of}
+use Rattle.wc_script.specs.Walk.{count_of}
+use Rattle.wc_script.proofs.Proceeds.{proceeds, read_at, both, all_more}
+use Rattle.wc_script.proofs.StepLaws.{SoundSteps, steps_sound}
+
+-- ---- the name
+
+abbrev IsNew : List CodecItem → List CallerItem → List ℕ → Type 0
+IsNew codecs before name = (is_name name ≡ true) × (not (is_codec_name codecs name || is_caller_name before name) ≡ true)
+
+heading_if : (codecs : List CodecItem) (before : List CallerItem) (name : List ℕ) (ds : Items) (h : List ℕ × Items) (b : Bool) → (is_codec_name codecs name || is_caller_name before name) ≡ b
+    → is_name name ≡ true → Path (Result (List ℕ × Items) Wrong) (if b then Err wrong.Twice else Ok (name, ds)) (Ok h) → IsNew codecs before h.0
+heading_if codecs before name ds h true e n g = absurd cc
+heading_if codecs before name ds h false e n g = subst (λ x. IsNew codecs before x.0) (same_Ok (name, ds) h g) (n, ap not e)
+
+new_name : (codecs : List CodecItem) (before : List CallerItem) (d : Data) (h : List ℕ × Items) → heading_of codecs before d ≡ Ok h → IsNew codecs before h.0
+unfolding heading_of
+new_name codecs before d h e =
+    let name = chain (name_in (codes "name") d) _ h e in
+    let ds = chain (needed (array_in (codes "steps") d)) _ h name.rest in
+    heading_if codecs before name.value ds.value h _ refl (name_is_name (codes "name") name.value d name.first) ds.rest
+
+-- ---- one caller
+
+-- a caller was read
+record OneCaller (codecs : List CodecItem) (cs : List CallerItem) (fs : List (List ℕ)) (room : Room) (h : Heard) : Type 0 where
+  pub sound : is_sound_caller codecs cs h.caller ≡ true
+  pub steps : SoundSteps codecs fs room (record { steps = h.caller.steps; files = h.files; room = h.room })
+
+no_steps : (codecs : List CodecItem) (fs : List (List ℕ)) (room : Room) → SoundSteps codecs fs room (record { steps = []; files = fs; room = room })
+no_steps codecs fs room = record { steps = refl; count = omega arith; small = refl; media = omega arith; files = refl; apart = λ a. a }
+
+one_caller : (codecs : List CodecItem) (cs : List CallerItem) (fs : List (List ℕ)) (room : Room) (d : Data) (h : Heard) → caller_of codecs cs fs room d ≡ Ok h → OneCaller codecs cs fs room h
+unfolding caller_of
+one_caller codecs cs fs room d h e =
+    let name = proceeds (at (place.Caller (length cs)) (heading_of codecs cs d)) _ h e in
+    let start : Walked = record { steps = []; files = fs; room = room } in
+    let w = proceeds (steps_of codecs (length cs) start name.value.1) _ h name.rest in
+    let new = new_name codecs cs d name.value (read_at (place.Caller (length cs)) (heading_of codecs cs d) name.value name.first) in
+    let t = steps_sound codecs (length cs) fs room start name.value.1 w.value (no_steps codecs fs room) w.first in
+    subst (λ x. OneCaller codecs cs fs room x) (same_Ok _ h w.rest) (record {
+      sound = all_true (is_name name.value.0) _ new.0 (all_true _ (are_sound_steps codecs [] w.value.steps) new.1 t.steps);
+      steps = t;
+    })
+
+-- ---- all callers
+
+callers_more : (codecs : List CodecItem) (before xs : List CallerItem) (c : CallerItem) → are_sound_callers codecs before xs ≡ true → is_sound_caller codecs (before ++ xs) c ≡ true
+    → are_sound_callers codecs before (xs ++ c ∷ []) ≡ true
+callers_more codecs before [] c h k = all_true (is_sound_caller codecs before c) true (ap (λ l. is_sound_caller codecs l c) (sym (append-nil before)) ∙ k) refl
+callers_more codecs before (x ∷ xs) c h k =
+    let b = both (is_sound_caller codecs before x) (are_sound_callers codecs (before ++ x ∷ []) xs) h in
+    all_true _ _ b.0 (callers_more codecs (before ++ x ∷ []) xs c b.1 (ap (λ l. is_sound_caller codecs l c) (append_assoc before (x ∷ []) xs) ∙ k))
+
+files_from : (o : Option ℕ) (xs : List CallerItem) (c : CallerItem) (m k : ℕ) → ((n : ℕ) → files_in n xs ≡ Some m → files_in n (xs ++ c ∷ []) ≡ Some k)
+    → option_and_then (λ n. files_in n xs) o ≡ Some m → option_and_then (λ n. files_in n (xs ++ c ∷ [])) o ≡ Some k
+files_from None xs c m k more h = absurd cc
+files_from (Some n) xs c m k more h = more n h
+
+last_files : (o : Option ℕ) (k : ℕ) → o ≡ Some k → option_and_then (λ n. files_in n []) o ≡ Some k
+last_files None k h = absurd cc
+last_files (Some n) k h = h
+
+files_more : (n : ℕ) (xs : List CallerItem) (c : CallerItem) (m k : ℕ) → files_in n xs ≡ Some m → files_after m c.steps ≡ Some k → files_in n (xs ++ c ∷ []) ≡ Some k
+files_more n [] c m k h e = last_files (files_after n c.steps) k (ap (λ i. files_after i c.steps) (same_Some n m h) ∙ e)
+files_more n (x ∷ xs) c m k h e = files_from (files_after n x.steps) xs c m k (λ i g. files_more i xs c m k g e) h
+
+-- the callers that were read, with the files that they mention, and the room that is left
+pub record SoundCallers (codecs : List CodecItem) (cs : List CallerItem) (fs : List (List ℕ)) (room : Room) : Type 0 where
+  pub callers : are_sound_callers codecs [] cs ≡ true
+  pub steps : sum_by (λ c. length c.steps) cs + room.steps ≡ most_steps
+  pub small : list_all are_small cs ≡ true
+  pub media : sum_by bytes_of_caller cs + room.media ≤ most_media
+  pub files : files_in 0 cs ≡ Some (length fs)
+  pub apart : are_apart [] fs ≡ true
+
+caller_kept : (codecs : List CodecItem) (cs : List CallerItem) (fs : List (List ℕ)) (room : Room) (h : Heard) → SoundCallers codecs cs fs room → OneCaller codecs cs fs room h
+    → SoundCallers codecs (cs ++ h.caller ∷ []) h.files h.room
+caller_kept codecs cs fs room h t o =
+    let steps = sum_by_push (λ c. length c.steps) cs h.caller in
+    let media = sum_by_push bytes_of_caller cs h.caller in
+    record {
+      callers = callers_more codecs [] cs h.caller t.callers o.sound;
+      steps = omega (arith, steps, t.steps, o.steps.count);
+      small = all_more are_small cs h.caller t.small o.steps.small;
+      media = omega (arith, media, t.media, o.steps.media);
+      files = files_more 0 cs h.caller (length fs) (length h.files) t.files o.steps.files;
+      apart = o.steps.apart t.apart;
+    }
+
+pub record CallersRead (codecs : List CodecItem) (cs : List CallerItem) (ds : Items) (r : List CallerItem × List (List ℕ)) : Type 0 where
+  pub room : Room
+  pub sound : SoundCallers codecs r.0 r.1 room
+  pub count : length r.0 ≡ length cs + count_of ds
+
+pub callers_sound : (codecs : List CodecItem) (cs : List CallerItem) (fs : List (List ℕ)) (room : Room) (ds : Items) (r : List CallerItem × List (List ℕ)) → SoundCallers codecs cs fs room
+    → callers_of codecs cs fs room ds ≡ Ok r → CallersRead codecs cs ds r
+callers_sound codecs cs fs room no_items r t h =
+    subst (λ x. CallersRead codecs cs no_items x) (same_Ok (cs, fs) r h) (record { room = room; sound = t; count = omega arith })
+callers_sound codecs cs fs room (item d ds) r t h =
+    let c = proceeds (caller_of codecs cs fs room d) _ r h in
+    let o = one_caller codecs cs fs room d c.value c.first in
+    let u = callers_sound codecs (cs ++ c.value.caller ∷ []) c.value.files c.value.room ds r (caller_kept codecs cs fs room c.value t o) c.rest in
+    let n = length_push cs c.value.caller in
+    record { room = u.room; sound = u.sound; count = omega (arith, n, u.count) }

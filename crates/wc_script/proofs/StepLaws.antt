@@ -1,0 +1,170 @@
+-- What is known of the steps of a caller that were read.
+use Rattle.std.proofs.Common.{◌≡◌, ℕ, ◌+◌, ◌-◌, ◌≤◌, ◌==◌, ◌&&◌, nat_le, nat_lt, Bool, true, false, if◌then◌else◌, List, [], ◌∷◌, ◌++◌, length, sum_by, Option, Some, None, option_and_then, Result, Ok, Err, refl, sym, ap, subst, ◌∙◌, arith}
+use Rattle.std.specs.List.{list_all}
+use Rattle.std.proofs.lemmas.Bool.{leb-true, le-leb}
+use Rattle.std.proofs.lemmas.List.{append_assoc, append-nil, length_push}
+use Rattle.std.proofs.lemmas.List.Sums.{sum_by_push}
+use Rattle.std.proofs.lemmas.Option.{same_Some}
+use Rattle.serde_json.specs.Data.{Data, Items, no_items, item}
+use Rattle.script_types.specs.declared.fault.Place.TheVariants as place
+use Rattle.script_types.specs.declared.fault.Counted.TheVariants as counted
+use Rattle.script_types.specs.declared.script.CodecItem.{CodecItem}
+use Rattle.script_types.specs.declared.steps.ChunkSource.{ChunkSource}
+use Rattle.script_types.specs.declared.steps.ChunkSource.TheVariants as source
+use Rattle.script_types.specs.declared.steps.Step.{Step}
+use Rattle.script_types.specs.declared.steps.Step.TheVariants as step
+use Rattle.script_types.specs.Sound.{most_chunk, is_sound_step, are_sound_steps, bytes_of_step, next_file, source_after, file_after, files_after, are_apart}
+use Rattle.script_members.specs.declared.wrong.Wrong.{Wrong}
+use Rattle.script_members.specs.declared.wrong.Wrong.TheVariants as wrong
+use Rattle.script_steps.specs.Words.{inline_data, byte_count}
+use Rattle.script_steps.specs.Steps.{step_of}
+use Rattle.script_steps.proofs.Chains.{same_Ok, chain, all_true}
+use Rattle.script_steps.proofs.StepLaws.{step_sound}
+use Rattle.wc_script.specs.declared.callers.Room.{Room}
+use Rattle.wc_script.specs.declared.callers.Walked.{Walked}
+use Rattle.wc_script.specs.Faults.{at}
+use Rattle.wc_script.specs.Callers.{room_after, counted_step_of, steps_of}
+use Rattle.wc_script.proofs.Proceeds.{proceeds, read_at, both, all_more}
+
+-- ---- the room
+
+-- a step with so many bytes was counted
+record IsCounted (room : Room) (bytes : ℕ) (r : Room) : Type 0 where
+  pub steps : r.steps + 1 ≡ room.steps
+  pub small : bytes ≤ most_chunk
+  pub media : bytes + r.media ≤ room.media
+
+room_if : (room r : Room) (bytes : ℕ) (a b c : Bool) → (room.steps == 0) ≡ a → nat_lt most_chunk bytes ≡ b → nat_lt room.media bytes ≡ c
+    → Path (Result Room Wrong) (if a then Err (wrong.TooMany counted.Steps) else if b then Err (wrong.TooMany counted.Chunk) else if c then Err (wrong.TooMany counted.Media)
+      else Ok (record { steps = room.steps - 1; media = room.media - bytes })) (Ok r)
+    → IsCounted room bytes r
+room_if room r bytes true b c e f g h = absurd cc
+room_if room r bytes false true c e f g h = absurd cc
+room_if room r bytes false false true e f g h = absurd cc
+room_if room r bytes false false false e f g h =
+    subst (λ x. IsCounted room bytes x) (same_Ok _ r h) (record { steps = grind (arith, e); small = grind (arith, f); media = grind (arith, g) })
+
+counted_room : (room r : Room) (bytes : ℕ) → room_after room bytes ≡ Ok r → IsCounted room bytes r
+counted_room room r bytes h = room_if room r bytes (room.steps == 0) (nat_lt most_chunk bytes) (nat_lt room.media bytes) refl refl refl h
+
+-- ---- chunk files
+
+files_from : (o : Option ℕ) (xs : List Step) (s : Step) (m k : ℕ) → ((n : ℕ) → files_after n xs ≡ Some m → files_after n (xs ++ s ∷ []) ≡ Some k)
+    → option_and_then (λ n. files_after n xs) o ≡ Some m → option_and_then (λ n. files_after n (xs ++ s ∷ [])) o ≡ Some k
+files_from None xs s m k more h = absurd cc
+files_from (Some n) xs s m k more h = more n h
+
+last_file : (o : Option ℕ) (k : ℕ) → o ≡ Some k → option_and_then (λ n. files_after n []) o ≡ Some k
+last_file None k h = absurd cc
+last_file (Some n) k h = h
+
+-- the files after one more step
+files_more : (n : ℕ) (xs : List Step) (s : Step) (m k : ℕ) → files_after n xs ≡ Some m → file_after m s ≡ Some k → files_after n (xs ++ s ∷ []) ≡ Some k
+files_more n [] s m k h e = last_file (file_after n s) k (ap (λ i. file_after i s) (same_Some n m h) ∙ e)
+files_more n (x ∷ xs) s m k h e = files_from (file_after n x) xs s m k (λ i g. files_more i xs s m k g e) h
+
+-- ---- steps
+
+steps_more : (codecs : List CodecItem) (before xs : List Step) (s : Step) → are_sound_steps codecs before xs ≡ true → is_sound_step codecs (before ++ xs) s ≡ true
+    → are_sound_steps codecs before (xs ++ s ∷ []) ≡ true
+steps_more codecs before [] s h k = all_true (is_sound_step codecs before s) true (ap (λ l. is_sound_step codecs l s) (sym (append-nil before)) ∙ k) refl
+steps_more codecs before (x ∷ xs) s h k =
+    let b = both (is_sound_step codecs before x) (are_sound_steps codecs (before ++ x ∷ []) xs) h in
+    all_true _ _ b.0 (steps_more codecs (before ++ x ∷ []) xs s b.1 (ap (λ l. is_sound_step codecs l s) (append_assoc before (x ∷ []) xs) ∙ k))
+
+-- the steps that were read where these files were mentioned before, and there was so much room
+pub record SoundSteps (codecs : List CodecItem) (fs : List (List ℕ)) (room : Room) (w : Walked) : Type 0 where
+  pub steps : are_sound_steps codecs [] w.steps ≡ true
+  pub count : length w.steps + w.room.steps ≡ room.steps
+  pub small : list_all (λ s. nat_le (bytes_of_step s) most_chunk) w.steps ≡ true
+  pub media : sum_by bytes_of_step w.steps + w.room.media ≤ room.media
+  pub files : files_after (length fs) w.steps ≡ Some (length w.files)
+  pub apart : are_apart [] fs ≡ true → are_apart [] w.files ≡ true
+
+-- one step was read
+record OneStep (codecs : List CodecItem) (w : Walked) (v : Walked) : Type 0 where
+  pub step : Step
+  pub steps : v.steps ≡ w.steps ++ step ∷ []
+  pub sound : is_sound_step codecs w.steps step ≡ true
+  pub bytes : ℕ
+  pub fits : bytes_of_step step ≤ bytes
+  pub room : IsCounted w.room bytes v.room
+  pub files : file_after (length w.files) step ≡ Some (length v.files)
+  pub apart : are_apart [] w.files ≡ true → are_apart [] v.files ≡ true
+
+one_step : (codecs : List CodecItem) (w v : Walked) (d : Data) → counted_step_of codecs w d ≡ Ok v → OneStep codecs w v
+unfolding counted_step_of
+one_step codecs w v d h =
+    let room = chain (room_after w.room (byte_count (inline_data d))) _ v h in
+    let s = chain (step_of codecs w.files w.steps d) _ v room.rest in
+    let t = step_sound codecs w.files w.steps d s.value.0 s.value.1 s.first in
+    subst (λ x. OneStep codecs w x) (same_Ok _ v s.rest) (record {
+      step = s.value.0;
+      steps = refl;
+      sound = t.step;
+      bytes = byte_count (inline_data d);
+      fits = t.bytes;
+      room = counted_room w.room room.value (byte_count (inline_data d)) room.first;
+      files = t.count;
+      apart = t.apart;
+    })
+
+step_kept : (codecs : List CodecItem) (fs : List (List ℕ)) (room : Room) (w v : Walked) → SoundSteps codecs fs room w → OneStep codecs w v → SoundSteps codecs fs room v
+step_kept codecs fs room w v t o =
+    let small : nat_le (bytes_of_step o.step) most_chunk ≡ true = le-leb _ _ (omega (arith, o.fits, o.room.small)) in
+    let longer = length_push w.steps o.step in
+    let more = sum_by_push bytes_of_step w.steps o.step in
+    let same = o.steps in
+    record {
+      steps = rw same (steps_more codecs [] w.steps o.step t.steps o.sound);
+      count = rw same (omega (arith, longer, t.count, o.room.steps));
+      small = rw same (all_more (λ s. nat_le (bytes_of_step s) most_chunk) w.steps o.step t.small small);
+      media = rw same (omega (arith, more, t.media, o.fits, o.room.media));
+      files = rw same (files_more (length fs) w.steps o.step (length w.files) (length v.files) t.files o.files);
+      apart = λ a. o.apart (t.apart a);
+    }
+
+pub steps_sound : (codecs : List CodecItem) (i : ℕ) (fs : List (List ℕ)) (room : Room) (w : Walked) (ds : Items) (v : Walked) → SoundSteps codecs fs room w
+    → steps_of codecs i w ds ≡ Ok v → SoundSteps codecs fs room v
+steps_sound codecs i fs room w no_items v t h = subst (λ x. SoundSteps codecs fs room x) (same_Ok w v h) t
+steps_sound codecs i fs room w (item d ds) v t h =
+    let u = proceeds (at (place.Step i (length w.steps)) (counted_step_of codecs w d)) _ v h in
+    let o = one_step codecs w u.value d (read_at (place.Step i (length w.steps)) (counted_step_of codecs w d) u.value u.first) in
+    steps_sound codecs i fs room u.value ds v (step_kept codecs fs room w u.value t o) u.rest
+
+-- ---- how many files and steps there are after one more step
+
+next_grows : (n file k : ℕ) (a b : Bool) → Path (Option ℕ) (if a then Some n else if b then Some (n + 1) else None) (Some k) → k ≤ n + 1
+next_grows n file k true b h = grind (arith, same_Some n k h)
+next_grows n file k false true h = grind (arith, same_Some (n + 1) k h)
+next_grows n file k false false h = absurd cc
+
+source_grows : (n k : ℕ) (s : ChunkSource) → source_after n s ≡ Some k → k ≤ n + 1
+source_grows n k (source.Init i) h = grind (arith, same_Some n k h)
+source_grows n k (source.File file index) h = next_grows n file k (nat_lt file n) (file == n) h
+
+file_grows : (n k : ℕ) (s : Step) → file_after n s ≡ Some k → k ≤ n + 1
+file_grows n k (step.Chunk bind source) h = source_grows n k source h
+file_grows n k (step.Configure on config) h = grind (arith, same_Some n k h)
+file_grows n k (step.Decode on chunk) h = grind (arith, same_Some n k h)
+file_grows n k (step.Flush on bind) h = grind (arith, same_Some n k h)
+file_grows n k (step.Poll promise) h = grind (arith, same_Some n k h)
+file_grows n k (step.Await promise) h = grind (arith, same_Some n k h)
+file_grows n k (step.Reset on) h = grind (arith, same_Some n k h)
+file_grows n k (step.Close on) h = grind (arith, same_Some n k h)
+file_grows n k (step.State on) h = grind (arith, same_Some n k h)
+file_grows n k (step.Media s) h = grind (arith, same_Some n k h)
+
+pub files_grow : (codecs : List CodecItem) (w v : Walked) (d : Data) → counted_step_of codecs w d ≡ Ok v → length w.files + w.room.steps ≤ 100000
+    → length v.files + v.room.steps ≤ 100000
+files_grow codecs w v d h le =
+    let o = one_step codecs w v d h in
+    let more = file_grows (length w.files) (length v.files) o.step o.files in
+    omega (arith, o.room.steps)
+
+pub steps_grow : (codecs : List CodecItem) (w v : Walked) (d : Data) → counted_step_of codecs w d ≡ Ok v → length w.steps + w.room.steps ≤ 100000
+    → length v.steps + v.room.steps ≤ 100000
+steps_grow codecs w v d h le =
+    let o = one_step codecs w v d h in
+    let n : length v.steps ≡ length w.steps + 1 = ap length o.steps ∙ length_push w.steps o.step in
+    omega (arith, o.room.steps)
