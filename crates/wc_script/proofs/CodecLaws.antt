@@ -50,7 +50,7 @@ codec_sound before d c h =
     let kind = chain (needed (option_and_then kind_of (text_in (codes "kind") d))) _ c name.rest in
     let saturation = chain (saturation_of (get (codes "saturation") d)) _ c kind.rest in
     codec_if before name.value kind.value saturation.value c (is_codec_name before name.value) refl (name_is_name (codes "name") name.value d name.first)
-      (saturation_in_range (get (codes "saturation") d) saturation.value saturation.first) saturation.rest
+    (saturation_in_range (get (codes "saturation") d) saturation.value saturation.first) saturation.rest
 
 -- ---- all
 

@@ -36,7 +36,7 @@ record IsCounted (room : Room) (bytes : ℕ) (r : Room) : Type 0 where
 
 room_if : (room r : Room) (bytes : ℕ) (a b c : Bool) → (room.steps == 0) ≡ a → nat_lt most_chunk bytes ≡ b → nat_lt room.media bytes ≡ c
     → Path (Result Room Wrong) (if a then Err (wrong.TooMany counted.Steps) else if b then Err (wrong.TooMany counted.Chunk) else if c then Err (wrong.TooMany counted.Media)
-      else Ok (record { steps = room.steps - 1; media = room.media - bytes })) (Ok r)
+    else Ok (record { steps = room.steps - 1; media = room.media - bytes })) (Ok r)
     → IsCounted room bytes r
 room_if room r bytes true b c e f g h = absurd cc
 room_if room r bytes false true c e f g h = absurd cc

@@ -1,0 +1,244 @@
+// Scripts that are read, and what is refused.
+use crate::{Counted, Place, Script, ScriptFault, read_script};
+use script_types::{ChunkSource, OrderItem, Step};
+use std::test::Fail;
+use wc_base::Text;
+
+// Two codecs and two callers; three mentions of two chunk files.
+const ORDINARY: &str = r#"{"codecs":[{"name":"d","kind":"audio-decoder"},
+  {"name":"v","kind":"video-decoder","saturation":64}],
+ "callers":[{"name":"a","steps":[
+  {"do":"configure","on":"d","config":{"codec":"pcm-s16","sampleRate":8000,"numberOfChannels":1}},
+  {"do":"chunk","as":"c","file":"b.wcch","index":3},
+  {"do":"decode","on":"d","chunk":"c"},
+  {"do":"flush","on":"d","as":"p"},
+  {"do":"await","promise":"p"}]},
+ {"name":"b","steps":[
+  {"do":"chunk","as":"c","file":"a.wcch","index":0},
+  {"do":"chunk","as":"e","file":"b.wcch","index":18446744073709551615},
+  {"do":"chunk","as":"f","init":{"type":"key","timestamp":-7,"data":"01000aFf"}}]}],
+ "order":["a","a","b",{"start":"d"},{"done":"d","at":18446744073709551615},{"turn":"v"},"a","b","a","b","a",
+  {"reclaim":"v","at":7}]}"#;
+
+fn step_of(script: &Script, caller: usize, step: usize) -> Option<&Step> {
+    let caller = script.data().callers.as_slice().get(caller)?;
+    caller.steps.as_slice().get(step)
+}
+
+// The chunk file and the number of the chunk, of a step that takes a chunk from a file.
+fn file_of(script: &Script, caller: usize, step: usize) -> Option<(u32, u64)> {
+    match step_of(script, caller, step)? {
+        Step::Chunk { bind: _, source } => match source {
+            ChunkSource::File { file, index } => Some((*file, *index)),
+            ChunkSource::Init(_) => None,
+        },
+        _ => None,
+    }
+}
+
+#[test]
+fn files_are_numbered_over_all_callers(rt: HostRuntime) -> Result<(), Fail> {
+    let script = read_script(rt.alloc(), ORDINARY.as_bytes()).expect(&rt, "a script");
+    assert_eq!(rt; script.files().len(), 2);
+    assert_eq!(rt; script.files().get(0).map(Text::as_str), Some("b.wcch"));
+    assert_eq!(rt; script.files().get(1).map(Text::as_str), Some("a.wcch"));
+    assert_eq!(rt; file_of(&script, 0, 1), Some((0, 3)));
+    assert_eq!(rt; file_of(&script, 1, 0), Some((1, 0)));
+    assert_eq!(rt; file_of(&script, 1, 1), Some((0, u64::MAX)));
+    assert_eq!(rt; file_of(&script, 1, 2), None);
+    Ok(())
+}
+
+fn order_of(script: &Script, i: usize) -> Option<OrderItem> {
+    match &script.data().order {
+        Some(order) => order.as_slice().get(i).copied(),
+        None => None,
+    }
+}
+
+#[test]
+fn all_is_where_it_was_written(rt: HostRuntime) -> Result<(), Fail> {
+    let script = read_script(rt.alloc(), ORDINARY.as_bytes()).expect(&rt, "a script");
+    assert_eq!(rt; script.data().codecs.len(), 2);
+    assert_eq!(rt; script.data().callers.len(), 2);
+    let await_step = step_of(&script, 0, 4);
+    assert!(rt; matches!(await_step, Some(Step::Await { promise }) if promise.step == 3));
+    assert_eq!(rt; order_of(&script, 2), Some(OrderItem::Caller(1)));
+    let done = OrderItem::Done {
+        codec: 0,
+        at: u64::MAX,
+    };
+    assert_eq!(rt; order_of(&script, 4), Some(done));
+    assert_eq!(rt; order_of(&script, 5), Some(OrderItem::Turn(1)));
+    Ok(())
+}
+
+const TOP: ScriptFault = ScriptFault::Shape { place: Place::Top };
+
+#[test]
+fn the_top_value_has_its_shape(rt: HostRuntime) -> Result<(), Fail> {
+    let rows = [
+        ("{", Some(ScriptFault::NotJson)),
+        ("", Some(ScriptFault::NotJson)),
+        ("\u{feff}{}", Some(ScriptFault::NotJson)),
+        ("[]", Some(TOP)),
+        (r#"{"codecs":[]}"#, Some(TOP)),
+        (r#"{"callers":[]}"#, Some(TOP)),
+        (r#"{"codecs":[],"callers":[]}"#, None),
+        (r#"{"codecs":[],"callers":[],"order":[]}"#, None),
+        (r#"{"codecs":[],"callers":[],"order":null}"#, Some(TOP)),
+        (r#"{"codecs":[],"callers":[],"order":{}}"#, Some(TOP)),
+    ];
+    for (text, fault) in rows {
+        assert_eq!(rt;
+            read_script(rt.alloc(), text.as_bytes()).err(),
+            fault,
+            "{text}"
+        );
+    }
+    Ok(())
+}
+
+#[test]
+fn bytes_that_are_no_text_are_no_json(rt: HostRuntime) -> Result<(), Fail> {
+    let fault = Some(ScriptFault::NotJson);
+    assert_eq!(rt; read_script(rt.alloc(), &[0x22, 0xff, 0x22]).err(), fault);
+    Ok(())
+}
+
+#[test]
+fn a_script_may_have_no_order(rt: HostRuntime) -> Result<(), Fail> {
+    let text = r#"{"codecs":[{"name":"d","kind":"audio-encoder"}],
+     "callers":[{"name":"a","steps":[{"do":"close","on":"d"}]}]}"#;
+    let script = read_script(rt.alloc(), text.as_bytes()).expect(&rt, "a script");
+    assert!(rt; script.data().order.is_none());
+    Ok(())
+}
+
+// The ordinary script with one text in another's place.
+fn read_changed(rt: &HostRuntime, old: &str, new: &str) -> Result<Option<ScriptFault>, Fail> {
+    let text = ORDINARY.replace(rt.alloc(), old, new)?;
+    Ok(read_script(rt.alloc(), text.as_bytes()).err())
+}
+
+#[test]
+fn shape_is_told_with_its_place(rt: HostRuntime) -> Result<(), Fail> {
+    let rows = [
+        ("audio-decoder", "flac", Place::Codec(0)),
+        ("\"saturation\":64", "\"saturation\":65", Place::Codec(1)),
+        ("\"saturation\":64", "\"saturation\":1.5", Place::Codec(1)),
+        ("{\"name\":\"b\",", "{\"name\":\"B\",", Place::Caller(1)),
+        ("\"do\":\"await\"", "\"do\":\"wait\"", Place::Step(0, 4)),
+        ("\"promise\":\"p\"", "\"promise\":\"c\"", Place::Step(0, 4)),
+        ("\"index\":0", "\"index\":-1", Place::Step(1, 0)),
+        ("01000aFf", "01000aF", Place::Step(1, 2)),
+        (
+            "{\"turn\":\"v\"}",
+            "{\"turn\":\"v\",\"start\":\"d\"}",
+            Place::Order(5),
+        ),
+        ("\"at\":7", "\"at\":7.0", Place::Order(11)),
+        ("{\"turn\":\"v\"}", "\"a\"", Place::Top),
+    ];
+    for (old, new, place) in rows {
+        assert_eq!(rt;
+            read_changed(&rt, old, new)?,
+            Some(ScriptFault::Shape { place }),
+            "{new}"
+        );
+    }
+    Ok(())
+}
+
+#[test]
+fn names_are_told_with_their_place(rt: HostRuntime) -> Result<(), Fail> {
+    let rows = [
+        ("\"name\":\"v\"", "\"name\":\"d\"", true, Place::Codec(1)),
+        ("\"name\":\"b\"", "\"name\":\"a\"", true, Place::Caller(1)),
+        ("\"name\":\"b\"", "\"name\":\"v\"", true, Place::Caller(1)),
+        ("\"as\":\"p\"", "\"as\":\"c\"", true, Place::Step(0, 3)),
+        ("\"as\":\"f\"", "\"as\":\"e\"", true, Place::Step(1, 2)),
+        (
+            "\"on\":\"d\",\"as\"",
+            "\"on\":\"x\",\"as\"",
+            false,
+            Place::Step(0, 3),
+        ),
+        (
+            "\"promise\":\"p\"",
+            "\"promise\":\"x\"",
+            false,
+            Place::Step(0, 4),
+        ),
+        (
+            "{\"turn\":\"v\"}",
+            "{\"turn\":\"a\"}",
+            false,
+            Place::Order(5),
+        ),
+        ("{\"turn\":\"v\"}", "\"d\"", false, Place::Order(5)),
+    ];
+    for (old, new, twice, place) in rows {
+        let fault = if twice {
+            ScriptFault::Twice { place }
+        } else {
+            ScriptFault::UnknownName { place }
+        };
+        assert_eq!(rt; read_changed(&rt, old, new)?, Some(fault), "{new}");
+    }
+    Ok(())
+}
+
+// A script with so many codecs, callers, and steps of one caller.
+fn read_many(
+    rt: &HostRuntime,
+    codecs: usize,
+    callers: usize,
+    steps: usize,
+) -> Result<Option<ScriptFault>, Fail> {
+    let mut text = String::new(rt.alloc());
+    text.push_str("{\"codecs\":[")?;
+    for i in 0..codecs {
+        let comma = if i == 0 { "" } else { "," };
+        let codec = format!(in rt.alloc();
+            "{comma}{{\"name\":\"d{i}\",\"kind\":\"audio-decoder\"}}"
+        )?;
+        text.push_str(&codec)?;
+    }
+    text.push_str("],\"callers\":[")?;
+    for i in 0..callers {
+        let comma = if i == 0 { "" } else { "," };
+        let caller = format!(in rt.alloc(); "{comma}{{\"name\":\"c{i}\",\"steps\":[")?;
+        text.push_str(&caller)?;
+        for j in 0..steps {
+            let comma = if j == 0 { "" } else { "," };
+            text.push_str(comma)?;
+            text.push_str("{\"do\":\"reset\",\"on\":\"d0\"}")?;
+        }
+        text.push_str("]}")?;
+    }
+    text.push_str("]}")?;
+    Ok(read_script(rt.alloc(), text.as_bytes()).err())
+}
+
+#[test]
+fn counts_have_their_limits(rt: HostRuntime) -> Result<(), Fail> {
+    let rows = [
+        (64, 16, 1, None),
+        (65, 17, 1, Some((Counted::Codecs, 65))),
+        (64, 17, 1, Some((Counted::Callers, 17))),
+        (1, 2, 50_001, Some((Counted::Steps, 100_001))),
+    ];
+    for (codecs, callers, steps, above) in rows {
+        let fault = match above {
+            Some((what, count)) => Some(ScriptFault::TooMany { what, count }),
+            None => None,
+        };
+        assert_eq!(rt;
+            read_many(&rt, codecs, callers, steps)?,
+            fault,
+            "{codecs} {callers} {steps}"
+        );
+    }
+    Ok(())
+}
