@@ -1,6 +1,6 @@
 -- The config that an object spells, by the codec's kind (W3C WebCodecs, AudioDecoderConfig, AudioEncoderConfig,
 -- VideoDecoderConfig, and the FLAC registration's FlacEncoderConfig; `bitsPerSample` is our own).
-use Rattle.std.specs.Prelude.{ℕ, List, Option, Some, None, option_and_then, Result, Ok, codes}
+use Rattle.std.specs.Prelude.{ℕ, List, Option, Some, option_and_then, Result, Ok, codes}
 use Rattle.serde_json.specs.Data.{Data}
 use Rattle.serde_json.specs.Find.{get}
 use Rattle.wc_config.specs.declared.config.Config.{Config}

@@ -1,6 +1,6 @@
 -- How media are copied (W3C WebCodecs, AudioDataCopyToOptions and VideoFrameCopyToOptions; absent options are an empty
 -- object, as WebIDL has it, and a rectangle of whole pixels is our choice).
-use Rattle.std.specs.Prelude.{ℕ, List, [], ◌∷◌, ◌++◌, bytes_eq, codes, if◌then◌else◌, Option, Some, None, option_and_then, Result, Ok, Err}
+use Rattle.std.specs.Prelude.{ℕ, List, [], ◌∷◌, ◌++◌, bytes_eq, codes, if◌then◌else◌, Option, Some, None, option_and_then, Result, Ok}
 use Rattle.serde_json.specs.Data.{Data, Items, no_items, item}
 use Rattle.serde_json.specs.Find.{get, as_array}
 use Rattle.script_types.specs.declared.options.FormatWord.{FormatWord}

@@ -1,6 +1,6 @@
 -- What chunks, audio data and frames are made of (W3C WebCodecs, EncodedAudioChunkInit, AudioDataInit and
 -- VideoFrameBufferInit; data as hex text, a rate in whole numbers and the formats that are taken are our choice).
-use Rattle.std.specs.Prelude.{ℕ, ℤ, Bool, true, false, List, bytes_eq, codes, if◌then◌else◌, Option, Some, None, option_and_then, Result, Ok, Err}
+use Rattle.std.specs.Prelude.{ℕ, ℤ, Bool, true, false, List, bytes_eq, codes, if◌then◌else◌, Option, Some, None, option_and_then, Result, Ok}
 use Rattle.serde_json.specs.Data.{Data}
 use Rattle.serde_json.specs.Find.{get}
 use Rattle.wc_base.specs.declared.media.SampleFormat.{SampleFormat}

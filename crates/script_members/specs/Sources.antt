@@ -1,5 +1,5 @@
 -- Where a chunk comes from: it is made of `init`, or it is the chunk of number `index` of the chunk file `file`.
-use Rattle.std.specs.Prelude.{ℕ, Bool, true, false, List, codes, Option, Some, None, option_and_then, is_some, Result, Ok, Err}
+use Rattle.std.specs.Prelude.{ℕ, Bool, true, false, List, codes, option_and_then, is_some, Result, Ok, Err}
 use Rattle.serde_json.specs.Data.{Data}
 use Rattle.serde_json.specs.Find.{get}
 use Rattle.script_members.specs.declared.source.SourceWords.{SourceWords}
