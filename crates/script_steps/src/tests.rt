@@ -2,9 +2,7 @@
 use crate::{StepWord, read_inline_data, read_step, word_member};
 use script_members::{Wrong, copied};
 use script_names::{Files, Variables};
-use script_types::{
-    ChunkSource, CodecItem, KindWord, MediaStep, Options, Step, VariableKind,
-};
+use script_types::{ChunkSource, CodecItem, KindWord, MediaStep, Options, Step, VariableKind};
 use serde_json::Value;
 use std::alloc::Global;
 use std::test::Fail;
@@ -26,12 +24,7 @@ fn codecs(alloc: Global) -> Result<[CodecItem; 3], Wrong> {
     ])
 }
 
-fn read(
-    alloc: Global,
-    files: &mut Files,
-    before: &Variables,
-    text: &str,
-) -> Result<Step, Wrong> {
+fn read(alloc: Global, files: &mut Files, before: &Variables, text: &str) -> Result<Step, Wrong> {
     let value = Value::from_str(alloc, text).map_err(|_| Wrong::NoMemory)?;
     let codecs = codecs(alloc)?;
     let word = word_member(&value);
@@ -139,18 +132,39 @@ fn names_stand_twice_or_are_unknown(rt: HostRuntime) -> Result<(), Fail> {
         (r#"{"do":"flush","on":"nobody","as":"audio"}"#, Wrong::Twice),
         (r#"{"do":"audio","as":"frame","init":{}}"#, Wrong::Twice),
         (r#"{"do":"frame","as":"frame","init":{}}"#, Wrong::Twice),
-        (r#"{"do":"take","on":"decoder","as":"promise"}"#, Wrong::Twice),
+        (
+            r#"{"do":"take","on":"decoder","as":"promise"}"#,
+            Wrong::Twice,
+        ),
         (r#"{"do":"clone","of":"nobody","as":"audio"}"#, Wrong::Twice),
-        (r#"{"do":"configure","on":"nobody","config":{"codec":7}}"#, Wrong::UnknownName),
-        (r#"{"do":"decode","on":"nobody","chunk":"chunk"}"#, Wrong::UnknownName),
-        (r#"{"do":"decode","on":"video","chunk":"nobody"}"#, Wrong::UnknownName),
-        (r#"{"do":"encode","on":"encoder","data":"nobody"}"#, Wrong::UnknownName),
+        (
+            r#"{"do":"configure","on":"nobody","config":{"codec":7}}"#,
+            Wrong::UnknownName,
+        ),
+        (
+            r#"{"do":"decode","on":"nobody","chunk":"chunk"}"#,
+            Wrong::UnknownName,
+        ),
+        (
+            r#"{"do":"decode","on":"video","chunk":"nobody"}"#,
+            Wrong::UnknownName,
+        ),
+        (
+            r#"{"do":"encode","on":"encoder","data":"nobody"}"#,
+            Wrong::UnknownName,
+        ),
         (r#"{"do":"poll","promise":"decoder"}"#, Wrong::UnknownName),
         (r#"{"do":"reset","on":"audio"}"#, Wrong::UnknownName),
-        (r#"{"do":"take","on":"nobody","as":"x"}"#, Wrong::UnknownName),
+        (
+            r#"{"do":"take","on":"nobody","as":"x"}"#,
+            Wrong::UnknownName,
+        ),
         (r#"{"do":"transfer","of":"x","as":"x"}"#, Wrong::UnknownName),
         (r#"{"do":"close-data","of":"nobody"}"#, Wrong::UnknownName),
-        (r#"{"do":"copy","of":"nobody","size":0,"options":{"rect":7}}"#, Wrong::UnknownName),
+        (
+            r#"{"do":"copy","of":"nobody","size":0,"options":{"rect":7}}"#,
+            Wrong::UnknownName,
+        ),
         (r#"{"do":"size","of":"nobody"}"#, Wrong::UnknownName),
     ];
     for (text, wrong) in rows {
@@ -188,16 +202,20 @@ fn files_are_numbered(rt: HostRuntime) -> Result<(), Fail> {
 
 fn kind_of(step: Option<Step>) -> Option<VariableKind> {
     match step? {
-        Step::Media(MediaStep::Take {
-            on: _,
-            bind: _,
-            kind,
-        }) => Some(kind),
-        Step::Media(MediaStep::Copy {
-            of,
-            options: Options::Nothing,
-            size: 3,
-        }) => Some(of.kind),
+        Step::Media(
+            MediaStep::Take {
+                on: _,
+                bind: _,
+                kind,
+            },
+        ) => Some(kind),
+        Step::Media(
+            MediaStep::Copy {
+                of,
+                options: Options::Nothing,
+                size: 3,
+            },
+        ) => Some(of.kind),
         _ => None,
     }
 }
@@ -205,9 +223,18 @@ fn kind_of(step: Option<Step>) -> Option<VariableKind> {
 #[test]
 fn kinds_come_with_what_is_found(rt: HostRuntime) -> Result<(), Fail> {
     let rows = [
-        (r#"{"do":"take","on":"encoder","as":"x"}"#, VariableKind::Chunk),
-        (r#"{"do":"take","on":"video","as":"x"}"#, VariableKind::Frame),
-        (r#"{"do":"copy","of":"chunk","size":3}"#, VariableKind::Chunk),
+        (
+            r#"{"do":"take","on":"encoder","as":"x"}"#,
+            VariableKind::Chunk,
+        ),
+        (
+            r#"{"do":"take","on":"video","as":"x"}"#,
+            VariableKind::Frame,
+        ),
+        (
+            r#"{"do":"copy","of":"chunk","size":3}"#,
+            VariableKind::Chunk,
+        ),
     ];
     for (text, kind) in rows {
         let step = read_after(rt.alloc(), text).ok();
