@@ -109,18 +109,17 @@ caller_kept codecs cs fs room h t o =
       apart = o.steps.apart t.apart;
     }
 
-pub record CallersRead (codecs : List CodecItem) (cs : List CallerItem) (ds : Items) (r : List CallerItem × List (List ℕ)) : Type 0 where
-  pub room : Room
-  pub sound : SoundCallers codecs r.0 r.1 room
+pub record CallersRead (codecs : List CodecItem) (cs : List CallerItem) (ds : Items) (r : List CallerItem × (List (List ℕ) × Room)) : Type 0 where
+  pub sound : SoundCallers codecs r.0 r.1.0 r.1.1
   pub count : length r.0 ≡ length cs + count_of ds
 
-pub callers_sound : (codecs : List CodecItem) (cs : List CallerItem) (fs : List (List ℕ)) (room : Room) (ds : Items) (r : List CallerItem × List (List ℕ)) → SoundCallers codecs cs fs room
+pub callers_sound : (codecs : List CodecItem) (cs : List CallerItem) (fs : List (List ℕ)) (room : Room) (ds : Items) (r : List CallerItem × (List (List ℕ) × Room)) → SoundCallers codecs cs fs room
     → callers_of codecs cs fs room ds ≡ Ok r → CallersRead codecs cs ds r
 callers_sound codecs cs fs room no_items r t h =
-    subst (λ x. CallersRead codecs cs no_items x) (same_Ok (cs, fs) r h) (record { room = room; sound = t; count = omega arith })
+    subst (λ x. CallersRead codecs cs no_items x) (same_Ok (cs, (fs, room)) r h) (record { sound = t; count = omega arith })
 callers_sound codecs cs fs room (item d ds) r t h =
     let c = proceeds (caller_of codecs cs fs room d) _ r h in
     let o = one_caller codecs cs fs room d c.value c.first in
     let u = callers_sound codecs (cs ++ c.value.caller ∷ []) c.value.files c.value.room ds r (caller_kept codecs cs fs room c.value t o) c.rest in
     let n = length_push cs c.value.caller in
-    record { room = u.room; sound = u.sound; count = omega (arith, n, u.count) }
+    record { sound = u.sound; count = omega (arith, n, u.count) }

@@ -1,5 +1,5 @@
 -- Nothing is at fault in a script that was read.
-use Rattle.std.proofs.Common.{◌≡◌, ℕ, ◌+◌, ◌≤◌, ◌==◌, ◌&&◌, nat_le, Bool, true, false, if◌then◌else◌, List, [], length, codes, sum_by, Option, Some, None, Result, Ok, Err, refl, sym, ap, subst, ◌∙◌, arith}
+use Rattle.std.proofs.Common.{◌≡◌, ℕ, ◌+◌, ◌-◌, ◌≤◌, ◌==◌, ◌&&◌, nat_le, Bool, true, false, if◌then◌else◌, List, [], length, codes, sum_by, Option, Some, None, Result, Ok, Err, refl, sym, ap, subst, ◌∙◌, arith}
 use Rattle.std.specs.List.{list_all}
 use Rattle.std.proofs.lemmas.Bool.{leb-true, le-leb, eq-eqb}
 use Rattle.std.proofs.lemmas.Option.{same_Some}
@@ -110,17 +110,18 @@ walk_is_sound d s h =
     let a : length codecs.value ≡ count_of parts.value.codecs = omega (arith, cs.count) in
     let b : length r.value.0 ≡ count_of parts.value.callers = omega (arith, t.count) in
     let steps : nat_le (sum_by (λ c. length c.steps) r.value.0) most_steps ≡ true = le-leb _ _ (omega (arith, t.sound.steps)) in
-    let media : nat_le (sum_by bytes_of_caller r.value.0) most_media ≡ true = le-leb _ _ (omega (arith, t.sound.media)) in
+    let media : nat_le (sum_by bytes_of_caller r.value.0) (most_media - r.value.1.1.media) ≡ true = le-leb _ _ (omega (arith, t.sound.media)) in
+    let within : nat_le (most_media - r.value.1.1.media) most_media ≡ true = le-leb _ _ (omega arith) in
     let are : are_few codecs.value r.value.0 ≡ true =
     all_true (nat_le (length codecs.value) most_codecs) _ (ap (λ n. nat_le n most_codecs) a ∙ few_are.codecs)
     (all_true (nat_le (length r.value.0) most_callers) _ (ap (λ n. nat_le n most_callers) b ∙ few_are.callers) steps) in
-    let small : is_small_media r.value.0 ≡ true = all_true (list_all are_small r.value.0) _ t.sound.small media in
-    let files : are_sound_files r.value.1 r.value.0 ≡ true =
-    all_true (are_apart [] r.value.1) _ t.sound.apart (counted_files (length r.value.1) (files_in 0 r.value.0) t.sound.files) in
+    let small : is_small_media (most_media - r.value.1.1.media) r.value.0 ≡ true = all_true (list_all are_small r.value.0) _ t.sound.small (all_true (nat_le (sum_by bytes_of_caller r.value.0) (most_media - r.value.1.1.media)) _ media within) in
+    let files : are_sound_files r.value.1.0 r.value.0 ≡ true =
+    all_true (are_apart [] r.value.1.0) _ t.sound.apart (counted_files (length r.value.1.0) (files_in 0 r.value.0) t.sound.files) in
     let last = order_sound codecs.value r.value.0 parts.value.order order.value few_are.order order.first in
     subst (λ x. is_sound x ≡ true) (same_Ok _ s order.rest)
     (all_true (are_sound_codecs [] codecs.value) _ cs.sound
     (all_true (are_sound_callers codecs.value [] r.value.0) _ t.sound.callers
     (all_true (are_few codecs.value r.value.0) _ are
-    (all_true (is_small_media r.value.0) _ small
-    (all_true (are_sound_files r.value.1 r.value.0) _ files last)))))
+    (all_true (is_small_media (most_media - r.value.1.1.media) r.value.0) _ small
+    (all_true (are_sound_files r.value.1.0 r.value.0) _ files last)))))

@@ -50,8 +50,8 @@ caller_of codecs before files room d =
     proceed (steps_of codecs (length before) (record { steps = []; files = files; room = room }) h.1) (λ w.
     Ok (record { caller = record { name = h.0; steps = w.steps }; files = w.files; room = w.room })))
 
--- all callers, where those before are given, with the chunk files mentioned
-abbrev pub callers_of : List CodecItem → List CallerItem → List (List ℕ) → Room → Items → Result (List CallerItem × List (List ℕ)) ScriptFault
-callers_of codecs before files room no_items = Ok (before, files)
+-- all callers, where those before are given, with the chunk files mentioned and the room that is left
+abbrev pub callers_of : List CodecItem → List CallerItem → List (List ℕ) → Room → Items → Result (List CallerItem × (List (List ℕ) × Room)) ScriptFault
+callers_of codecs before files room no_items = Ok (before, (files, room))
 callers_of codecs before files room (item d ds) =
     proceed (caller_of codecs before files room d) (λ h. callers_of codecs (before ++ h.caller ∷ []) h.files h.room ds)

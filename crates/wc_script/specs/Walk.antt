@@ -1,7 +1,7 @@
 -- The script that a JSON value spells, or its first fault. The walk goes through the top value, the codecs, each caller
 -- with its steps, and the order items; at each place it tries the counts first, then the shape, then names that stand
 -- twice, then unknown names. How often each caller's name stands in the order is tried last.
-use Rattle.std.specs.Prelude.{ℕ, ◌+◌, nat_le, Bool, true, false, List, [], codes, if◌then◌else◌, Option, Some, None, Result, Ok, Err}
+use Rattle.std.specs.Prelude.{ℕ, ◌+◌, ◌-◌, nat_le, Bool, true, false, List, [], codes, if◌then◌else◌, Option, Some, None, Result, Ok, Err}
 use Rattle.serde_json.specs.Data.{Data, Items, no_items, item}
 use Rattle.script_types.specs.declared.fault.Place.TheVariants as place
 use Rattle.script_types.specs.declared.fault.Counted.{Counted}
@@ -76,4 +76,4 @@ walk_of d =
     proceed (codecs_of 0 [] parts.codecs) (λ codecs.
     proceed (callers_of codecs [] [] whole_room parts.callers) (λ r.
     proceed (ordered codecs r.0 parts.order) (λ order.
-    Ok (record { codecs = codecs; callers = r.0; order = order; chunk_files = r.1 })))))
+    Ok (record { codecs = codecs; callers = r.0; order = order; chunk_files = r.1.0; inline = most_media - r.1.1.media })))))

@@ -215,17 +215,17 @@ fn read_caller(
     })
 }
 
-/// The callers, with the chunk files that they mention.
+/// The callers, with the chunk files that they mention and the room that is left.
 pub fn read_callers(
     alloc: Global,
     codecs: &[CodecItem],
     room: Room,
     items: &[Value],
-) -> Result<(Vec<CallerItem>, Files), ScriptFault>
+) -> Result<(Vec<CallerItem>, (Files, Room)), ScriptFault>
     requires codecs { length codecs.now ≤ 64 }
     requires callers { length items.now ≤ 16 }
     requires room { room.steps ≤ 100000 }
-    ensures ok { IfOk result (λ r. callers_of codecs.now [] [] room (items_view items.now) ≡ Ok (r.0.items, r.1)) }
+    ensures ok { IfOk result (λ r. callers_of codecs.now [] [] room (items_view items.now) ≡ Ok (r.0.items, (r.1.0, r.1.1))) }
     ensures few { IfOk result (λ r. length r.0.items ≤ 16) }
     ensures err { IfErr result (λ e. e ≢ ScriptFault.NoMemory → callers_of codecs.now [] [] room (items_view items.now) ≡ Err e) }
 {
@@ -240,5 +240,5 @@ pub fn read_callers(
             return Err(ScriptFault::NoMemory);
         }
     }
-    Ok((callers, files))
+    Ok((callers, (files, left)))
 }

@@ -153,12 +153,13 @@ pub fn read_value(alloc: Global, value: &Value) -> Result<ScriptData, ScriptFaul
         steps: limit_of(Counted::Steps),
         media: limit_of(Counted::Media),
     };
-    let (callers, files) = read_callers(alloc, &codecs, room, parts.callers)?;
+    let (callers, (files, left)) = read_callers(alloc, &codecs, room, parts.callers)?;
     let order = read_ordered(alloc, &codecs, &callers, parts.order)?;
     Ok(ScriptData {
         codecs: List::of(codecs),
         callers: List::of(callers),
         order,
         chunk_files: List::of(files.into_names()),
+        inline: limit_of(Counted::Media).saturating_sub(left.media) as u64,
     })
 }
