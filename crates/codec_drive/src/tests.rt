@@ -39,7 +39,14 @@ fn work(alloc: Global, core: &mut Core<PcmCoder>, moment: u64) -> bool {
             codec: 0,
             place: job.place(),
         };
-        let coder = SlotBox::new(PcmCoder::new(CoderId { role: Role::Decode, codec: CodecId::PcmS16 }), 0, by);
+        let coder = SlotBox::new(
+            PcmCoder::new(CoderId {
+                role: Role::Decode,
+                codec: CodecId::PcmS16,
+            }),
+            0,
+            by,
+        );
         if coder.id() != id {
             return false;
         }
@@ -57,7 +64,8 @@ fn jobs_are_done(rt: HostRuntime) -> Result<(), Fail> {
     let who = Who { caller: 0, step: 0 };
     let mut core = Core::open(alloc, Kind::AudioDecoder, 4, 2)?;
     core.call(who, pcm(alloc)?).expect(&rt, "configure");
-    core.call(who, chunk(alloc, b"\x01\x00\x02\x00")?).expect(&rt, "decode");
+    core.call(who, chunk(alloc, b"\x01\x00\x02\x00")?)
+        .expect(&rt, "decode");
     assert!(rt; work(alloc, &mut core, 1));
     assert!(rt; core.turn().is_some() && core.turn().is_some());
     assert!(rt; work(alloc, &mut core, 2));

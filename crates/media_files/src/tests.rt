@@ -40,7 +40,8 @@ fn script(alloc: Global, inline: u64) -> Result<Script, Fail>
 }
 
 // The file of one chunk of two bytes.
-const ONE: &[u8] = b"WCC1\x00\x00\x00\x00\x00\x00\x00\x00\x07\x00\x00\x00\x00\x00\x00\x00\x00\x00\x00\x00\x00\x02\x01\x02";
+const ONE: &[u8] =
+    b"WCC1\x00\x00\x00\x00\x00\x00\x00\x00\x07\x00\x00\x00\x00\x00\x00\x00\x00\x00\x00\x00\x00\x02\x01\x02";
 
 fn files(alloc: Global, y: &[u8], reads: Vec<u64>) -> Result<MemFiles, Fail> {
     let x = (String::from_str(alloc, "x")?, ONE.to_vec(alloc)?);
@@ -48,7 +49,12 @@ fn files(alloc: Global, y: &[u8], reads: Vec<u64>) -> Result<MemFiles, Fail> {
     Ok(MemFiles::open(vec![in alloc; x, y]?, reads))
 }
 
-fn fault_of(alloc: Global, inline: u64, y: &[u8], reads: Vec<u64>) -> Result<Option<MediaFault>, Fail>
+fn fault_of(
+    alloc: Global,
+    inline: u64,
+    y: &[u8],
+    reads: Vec<u64>,
+) -> Result<Option<MediaFault>, Fail>
     requires { inline ≤ 268435456 }
 {
     let script = script(alloc, inline)?;
@@ -68,7 +74,10 @@ fn two_files_are_read(rt: HostRuntime) -> Result<(), Fail> {
     assert_eq!(rt; media.len(), 2);
     assert_eq!(rt; media[0].len(), 1);
     assert_eq!(rt; media[0].as_slice()[0].timestamp, 7);
-    assert_eq!(rt; media[0].as_slice()[0].bytes.as_slice(), b"\x01\x02".as_slice());
+    assert_eq!(rt;
+        media[0].as_slice()[0].bytes.as_slice(),
+        b"\x01\x02".as_slice()
+    );
     assert_eq!(rt; media[1].len(), 0);
     Ok(())
 }
@@ -79,15 +88,24 @@ fn each_fault_names_its_file(rt: HostRuntime) -> Result<(), Fail> {
     let none = Vec::new(alloc);
     assert_eq!(rt;
         fault_of(alloc, 0, b"WCX1", none)?,
-        Some(MediaFault::Chunks { file: 1, fault: ChunkFault::BadMark { at: 2 } })
+        Some(MediaFault::Chunks {
+            file: 1,
+            fault: ChunkFault::BadMark { at: 2 }
+        })
     );
     assert_eq!(rt;
         fault_of(alloc, 0, b"WCC1\x02", Vec::new(alloc))?,
-        Some(MediaFault::Chunks { file: 1, fault: ChunkFault::BadKind { at: 4, found: 2 } })
+        Some(MediaFault::Chunks {
+            file: 1,
+            fault: ChunkFault::BadKind { at: 4, found: 2 }
+        })
     );
     assert_eq!(rt;
         fault_of(alloc, 0, b"WCC1\x00\x00", Vec::new(alloc))?,
-        Some(MediaFault::Chunks { file: 1, fault: ChunkFault::Short { at: 5 } })
+        Some(MediaFault::Chunks {
+            file: 1,
+            fault: ChunkFault::Short { at: 5 }
+        })
     );
     assert_eq!(rt;
         fault_of(alloc, 0, ONE, vec![in alloc; 1]?)?,

@@ -6,11 +6,11 @@ use crate::StepResult;
 use crate::words::{answer_text, codec_text, error_name, kind_text, role_text, state_text};
 use codec_model::{Entry, Event, Opening, Outcome, PromiseState, Shown, TurnWord};
 use coder_api::{SlotEntry, SlotOp};
+use script_types::{CallerItem, CodecItem, ScriptData};
 use std::alloc::{AllocError, Global};
 use std::fmt;
 use wc_base::{By, DomError, Who};
 use wc_config::CoderId;
-use script_types::{CallerItem, CodecItem, ScriptData};
 
 fn codec_name(codecs: &[CodecItem], number: u32) -> &str
     ensures { result.now ≡ spec.codec_name codecs.now number }

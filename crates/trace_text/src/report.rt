@@ -13,11 +13,11 @@ use crate::outputs::{
 use crate::{CallerTrace, CodecTrace, Run, StepResult};
 use codec_model::{Entry, Event, Opening, Shown};
 use coder_api::{SlotEntry, Unit};
+use script_types::{CallerItem, CodecItem, Script, ScriptData};
 use std::alloc::{AllocError, Global};
 use wc_base::{DomError, Failed, Picture, Samples, Sink};
 use wc_chunk::Chunk;
 use wc_config::AudioDecoderConfig;
-use script_types::{CallerItem, CodecItem, Script, ScriptData};
 
 /// Why a report was not written whole.
 #[derive(Clone, Copy, Debug, PartialEq, Eq)]

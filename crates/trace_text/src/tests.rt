@@ -5,6 +5,7 @@ use codec_model::{
     CodecState, Entry, Event, Kind, Opening, Outcome, PromiseState, Shown, TurnWord,
 };
 use coder_api::{SlotEntry, SlotOp, Unit};
+use script_types::{CallerItem, CodecItem, KindWord, Script, ScriptData};
 use std::alloc::Global;
 use std::test::Fail;
 use wc_base::{
@@ -13,7 +14,6 @@ use wc_base::{
 };
 use wc_chunk::Chunk;
 use wc_config::{AudioDecoderConfig, CodecId, CoderId, Config, Role};
-use script_types::{CallerItem, CodecItem, KindWord, Script, ScriptData};
 
 const OPENING: Opening = Opening {
     kind: Kind::AudioDecoder,

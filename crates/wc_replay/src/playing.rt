@@ -13,12 +13,12 @@ use crate::results::Results;
 use crate::steps::Player;
 use codec_model::{Kind, Opening};
 use coder_api::Coder;
+use script_types::{CallerItem, CodecItem, KindWord, OrderItem, Script, ScriptData};
 use slot_registry::Slots;
 use std::alloc::Global;
 use trace_text::{CallerTrace, CodecTrace, Run};
 use wc_base::{List, NoMemory};
 use wc_chunk::Chunk;
-use script_types::{CallerItem, CodecItem, KindWord, OrderItem, Script, ScriptData};
 
 fn kind_of_word(word: KindWord) -> Kind
     ensures { result ≡ kind_of_word word }

@@ -14,13 +14,13 @@ use crate::moving::{call_at, close_at, done_at, reclaim_at, reset_at, start_at, 
 use crate::results::{Results, made_by, note, result_of};
 use codec_model::{Call, CodecState, PromiseState};
 use coder_api::Coder;
+use script_types::{ChunkSource, OrderItem, ScriptData, Step};
 use slot_registry::Slots;
 use std::alloc::Global;
 use std::marker::Model;
 use trace_text::StepResult;
 use wc_base::{DomError, List, NoMemory, Who};
 use wc_chunk::Chunk;
-use script_types::{ChunkSource, OrderItem, ScriptData, Step};
 
 /// The codecs, each caller's results so far, and the registry of the boxes.
 #[derive(Drop)]

@@ -67,7 +67,7 @@ pub decides_report : OneReading → (r : Reading) (w : Writing) (ready : Ready) 
 decides_report one r w ready text c p = record {
   words = λ none n5 n6. absurd (no_usage _ r.command c none);
   file = if_file r _ (λ name files bytes is holds there outcome h n4 n5 n6.
-    zero_of w.answer p.only n5 n6 ∙ sym (ap status_for (one_outcome one files bytes outcome (Ok ready) h (of_file r _ name files bytes c is holds there))));
+      zero_of w.answer p.only n5 n6 ∙ sym (ap status_for (one_outcome one files bytes outcome (Ok ready) h (of_file r _ name files bytes c is holds there))));
 }
 
 pub complete_report : (r : Reading) (w : Writing) (text : List ℕ) → WritesText text w → IsComplete r w

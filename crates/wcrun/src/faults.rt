@@ -6,7 +6,10 @@ use wc_base::MemSink;
 
 // The status and the text for a script, with a chunk file `f`.
 fn told(alloc: Global, script: &str, f: &[u8], reads: Vec<u64>) -> Result<(u8, MemSink), Fail> {
-    let script = (String::from_str(alloc, "s.json")?, Vec::from_slice(alloc, script.as_bytes())?);
+    let script = (
+        String::from_str(alloc, "s.json")?,
+        Vec::from_slice(alloc, script.as_bytes())?,
+    );
     let f = (String::from_str(alloc, "f")?, Vec::from_slice(alloc, f)?);
     call_on(
         alloc,
@@ -59,7 +62,10 @@ fn other_faults_of_a_chunk_file(rt: HostRuntime) -> Result<(), Fail> {
     let alloc = rt.alloc();
     let (status, sink) = told(alloc, TAKES, b"WCC1\x02", Vec::new(alloc))?;
     assert_eq!(rt; status, 3);
-    assert_eq!(rt; sink.bytes(), b"script: chunks f bad kind at 4\n".as_slice());
+    assert_eq!(rt;
+        sink.bytes(),
+        b"script: chunks f bad kind at 4\n".as_slice()
+    );
     let (status, sink) = told(alloc, TAKES, EMPTY, vec![in alloc; 1]?)?;
     assert_eq!(rt; status, 4);
     assert_eq!(rt; sink.bytes(), b"read fault: f\n".as_slice());
@@ -109,7 +115,11 @@ fn each_fault_of_a_script_is_named(rt: HostRuntime) -> Result<(), Fail> {
         (&[CHUNK, "{\"do\":\"x\"}"], 2, "script: shape at step 0 1\n"),
         (&[CHUNK, take], 2, "script: unbuilt at step 0 1\n"),
         (&[take, decode], 2, "script: unknown name at step 0 1\n"),
-        (&["{\"do\":\"poll\",\"promise\":\"c\"}"], 1, "script: unknown name at step 0 0\n"),
+        (
+            &["{\"do\":\"poll\",\"promise\":\"c\"}"],
+            1,
+            "script: unknown name at step 0 0\n",
+        ),
     ];
     for (steps, turns, text) in rows {
         let script = with_steps(alloc, steps, turns)?;
@@ -124,7 +134,11 @@ fn each_fault_of_a_script_is_named(rt: HostRuntime) -> Result<(), Fail> {
 fn faults_of_the_whole_are_named(rt: HostRuntime) -> Result<(), Fail> {
     let alloc = rt.alloc();
     let rows: [(&str, u8, &str); 6] = [
-        ("{\"codecs\":[],\"callers\":[]}", 3, "script: shape at top\n"),
+        (
+            "{\"codecs\":[],\"callers\":[]}",
+            3,
+            "script: shape at top\n",
+        ),
         (
             "{\"codecs\":[{\"name\":\"e\",\"kind\":\"audio-encoder\"}],\"callers\":[],\"order\":[]}",
             3,

@@ -5,8 +5,7 @@ ghost use Rattle.wcrun.specs.Outcome as spec;
 use crate::{Limited, Refusal};
 use script_types::{Counted, Script, ScriptFault};
 use trace_text::Run;
-use wc_base::List;
-use wc_base::NoMemory as Want;
+use wc_base::{List, NoMemory as Want};
 use wc_chunk::Chunk;
 
 /// A script that can be replayed, with the chunks of its chunk files.
