@@ -1,9 +1,8 @@
 -- The chunk files of a script have one reading, as the bytes of a chunk file have.
-use Rattle.std.proofs.Common.{ℕ, ◌≡◌, ◌+◌, ◌-◌, ◌<◌, ◌≤◌, ◌⊎◌, inl, inr, Bool, true, false, List, [], ◌∷◌, length, Option, Some, None, Result, Ok, Err, refl, ap, sym, subst, ◌∙◌, arith}
+use Rattle.std.proofs.Common.{ℕ, ◌≡◌, ◌+◌, ◌-◌, ◌<◌, ◌≤◌, inl, inr, true, false, List, [], ◌∷◌, Option, Some, None, Result, Ok, Err, refl, ap, sym, subst, ◌∙◌, arith}
 use Rattle.wc_chunk.specs.declared.chunk.Chunk.{Chunk}
 use Rattle.chunk_files.specs.declared.fault.ChunkFault.{ChunkFault}
 use Rattle.chunk_files.specs.Grammar.{IsChunkFile, IsFirstFault}
-use Rattle.script_types.specs.declared.script.ScriptData.{ScriptData}
 use Rattle.media_files.specs.declared.fault.MediaFault.{MediaFault}
 use Rattle.media_files.specs.declared.fault.MediaFault.TheVariants as fault
 use Rattle.media_files.specs.Media.{media_of, are_small, AreChunks, FileGives, FilesGive}

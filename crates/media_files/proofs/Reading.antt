@@ -1,13 +1,13 @@
 -- The files that were read, and those that are left.
-use Rattle.std.proofs.Common.{ℕ, ◌≡◌, ◌+◌, ◌-◌, ◌<◌, ◌≤◌, ◌⊎◌, inl, inr, List, [], ◌∷◌, ◌++◌, length, drop, get_or, append-nil, Option, Some, None, IfSome, Result, Ok, Err, refl, ap, sym, subst, arith}
+use Rattle.std.proofs.Common.{ℕ, ◌≡◌, ◌+◌, ◌-◌, ◌<◌, ◌≤◌, inl, inr, List, [], ◌∷◌, ◌++◌, length, drop, get_or, append-nil, Option, Some, None, IfSome, Result, Ok, Err, refl, sym, subst, arith}
 use Rattle.std.specs.Prelude.{MatchOption}
 use Rattle.std.proofs.lemmas.List.{append_assoc, drop_more}
-use Rattle.wc_base.specs.Causes.{Rose, RoseBy}
+use Rattle.wc_base.specs.Causes.{RoseBy}
 use Rattle.wc_chunk.specs.declared.chunk.Chunk.{Chunk}
 use Rattle.script_types.specs.declared.script.ScriptData.{ScriptData}
 use Rattle.media_files.specs.declared.fault.MediaFault.{MediaFault}
 use Rattle.media_files.specs.declared.fault.MediaFault.TheVariants as fault
-use Rattle.media_files.specs.Media.{media_of, FileGives, FilesGive, GivesMedia, MayFail, MayFailAt}
+use Rattle.media_files.specs.Media.{media_of, FileGives, FilesGive, MayFail, MayFailAt}
 
 abbrev pub Told : Type 0
 Told = Option (List ℕ → Option (List ℕ))

@@ -1,5 +1,5 @@
 -- What is known of a chain of tests that ended well.
-use Rattle.std.proofs.Common.{◌≡◌, Bool, true, false, if◌then◌else◌, ◌&&◌, Option, Some, None, option_and_then, Result, Ok, Err, refl, sym, ap, ◌∙◌}
+use Rattle.std.proofs.Common.{◌≡◌, Bool, true, false, if◌then◌else◌, ◌&&◌, Option, Some, None, Result, Ok, Err, refl, sym, ap, ◌∙◌}
 use Rattle.std.proofs.lemmas.Option.{same_Some}
 use Rattle.script_members.specs.declared.wrong.Wrong.{Wrong}
 use Rattle.script_members.specs.declared.wrong.Wrong.TheVariants as wrong

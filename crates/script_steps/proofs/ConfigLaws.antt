@@ -1,5 +1,5 @@
 -- A config that was read is one of its codec's kind, or breaks a rule of WebIDL.
-use Rattle.std.proofs.Common.{◌≡◌, ℕ, true, List, Option, Some, None, Ok, codes, subst, refl}
+use Rattle.std.proofs.Common.{◌≡◌, ℕ, true, List, Option, Some, Ok, codes, subst, refl}
 use Rattle.serde_json.specs.Data.{Data}
 use Rattle.wc_config.specs.declared.config.Config.{Config}
 use Rattle.serde_json.specs.Find.{get}
@@ -7,7 +7,7 @@ use Rattle.script_members.specs.Members.{hex_if_there}
 use Rattle.script_types.specs.declared.script.KindWord.{KindWord}
 use Rattle.script_types.specs.declared.script.KindWord.TheVariants as kind
 use Rattle.script_types.specs.Sound.{suits}
-use Rattle.script_members.specs.ConfigRead.{codec_in, rate_in, channels_in, flac_in, flac_number, pixels_in, audio_decoder_with, audio_decoder_of, audio_encoder_with, audio_encoder_of, video_decoder_with, video_decoder_of, config_of}
+use Rattle.script_members.specs.ConfigRead.{codec_in, rate_in, channels_in, flac_in, flac_number, pixels_in, audio_decoder_with, audio_encoder_with, video_decoder_with, config_of}
 use Rattle.script_steps.proofs.Chains.{same_Ok, chain}
 
 audio_decoder_suits : (codec : Option (List ℕ)) (rate channels : Option ℕ) (description : Option (List ℕ))

@@ -1,5 +1,5 @@
 -- What is known of a step of media resources that was read.
-use Rattle.std.proofs.Common.{◌≡◌, ◌≤◌, ℕ, nat_le, codes, Bool, true, false, if◌then◌else◌, List, Option, Some, None, option_and_then, Ok, refl, sym, ap, subst, ◌∙◌, arith}
+use Rattle.std.proofs.Common.{◌≡◌, ◌≤◌, ℕ, nat_le, codes, Bool, true, false, if◌then◌else◌, List, Option, Some, None, option_and_then, Ok, refl, subst, ◌∙◌, arith}
 use Rattle.std.proofs.lemmas.Option.{same_Some}
 use Rattle.serde_json.specs.Data.{Data}
 use Rattle.serde_json.specs.Find.{get}
@@ -10,7 +10,7 @@ use Rattle.script_types.specs.declared.steps.Step.{Step}
 use Rattle.script_types.specs.declared.steps.MediaStep.{MediaStep}
 use Rattle.script_types.specs.Names.{outputs_of}
 use Rattle.script_types.specs.Sound.{most_chunk, encodes, gives, is_sound_media, bytes_of_media, bytes_of_sound, bytes_of_picture}
-use Rattle.script_members.specs.Members.{needed as there, known, name_in, object_in, natural_of}
+use Rattle.script_members.specs.Members.{known, name_in, object_in, natural_of}
 use Rattle.script_members.specs.Media.{sound_of, picture_of}
 use Rattle.script_steps.specs.declared.words.StepWord.TheVariants as word
 use Rattle.script_steps.specs.declared.words.MediaWord.{MediaWord}
@@ -18,7 +18,7 @@ use Rattle.script_steps.specs.declared.words.MediaWord.TheVariants as medium
 use Rattle.script_steps.specs.declared.references.Needed.TheVariants as needed
 use Rattle.script_steps.specs.Words.{data_of_word, byte_count}
 use Rattle.script_steps.specs.References.{unused, variable_if, variable_in, bound_on, given_to, bound_from}
-use Rattle.script_steps.specs.MediaSteps.{audio_of, frame_of, encode_of, take_of, clone_of, transfer_of, close_data_of, checked_size, size_in, options_in, copy_of, size_of, media_by}
+use Rattle.script_steps.specs.MediaSteps.{checked_size, size_in, options_in, media_by}
 use Rattle.script_steps.proofs.Chains.{same_Ok, chain, needed_some, all_true}
 use Rattle.script_steps.proofs.NameLaws.{name_is_name, name_is_free, variable_is_right}
 use Rattle.script_steps.proofs.ReferenceLaws.{variable_sound, bound_on_sound, given_to_sound, bound_from_sound}

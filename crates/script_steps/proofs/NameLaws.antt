@@ -1,6 +1,6 @@
 -- What the names of a step that was read name.
-use Rattle.std.proofs.Common.{◌≡◌, ℕ, ◌==◌, nat_eq, not, Bool, true, false, if◌then◌else◌, ◌&&◌, List, [], ◌∷◌, Option, Some, None, option_and_then, Result, Ok, Err, refl, sym, ap, subst, ◌∙◌}
-use Rattle.std.specs.List.{slice_get, position}
+use Rattle.std.proofs.Common.{◌≡◌, ℕ, ◌==◌, not, Bool, true, false, if◌then◌else◌, ◌&&◌, List, Option, Some, None, option_and_then, Result, Ok, Err, refl, sym, ap, subst, ◌∙◌}
+use Rattle.std.specs.List.{slice_get}
 use Rattle.std.proofs.lemmas.Bool.{eq-eqb}
 use Rattle.std.proofs.lemmas.Option.{same_Some}
 use Rattle.serde_json.specs.Data.{Data}
@@ -9,14 +9,13 @@ use Rattle.script_types.specs.declared.script.CodecItem.{CodecItem}
 use Rattle.script_types.specs.declared.found.FoundCodec.{FoundCodec}
 use Rattle.script_types.specs.declared.found.FoundVariable.{FoundVariable}
 use Rattle.script_types.specs.declared.steps.Step.{Step}
-use Rattle.script_types.specs.declared.steps.Variable.{Variable}
 use Rattle.script_types.specs.declared.steps.VariableKind.{VariableKind}
 use Rattle.script_types.specs.declared.steps.VariableKind.TheVariants as holds
 use Rattle.script_types.specs.Names.{is_name, codec_at, codec_named, variable_named, is_variable_name}
 use Rattle.script_types.specs.Sound.{is_free, is_codec, is_codec_kind, is_variable, is_found, same_kind}
 use Rattle.script_members.specs.declared.wrong.Wrong.{Wrong}
 use Rattle.script_members.specs.declared.wrong.Wrong.TheVariants as wrong
-use Rattle.script_members.specs.Members.{checked_name, name_in, text_in, known, needed}
+use Rattle.script_members.specs.Members.{checked_name, name_in, text_in, known}
 use Rattle.script_steps.specs.declared.references.Needed.{Needed}
 use Rattle.script_steps.specs.References.{is_right, unused, codec_if, variable_if, variable_of}
 use Rattle.script_steps.proofs.Chains.{same_Ok, needed_some, known_some, expected_right, all_true}

@@ -1,5 +1,5 @@
 -- Options that were read are those of what the variable holds.
-use Rattle.std.proofs.Common.{◌≡◌, true, Bool, Option, Some, None, Ok, refl, ap, subst, ◌∙◌}
+use Rattle.std.proofs.Common.{◌≡◌, true, Option, Some, None, Ok, refl, ap, subst, ◌∙◌}
 use Rattle.serde_json.specs.Data.{Data}
 use Rattle.script_types.specs.declared.options.Options.{Options}
 use Rattle.script_types.specs.declared.options.Options.TheVariants as options
@@ -11,7 +11,7 @@ use Rattle.script_types.specs.Sound.{are_options_of}
 use Rattle.script_members.specs.Members.{known, object_if_there}
 use Rattle.script_members.specs.CopyOptions.{audio_options_of, frame_options_of, options_by, options_for}
 use Rattle.script_steps.specs.MediaSteps.{options_in}
-use Rattle.script_steps.proofs.Chains.{same_Ok, chain, known_some}
+use Rattle.script_steps.proofs.Chains.{same_Ok, chain}
 
 by_kind : (kind : VariableKind) (d : Option Data) (o : Options) → is_copied kind ≡ true → options_by kind d ≡ Ok o → are_options_of o kind ≡ true
 by_kind holds.Audio d o k h =

@@ -1,5 +1,5 @@
 -- What is known of the references of a step that was read.
-use Rattle.std.proofs.Common.{◌≡◌, ℕ, codes, Bool, true, List, Option, Result, Ok, subst, ◌∙◌}
+use Rattle.std.proofs.Common.{◌≡◌, ℕ, codes, Bool, true, List, Ok, subst}
 use Rattle.serde_json.specs.Data.{Data}
 use Rattle.script_types.specs.declared.script.KindWord.{KindWord}
 use Rattle.script_types.specs.declared.script.CodecItem.{CodecItem}
@@ -11,7 +11,7 @@ use Rattle.script_types.specs.Sound.{is_codec, any_kind, is_variable, is_free}
 use Rattle.script_members.specs.Members.{known, name_in}
 use Rattle.script_steps.specs.declared.references.Needed.{Needed}
 use Rattle.script_steps.specs.declared.references.Needed.TheVariants as needed
-use Rattle.script_steps.specs.References.{is_right, unused, codec_if, variable_if, variable_of, variable_in, on_of, bound_on, given_to, bound_from}
+use Rattle.script_steps.specs.References.{is_right, unused, codec_if, variable_if, variable_in, on_of, bound_on, given_to, bound_from}
 use Rattle.script_steps.proofs.Chains.{same_Ok, chain}
 use Rattle.script_steps.proofs.NameLaws.{name_is_name, name_is_free, codec_is_there, codec_is_right, variable_is_right}
 

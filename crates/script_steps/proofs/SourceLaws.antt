@@ -1,5 +1,5 @@
 -- What is made of an init holds no more than the inline data.
-use Rattle.std.proofs.Common.{◌≡◌, ◌≤◌, ℕ, ℤ, codes, length, Bool, true, false, if◌then◌else◌, List, Option, Some, None, option_and_then, Result, Ok, Err, refl, sym, ap, subst, ◌∙◌, arith}
+use Rattle.std.proofs.Common.{◌≡◌, ◌≤◌, ℕ, ℤ, codes, Bool, true, false, if◌then◌else◌, List, Option, Some, None, option_and_then, Ok, sym, ap, subst, ◌∙◌, arith}
 use Rattle.std.proofs.lemmas.Option.{same_Some}
 use Rattle.serde_json.specs.Data.{Data}
 use Rattle.serde_json.specs.Find.{get}

@@ -1,5 +1,5 @@
 -- What is known of a step that was read.
-use Rattle.std.proofs.Common.{◌≡◌, ◌≤◌, ℕ, codes, true, List, [], length, Option, Some, Result, Ok, refl, sym, ap, subst, ◌∙◌, arith}
+use Rattle.std.proofs.Common.{◌≡◌, ◌≤◌, ℕ, codes, true, List, [], length, Some, Result, Ok, refl, sym, ap, subst, ◌∙◌, arith}
 use Rattle.serde_json.specs.Data.{Data}
 use Rattle.script_types.specs.declared.script.CodecItem.{CodecItem}
 use Rattle.script_types.specs.declared.steps.Step.{Step}
@@ -18,9 +18,9 @@ use Rattle.script_steps.specs.declared.words.StepWord.TheVariants as word
 use Rattle.script_steps.specs.declared.words.MediaWord.{MediaWord}
 use Rattle.script_steps.specs.declared.references.Needed.TheVariants as needed
 use Rattle.script_steps.specs.Words.{word_in, data_of_word, inline_data, byte_count}
-use Rattle.script_steps.specs.References.{unused, variable_in, on_of, bound_on, given_to}
+use Rattle.script_steps.specs.References.{unused, on_of, bound_on, given_to}
 use Rattle.script_steps.specs.MediaSteps.{media_by}
-use Rattle.script_steps.specs.Steps.{configure_of, decode_of, flush_of, promise_in, numbered, chunk_step_of, no_file, step_by, step_of}
+use Rattle.script_steps.specs.Steps.{configure_of, decode_of, flush_of, promise_in, numbered, chunk_step_of, no_file, step_by}
 use Rattle.script_steps.specs.Soundness.{StepsAreSound}
 use Rattle.script_steps.proofs.Chains.{same_Ok, chain, needed_some, all_true}
 use Rattle.script_steps.proofs.ConfigLaws.{config_suits}

@@ -1,5 +1,5 @@
 -- The step of media resources that an object spells.
-use Rattle.std.specs.Prelude.{ℕ, nat_le, List, codes, if◌then◌else◌, Option, Some, None, option_and_then, Result, Ok, Err}
+use Rattle.std.specs.Prelude.{ℕ, nat_le, List, codes, if◌then◌else◌, Option, Some, None, option_and_then, Result, Ok}
 use Rattle.serde_json.specs.Data.{Data}
 use Rattle.serde_json.specs.Find.{get}
 use Rattle.script_types.specs.declared.script.CodecItem.{CodecItem}

@@ -1,5 +1,5 @@
 -- What the names in a step name, and the new name that it may give.
-use Rattle.std.specs.Prelude.{ℕ, Bool, List, codes, if◌then◌else◌, Option, Some, None, Result, Ok, Err}
+use Rattle.std.specs.Prelude.{ℕ, Bool, List, codes, if◌then◌else◌, Option, Result, Ok, Err}
 use Rattle.serde_json.specs.Data.{Data}
 use Rattle.script_types.specs.declared.script.KindWord.{KindWord}
 use Rattle.script_types.specs.declared.script.CodecItem.{CodecItem}

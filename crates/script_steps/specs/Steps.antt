@@ -1,6 +1,6 @@
 -- The step that an object spells, after the steps before it, and the chunk files mentioned with it. What is wrong in shape
 -- is found first, then a name that an earlier step gave, then unknown names.
-use Rattle.std.specs.Prelude.{ℕ, List, codes, Option, Result, Ok, Err}
+use Rattle.std.specs.Prelude.{ℕ, List, codes, Result, Ok}
 use Rattle.serde_json.specs.Data.{Data}
 use Rattle.script_types.specs.declared.script.CodecItem.{CodecItem}
 use Rattle.script_types.specs.declared.steps.ChunkSource.{ChunkSource}

@@ -1,5 +1,5 @@
 -- Nothing is at fault in callers that were read.
-use Rattle.std.proofs.Common.{◌≡◌, ℕ, ◌+◌, ◌≤◌, ◌&&◌, ◌||◌, not, nat_le, Bool, true, false, if◌then◌else◌, List, [], ◌∷◌, ◌++◌, length, codes, sum_by, Option, Some, None, option_and_then, Result, Ok, Err, refl, sym, ap, subst, ◌∙◌, arith}
+use Rattle.std.proofs.Common.{◌≡◌, ℕ, ◌+◌, ◌≤◌, ◌||◌, not, Bool, true, false, if◌then◌else◌, List, [], ◌∷◌, ◌++◌, length, codes, sum_by, Option, Some, None, option_and_then, Result, Ok, Err, refl, sym, ap, subst, ◌∙◌, arith}
 use Rattle.std.specs.List.{list_all}
 use Rattle.std.proofs.lemmas.List.{append_assoc, append-nil, length_push}
 use Rattle.std.proofs.lemmas.List.Sums.{sum_by_push}
@@ -9,10 +9,10 @@ use Rattle.script_types.specs.declared.fault.Place.TheVariants as place
 use Rattle.script_types.specs.declared.script.CodecItem.{CodecItem}
 use Rattle.script_types.specs.declared.script.CallerItem.{CallerItem}
 use Rattle.script_types.specs.Names.{is_name, is_codec_name, is_caller_name}
-use Rattle.script_types.specs.Sound.{most_steps, most_chunk, most_media, is_sound_caller, are_sound_callers, are_sound_steps, bytes_of_step, are_small, bytes_of_caller, files_after, files_in, are_apart}
+use Rattle.script_types.specs.Sound.{most_steps, most_media, is_sound_caller, are_sound_callers, are_sound_steps, are_small, bytes_of_caller, files_after, files_in, are_apart}
 use Rattle.script_members.specs.declared.wrong.Wrong.{Wrong}
 use Rattle.script_members.specs.declared.wrong.Wrong.TheVariants as wrong
-use Rattle.script_members.specs.Members.{and_then, needed, name_in, array_in}
+use Rattle.script_members.specs.Members.{needed, name_in, array_in}
 use Rattle.script_steps.proofs.Chains.{same_Ok, chain, all_true}
 use Rattle.script_steps.proofs.NameLaws.{name_is_name}
 use Rattle.wc_script.specs.declared.callers.Room.{Room}

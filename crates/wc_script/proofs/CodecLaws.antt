@@ -11,7 +11,7 @@ use Rattle.script_types.specs.Names.{is_name, is_codec_name}
 use Rattle.script_types.specs.Sound.{is_sound_codec, are_sound_codecs}
 use Rattle.script_members.specs.declared.wrong.Wrong.{Wrong}
 use Rattle.script_members.specs.declared.wrong.Wrong.TheVariants as wrong
-use Rattle.script_members.specs.Members.{and_then, needed, text_in, name_in, natural_of}
+use Rattle.script_members.specs.Members.{needed, text_in, name_in, natural_of}
 use Rattle.script_steps.proofs.Chains.{same_Ok, chain, needed_some, all_true}
 use Rattle.script_steps.proofs.NameLaws.{name_is_name}
 use Rattle.wc_script.specs.Faults.{at}

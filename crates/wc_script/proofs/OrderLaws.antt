@@ -1,6 +1,6 @@
 -- The items of an order that was read name what is there.
-use Rattle.std.proofs.Common.{◌≡◌, ℕ, ◌+◌, ◌<◌, nat_lt, nat_le, Bool, true, false, cond, List, [], ◌∷◌, ◌++◌, length, codes, Option, Some, None, option_and_then, Result, Ok, Err, refl, sym, ap, subst, ◌∙◌, arith, zero, suc}
-use Rattle.std.specs.List.{list_all, slice_get, position, position_or_len}
+use Rattle.std.proofs.Common.{◌≡◌, ℕ, ◌+◌, nat_lt, Bool, true, false, cond, List, [], ◌∷◌, ◌++◌, length, codes, Option, Some, None, option_and_then, Ok, refl, subst, arith, zero, suc}
+use Rattle.std.specs.List.{list_all}
 use Rattle.std.proofs.lemmas.List.{length_push}
 use Rattle.std.proofs.lemmas.Option.{same_Some}
 use Rattle.serde_json.specs.Data.{Data, Items, no_items, item}
@@ -9,12 +9,10 @@ use Rattle.script_types.specs.declared.fault.Place.TheVariants as place
 use Rattle.script_types.specs.declared.script.CodecItem.{CodecItem}
 use Rattle.script_types.specs.declared.script.CallerItem.{CallerItem}
 use Rattle.script_types.specs.declared.script.OrderItem.{OrderItem}
-use Rattle.script_types.specs.declared.script.OrderItem.TheVariants as order
 use Rattle.script_types.specs.declared.found.FoundCodec.{FoundCodec}
 use Rattle.script_types.specs.Names.{codec_named, caller_named}
-use Rattle.script_types.specs.Sound.{any_kind, is_codec, is_codec_kind, is_sound_item}
-use Rattle.script_members.specs.declared.wrong.Wrong.{Wrong}
-use Rattle.script_members.specs.Members.{and_then, needed, known, checked_name, name_in, natural_of}
+use Rattle.script_types.specs.Sound.{any_kind, is_codec, is_sound_item}
+use Rattle.script_members.specs.Members.{needed, known, checked_name, name_in, natural_of}
 use Rattle.script_steps.proofs.Chains.{same_Ok, chain, known_some}
 use Rattle.script_steps.proofs.NameLaws.{codec_is_there}
 use Rattle.wc_script.specs.declared.order.OrderWord.{OrderWord}

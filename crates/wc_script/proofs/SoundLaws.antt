@@ -1,10 +1,9 @@
 -- Nothing is at fault in a script that was read.
-use Rattle.std.proofs.Common.{◌≡◌, ℕ, ◌+◌, ◌-◌, ◌≤◌, ◌==◌, ◌&&◌, nat_le, Bool, true, false, if◌then◌else◌, List, [], length, codes, sum_by, Option, Some, None, Result, Ok, Err, refl, sym, ap, subst, ◌∙◌, arith}
+use Rattle.std.proofs.Common.{◌≡◌, ℕ, ◌-◌, nat_le, Bool, true, false, if◌then◌else◌, List, [], length, codes, sum_by, Option, Some, None, Result, Ok, Err, refl, ap, subst, ◌∙◌, arith}
 use Rattle.std.specs.List.{list_all}
-use Rattle.std.proofs.lemmas.Bool.{leb-true, le-leb, eq-eqb}
+use Rattle.std.proofs.lemmas.Bool.{le-leb, eq-eqb}
 use Rattle.std.proofs.lemmas.Option.{same_Some}
 use Rattle.serde_json.specs.Data.{Data, Items}
-use Rattle.serde_json.specs.Find.{get}
 use Rattle.script_types.specs.declared.fault.Place.TheVariants as place
 use Rattle.script_types.specs.declared.fault.Counted.{Counted}
 use Rattle.script_types.specs.declared.fault.Counted.TheVariants as counted
@@ -17,15 +16,14 @@ use Rattle.script_types.specs.declared.script.ScriptData.{ScriptData}
 use Rattle.script_types.specs.Sound.{most_codecs, most_callers, most_steps, most_order, most_media, are_sound_codecs, are_sound_callers, are_small, bytes_of_caller, files_in, is_count, are_apart, are_sound_files, is_sound_item, counts_agree, is_sound_order, are_few, is_small_media, is_sound}
 use Rattle.script_members.specs.declared.wrong.Wrong.{Wrong}
 use Rattle.script_members.specs.declared.wrong.Wrong.TheVariants as wrong
-use Rattle.script_members.specs.Members.{and_then, needed, array_in}
+use Rattle.script_members.specs.Members.{needed, array_in}
 use Rattle.script_members.specs.Sources.{has}
 use Rattle.script_steps.proofs.Chains.{same_Ok, chain, needed_some, all_true}
-use Rattle.wc_script.specs.declared.callers.Room.{Room}
 use Rattle.wc_script.specs.Faults.{limit_of, at}
 use Rattle.wc_script.specs.Codecs.{codecs_of}
 use Rattle.wc_script.specs.Callers.{callers_of}
 use Rattle.wc_script.specs.Order.{order_of}
-use Rattle.wc_script.specs.Walk.{count_of, few, Parts, order_if_there, parts_of, checked_order, ordered, whole_room, walk_of}
+use Rattle.wc_script.specs.Walk.{count_of, few, Parts, order_if_there, parts_of, ordered, whole_room, walk_of}
 use Rattle.wc_script.proofs.Proceeds.{proceeds, read_at}
 use Rattle.wc_script.proofs.CodecLaws.{codecs_sound}
 use Rattle.wc_script.proofs.CallerLaws.{SoundCallers, callers_sound}

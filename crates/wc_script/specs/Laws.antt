@@ -1,5 +1,5 @@
 -- What is known of a script that was read.
-use Rattle.std.specs.Prelude.{◌≡◌, true, Result, Ok}
+use Rattle.std.specs.Prelude.{◌≡◌, true, Ok}
 use Rattle.serde_json.specs.Data.{Data}
 use Rattle.script_types.specs.declared.script.ScriptData.{ScriptData}
 use Rattle.script_types.specs.Sound.{is_sound}

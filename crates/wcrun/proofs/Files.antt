@@ -1,7 +1,7 @@
 -- What holds of the file that the words name.
-use Rattle.std.proofs.Common.{◌≡◌, ◌≤◌, ℕ, List, Option, Some, None, IfSome, refl, sym, subst, ◌∙◌, arith}
+use Rattle.std.proofs.Common.{◌≡◌, ◌≤◌, ℕ, List, Option, Some, None, IfSome, refl, subst, arith}
 use Rattle.std.specs.Prelude.{IsSomeAnd, MatchOption}
-use Rattle.wc_base.specs.Causes.{Rose, RoseBy}
+use Rattle.wc_base.specs.Causes.{RoseBy}
 use Rattle.wcrun.specs.Headline.{Reading, Holding, OfFile, IfFile}
 
 pub if_some : (T : Type 0) (P : T → Type 0) (o : Option T) → ((t : T) → o ≡ Some t → P t) → IfSome o P

@@ -1,12 +1,8 @@
 -- The bytes of a script file come to one outcome, and so the status is decided.
-use Rattle.std.proofs.Common.{◌≡◌, ◌≢◌, ◌⊎◌, inl, inr, ℕ, zero, suc, List, Option, Some, None, Result, Ok, Err, refl, sym, ap, subst, ◌∙◌, arith}
+use Rattle.std.proofs.Common.{◌≡◌, ◌≢◌, ◌⊎◌, inl, inr, ℕ, zero, suc, List, Option, Some, None, Result, Ok, Err, refl, sym, ap, ◌∙◌, arith}
 use Rattle.std.specs.Prelude.{IsSomeAnd}
-use Rattle.wc_base.specs.Causes.{Rose, RoseBy}
-use Rattle.wc_chunk.specs.declared.chunk.Chunk.{Chunk}
-use Rattle.wc_config.specs.declared.codec.CoderId.{CoderId}
+use Rattle.wc_base.specs.Causes.{Rose}
 use Rattle.script_types.specs.declared.script.ScriptData.{ScriptData}
-use Rattle.media_files.specs.declared.fault.MediaFault.{MediaFault}
-use Rattle.media_files.specs.Media.{GivesMedia}
 use Rattle.media_files.specs.Laws.{OneReading}
 use Rattle.wcrun.specs.declared.refusal.Limited.TheVariants as limited
 use Rattle.wcrun.specs.declared.refusal.Refusal.{Refusal}
@@ -15,9 +11,9 @@ use Rattle.wcrun.specs.declared.stop.Stop.{Stop}
 use Rattle.wcrun.specs.declared.stop.Stop.TheVariants as stop
 use Rattle.wcrun.specs.Refusals.{status_of, line_of, memory_line}
 use Rattle.wcrun.specs.Outcome.{Ready, playable_of, ready_of, Becomes, IsOutcome}
-use Rattle.wcrun.specs.Headline.{Reading, Writing, Holding, ComesTo, Comes, IsReport, Decides, IsComplete, status_for}
+use Rattle.wcrun.specs.Headline.{Reading, Writing, Holding, ComesTo, Comes, Decides, IsComplete, status_for}
 use Rattle.wcrun.specs.Writing.{WritesText, WritesLine}
-use Rattle.wcrun.proofs.Files.{of_some, of_there, told, if_file, of_file}
+use Rattle.wcrun.proofs.Files.{of_there, told, if_file, of_file}
 
 same_becomes : OneReading → (files : Holding) (p : Result ScriptData Stop) (a b : Result Ready Stop) → Becomes files p a → Becomes files p b → a ≡ b
 same_becomes one files (Ok s) a b (m, h, is) (n, g, js) = is ∙ (ap (ready_of s) (one files s m n h g) ∙ sym js)

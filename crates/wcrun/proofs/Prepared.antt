@@ -1,7 +1,7 @@
 -- How a script is read, from its file and its chunk files.
-use Rattle.std.proofs.Common.{◌≡◌, ◌≢◌, ◌<◌, ◌≤◌, ◌⊎◌, inl, inr, ℕ, List, length, Bool, true, false, Option, Some, None, IfSome, Result, Ok, Err, refl, sym, ap, subst, ◌∙◌, arith}
+use Rattle.std.proofs.Common.{◌≡◌, ◌≢◌, ◌<◌, ◌≤◌, inr, ℕ, List, length, Bool, true, false, Option, Some, None, IfSome, Result, Ok, Err, refl, sym, ap, subst, ◌∙◌, arith}
 use Rattle.std.specs.Prelude.{IsSomeAnd, MatchOption, nat_lt, if◌then◌else◌}
-use Rattle.wc_base.specs.Causes.{Rose, RoseBy}
+use Rattle.wc_base.specs.Causes.{RoseBy}
 use Rattle.script_types.specs.declared.fault.Counted.{Counted}
 use Rattle.script_types.specs.declared.fault.Counted.TheVariants as counted
 use Rattle.script_types.specs.declared.fault.Place.{Place}
@@ -16,7 +16,7 @@ use Rattle.wcrun.specs.declared.refusal.Refusal.{Refusal}
 use Rattle.wcrun.specs.declared.refusal.Refusal.TheVariants as refusal
 use Rattle.wcrun.specs.declared.stop.Stop.{Stop}
 use Rattle.wcrun.specs.declared.stop.Stop.TheVariants as stop
-use Rattle.wcrun.specs.Headline.{Reading, reading, Holding, OfFile, ComesTo, Comes, IsMentioned}
+use Rattle.wcrun.specs.Headline.{Reading, reading, Holding, ComesTo, Comes, IsMentioned}
 use Rattle.wcrun.specs.Outcome.{Ready, playable_of, if_spelled, if_playable, if_built, stop_for, limited_of, Becomes, IsOutcome}
 use Rattle.wcrun.specs.Stops.{MayStop, MayStopFor}
 use Rattle.wcrun.proofs.Files.{rose_since}

@@ -21,7 +21,6 @@ use Rattle.wc_script.specs.Read.{script_of}
 use Rattle.trace_text.specs.Missing.{missing_in}
 use Rattle.wcrun.specs.declared.refusal.Limited.{Limited}
 use Rattle.wcrun.specs.declared.refusal.Limited.TheVariants as limited
-use Rattle.wcrun.specs.declared.refusal.Refusal.{Refusal}
 use Rattle.wcrun.specs.declared.refusal.Refusal.TheVariants as refusal
 use Rattle.wcrun.specs.declared.stop.Stop.{Stop}
 use Rattle.wcrun.specs.declared.stop.Stop.TheVariants as stop

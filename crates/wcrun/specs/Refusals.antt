@@ -1,5 +1,5 @@
 -- The status and the line of each answer that comes in place of a report (our choice).
-use Rattle.std.specs.Prelude.{ℕ, List, ◌++◌, codes, decimal}
+use Rattle.std.specs.Prelude.{ℕ, List, codes, decimal}
 use Rattle.chunk_files.specs.declared.fault.ChunkFault.{ChunkFault}
 use Rattle.chunk_files.specs.declared.fault.ChunkFault.TheVariants as fault
 use Rattle.script_types.specs.Places.{place_text}

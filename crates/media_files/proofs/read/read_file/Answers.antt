@@ -1,4 +1,4 @@
-use Rattle.std.proofs.Common.{◌≡◌, refl, ap, Err}
+use Rattle.std.proofs.Common.{◌≡◌, ap, Err}
 use Rattle.media_files.proofs.Long.{too_long}
 use Rattle.wc_base.specs.declared.files.FileFault.TheVariants as fault
 use Rattle.media_files.proofs.read.read_file.Goals as goal

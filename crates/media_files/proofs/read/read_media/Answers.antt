@@ -1,4 +1,4 @@
-use Rattle.std.proofs.Common.{◌≡◌, ◌+◌, ◌-◌, ◌++◌, ◌∷◌, [], IfSome, Ok, List, length, refl, sym, ap, subst, ◌∙◌, rules, arith}
+use Rattle.std.proofs.Common.{◌+◌, ◌-◌, ◌++◌, ◌∷◌, [], IfSome, Ok, List, length, sym, ap, subst, rules, arith}
 use Rattle.std.proofs.lemmas.List.{drop_all}
 use Rattle.wc_chunk.specs.declared.chunk.Chunk.{Chunk}
 use Rattle.media_files.specs.Media.{FileGives, MayFailAt}

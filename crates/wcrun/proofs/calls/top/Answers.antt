@@ -1,8 +1,7 @@
-use Rattle.std.proofs.Common.{◌≡◌, map, refl}
+use Rattle.std.proofs.Common.{◌≡◌, refl}
 use Rattle.wcrun.specs.declared.stop.Stop.TheVariants as stop
 use Rattle.wcrun.specs.Words.{words_of, command_of}
 use Rattle.wcrun.specs.Headline.{Reading, reading, writing}
-use Rattle.wcrun.specs.Outcome.{Ready}
 use Rattle.wcrun.proofs.Headlines.{headline_of_report, headline_of_refusal, headline_of_memory, stop_comes}
 use Rattle.wcrun.proofs.Outcomes.{decides_report, complete_report, decides_refusal, complete_refusal, decides_memory, complete_memory}
 use Rattle.wcrun.proofs.calls.top.Goals as goal

@@ -1,4 +1,4 @@
-use Rattle.std.proofs.Common.{◌≡◌, subst}
+use Rattle.std.proofs.Common.{subst}
 use Rattle.wcrun.specs.Stops.{MayStopFor}
 use Rattle.wcrun.proofs.Prepared.{stops}
 use Rattle.wcrun.proofs.prepare.prepare.Goals as goal
