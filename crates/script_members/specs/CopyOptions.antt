@@ -99,7 +99,7 @@ frame_options_of object =
 
 -- ---- by the kind of what is copied
 
--- the members of a chunk's options, and a promise is never copied, are not looked at
+-- the members of a chunk's options are not looked at, and a promise is never copied
 abbrev pub options_by : VariableKind → Option Data → Result Options Wrong
 options_by holds.Audio object = and_then (audio_options_of object) (λ o. Ok (options.Audio o))
 options_by holds.Frame object = and_then (frame_options_of object) (λ o. Ok (options.Frame o))
