@@ -296,8 +296,8 @@ with_turn k running (t ∷ ts) v = recording (with_entry k entry.Turn) (lets_go_
 abbrev pub with_reclaim : ℕ → ℕ → Control → Course → Course
 with_reclaim k moment c v = if may_reclaim moment c then recording (with_entry k (entry.Reclaim moment)) (lets_go k c.running v) else v
 
--- One item of the order; one that finds nothing to do changes nothing. `media` has the chunks of each chunk file, `made` has the id of each coder that was handed in,
--- and `wants` says that an end wants memory.
+-- One item of the order; one that finds nothing to do changes nothing. `media` has the chunks of each chunk file, `made` the
+-- id of each coder that was handed in, and `wants` says that an end wants memory.
 abbrev pub follow_item : ScriptData → List (List Chunk) → List CoderId → Bool → OrderItem → Course → Course
 follow_item s media made wants (item.Caller c) v =
     let j = length (at c v.recorded.callers) in follow_next s media (record { caller = c; step = j }) (slice_get (steps_of s c) j) v
