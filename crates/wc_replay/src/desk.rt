@@ -17,6 +17,7 @@ use crate::events::{
     word_of,
 };
 use codec_core::{CallFault, Core, DoneJob, Job};
+use codec_drive::run;
 use codec_model::{Call, CodecState, Entry, Event, Opening, PromiseState, Shown};
 use coder_api::{Coder, SlotBox};
 use slot_registry::Slots;
@@ -332,7 +333,7 @@ fn end_of_job<C: Coder>(alloc: Global, job: Job<C>, refusal: Option<u64>) -> Don
             if job.lacks().is_some() {
                 job.no_memory()
             } else {
-                job.perform(alloc)
+                run(alloc, job)
             }
         }
     }
