@@ -1,5 +1,5 @@
 pub mod Vocabulary
 pub mod LineLaws
 pub mod FeedLaws
-mod Agreement
-mod Report
+pub mod Agreement
+pub mod Report

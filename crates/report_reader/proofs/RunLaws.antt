@@ -1,0 +1,265 @@
+-- The lines of a run that is told show that run.
+use Rattle.std.proofs.Common.{◌≡◌, ℕ, zero, suc, ◌+◌, ◌<◌, ◌≤◌, Bool, true, false, List, [], ◌∷◌, ◌++◌, length, map, drop, Option, Some, None, is_some, refl, sym, ap, subst, ◌∙◌, arith, append_assoc}
+use Rattle.std.specs.Prelude.{flat_map, unwrap_or, option_map, option_and_then}
+use Rattle.std.specs.List.{AllByRecursion, zip}
+use Rattle.wc_base.specs.declared.error.DomError.{DomError}
+use Rattle.wc_config.specs.declared.config.AudioDecoderConfig.{AudioDecoderConfig}
+use Rattle.wc_chunk.specs.declared.chunk.Chunk.{Chunk}
+use Rattle.coder_api.specs.declared.unit.Unit as media
+use Rattle.coder_api.specs.declared.unit.Unit.TheVariants as unit
+use Rattle.coder_api.specs.declared.slot.SlotEntry.{SlotEntry}
+use Rattle.codec_model.specs.declared.entry.Opening.{Opening}
+use Rattle.codec_model.specs.declared.entry.Entry.{Entry}
+use Rattle.codec_model.specs.declared.entry.Event.{Event}
+use Rattle.codec_model.specs.declared.entry.Event.TheVariants as event
+use Rattle.codec_model.specs.declared.entry.Shown.{Shown}
+use Rattle.codec_model.specs.Replay.{State, opening_state}
+use Rattle.codec_model.specs.Shown.{shows, units_in}
+use Rattle.codec_follow.specs.Follow.{follow_step, follow_from, filled, filled_at, each_filled_from, each_filled, units_shown, IsFollowed}
+use Rattle.script_types.specs.declared.script.ScriptData.{ScriptData}
+use Rattle.script_types.specs.declared.script.CallerItem.{CallerItem}
+use Rattle.script_types.specs.declared.script.CodecItem.{CodecItem}
+use Rattle.trace_text.specs.declared.run.StepResult.{StepResult}
+use Rattle.trace_text.specs.declared.run.CallerTrace.{CallerTrace}
+use Rattle.trace_text.specs.declared.run.CodecTrace.{CodecTrace}
+use Rattle.trace_text.specs.declared.run.Run.{Run}
+use Rattle.report_lines.specs.declared.line.Told.{Told}
+use Rattle.report_lines.specs.declared.line.Line.{Line}
+use Rattle.report_lines.specs.declared.line.Line.TheVariants as line
+use Rattle.report_lines.specs.Laws.{told_of, event_seen}
+use Rattle.report_lines.specs.Whole.{lines_from, result_seen, caller_seen, entry_seen, codec_seen, slot_seen, end_seen, lines_of}
+use Rattle.report_reader.specs.Read.{results_in, behind_results, callers_in, entry_of, entry_then, following, entries_from, told_in, behind_entries, description_of, config_in, outputs_in, trace_of, codecs_in, slots_in, held_in, run_of}
+use Rattle.report_reader.specs.Told.{HoldsArguments, IsPlainDescription, IsPlainUnit, IsToldTrace, IsToldRun}
+
+-- ---- callers
+
+-- no result stands in front
+abbrev EndsResults : List Line → Type 0
+EndsResults ls = (results_in ls ≡ []) × (behind_results ls ≡ ls)
+
+results_again : (n : ℕ) (rs : List StepResult) (rest : List Line) → EndsResults rest → results_in (lines_from result_seen n rs ++ rest) ≡ rs
+results_again n [] rest ends = ends.0
+results_again n (r ∷ rs) rest ends = ap (λ (x : List StepResult). r ∷ x) (results_again (n + 1) rs rest ends)
+
+behind_results_again : (n : ℕ) (rs : List StepResult) (rest : List Line) → EndsResults rest → behind_results (lines_from result_seen n rs ++ rest) ≡ rest
+behind_results_again n [] rest ends = ends.1
+behind_results_again n (r ∷ rs) rest ends = behind_results_again (n + 1) rs rest ends
+
+callers_end : (i : ℕ) (made : List (CallerItem × CallerTrace)) (rest : List Line) → EndsResults rest → EndsResults (lines_from caller_seen i made ++ rest)
+callers_end i [] rest ends = ends
+callers_end i (m ∷ made) rest ends = (refl, refl)
+
+callers_again : (i : ℕ) (items : List CallerItem) (cs : List CallerTrace) (rest : List Line) → length cs ≡ length items → EndsResults rest
+    → callers_in (length items) (lines_from caller_seen i (zip items cs) ++ rest) ≡ (cs, rest)
+callers_again i [] [] rest same ends = refl
+callers_again i [] (c ∷ cs) rest same ends = absurd (omega arith)
+callers_again i (x ∷ items) [] rest same ends = absurd (omega arith)
+callers_again i (x ∷ items) (c ∷ cs) rest same ends =
+    let tail = lines_from caller_seen (i + 1) (zip items cs) in
+    let ends_more : EndsResults (tail ++ rest) = callers_end (i + 1) (zip items cs) rest ends in
+    rw (
+      append_assoc (lines_from result_seen 0 c.results) tail rest,
+      behind_results_again 0 c.results (tail ++ rest) ends_more,
+      results_again 0 c.results (tail ++ rest) ends_more,
+      callers_again (i + 1) items cs rest (omega arith) ends,
+    ) refl
+
+-- ---- what an entry showed
+
+told_events : (es : List Event) (ls : List Line) → told_in (flat_map event_seen es ++ ls) ≡ told_in ls
+told_events [] ls = refl
+told_events (event.Refusal x ∷ es) ls = told_events es ls
+told_events (event.Output n (unit.Sound samples) ∷ es) ls = told_events es ls
+told_events (event.Output n (unit.Image picture) ∷ es) ls = told_events es ls
+told_events (event.Output n (unit.Coded chunk None) ∷ es) ls = told_events es ls
+told_events (event.Output n (unit.Coded chunk (Some c)) ∷ es) ls = told_events es ls
+told_events (event.Resolve p ∷ es) ls = told_events es ls
+told_events (event.Reject p x ∷ es) ls = told_events es ls
+told_events (event.Dequeue ∷ es) ls = told_events es ls
+told_events (event.ErrorCall x ∷ es) ls = told_events es ls
+
+behind_events : (es : List Event) (ls : List Line) → behind_entries (flat_map event_seen es ++ ls) ≡ behind_entries ls
+behind_events [] ls = refl
+behind_events (event.Refusal x ∷ es) ls = behind_events es ls
+behind_events (event.Output n (unit.Sound samples) ∷ es) ls = behind_events es ls
+behind_events (event.Output n (unit.Image picture) ∷ es) ls = behind_events es ls
+behind_events (event.Output n (unit.Coded chunk None) ∷ es) ls = behind_events es ls
+behind_events (event.Output n (unit.Coded chunk (Some c)) ∷ es) ls = behind_events es ls
+behind_events (event.Resolve p ∷ es) ls = behind_events es ls
+behind_events (event.Reject p x ∷ es) ls = behind_events es ls
+behind_events (event.Dequeue ∷ es) ls = behind_events es ls
+behind_events (event.ErrorCall x ∷ es) ls = behind_events es ls
+
+-- no config stands in front, since each stands behind its chunk
+config_events : (es : List Event) (ls : List Line) → config_in ls ≡ None → config_in (flat_map event_seen es ++ ls) ≡ None
+config_events [] ls none = none
+config_events (event.Refusal x ∷ es) ls none = config_events es ls none
+config_events (event.Output n (unit.Sound samples) ∷ es) ls none = refl
+config_events (event.Output n (unit.Image picture) ∷ es) ls none = refl
+config_events (event.Output n (unit.Coded chunk config) ∷ es) ls none = refl
+config_events (event.Resolve p ∷ es) ls none = refl
+config_events (event.Reject p x ∷ es) ls none = refl
+config_events (event.Dequeue ∷ es) ls none = refl
+config_events (event.ErrorCall x ∷ es) ls none = refl
+
+description_again : (d : Option (List ℕ)) → IsPlainDescription d → description_of (unwrap_or d []) ≡ d
+description_again None plain = refl
+description_again (Some []) plain = absurd plain
+description_again (Some (b ∷ bs)) plain = refl
+
+outputs_events : (es : List Event) (ls : List Line) → config_in ls ≡ None → AllByRecursion IsPlainUnit (units_in es) → outputs_in (flat_map event_seen es ++ ls) ≡ units_in es ++ outputs_in ls
+outputs_events [] ls none plain = refl
+outputs_events (event.Refusal x ∷ es) ls none plain = outputs_events es ls none plain
+outputs_events (event.Output n (unit.Sound samples) ∷ es) ls none plain = ap (λ (us : List media.Unit). unit.Sound samples ∷ us) (outputs_events es ls none plain.1)
+outputs_events (event.Output n (unit.Image picture) ∷ es) ls none plain = ap (λ (us : List media.Unit). unit.Image picture ∷ us) (outputs_events es ls none plain.1)
+outputs_events (event.Output n (unit.Coded chunk None) ∷ es) ls none plain = rw (config_events es ls none) (ap (λ (us : List media.Unit). unit.Coded chunk None ∷ us) (outputs_events es ls none plain.1))
+outputs_events (event.Output n (unit.Coded chunk (Some c)) ∷ es) ls none plain = rw (description_again c.description plain.0.1) (ap (λ (us : List media.Unit). unit.Coded chunk (Some c) ∷ us) (outputs_events es ls none plain.1))
+outputs_events (event.Resolve p ∷ es) ls none plain = outputs_events es ls none plain
+outputs_events (event.Reject p x ∷ es) ls none plain = outputs_events es ls none plain
+outputs_events (event.Dequeue ∷ es) ls none plain = outputs_events es ls none plain
+outputs_events (event.ErrorCall x ∷ es) ls none plain = outputs_events es ls none plain
+
+-- ---- entries
+
+-- no entry, and nothing that one showed, stands in front
+pub record EndsEntries (ls : List Line) : Type 0 where
+  pub told : told_in ls ≡ []
+  pub outputs : outputs_in ls ≡ []
+  pub behind : behind_entries ls ≡ ls
+  pub config : config_in ls ≡ None
+
+abbrev told_of_made : Entry × Shown → Told
+told_of_made made = told_of made.0 made.1
+
+told_again : (n : ℕ) (made : List (Entry × Shown)) (rest : List Line) → EndsEntries rest → told_in (lines_from entry_seen n made ++ rest) ≡ map told_of_made made
+told_again n [] rest ends = ends.told
+told_again n (m ∷ made) rest ends =
+    let tail = lines_from entry_seen (n + 1) made in
+    rw (append_assoc (flat_map event_seen m.1.events) tail rest, told_events m.1.events (tail ++ rest), told_again (n + 1) made rest ends) refl
+
+behind_entries_again : (n : ℕ) (made : List (Entry × Shown)) (rest : List Line) → EndsEntries rest → behind_entries (lines_from entry_seen n made ++ rest) ≡ rest
+behind_entries_again n [] rest ends = ends.behind
+behind_entries_again n (m ∷ made) rest ends =
+    let tail = lines_from entry_seen (n + 1) made in
+    rw (append_assoc (flat_map event_seen m.1.events) tail rest, behind_events m.1.events (tail ++ rest)) (behind_entries_again (n + 1) made rest ends)
+
+config_entries : (n : ℕ) (made : List (Entry × Shown)) (rest : List Line) → EndsEntries rest → config_in (lines_from entry_seen n made ++ rest) ≡ None
+config_entries n [] rest ends = ends.config
+config_entries n (m ∷ made) rest ends = refl
+
+pub all_left : {X : Type 0} (P : X → Type 0) (xs ys : List X) → AllByRecursion P (xs ++ ys) → AllByRecursion P xs
+all_left P [] ys all = tt
+all_left P (x ∷ xs) ys all = (all.0, all_left P xs ys all.1)
+
+pub all_right : {X : Type 0} (P : X → Type 0) (xs ys : List X) → AllByRecursion P (xs ++ ys) → AllByRecursion P ys
+all_right P [] ys all = all
+all_right P (x ∷ xs) ys all = all_right P xs ys all.1
+
+abbrev shown_of_made : Entry × Shown → Shown
+shown_of_made made = made.1
+
+outputs_again : (n : ℕ) (made : List (Entry × Shown)) (rest : List Line) → EndsEntries rest → AllByRecursion IsPlainUnit (units_shown (map shown_of_made made))
+    → outputs_in (lines_from entry_seen n made ++ rest) ≡ units_shown (map shown_of_made made)
+outputs_again n [] rest ends plain = ends.outputs
+outputs_again n (m ∷ made) rest ends plain =
+    let tail = lines_from entry_seen (n + 1) made in
+    rw (
+      append_assoc (flat_map event_seen m.1.events) tail rest,
+      outputs_events m.1.events (tail ++ rest) (config_entries (n + 1) made rest ends) (all_left IsPlainUnit (units_in m.1.events) (units_shown (map shown_of_made made)) plain),
+      outputs_again (n + 1) made rest ends (all_right IsPlainUnit (units_in m.1.events) (units_shown (map shown_of_made made)) plain),
+    ) refl
+
+pub shown_again : (es : List Entry) (xs : List Shown) → length xs ≡ length es → map shown_of_made (zip es xs) ≡ xs
+shown_again [] [] same = refl
+shown_again [] (x ∷ xs) same = absurd (omega arith)
+shown_again (e ∷ es) [] same = absurd (omega arith)
+shown_again (e ∷ es) (x ∷ xs) same = ap (λ (ys : List Shown). x ∷ ys) (shown_again es xs (omega arith))
+
+-- ---- histories
+
+pub record IsStep (e : Entry) (es : List Entry) (s : State) : Type 0 where
+  pub state : State
+  pub step : follow_step e s ≡ Some state
+  pub more : is_some (follow_from es state) ≡ true
+
+step_in : (e : Entry) (es : List Entry) (s : State) (o : Option State) → follow_step e s ≡ o → is_some (option_and_then (follow_from es) o) ≡ true → IsStep e es s
+step_in e es s None is some = absurd cc
+step_in e es s (Some t) is some = record { state = t; step = is; more = some }
+
+pub step_of_followed : (e : Entry) (es : List Entry) (s : State) → is_some (follow_from (e ∷ es) s) ≡ true → IsStep e es s
+step_of_followed e es s some = step_in e es s (follow_step e s) refl some
+
+pub filled_length : (es : List Entry) (s : State) (us : List media.Unit) → is_some (follow_from es s) ≡ true → length (each_filled_from es s us) ≡ length es
+filled_length [] s us some = refl
+filled_length (e ∷ es) s us some =
+    let next = step_of_followed e es s some in
+    rw (next.step) (ap (λ (n : ℕ). suc n) (filled_length es next.state (filled (shows e s) us).1 next.more))
+
+entries_again : (script : ScriptData) (media_of : List (List Chunk)) (s : State) (es : List Entry) (xs : List Shown) → length xs ≡ length es → AllByRecursion (HoldsArguments script media_of) (zip es xs) → is_some (follow_from es s) ≡ true
+    → entries_from script media_of s (map told_of_made (zip es xs)) ≡ es
+entries_again script media_of s [] [] same holds some = refl
+entries_again script media_of s [] (x ∷ xs) same holds some = absurd (omega arith)
+entries_again script media_of s (e ∷ es) [] same holds some = absurd (omega arith)
+entries_again script media_of s (e ∷ es) (x ∷ xs) same holds some =
+    let next = step_of_followed e es s some in
+    rw (holds.0, next.step, entries_again script media_of next.state es xs (omega arith) holds.1 next.more) refl
+
+-- ---- codecs
+
+trace_again : (script : ScriptData) (media_of : List (List Chunk)) (c : CodecTrace) → IsToldTrace script media_of c
+    → trace_of script media_of c.opening (map told_of_made (zip c.entries c.shown)) (units_shown (map shown_of_made (zip c.entries c.shown))) ≡ c
+trace_again script media_of c told =
+    let same : length c.shown ≡ length c.entries = ap (λ (xs : List Shown). length xs) told.shows ∙ filled_length c.entries (opening_state c.opening) (units_shown c.shown) told.follows in
+    rw (shown_again c.entries c.shown same, entries_again script media_of (opening_state c.opening) c.entries c.shown same told.arguments told.follows, ← told.shows) refl
+
+codecs_end : (i : ℕ) (made : List (CodecItem × CodecTrace)) (rest : List Line) → EndsEntries rest → EndsEntries (lines_from codec_seen i made ++ rest)
+codecs_end i [] rest ends = ends
+codecs_end i (m ∷ made) rest ends = record { told = refl; outputs = refl; behind = refl; config = refl }
+
+codecs_again : (script : ScriptData) (media_of : List (List Chunk)) (i : ℕ) (items : List CodecItem) (cs : List CodecTrace) (rest : List Line) → length cs ≡ length items → EndsEntries rest → AllByRecursion (IsToldTrace script media_of) cs
+    → codecs_in script media_of (length items) (lines_from codec_seen i (zip items cs) ++ rest) ≡ (cs, rest)
+codecs_again script media_of i [] [] rest same ends told = refl
+codecs_again script media_of i [] (c ∷ cs) rest same ends told = absurd (omega arith)
+codecs_again script media_of i (x ∷ items) [] rest same ends told = absurd (omega arith)
+codecs_again script media_of i (x ∷ items) (c ∷ cs) rest same ends told =
+    let tail = lines_from codec_seen (i + 1) (zip items cs) in
+    let ends_more : EndsEntries (tail ++ rest) = codecs_end (i + 1) (zip items cs) rest ends in
+    let made = zip c.entries c.shown in
+    let own = told.0 in
+    let count : length c.shown ≡ length c.entries = ap (λ (xs : List Shown). length xs) own.shows ∙ filled_length c.entries (opening_state c.opening) (units_shown c.shown) own.follows in
+    let plain : AllByRecursion IsPlainUnit (units_shown (map shown_of_made made)) = subst (λ (xs : List Shown). AllByRecursion IsPlainUnit (units_shown xs)) (sym (shown_again c.entries c.shown count)) own.plain in
+    rw (
+      append_assoc (lines_from entry_seen 0 made) tail rest,
+      behind_entries_again 0 made (tail ++ rest) ends_more,
+      told_again 0 made (tail ++ rest) ends_more,
+      outputs_again 0 made (tail ++ rest) ends_more plain,
+      trace_again script media_of c own,
+      codecs_again script media_of (i + 1) items cs rest (omega arith) ends told.1,
+    ) refl
+
+-- ---- the run
+
+slots_again : (n : ℕ) (es : List SlotEntry) (held : ℕ) → slots_in (lines_from slot_seen n es ++ end_seen held) ≡ es
+slots_again n [] held = refl
+slots_again n (e ∷ es) held = ap (λ (x : List SlotEntry). e ∷ x) (slots_again (n + 1) es held)
+
+held_again : (n : ℕ) (es : List SlotEntry) (held : ℕ) → held_in (lines_from slot_seen n es ++ end_seen held) ≡ held
+held_again n [] held = refl
+held_again n (e ∷ es) held = held_again (n + 1) es held
+
+codecs_end_results : (i : ℕ) (made : List (CodecItem × CodecTrace)) (rest : List Line) → EndsResults (lines_from codec_seen i made ++ line.Pool ∷ rest)
+codecs_end_results i [] rest = (refl, refl)
+codecs_end_results i (m ∷ made) rest = (refl, refl)
+
+-- the lines of a run that is told show that run
+pub run_again : (script : ScriptData) (media_of : List (List Chunk)) (run : Run) → IsToldRun script media_of run → run_of script media_of (lines_of script run) ≡ run
+unfolding run_of
+run_again script media_of run told =
+    let end = lines_from slot_seen 0 run.slots ++ end_seen run.held in
+    let codecs = lines_from codec_seen 0 (zip script.codecs run.codecs) in
+    rw (
+      callers_again 0 script.callers run.callers (codecs ++ line.Pool ∷ line.Slots ∷ end) told.callers (codecs_end_results 0 (zip script.codecs run.codecs) (line.Slots ∷ end)),
+      codecs_again script media_of 0 script.codecs run.codecs (line.Pool ∷ line.Slots ∷ end) told.codecs (record { told = refl; outputs = refl; behind = refl; config = refl }) told.traces,
+      slots_again 0 run.slots run.held,
+      held_again 0 run.slots run.held,
+    ) refl

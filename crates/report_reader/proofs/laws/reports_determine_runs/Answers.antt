@@ -1,0 +1,6 @@
+use Rattle.report_reader.proofs.RunLaws.{run_again}
+use Rattle.report_reader.proofs.FormLaws.{report_tells}
+use Rattle.report_reader.proofs.laws.reports_determine_runs.Goals as goal
+
+pub returns : goal.returns
+returns c = record { again = run_again; determine = report_tells }

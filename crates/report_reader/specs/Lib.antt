@@ -1,0 +1,5 @@
+pub mod Form
+pub mod Read
+pub mod Told
+pub mod Fault
+pub mod Laws

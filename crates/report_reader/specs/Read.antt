@@ -1,0 +1,168 @@
+-- The run that the lines of a report show, whatever they are.
+use Rattle.std.specs.Prelude.{ℕ, zero, suc, ◌+◌, List, [], ◌∷◌, ◌++◌, length, drop, slice_get, Option, Some, None, option_map, option_and_then, option_to_list}
+use Rattle.wc_base.specs.declared.who.Who.{Who}
+use Rattle.wc_config.specs.declared.config.AudioDecoderConfig.{AudioDecoderConfig}
+use Rattle.wc_chunk.specs.declared.chunk.Chunk.{Chunk}
+use Rattle.coder_api.specs.declared.unit.Unit as media
+use Rattle.coder_api.specs.declared.unit.Unit.TheVariants as unit
+use Rattle.coder_api.specs.declared.slot.SlotEntry.{SlotEntry}
+use Rattle.codec_model.specs.declared.entry.Kind.TheVariants as kind
+use Rattle.codec_model.specs.declared.entry.Opening.{Opening}
+use Rattle.codec_model.specs.declared.entry.Entry.{Entry}
+use Rattle.codec_model.specs.declared.entry.Entry.TheVariants as entry
+use Rattle.codec_model.specs.Replay.{State, opening_state}
+use Rattle.codec_follow.specs.Follow.{follow_step, each_filled}
+use Rattle.script_types.specs.declared.script.ScriptData.{ScriptData}
+use Rattle.script_types.specs.declared.steps.Step.{Step}
+use Rattle.script_types.specs.declared.steps.Step.TheVariants as step
+use Rattle.trace_text.specs.declared.run.StepResult.{StepResult}
+use Rattle.trace_text.specs.declared.run.CallerTrace.{CallerTrace}
+use Rattle.trace_text.specs.declared.run.CodecTrace.{CodecTrace}
+use Rattle.trace_text.specs.declared.run.Run.{Run}
+use Rattle.trace_text.specs.Follow.{steps_of, chunk_at}
+use Rattle.report_lines.specs.declared.line.CallWord.{CallWord}
+use Rattle.report_lines.specs.declared.line.CallWord.TheVariants as call
+use Rattle.report_lines.specs.declared.line.Told.{Told}
+use Rattle.report_lines.specs.declared.line.Told.TheVariants as told
+use Rattle.report_lines.specs.declared.line.Seen.{Seen}
+use Rattle.report_lines.specs.declared.line.Seen.TheVariants as seen
+use Rattle.report_lines.specs.declared.line.Line.{Line}
+use Rattle.report_lines.specs.declared.line.Line.TheVariants as line
+
+-- ---- callers
+
+-- the results in front, and the lines behind them
+abbrev pub results_in : List Line → List StepResult
+results_in [] = []
+results_in (line.Result step found ∷ ls) = found ∷ results_in ls
+results_in (l ∷ ls) = []
+
+abbrev pub behind_results : List Line → List Line
+behind_results [] = []
+behind_results (line.Result step found ∷ ls) = behind_results ls
+behind_results (l ∷ ls) = l ∷ ls
+
+-- so many callers, each with its line and its results, and the lines behind them
+abbrev pub callers_in : ℕ → List Line → List CallerTrace × List Line
+callers_in zero ls = ([], ls)
+callers_in (suc k) ls =
+    let rest = callers_in k (behind_results (drop 1 ls)) in
+    (record { results = results_in (drop 1 ls) } ∷ rest.0, rest.1)
+
+-- ---- the entries of a codec
+
+-- the entry of this call, with the arguments of this step, if the step makes such a call
+abbrev pub call_of : ScriptData → List (List Chunk) → Who → CallWord → Step → Option Entry
+call_of script media who call.Configure (step.Configure on config) = Some (entry.Configure who config)
+call_of script media who call.Decode (step.Decode on chunk) = option_map (λ c. entry.Decode who c) (chunk_at media (steps_of script who.caller) chunk.step)
+call_of script media who call.Flush (step.Flush on bind) = Some (entry.Flush who)
+call_of script media who call.Reset (step.Reset on) = Some (entry.Reset who)
+call_of script media who call.Close (step.Close on) = Some (entry.Close who)
+call_of script media who _ _ = None
+
+-- the entry that is told, with the arguments of its step. `media` has the chunks of each of the script's chunk files
+abbrev pub entry_of : ScriptData → List (List Chunk) → Told → Option Entry
+entry_of script media (told.Call who word error) = option_and_then (call_of script media who word) (slice_get (steps_of script who.caller) who.step)
+entry_of script media (told.Start epoch item) = Some (entry.Start epoch item)
+entry_of script media (told.Done epoch item moment outcome) = Some (entry.Done epoch item moment outcome)
+entry_of script media (told.Turn word) = Some entry.Turn
+entry_of script media (told.Reclaim moment) = Some (entry.Reclaim moment)
+
+-- an entry that follows, and what comes behind it
+abbrev pub entry_then : Entry → (State → List Entry) → Option State → List Entry
+entry_then e rest None = []
+entry_then e rest (Some t) = e ∷ rest t
+
+abbrev pub following : State → (State → List Entry) → Option Entry → List Entry
+following s rest None = []
+following s rest (Some e) = entry_then e rest (follow_step e s)
+
+-- the entries that are told, up to the first that has no arguments or does not follow
+abbrev pub entries_from : ScriptData → List (List Chunk) → State → List Told → List Entry
+entries_from script media s [] = []
+entries_from script media s (t ∷ ts) = following s (λ u. entries_from script media u ts) (entry_of script media t)
+
+-- the entries that are told in front, among the lines of what they show, and the lines behind
+abbrev pub told_in : List Line → List Told
+told_in [] = []
+told_in (line.Entry place t ∷ ls) = t ∷ told_in ls
+told_in (line.Seen shown ∷ ls) = told_in ls
+told_in (l ∷ ls) = []
+
+abbrev pub behind_entries : List Line → List Line
+behind_entries [] = []
+behind_entries (line.Entry place t ∷ ls) = behind_entries ls
+behind_entries (line.Seen shown ∷ ls) = behind_entries ls
+behind_entries (l ∷ ls) = l ∷ ls
+
+-- ---- the outputs of a codec
+
+-- no bytes are no description
+abbrev pub description_of : List ℕ → Option (List ℕ)
+description_of [] = None
+description_of (b ∷ bs) = Some (b ∷ bs)
+
+-- the config in front, if there is one
+abbrev pub config_in : List Line → Option AudioDecoderConfig
+config_in (line.Seen (seen.Config codec rate channels description) ∷ ls) = Some (record { codec = codec; rate = rate; channels = channels; description = description_of description })
+config_in _ = None
+
+-- the output that a line shows, if it shows one; a chunk has the config of the line behind it
+abbrev pub unit_of : Seen → Option AudioDecoderConfig → Option media.Unit
+unit_of (seen.Sound shape bytes) config = Some (unit.Sound (record { shape = shape; bytes = bytes }))
+unit_of (seen.Image shape bytes) config = Some (unit.Image (record { shape = shape; bytes = bytes }))
+unit_of (seen.Chunk key timestamp duration bytes) config = Some (unit.Coded (record { key = key; timestamp = timestamp; duration = duration; bytes = bytes }) config)
+unit_of _ config = None
+
+-- the outputs in front, among the lines of entries
+abbrev pub outputs_in : List Line → List media.Unit
+outputs_in [] = []
+outputs_in (line.Entry place t ∷ ls) = outputs_in ls
+outputs_in (line.Seen shown ∷ ls) = option_to_list (unit_of shown (config_in ls)) ++ outputs_in ls
+outputs_in (l ∷ ls) = []
+
+-- ---- codecs
+
+-- how the codec whose line is in front was opened
+abbrev pub opening_of : List Line → Opening
+opening_of (line.Codec n opening ∷ ls) = opening
+opening_of _ = record { kind = kind.AudioDecoder; saturation = 1 }
+
+-- a codec opened so, with the entries that are told, and these outputs
+abbrev pub trace_of : ScriptData → List (List Chunk) → Opening → List Told → List media.Unit → CodecTrace
+trace_of script media o ts us =
+    let entries = entries_from script media (opening_state o) ts in
+    record { opening = o; entries = entries; shown = each_filled o entries us }
+
+abbrev pub codec_in : ScriptData → List (List Chunk) → List Line → CodecTrace
+codec_in script media ls = trace_of script media (opening_of ls) (told_in (drop 1 ls)) (outputs_in (drop 1 ls))
+
+-- so many codecs, each with its line and its entries, and the lines behind them
+abbrev pub codecs_in : ScriptData → List (List Chunk) → ℕ → List Line → List CodecTrace × List Line
+codecs_in script media zero ls = ([], ls)
+codecs_in script media (suc k) ls =
+    let rest = codecs_in script media k (behind_entries (drop 1 ls)) in
+    (codec_in script media ls ∷ rest.0, rest.1)
+
+-- ---- the registry
+
+abbrev pub slots_in : List Line → List SlotEntry
+slots_in [] = []
+slots_in (line.Slot place entry ∷ ls) = entry ∷ slots_in ls
+slots_in (l ∷ ls) = []
+
+abbrev pub held_in : List Line → ℕ
+held_in [] = 0
+held_in (line.Slot place entry ∷ ls) = held_in ls
+held_in (line.Held held ∷ ls) = held
+held_in (l ∷ ls) = 0
+
+-- ---- the run
+
+-- the run of this script that the lines show. `media` has the chunks of each of its chunk files
+unfoldable pub run_of : ScriptData → List (List Chunk) → List Line → Run
+run_of script media ls =
+    let callers = callers_in (length script.callers) (drop 1 ls) in
+    let codecs = codecs_in script media (length script.codecs) callers.1 in
+    let slots = drop 2 codecs.1 in
+    record { callers = callers.0; codecs = codecs.0; slots = slots_in slots; held = held_in slots }

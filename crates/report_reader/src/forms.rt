@@ -1,0 +1,18 @@
+// The lines of a report, each by the form of its place.
+
+/// Where in a report the next line stands.
+#[derive(Clone, Copy, Debug, PartialEq, Eq)]
+pub enum Section {
+    /// Before the first line.
+    Start,
+    /// So many callers were named, and the last of them has so many results.
+    Callers { callers: u64, results: u64 },
+    /// So many codecs were named, and the last of them has so many entries.
+    Codecs { codecs: u64, entries: u64 },
+    Pool,
+    /// The registry has so many entries.
+    Slots { entries: u64 },
+    Held,
+    /// Behind the last line.
+    Ended,
+}
