@@ -1,2 +1,6 @@
 pub mod RunLaws
 pub mod FormLaws
+pub mod PassLaws
+pub mod DifferenceLaws
+pub mod BuildLaws
+pub mod PlaceLaws

@@ -1,26 +1,12 @@
 -- Which line of a report may stand behind which, and the lines that stand in front of some bytes, each in its form.
-use Rattle.std.specs.Prelude.{ℕ, ◌≡◌, ◌+◌, nat_lt, ◌==◌, ◌&&◌, Bool, true, if◌then◌else◌, List, [], ◌∷◌, length, Option, Some, None}
-use Rattle.std.specs.List.{list_all}
-use Rattle.std.specs.Str.{is_utf8}
+use Rattle.std.specs.Prelude.{ℕ, ◌≡◌, ◌+◌, nat_lt, ◌==◌, ◌&&◌, if◌then◌else◌, List, [], ◌∷◌, length, Option, Some, None}
 use Rattle.script_types.specs.declared.script.ScriptData.{ScriptData}
 use Rattle.report_fields.specs.Words.{◌>>=◌}
-use Rattle.report_lines.specs.declared.line.Seen.{Seen}
-use Rattle.report_lines.specs.declared.line.Seen.TheVariants as seen
 use Rattle.report_lines.specs.declared.line.Line.{Line}
 use Rattle.report_lines.specs.declared.line.Line.TheVariants as line
-use Rattle.report_lines.specs.Fits.{is_no_feed}
 use Rattle.report_lines.specs.Reading.{line_at}
 use Rattle.report_reader.specs.declared.forms.Section.{Section}
 use Rattle.report_reader.specs.declared.forms.Section.TheVariants as section
-
--- a text in UTF-8 that has no line feed
-abbrev pub is_one_line : List ℕ → Bool
-is_one_line text = is_utf8 text && list_all is_no_feed text
-
--- a config's codec is such a text
-abbrev pub is_text : Seen → Bool
-is_text (seen.Config codec rate channels description) = is_one_line codec
-is_text _ = true
 
 -- Behind all lines of so many codecs stands the next codec, or the pool where there is none.
 abbrev pub next_part : ℕ → ℕ → Line → Option Section
@@ -38,7 +24,7 @@ next callers codecs (section.Callers k n) (line.Caller i) = if (i == k) && nat_l
 next callers codecs (section.Callers k n) (line.Result step found) = if nat_lt 0 k && (step == n) then Some (section.Callers k (n + 1)) else None
 next callers codecs (section.Callers k n) l = if k == callers then next_part codecs 0 l else None
 next callers codecs (section.Codecs k n) (line.Entry place told) = if place == n then Some (section.Codecs k (n + 1)) else None
-next callers codecs (section.Codecs k n) (line.Seen shown) = if is_text shown then Some (section.Codecs k n) else None
+next callers codecs (section.Codecs k n) (line.Seen shown) = Some (section.Codecs k n)
 next callers codecs (section.Codecs k n) l = next_part codecs k l
 next callers codecs section.Pool line.Slots = Some (section.Slots 0)
 next callers codecs section.Pool _ = None
@@ -73,3 +59,10 @@ AreForms script bs ls = Reads script section.Start bs ls section.Ended []
 abbrev pub Passes : ScriptData → Section → List Line → Section → Type 0
 Passes script s [] end = s ≡ end
 Passes script s (l ∷ ls) end = (mid : Section) × (next_in script s l ≡ Some mid) × Passes script mid ls end
+
+-- the number that the next result or entry of a section has
+abbrev pub numbered : Section → ℕ
+numbered (section.Callers k n) = n
+numbered (section.Codecs k n) = n
+numbered (section.Slots n) = n
+numbered _ = 0

@@ -1,5 +1,7 @@
 -- The run that the lines of a report show, whatever they are.
-use Rattle.std.specs.Prelude.{ℕ, zero, suc, ◌+◌, List, [], ◌∷◌, ◌++◌, length, drop, slice_get, Option, Some, None, option_map, option_and_then, option_to_list}
+use Rattle.std.specs.Prelude.{ℕ, zero, suc, ◌+◌, ◌&&◌, Bool, if◌then◌else◌, List, [], ◌∷◌, ◌++◌, length, drop, slice_get, Option, Some, None, option_map, option_and_then, option_to_list}
+use Rattle.std.specs.List.{list_all}
+use Rattle.std.specs.Str.{is_utf8}
 use Rattle.wc_base.specs.declared.who.Who.{Who}
 use Rattle.wc_config.specs.declared.config.AudioDecoderConfig.{AudioDecoderConfig}
 use Rattle.wc_chunk.specs.declared.chunk.Chunk.{Chunk}
@@ -28,6 +30,7 @@ use Rattle.report_lines.specs.declared.line.Seen.{Seen}
 use Rattle.report_lines.specs.declared.line.Seen.TheVariants as seen
 use Rattle.report_lines.specs.declared.line.Line.{Line}
 use Rattle.report_lines.specs.declared.line.Line.TheVariants as line
+use Rattle.report_lines.specs.Fits.{is_no_feed}
 
 -- ---- callers
 
@@ -51,18 +54,22 @@ callers_in (suc k) ls =
 
 -- ---- the entries of a codec
 
--- the entry of this call, with the arguments of this step, if the step makes such a call
-abbrev pub call_of : ScriptData → List (List Chunk) → Who → CallWord → Step → Option Entry
-call_of script media who call.Configure (step.Configure on config) = Some (entry.Configure who config)
-call_of script media who call.Decode (step.Decode on chunk) = option_map (λ c. entry.Decode who c) (chunk_at media (steps_of script who.caller) chunk.step)
-call_of script media who call.Flush (step.Flush on bind) = Some (entry.Flush who)
-call_of script media who call.Reset (step.Reset on) = Some (entry.Reset who)
-call_of script media who call.Close (step.Close on) = Some (entry.Close who)
-call_of script media who _ _ = None
+-- the entry of this call with the arguments of a step of its caller's steps, if the step makes such a call. `media` has the
+-- chunks of each of the script's chunk files
+abbrev pub call_of : List (List Chunk) → List Step → Who → CallWord → Step → Option Entry
+call_of media steps who call.Configure (step.Configure on config) = Some (entry.Configure who config)
+call_of media steps who call.Decode (step.Decode on chunk) = option_map (λ c. entry.Decode who c) (chunk_at media steps chunk.step)
+call_of media steps who call.Flush (step.Flush on bind) = Some (entry.Flush who)
+call_of media steps who call.Reset (step.Reset on) = Some (entry.Reset who)
+call_of media steps who call.Close (step.Close on) = Some (entry.Close who)
+call_of media steps who _ _ = None
 
--- the entry that is told, with the arguments of its step. `media` has the chunks of each of the script's chunk files
+abbrev pub call_entry : ScriptData → List (List Chunk) → Who → CallWord → Option Entry
+call_entry script media who word = let steps = steps_of script who.caller in option_and_then (call_of media steps who word) (slice_get steps who.step)
+
+-- the entry that is told, with the arguments of its step
 abbrev pub entry_of : ScriptData → List (List Chunk) → Told → Option Entry
-entry_of script media (told.Call who word error) = option_and_then (call_of script media who word) (slice_get (steps_of script who.caller) who.step)
+entry_of script media (told.Call who word error) = call_entry script media who word
 entry_of script media (told.Start epoch item) = Some (entry.Start epoch item)
 entry_of script media (told.Done epoch item moment outcome) = Some (entry.Done epoch item moment outcome)
 entry_of script media (told.Turn word) = Some entry.Turn
@@ -102,9 +109,17 @@ abbrev pub description_of : List ℕ → Option (List ℕ)
 description_of [] = None
 description_of (b ∷ bs) = Some (b ∷ bs)
 
+-- a text in UTF-8 that has no line feed
+abbrev pub is_one_line : List ℕ → Bool
+is_one_line text = is_utf8 text && list_all is_no_feed text
+
+-- the config of these parts, whose codec has to be such a text
+abbrev pub config_of : List ℕ → ℕ → ℕ → List ℕ → Option AudioDecoderConfig
+config_of codec rate channels description = if is_one_line codec then Some (record { codec = codec; rate = rate; channels = channels; description = description_of description }) else None
+
 -- the config in front, if there is one
 abbrev pub config_in : List Line → Option AudioDecoderConfig
-config_in (line.Seen (seen.Config codec rate channels description) ∷ ls) = Some (record { codec = codec; rate = rate; channels = channels; description = description_of description })
+config_in (line.Seen (seen.Config codec rate channels description) ∷ ls) = config_of codec rate channels description
 config_in _ = None
 
 -- the output that a line shows, if it shows one; a chunk has the config of the line behind it

@@ -14,8 +14,7 @@ use Rattle.trace_text.specs.declared.run.Run.{Run}
 use Rattle.report_lines.specs.Laws.{told_of}
 use Rattle.report_lines.specs.Whole.{lines_of}
 use Rattle.report_lines.specs.Fits.{FitsLine}
-use Rattle.report_reader.specs.Form.{is_one_line}
-use Rattle.report_reader.specs.Read.{entry_of}
+use Rattle.report_reader.specs.Read.{entry_of, is_one_line}
 
 -- the entry is what its line tells, with the arguments of its step
 abbrev pub HoldsArguments : ScriptData → List (List Chunk) → Entry × Shown → Type 0

@@ -1,5 +1,7 @@
 // The lines of a report, each by the form of its place.
 
+use report_lines::Line;
+
 /// Where in a report the next line stands.
 #[derive(Clone, Copy, Debug, PartialEq, Eq)]
 pub enum Section {
@@ -15,4 +17,11 @@ pub enum Section {
     Held,
     /// Behind the last line.
     Ended,
+}
+
+/// The lines of a report where each has its form, or the number, from 1, of the first that has not.
+#[derive(Debug, PartialEq, Drop)]
+pub enum Forms {
+    Lines(Vec<Line>),
+    Bad(u64),
 }

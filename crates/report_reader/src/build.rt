@@ -1,0 +1,282 @@
+// What the lines of a report show.
+ghost use Rattle.std.specs.Prelude.{◌≡◌, ◌++◌, IfOk, OnOk, Some, None, drop, length, if◌then◌else◌};
+ghost use Rattle.std.specs.Option.{option_copied, option_to_list};
+ghost use Rattle.std.specs.Str.{is_utf8};
+ghost use Rattle.std.specs.List.{list_all};
+ghost use Rattle.report_lines.specs.Fits.{is_no_feed};
+ghost use Rattle.report_reader.specs.Read as spec;
+
+use bytes::Bytes;
+use codec_model::{Kind, Opening};
+use coder_api::{SlotEntry, Unit};
+use report_lines::{Line, Seen, Told};
+use std::alloc::{AllocError, Global};
+use trace_text::{CallerTrace, StepResult};
+use wc_base::{List, Picture, Samples, Text};
+use wc_chunk::Chunk;
+use wc_config::AudioDecoderConfig;
+
+// The results in front, and the lines behind them.
+fn results_of<'a>(
+    alloc: Global,
+    lines: &'a [Line],
+) -> Result<(Vec<StepResult>, &'a [Line]), AllocError>
+    ensures results { IfOk result (λ x. x.0.items ≡ spec.results_in lines.now) }
+    ensures behind { IfOk result (λ x. x.1.now ≡ spec.behind_results lines.now) }
+{
+    let mut results = Vec::new(alloc);
+    let mut rest = lines;
+    while let [Line::Result { step: _, found }, more @ ..] = rest {
+        results.push(*found)?;
+        rest = more;
+    }
+    Ok((results, rest))
+}
+
+/// The lines behind the first.
+pub fn behind_first(lines: &[Line]) -> &[Line]
+    ensures { result.now ≡ drop 1 lines.now }
+{
+    match lines {
+        [] => lines,
+        [_, rest @ ..] => rest,
+    }
+}
+
+/// So many callers, each with its line and its results, and the lines behind them.
+pub fn callers_of<'a>(
+    alloc: Global,
+    count: usize,
+    lines: &'a [Line],
+) -> Result<(Vec<CallerTrace>, &'a [Line]), AllocError>
+    ensures { IfOk result (λ x. spec.callers_in count lines.now ≡ (x.0.items, x.1.now)) }
+{
+    let mut callers = Vec::new(alloc);
+    let mut rest = lines;
+    for _ in 0..count {
+        let (results, behind) = results_of(alloc, behind_first(rest))?;
+        callers.push(CallerTrace {
+            results: List::of(results),
+        })?;
+        rest = behind;
+    }
+    Ok((callers, rest))
+}
+
+/// The entries that are told in front, among the lines of what they show, and the lines behind.
+pub fn told_of<'a>(
+    alloc: Global,
+    lines: &'a [Line],
+) -> Result<(Vec<Told>, &'a [Line]), AllocError>
+    ensures told { IfOk result (λ x. x.0.items ≡ spec.told_in lines.now) }
+    ensures behind { IfOk result (λ x. x.1.now ≡ spec.behind_entries lines.now) }
+{
+    let mut entries = Vec::new(alloc);
+    let mut rest = lines;
+    while let [line, more @ ..] = rest {
+        match line {
+            Line::Entry { place: _, told } => entries.push(*told)?,
+            Line::Seen(_) => {}
+            _ => return Ok((entries, rest)),
+        }
+        rest = more;
+    }
+    Ok((entries, rest))
+}
+
+// The bytes as a text, where they are one in UTF-8.
+fn as_text(bytes: &[u8]) -> Option<&str>
+    ensures { option_copied result ≡ (if is_utf8 bytes.now then Some bytes.now else None) }
+{
+    match str::from_utf8(bytes) {
+        Ok(text) => Some(text),
+        Err(_) => None,
+    }
+}
+
+// Whether no byte is a line feed.
+fn has_no_feed(text: &[u8]) -> bool
+    ensures { result ≡ list_all is_no_feed text.now }
+{
+    text.iter().all(|b| *b != b'\n')
+}
+
+// The text, where it is one in UTF-8 with no line feed.
+fn text_of(alloc: Global, bytes: &[u8]) -> Result<Option<Text>, AllocError>
+    ensures { IfOk result (λ t. t ≡ (if spec.is_one_line bytes.now then Some bytes.now else None)) }
+{
+    let Some(text) = as_text(bytes) else {
+        return Ok(None);
+    };
+    if !has_no_feed(bytes) {
+        return Ok(None);
+    }
+    Ok(Some(Text::of(String::from_str(alloc, text)?)))
+}
+
+fn bytes_of(alloc: Global, bytes: &List<u8>) -> Result<Bytes, AllocError>
+    ensures { IfOk result (λ x. x ≡ bytes.now) }
+{
+    Bytes::copy_from_slice(alloc, bytes.as_slice())
+}
+
+// No bytes are no description.
+fn description_of(alloc: Global, bytes: &List<u8>) -> Result<Option<Bytes>, AllocError>
+    ensures { IfOk result (λ x. x ≡ spec.description_of bytes.now) }
+{
+    if bytes.is_empty() {
+        return Ok(None);
+    }
+    Ok(Some(bytes_of(alloc, bytes)?))
+}
+
+// The config of these parts.
+fn config_of(
+    alloc: Global,
+    codec: &List<u8>,
+    rate: u32,
+    channels: u32,
+    description: &List<u8>,
+) -> Result<Option<AudioDecoderConfig>, AllocError>
+    ensures { IfOk result (λ c. c ≡ spec.config_of codec.now rate channels description.now) }
+{
+    match text_of(alloc, codec.as_slice())? {
+        None => Ok(None),
+        Some(codec) => {
+            let description = description_of(alloc, description)?;
+            Ok(Some(AudioDecoderConfig {
+                codec,
+                rate,
+                channels,
+                description,
+            }))
+        }
+    }
+}
+
+// The config in front, if there is one.
+fn config_in(alloc: Global, lines: &[Line]) -> Result<Option<AudioDecoderConfig>, AllocError>
+    ensures { IfOk result (λ c. c ≡ spec.config_in lines.now) }
+{
+    match lines {
+        [
+            Line::Seen(
+                Seen::Config {
+                    codec,
+                    rate,
+                    channels,
+                    description,
+                },
+            ),
+            ..
+        ] => config_of(alloc, codec, *rate, *channels, description),
+        _ => Ok(None),
+    }
+}
+
+// The output that a line shows, if it shows one; a chunk has the config of the line behind it.
+fn unit_of(alloc: Global, seen: &Seen, behind: &[Line]) -> Result<Option<Unit>, AllocError>
+    ensures { IfOk result (λ u. u ≡ spec.unit_of seen.now (spec.config_in behind.now)) }
+{
+    match seen {
+        Seen::Sound { shape, bytes } => {
+            let bytes = bytes_of(alloc, bytes)?;
+            Ok(Some(Unit::Sound(Samples {
+                shape: *shape,
+                bytes,
+            })))
+        }
+        Seen::Image { shape, bytes } => {
+            let bytes = bytes_of(alloc, bytes)?;
+            Ok(Some(Unit::Image(Picture {
+                shape: *shape,
+                bytes,
+            })))
+        }
+        Seen::Chunk {
+            key,
+            timestamp,
+            duration,
+            bytes,
+        } => {
+            let chunk = Chunk {
+                key: *key,
+                timestamp: *timestamp,
+                duration: *duration,
+                bytes: bytes_of(alloc, bytes)?,
+            };
+            let config = config_in(alloc, behind)?;
+            Ok(Some(Unit::Coded { chunk, config }))
+        }
+        _ => Ok(None),
+    }
+}
+
+fn push_unit(units: &mut Vec<Unit>, unit: Option<Unit>) -> Result<(), AllocError>
+    ensures { OnOk result (units.new.items ≡ units.old.items ++ option_to_list unit) }
+{
+    match unit {
+        Some(unit) => Ok(units.push(unit)?),
+        None => Ok(()),
+    }
+}
+
+/// The outputs in front, among the lines of entries.
+pub fn outputs_of(alloc: Global, lines: &[Line]) -> Result<Vec<Unit>, AllocError>
+    ensures { IfOk result (λ v. v.items ≡ spec.outputs_in lines.now) }
+{
+    let mut units = Vec::new(alloc);
+    let mut rest = lines;
+    while let [line, more @ ..] = rest {
+        match line {
+            Line::Entry { place: _, told: _ } => {}
+            Line::Seen(seen) => {
+                let unit = unit_of(alloc, seen, more)?;
+                push_unit(&mut units, unit)?;
+            }
+            _ => return Ok(units),
+        }
+        rest = more;
+    }
+    Ok(units)
+}
+
+/// How the codec whose line is in front was opened.
+pub fn opening_of(lines: &[Line]) -> Opening
+    ensures { result ≡ spec.opening_of lines.now }
+{
+    match lines {
+        [Line::Codec { codec: _, opening }, ..] => *opening,
+        _ => Opening {
+            kind: Kind::AudioDecoder,
+            saturation: 1,
+        },
+    }
+}
+
+/// The registry's entries in front.
+pub fn slots_of(alloc: Global, lines: &[Line]) -> Result<Vec<SlotEntry>, AllocError>
+    ensures { IfOk result (λ v. v.items ≡ spec.slots_in lines.now) }
+{
+    let mut slots = Vec::new(alloc);
+    let mut rest = lines;
+    while let [Line::Slot { place: _, entry }, more @ ..] = rest {
+        slots.push(*entry)?;
+        rest = more;
+    }
+    Ok(slots)
+}
+
+/// How many media resources are held, behind the registry's entries.
+pub fn held_of(lines: &[Line]) -> u64
+    ensures { result ≡ spec.held_in lines.now }
+{
+    let mut rest = lines;
+    while let [Line::Slot { place: _, entry: _ }, more @ ..] = rest {
+        rest = more;
+    }
+    match rest {
+        [Line::Held(held), ..] => *held,
+        _ => 0,
+    }
+}
