@@ -4,3 +4,4 @@ pub mod PassLaws
 pub mod DifferenceLaws
 pub mod BuildLaws
 pub mod PlaceLaws
+pub mod TraceLaws

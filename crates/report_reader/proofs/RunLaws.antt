@@ -28,7 +28,7 @@ use Rattle.report_lines.specs.declared.line.Line.{Line}
 use Rattle.report_lines.specs.declared.line.Line.TheVariants as line
 use Rattle.report_lines.specs.Laws.{told_of, event_seen}
 use Rattle.report_lines.specs.Whole.{lines_from, result_seen, caller_seen, entry_seen, codec_seen, slot_seen, end_seen, lines_of}
-use Rattle.report_reader.specs.Read.{results_in, behind_results, callers_in, entry_of, entry_then, following, entries_from, told_in, behind_entries, description_of, config_in, outputs_in, trace_of, codecs_in, slots_in, held_in, run_of}
+use Rattle.report_reader.specs.Read.{results_in, behind_results, callers_in, entry_of, next_of, entry_then, entries_from, told_in, behind_entries, description_of, config_in, outputs_in, trace_of, codecs_in, slots_in, held_in, run_of}
 use Rattle.report_reader.specs.Told.{HoldsArguments, IsPlainDescription, IsPlainUnit, IsToldTrace, IsToldRun}
 
 -- ---- callers

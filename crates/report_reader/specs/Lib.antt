@@ -3,3 +3,4 @@ pub mod Read
 pub mod Told
 pub mod Fault
 pub mod Laws
+pub mod Next

@@ -75,19 +75,19 @@ entry_of script media (told.Done epoch item moment outcome) = Some (entry.Done e
 entry_of script media (told.Turn word) = Some entry.Turn
 entry_of script media (told.Reclaim moment) = Some (entry.Reclaim moment)
 
--- an entry that follows, and what comes behind it
-abbrev pub entry_then : Entry → (State → List Entry) → Option State → List Entry
-entry_then e rest None = []
-entry_then e rest (Some t) = e ∷ rest t
+-- the entry that is told, where it has its arguments and follows, and the state after it
+abbrev pub next_of : ScriptData → List (List Chunk) → State → Told → Option (Entry × State)
+next_of script media s t = option_and_then (λ e. option_map (λ u. (e, u)) (follow_step e s)) (entry_of script media t)
 
-abbrev pub following : State → (State → List Entry) → Option Entry → List Entry
-following s rest None = []
-following s rest (Some e) = entry_then e rest (follow_step e s)
+-- an entry, and those that come behind it
+abbrev pub entry_then : (State → List Entry) → Option (Entry × State) → List Entry
+entry_then rest None = []
+entry_then rest (Some x) = x.0 ∷ rest x.1
 
 -- the entries that are told, up to the first that has no arguments or does not follow
 abbrev pub entries_from : ScriptData → List (List Chunk) → State → List Told → List Entry
 entries_from script media s [] = []
-entries_from script media s (t ∷ ts) = following s (λ u. entries_from script media u ts) (entry_of script media t)
+entries_from script media s (t ∷ ts) = entry_then (λ u. entries_from script media u ts) (next_of script media s t)
 
 -- the entries that are told in front, among the lines of what they show, and the lines behind
 abbrev pub told_in : List Line → List Told
@@ -179,5 +179,5 @@ unfoldable pub run_of : ScriptData → List (List Chunk) → List Line → Run
 run_of script media ls =
     let callers = callers_in (length script.callers) (drop 1 ls) in
     let codecs = codecs_in script media (length script.codecs) callers.1 in
-    let slots = drop 2 codecs.1 in
+    let slots = drop 1 (drop 1 codecs.1) in
     record { callers = callers.0; codecs = codecs.0; slots = slots_in slots; held = held_in slots }

@@ -8,6 +8,7 @@ mod fault;
 mod forms;
 mod laws;
 mod reading;
+mod trace;
 
 pub use fault::ReportFault;
 pub use forms::{Forms, Section};

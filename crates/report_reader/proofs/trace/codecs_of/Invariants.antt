@@ -1,0 +1,6 @@
+use Rattle.std.proofs.Common.{◌≡◌, ◌++◌, ◌-◌}
+use Rattle.report_reader.specs.Read.{codecs_in}
+use Rattle.report_reader.proofs.trace.codecs_of.Given as goal
+
+abbrev pub invariant-loop : goal.invariant-loop
+invariant-loop l = let more = codecs_in l.script l.media (l.count - l.counter) l.rest in codecs_in l.script l.media l.count l.lines ≡ (l.codecs.items ++ more.0, more.1)

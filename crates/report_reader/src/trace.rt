@@ -1,0 +1,193 @@
+// The history of a codec, as its lines tell it.
+ghost use Rattle.std.specs.Prelude.{◌≡◌, ◌++◌, ◌∷◌, [], IfOk, OnOk, drop};
+ghost use Rattle.codec_follow.specs.Follow.{filled, with_unit, units_after};
+ghost use Rattle.report_reader.specs.Next.{NextIs};
+ghost use Rattle.report_reader.specs.Read as spec;
+
+use crate::arguments::entry_of;
+use crate::build::{behind_first, opening_of, outputs_of, told_of};
+use codec_follow::Follower;
+use codec_model::{Entry, Event, Opening, Shown, TurnWord};
+use coder_api::Unit;
+use report_lines::{Line, Told};
+use script_types::ScriptData;
+use std::alloc::Global;
+use trace_text::CodecTrace;
+use wc_base::{List, NoMemory};
+use wc_chunk::Chunk;
+
+// An event, with the first of the units for its output.
+fn with_unit(event: &Event, units: &[Unit]) -> Result<Event, NoMemory>
+    ensures { IfOk result (λ x. x ≡ with_unit event.now units.now) }
+{
+    match event {
+        Event::Refusal(error) => Ok(Event::Refusal(*error)),
+        Event::Output { number, unit } => match units {
+            [] => Ok(Event::Output {
+                number: *number,
+                unit: unit.copy()?,
+            }),
+            [first, ..] => Ok(Event::Output {
+                number: *number,
+                unit: first.copy()?,
+            }),
+        },
+        Event::Resolve(promise) => Ok(Event::Resolve(*promise)),
+        Event::Reject { promise, error } => Ok(Event::Reject {
+            promise: *promise,
+            error: *error,
+        }),
+        Event::Dequeue => Ok(Event::Dequeue),
+        Event::ErrorCall(error) => Ok(Event::ErrorCall(*error)),
+    }
+}
+
+// The units that are left behind an event.
+fn units_after<'a>(event: &Event, units: &'a [Unit]) -> &'a [Unit]
+    ensures { result.now ≡ units_after event.now units.now }
+{
+    match event {
+        Event::Output { number: _, unit: _ } => match units {
+            [] => units,
+            [_, others @ ..] => others,
+        },
+        _ => units,
+    }
+}
+
+// The events, with these units for their outputs, and the units that are left.
+fn filled<'a>(
+    alloc: Global,
+    events: &[Event],
+    units: &'a [Unit],
+) -> Result<(Vec<Event>, &'a [Unit]), NoMemory>
+    ensures events { IfOk result (λ x. x.0.items ≡ (filled events.now units.now).0) }
+    ensures left { IfOk result (λ x. x.1.now ≡ (filled events.now units.now).1) }
+{
+    let mut made = Vec::new(alloc);
+    let mut left = units;
+    let mut rest = events;
+    while let [event, more @ ..] = rest {
+        let event_made = with_unit(event, left)?;
+        push(&mut made, event_made)?;
+        left = units_after(event, left);
+        rest = more;
+    }
+    Ok((made, left))
+}
+
+// One item more.
+fn push<T: Drop>(items: &mut Vec<T>, item: T) -> Result<(), NoMemory>
+    ensures { OnOk result (items.new.items ≡ items.old.items ++ item ∷ []) }
+{
+    match items.push(item) {
+        Ok(()) => Ok(()),
+        Err(_) => Err(NoMemory),
+    }
+}
+
+// The entry that is told, with what it shows, where it has its arguments and follows.
+fn next_entry(
+    follower: &mut Follower,
+    script: &ScriptData,
+    media: &[List<Chunk>],
+    told: Told,
+) -> Result<Option<(Entry, Shown)>, NoMemory>
+    ensures { IfOk result (λ found. NextIs script.now media.now told follower.old found follower.new) }
+{
+    let Some(entry) = entry_of(script, media, told)? else {
+        return Ok(None);
+    };
+    match follower.follow(&entry)? {
+        Some(shown) => Ok(Some((entry, shown))),
+        None => Ok(None),
+    }
+}
+
+// A codec opened so, with the entries that are told, up to the first that has no arguments or does not follow, and these
+// outputs.
+fn trace_of(
+    alloc: Global,
+    script: &ScriptData,
+    media: &[List<Chunk>],
+    opening: Opening,
+    told: &[Told],
+    units: &[Unit],
+) -> Result<CodecTrace, NoMemory>
+    ensures { IfOk result (λ trace. trace ≡ spec.trace_of script.now media.now opening told.now units.now) }
+{
+    let mut follower = Follower::open(alloc, opening)?;
+    let mut entries = Vec::new(alloc);
+    let mut shown = Vec::new(alloc);
+    let mut left = units;
+    let mut rest = told;
+    while let [told, more @ ..] = rest {
+        match next_entry(&mut follower, script, media, *told)? {
+            None => return Ok(trace_with(opening, entries, shown)),
+            Some((entry, blank)) => {
+                let (events, behind) = filled(alloc, blank.events.as_slice(), left)?;
+                push(&mut entries, entry)?;
+                push(&mut shown, shown_with(blank.turn, events))?;
+                left = behind;
+            }
+        }
+        rest = more;
+    }
+    Ok(trace_with(opening, entries, shown))
+}
+
+fn shown_with(turn: Option<TurnWord>, events: Vec<Event>) -> Shown
+    ensures { result ≡ record { turn = turn; events = events.items } }
+{
+    Shown {
+        turn,
+        events: List::of(events),
+    }
+}
+
+fn trace_with(opening: Opening, entries: Vec<Entry>, shown: Vec<Shown>) -> CodecTrace
+    ensures { result ≡ record { opening = opening; entries = entries.items; shown = shown.items } }
+{
+    CodecTrace {
+        opening,
+        entries: List::of(entries),
+        shown: List::of(shown),
+    }
+}
+
+// The codec whose lines are in front, and the lines behind them.
+fn codec_of<'a>(
+    alloc: Global,
+    script: &ScriptData,
+    media: &[List<Chunk>],
+    lines: &'a [Line],
+) -> Result<(CodecTrace, &'a [Line]), NoMemory>
+    ensures codec { IfOk result (λ x. x.0 ≡ spec.codec_in script.now media.now lines.now) }
+    ensures behind { IfOk result (λ x. x.1.now ≡ spec.behind_entries (drop 1 lines.now)) }
+{
+    let own = behind_first(lines);
+    let (told, behind) = told_of(alloc, own)?;
+    let units = outputs_of(alloc, own)?;
+    let trace = trace_of(alloc, script, media, opening_of(lines), &told, &units)?;
+    Ok((trace, behind))
+}
+
+/// So many codecs, each with its line and its entries, and the lines behind them.
+pub fn codecs_of<'a>(
+    alloc: Global,
+    script: &ScriptData,
+    media: &[List<Chunk>],
+    count: usize,
+    lines: &'a [Line],
+) -> Result<(Vec<CodecTrace>, &'a [Line]), NoMemory>
+    ensures { IfOk result (λ x. spec.codecs_in script.now media.now count lines.now ≡ (x.0.items, x.1.now)) }
+{
+    let mut codecs = Vec::new(alloc);
+    let mut rest = lines;
+    for _ in 0..count {
+        let (codec, behind) = codec_of(alloc, script, media, rest)?;
+        push(&mut codecs, codec)?;
+        rest = behind;
+    }
+    Ok((codecs, rest))
+}
