@@ -6,14 +6,16 @@ use Rattle.wc_chunk.specs.declared.chunk.Chunk.{Chunk}
 use Rattle.coder_api.specs.declared.unit.Unit as media
 use Rattle.codec_model.specs.declared.entry.Opening.{Opening}
 use Rattle.codec_model.specs.declared.entry.Entry.{Entry}
+use Rattle.codec_model.specs.declared.entry.Event.{Event}
 use Rattle.codec_model.specs.declared.entry.Shown.{Shown}
 use Rattle.codec_model.specs.Replay.{State, opening_state}
 use Rattle.codec_model.specs.Shown.{shows, shown_at}
 use Rattle.codec_follow.specs.Follow.{follow_step, filled, filled_at, each_filled_from, each_filled}
 use Rattle.codec_follow.specs.Followed.{FollowerValue, follower_of, shown_where, state_after, Follows}
 use Rattle.script_types.specs.declared.script.ScriptData.{ScriptData}
+use Rattle.trace_text.specs.declared.run.CodecTrace.{CodecTrace}
 use Rattle.report_lines.specs.declared.line.Told.{Told}
-use Rattle.report_reader.specs.Read.{entry_of, next_of, entry_then, entries_from}
+use Rattle.report_reader.specs.Read.{entry_of, next_of, entry_then, entries_from, trace_of}
 use Rattle.report_reader.specs.Next.{shown_next, NextIs}
 
 -- ---- the next entry
@@ -30,20 +32,31 @@ none_of = None
 not_some : {A : Type 0} {x : A} → none_of {A = A} ≡ Some x → ⊥
 not_some e = cc
 
+-- an entry with each of these
+abbrev paired : Entry → Option State → Option (Entry × State)
+paired e o = option_map {U = Entry × State} (λ u. (e, u)) o
+
+abbrev noted : Entry → Option Shown → Option (Entry × Shown)
+noted e found = option_map {U = Entry × Shown} (λ x. (e, x)) found
+
+-- with what it shows after a state
+abbrev showing_at : State → Option (Entry × State) → Option (Entry × Shown)
+showing_at s o = option_map {U = Entry × Shown} (λ x. (x.0, shown_at x.0 s)) o
+
 shown_of : (e : Entry) (s : State) (o : Option State) (found : Option Shown) → option_map (λ t. shown_at e s) o ≡ found
-    → option_map (λ (x : Entry × State). (x.0, shown_at x.0 s)) (option_map (λ u. (e, u)) o) ≡ option_map (λ x. (e, x)) found
+    → showing_at s (paired e o) ≡ noted e found
 shown_of e s None found is = rw (← is) refl
 shown_of e s (Some t) found is = rw (← is) refl
 
-next_after : (e d : Entry) (u : State) (o : Option State) (s : State) → option_map (λ t. (e, t)) o ≡ Some (d, u) → unwrap_or o s ≡ u
+next_after : (e d : Entry) (u : State) (o : Option State) (s : State) → paired e o ≡ Some (d, u) → unwrap_or o s ≡ u
 next_after e d u None s is = absurd (not_some is)
 next_after e d u (Some t) s is = let made : Entry × State = (e, t) in ap (λ (x : Entry × State). x.1) (some_is made (d, u) is)
 
 pub entry_follows : (script : ScriptData) (media_of : List (List Chunk)) (t : Told) (e : Entry) (old new : FollowerValue) (found : Option Shown) → entry_of script media_of t ≡ Some e → Follows e old found new
-    → NextIs script media_of t old (option_map (λ x. (e, x)) found) new
+    → NextIs script media_of t old (noted e found) new
 entry_follows script media_of t e old new found is follows = record {
   answer = λ s same. rw is (shown_of e s (follow_step e s) found (follows.answer s same));
-  after = λ s same d u next. let there : option_map (λ (v : State). (e, v)) (follow_step e s) ≡ Some (d, u) = rw is at next in
+  after = λ s same d u next. let there : paired e (follow_step e s) ≡ Some (d, u) = rw is at next in
       ap follower_of (sym (next_after e d u (follow_step e s) s there)) ∙ follows.after s same;
 }
 
@@ -70,15 +83,15 @@ record IsNext (script : ScriptData) (media_of : List (List Chunk)) (t : Told) (s
   next : next_of script media_of s t ≡ Some (e, state)
   shown : blank ≡ shown_at e s
 
-step_at : (s : State) (e : Entry) (u : State) (d : Entry) (o : Option State) → follow_step d s ≡ o → option_map (λ v. (d, v)) o ≡ Some (e, u) → follow_step e s ≡ Some u
+step_at : (s : State) (e : Entry) (u : State) (d : Entry) (o : Option State) → follow_step d s ≡ o → paired d o ≡ Some (e, u) → follow_step e s ≡ Some u
 step_at s e u d None is h = absurd (not_some h)
 step_at s e u d (Some v) is h = let made : Entry × State = (d, v) in subst (λ (x : Entry × State). follow_step x.0 s ≡ Some x.1) (some_is made (e, u) h) is
 
-step_of : (s : State) (e : Entry) (u : State) (p : Option Entry) → option_and_then (λ d. option_map (λ v. (d, v)) (follow_step d s)) p ≡ Some (e, u) → follow_step e s ≡ Some u
+step_of : (s : State) (e : Entry) (u : State) (p : Option Entry) → option_and_then {U = Entry × State} (λ d. paired d (follow_step d s)) p ≡ Some (e, u) → follow_step e s ≡ Some u
 step_of s e u None h = absurd (not_some h)
 step_of s e u (Some d) h = step_at s e u d (follow_step d s) refl h
 
-next_at : (script : ScriptData) (media_of : List (List Chunk)) (t : Told) (s : State) (e : Entry) (blank : Shown) (o : Option (Entry × State)) → next_of script media_of s t ≡ o → option_map (λ x. (x.0, shown_at x.0 s)) o ≡ Some (e, blank)
+next_at : (script : ScriptData) (media_of : List (List Chunk)) (t : Told) (s : State) (e : Entry) (blank : Shown) (o : Option (Entry × State)) → next_of script media_of s t ≡ o → showing_at s o ≡ Some (e, blank)
     → IsNext script media_of t s e blank
 next_at script media_of t s e blank None is h = absurd (not_some h)
 next_at script media_of t s e blank (Some (d, u)) is h =
@@ -99,41 +112,48 @@ next_in script media_of t s e blank h = next_at script media_of t s e blank (nex
 abbrev pub filled_with : Shown → List media.Unit → Shown
 filled_with blank left = record { turn = blank.turn; events = (filled blank.events left).0 }
 
+more_with : (script : ScriptData) (media_of : List (List Chunk)) (o : Opening) (told : List Told) (units : List media.Unit) (new : FollowerValue) (entries : List Entry) (shown : List Shown) (t : Told) (more : List Told) (left : List media.Unit) (e : Entry) (blank : Shown) (s u : State)
+    → follow_step e s ≡ Some u → next_of script media_of s t ≡ Some (e, u) → blank ≡ shown_at e s → follower_of u ≡ new
+    → entries ++ entries_from script media_of s (t ∷ more) ≡ entries_from script media_of (opening_state o) told
+    → shown ++ each_filled_from (entries_from script media_of s (t ∷ more)) s left ≡ each_filled o (entries_from script media_of (opening_state o) told) units
+    → IsTracing script media_of o told units new (entries ++ (e ∷ [])) (shown ++ (filled_with blank left ∷ [])) more (filled blank.events left).1
+more_with script media_of o told units new entries shown t more left e blank s u step next is follower entries_are shown_are = record {
+  state = u;
+  is = follower;
+  entries_are = append_assoc entries (e ∷ []) (entries_from script media_of u more) ∙ rw next at entries_are;
+  shown_are = rw is (append_assoc shown (filled_at e s left ∷ []) (each_filled_from (entries_from script media_of u more) u (filled (shows e s) left).1) ∙ rw (next, step) at shown_are);
+}
+
 more_at : (script : ScriptData) (media_of : List (List Chunk)) (o : Opening) (told : List Told) (units : List media.Unit) (follower new : FollowerValue) (entries : List Entry) (shown : List Shown) (t : Told) (more : List Told) (left : List media.Unit) (e : Entry) (blank : Shown)
     → IsTracing script media_of o told units follower entries shown (t ∷ more) left → NextIs script media_of t follower (Some (e, blank)) new
     → IsTracing script media_of o told units new (entries ++ (e ∷ [])) (shown ++ (filled_with blank left ∷ [])) more (filled blank.events left).1
-more_at script media_of o told units follower new entries shown t more left e blank tr next =
-    let s = tr.state in
-    let n = next_in script media_of t s e blank (next.answer s tr.is) in
-    record {
-      state = n.state;
-      is = next.after s tr.is e n.state n.next;
-      entries_are = append_assoc entries (e ∷ []) (entries_from script media_of n.state more) ∙ rw n.next at tr.entries_are;
-      shown_are = rw n.shown (append_assoc shown (filled_at e s left ∷ []) (each_filled_from (entries_from script media_of n.state more) n.state (filled (shows e s) left).1) ∙ rw (n.next, n.step) at tr.shown_are);
-    }
+more_at script media_of o told units follower new entries shown t more left e blank tracing next =
+    let s = tracing.state in
+    let n = next_in script media_of t s e blank (next.answer s tracing.is) in
+    more_with script media_of o told units new entries shown t more left e blank s n.state n.step n.next n.shown (next.after s tracing.is e n.state n.next) tracing.entries_are tracing.shown_are
 
 pub record IsTraced (script : ScriptData) (media_of : List (List Chunk)) (o : Opening) (told : List Told) (units : List media.Unit) (entries : List Entry) (shown : List Shown) : Type 0 where
   pub entries_are : entries ≡ entries_from script media_of (opening_state o) told
   pub shown_are : shown ≡ each_filled o (entries_from script media_of (opening_state o) told) units
 
-pub tracing_end : (script : ScriptData) (media_of : List (List Chunk)) (o : Opening) (told : List Told) (units : List media.Unit) (follower : FollowerValue) (entries : List Entry) (shown : List Shown) (left : List media.Unit)
+end_at : (script : ScriptData) (media_of : List (List Chunk)) (o : Opening) (told : List Told) (units : List media.Unit) (follower : FollowerValue) (entries : List Entry) (shown : List Shown) (left : List media.Unit)
     → IsTracing script media_of o told units follower entries shown [] left → IsTraced script media_of o told units entries shown
-tracing_end script media_of o told units follower entries shown left tr = record {
-  entries_are = sym (append-nil entries) ∙ tr.entries_are;
-  shown_are = sym (append-nil shown) ∙ tr.shown_are;
+end_at script media_of o told units follower entries shown left tracing = record {
+  entries_are = sym (append-nil entries) ∙ tracing.entries_are;
+  shown_are = sym (append-nil shown) ∙ tracing.shown_are;
 }
 
-none_next : (s : State) (o : Option (Entry × State)) → option_map (λ x. (x.0, shown_at x.0 s)) o ≡ None → o ≡ None
+none_next : (s : State) (o : Option (Entry × State)) → showing_at s o ≡ None → o ≡ None
 none_next s None h = refl
 none_next s (Some x) h = absurd cc
 
 stop_at : (script : ScriptData) (media_of : List (List Chunk)) (o : Opening) (told : List Told) (units : List media.Unit) (follower new : FollowerValue) (entries : List Entry) (shown : List Shown) (t : Told) (more : List Told) (left : List media.Unit)
     → IsTracing script media_of o told units follower entries shown (t ∷ more) left → NextIs script media_of t follower None new → IsTraced script media_of o told units entries shown
-stop_at script media_of o told units follower new entries shown t more left tr next =
-    let n : next_of script media_of tr.state t ≡ None = none_next tr.state (next_of script media_of tr.state t) (next.answer tr.state tr.is) in
+stop_at script media_of o told units follower new entries shown t more left tracing next =
+    let n : next_of script media_of tracing.state t ≡ None = none_next tracing.state (next_of script media_of tracing.state t) (next.answer tracing.state tracing.is) in
     record {
-      entries_are = sym (append-nil entries) ∙ rw n at tr.entries_are;
-      shown_are = sym (append-nil shown) ∙ rw n at tr.shown_are;
+      entries_are = sym (append-nil entries) ∙ rw n at tracing.entries_are;
+      shown_are = sym (append-nil shown) ∙ rw n at tracing.shown_are;
     }
 
 whole_tail : {X : Type 0} (x : X) (xs : List X) → take (suc (length xs) - 1) xs ≡ xs
@@ -143,17 +163,36 @@ rest_split : {X : Type 0} (rest : List X) (t : X) → 0 < length rest → t ≡ 
 rest_split [] t lt is = absurd (omega arith)
 rest_split (x ∷ xs) t lt is = rw (whole_tail x xs, is) refl
 
-pub tracing_more : (script : ScriptData) (media_of : List (List Chunk)) (o : Opening) (told : List Told) (units : List media.Unit) (follower new : FollowerValue) (entries : List Entry) (shown : List Shown) (t : Told) (rest : List Told) (left : List media.Unit) (e : Entry) (blank : Shown)
+-- the loop goes on with what was pushed
+pub tracing_more : (script : ScriptData) (media_of : List (List Chunk)) (o : Opening) (told : List Told) (units : List media.Unit) (follower new : FollowerValue) (entries made : List Entry) (shown showing : List Shown) (t : Told) (rest : List Told) (left behind : List media.Unit) (e : Entry) (blank x : Shown) (events : List Event)
     → 0 < length rest → t ≡ get_or rest 0 t
     → IsTracing script media_of o told units follower entries shown rest left → NextIs script media_of t follower (Some (e, blank)) new
-    → IsTracing script media_of o told units new (entries ++ (e ∷ [])) (shown ++ (filled_with blank left ∷ [])) (take (length rest - 1) (drop 1 rest)) (filled blank.events left).1
-tracing_more script media_of o told units follower new entries shown t rest left e blank lt is tr next =
-    more_at script media_of o told units follower new entries shown t (take (length rest - 1) (drop 1 rest)) left e blank
-    (subst (λ (ts : List Told). IsTracing script media_of o told units follower entries shown ts left) (rest_split rest t lt is) tr) next
+    → events ≡ (filled blank.events left).0 → behind ≡ (filled blank.events left).1 → x ≡ record { turn = blank.turn; events = events } → made ≡ entries ++ (e ∷ []) → showing ≡ shown ++ (x ∷ [])
+    → IsTracing script media_of o told units new made showing (take (length rest - 1) (drop 1 rest)) behind
+tracing_more script media_of o told units follower new entries made shown showing t rest left behind e blank x events lt is tracing next events_are behind_is x_is made_is showing_is =
+    rw (made_is, showing_is, x_is, events_are, behind_is) (more_at script media_of o told units follower new entries shown t (take (length rest - 1) (drop 1 rest)) left e blank
+    (subst (λ (ts : List Told). IsTracing script media_of o told units follower entries shown ts left) (rest_split rest t lt is) tracing) next)
 
-pub tracing_stop : (script : ScriptData) (media_of : List (List Chunk)) (o : Opening) (told : List Told) (units : List media.Unit) (follower new : FollowerValue) (entries : List Entry) (shown : List Shown) (t : Told) (rest : List Told) (left : List media.Unit)
+traced_is : (script : ScriptData) (media_of : List (List Chunk)) (o : Opening) (told : List Told) (units : List media.Unit) (entries : List Entry) (shown : List Shown) (trace : CodecTrace)
+    → IsTraced script media_of o told units entries shown → trace ≡ record { opening = o; entries = entries; shown = shown } → trace ≡ trace_of script media_of o told units
+traced_is script media_of o told units entries shown trace traced is = is ∙ rw (traced.entries_are, traced.shown_are) refl
+
+-- the loop stops at an entry that is not to be had
+pub tracing_stop : (script : ScriptData) (media_of : List (List Chunk)) (o : Opening) (told : List Told) (units : List media.Unit) (follower new : FollowerValue) (entries : List Entry) (shown : List Shown) (t : Told) (rest : List Told) (left : List media.Unit) (trace : CodecTrace)
     → 0 < length rest → t ≡ get_or rest 0 t
-    → IsTracing script media_of o told units follower entries shown rest left → NextIs script media_of t follower None new → IsTraced script media_of o told units entries shown
-tracing_stop script media_of o told units follower new entries shown t rest left lt is tr next =
-    stop_at script media_of o told units follower new entries shown t (take (length rest - 1) (drop 1 rest)) left
-    (subst (λ (ts : List Told). IsTracing script media_of o told units follower entries shown ts left) (rest_split rest t lt is) tr) next
+    → IsTracing script media_of o told units follower entries shown rest left → NextIs script media_of t follower None new → trace ≡ record { opening = o; entries = entries; shown = shown }
+    → trace ≡ trace_of script media_of o told units
+tracing_stop script media_of o told units follower new entries shown t rest left trace lt is tracing next made =
+    traced_is script media_of o told units entries shown trace (stop_at script media_of o told units follower new entries shown t (take (length rest - 1) (drop 1 rest)) left
+    (subst (λ (ts : List Told). IsTracing script media_of o told units follower entries shown ts left) (rest_split rest t lt is) tracing) next) made
+
+-- nothing more is told
+pub tracing_end : (script : ScriptData) (media_of : List (List Chunk)) (o : Opening) (told : List Told) (units : List media.Unit) (follower : FollowerValue) (entries : List Entry) (shown : List Shown) (rest : List Told) (left : List media.Unit) (trace : CodecTrace)
+    → length rest < 1 → IsTracing script media_of o told units follower entries shown rest left → trace ≡ record { opening = o; entries = entries; shown = shown } → trace ≡ trace_of script media_of o told units
+tracing_end script media_of o told units follower entries shown [] left trace few tracing made = traced_is script media_of o told units entries shown trace (end_at script media_of o told units follower entries shown left tracing) made
+tracing_end script media_of o told units follower entries shown (t ∷ rest) left trace few tracing made = absurd (omega arith)
+
+-- the first item, whatever stands for one where there is none
+pub head_is : {X : Type 0} (rest : List X) (d : X) → 0 < length rest → get_or rest 0 d ≡ get_or rest 0 (get_or rest 0 d)
+head_is [] d lt = absurd (omega arith)
+head_is (x ∷ xs) d lt = refl

@@ -1,5 +1,5 @@
 // The history of a codec, as its lines tell it.
-ghost use Rattle.std.specs.Prelude.{◌≡◌, ◌++◌, ◌∷◌, [], IfOk, OnOk, drop};
+ghost use Rattle.std.specs.Prelude.{◌≡◌, ◌++◌, ◌∷◌, [], IfOk, OnOk, drop, option_map};
 ghost use Rattle.codec_follow.specs.Follow.{filled, with_unit, units_after};
 ghost use Rattle.report_reader.specs.Next.{NextIs};
 ghost use Rattle.report_reader.specs.Read as spec;
@@ -98,9 +98,17 @@ fn next_entry(
     let Some(entry) = entry_of(script, media, told)? else {
         return Ok(None);
     };
-    match follower.follow(&entry)? {
-        Some(shown) => Ok(Some((entry, shown))),
-        None => Ok(None),
+    let shown = follower.follow(&entry)?;
+    Ok(with_shown(entry, shown))
+}
+
+// The entry, with what it shows where it follows.
+fn with_shown(entry: Entry, shown: Option<Shown>) -> Option<(Entry, Shown)>
+    ensures { result ≡ option_map (λ x. (entry, x)) shown }
+{
+    match shown {
+        Some(shown) => Some((entry, shown)),
+        None => None,
     }
 }
 

@@ -1,0 +1,18 @@
+use Rattle.std.proofs.Common.{sym, ◌∙◌, ◌<◌, length, arith, refl}
+use Rattle.report_reader.proofs.TraceLaws.{tracing_start, tracing_more, tracing_stop, tracing_end, head_is}
+use Rattle.report_reader.proofs.trace.trace_of.Goals as goal
+
+pub loop-rest-init : goal.loop-rest-init
+loop-rest-init c = rw (c.new-entries.ensures.items, c.new-shown.ensures.items) (tracing_start c.args.script.now c.args.media.now c.args.opening c.args.told.now c.args.units.now _ c.in_ok-follower.ensures)
+
+pub returns-in-None : goal.returns-in-None
+returns-in-None c =
+    let some : 0 < length c.loop-rest.rest.now = omega (arith, c.in-len1-up.len_at_least) in
+    tracing_stop c.args.script.now c.args.media.now c.args.opening c.args.told.now c.args.units.now c.loop-rest.follower _ c.loop-rest.entries.items c.loop-rest.shown.items _ c.loop-rest.rest.now c.loop-rest.left.now _ some
+    (head_is c.loop-rest.rest.now _ some) c.loop-rest.invariant (rw c.in-None.is at c.in_ok-next_entry.ensures) c.trace_with.ensures
+
+pub loop-rest-preserved : goal.loop-rest-preserved
+loop-rest-preserved c =
+    let some : 0 < length c.loop-rest.rest.now = omega (arith, c.in-len1-up.len_at_least) in
+    tracing_more c.args.script.now c.args.media.now c.args.opening c.args.told.now c.args.units.now c.loop-rest.follower _ c.loop-rest.entries.items _ c.loop-rest.shown.items _ _ c.loop-rest.rest.now c.loop-rest.left.now _ c.in-Some.entry c.in-Some.blank _ c.in_ok-events-in-Some.events.items some
+    (head_is c.loop-rest.rest.now _ some) c.loop-rest.invariant (rw c.in-Some.is at c.in_ok-next_entry.ensures) (rw c.as_slice.ensures at c.in_ok-events-in-Some.ensures.events) (rw c.as_slice.ensures at c.in_ok-events-in-Some.ensures.left) c.shown_with.ensures c.in_ok-push-in-Some.ensures c.in_ok-push-in-Some-2.ensures
