@@ -5,3 +5,5 @@ pub mod DifferenceLaws
 pub mod BuildLaws
 pub mod PlaceLaws
 pub mod TraceLaws
+pub mod ReadLaws
+pub mod NameLaws

@@ -7,9 +7,13 @@ mod compare;
 mod fault;
 mod forms;
 mod laws;
+mod page;
+mod read;
 mod reading;
+mod run;
 mod trace;
 
 pub use fault::ReportFault;
 pub use forms::{Forms, Section};
-pub use laws::reports_determine_runs;
+pub use laws::{names_of_sound_scripts, reports_determine_runs};
+pub use read::read_report;

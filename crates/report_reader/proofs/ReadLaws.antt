@@ -1,0 +1,48 @@
+-- What was read is the report's run, or names its line at fault.
+use Rattle.std.proofs.Common.{◌≡◌, ◌≢◌, ℕ, List, refl, sym, ap, subst, ◌∙◌, inl, inr, ◌⊎◌}
+use Rattle.std.specs.Global.{Vec}
+use Rattle.std.specs.Prelude.{Result, Ok, Err, IfOk, IfErr}
+use Rattle.wc_chunk.specs.declared.chunk.Chunk.{Chunk}
+use Rattle.script_types.specs.declared.script.ScriptData.{ScriptData}
+use Rattle.trace_text.specs.declared.run.Run.{Run}
+use Rattle.trace_text.specs.Report.{report_of}
+use Rattle.report_lines.specs.declared.line.Line.{Line}
+use Rattle.report_lines.specs.Whole.{lines_of}
+use Rattle.report_lines.specs.Fits.{AreNames}
+use Rattle.report_lines.proofs.Report.{report_is}
+use Rattle.report_reader.specs.declared.forms.Forms.{Forms}
+use Rattle.report_reader.specs.declared.forms.Forms.TheVariants as forms
+use Rattle.report_reader.specs.declared.fault.ReportFault.{ReportFault}
+use Rattle.report_reader.specs.declared.fault.ReportFault.TheVariants as fault
+use Rattle.report_reader.specs.Read.{run_of}
+use Rattle.report_reader.specs.Told.{IsTold}
+use Rattle.report_reader.specs.Fault.{IsForms, IsRead, IsFault, IsDifferent, line_of_difference, Gives}
+use Rattle.report_reader.proofs.RunLaws.{run_again}
+use Rattle.report_reader.proofs.FormLaws.{forms_again, never_stuck}
+use Rattle.report_reader.proofs.PassLaws.{run_passes}
+
+pub read_differs : (script : ScriptData) (media_of : List (List Chunk)) (bs : List ℕ) (f : Forms) (v : Vec Line) (run : Run) (text : List ℕ) (n : ℕ)
+    → f ≡ forms.Lines v → IsForms script bs f → run ≡ run_of script media_of v.items → text ≡ report_of script run → text ≢ bs → n ≡ line_of_difference text bs → IsFault script media_of bs (fault.BadLine n)
+read_differs script media_of bs f v run text n f_is told run_is text_is differs line =
+    let own : IsForms script bs (forms.Lines v) = subst (λ (x : Forms). IsForms script bs x) f_is told in
+    let whole : text ≡ report_of script (run_of script media_of v.items) = text_is ∙ ap (report_of script) run_is in
+    inr (record { lines = v.items; forms = own; differs = λ e. differs (whole ∙ e); number = line ∙ ap (λ (x : List ℕ). line_of_difference x bs) whole })
+
+pub read_same : (script : ScriptData) (media_of : List (List Chunk)) (bs : List ℕ) (f : Forms) (v : Vec Line) (run : Run) (text : List ℕ)
+    → f ≡ forms.Lines v → IsForms script bs f → run ≡ run_of script media_of v.items → text ≡ report_of script run → text ≡ bs → IsRead script media_of bs run
+read_same script media_of bs f v run text f_is told run_is text_is same =
+    let own : IsForms script bs (forms.Lines v) = subst (λ (x : Forms). IsForms script bs x) f_is told in
+    record { lines = v.items; forms = own; shown = run_is; text = sym same ∙ text_is }
+
+-- what is told is read
+pub read_again : (script : ScriptData) (media_of : List (List Chunk)) (bs : List ℕ) (result : Result Run ReportFault) (run : Run) → AreNames script
+    → IfOk result (IsRead script media_of bs) → IfErr result (IsFault script media_of bs) → IsTold script media_of run → bs ≡ report_of script run → Gives result run
+read_again script media_of bs (Ok x) run names ok bad told e =
+    let same = forms_again script names bs ok.lines (lines_of script run) ok.forms (run_passes script media_of run told.told) told.fits (e ∙ report_is script run) in
+    ok.shown ∙ ap (run_of script media_of) same ∙ run_again script media_of run told.told
+read_again script media_of bs (Err fault.NoMemory) run names ok bad told e = tt
+read_again script media_of bs (Err (fault.BadLine n)) run names ok (inl form) told e =
+    never_stuck script names bs form.before form.at form.left (lines_of script run) form.reads form.not_all form.none (run_passes script media_of run told.told) told.fits (e ∙ report_is script run)
+read_again script media_of bs (Err (fault.BadLine n)) run names ok (inr d) told e =
+    let same = forms_again script names bs d.lines (lines_of script run) d.forms (run_passes script media_of run told.told) told.fits (e ∙ report_is script run) in
+    d.differs (ap (report_of script) (ap (run_of script media_of) same ∙ run_again script media_of run told.told) ∙ sym e)

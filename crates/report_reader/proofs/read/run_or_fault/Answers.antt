@@ -1,0 +1,15 @@
+use Rattle.std.proofs.Common.{◌∙◌}
+use Rattle.report_reader.proofs.ReadLaws.{read_differs, read_same}
+use Rattle.report_reader.proofs.read.run_or_fault.Goals as goal
+
+pub returns-in-Some-clause-bad : goal.returns-in-Some-clause-bad
+returns-in-Some-clause-bad c =
+    let told = rw c.data.ensures.data at c.in_ok-line.ensures in
+    let run = rw (c.data-in-Lines.ensures.data, c.deref.ensures.value) at c.in_ok-run-in-Lines.ensures in
+    read_differs c.args.script.now c.args.media.now c.args.bytes.now _ c.in-Lines.lines _ _ c.in-Some.line c.in-Lines.is told run (c.deref-in-Lines.ensures.value ∙ c.in_ok-again-in-Lines.ensures) c.in-Some.ensures.differs c.in-Some.ensures.line
+
+pub returns-clause-ok : goal.returns-clause-ok
+returns-clause-ok c =
+    let told = rw c.data.ensures.data at c.in_ok-line.ensures in
+    let run = rw (c.data-in-Lines.ensures.data, c.deref.ensures.value) at c.in_ok-run-in-Lines.ensures in
+    read_same c.args.script.now c.args.media.now c.args.bytes.now _ c.in-Lines.lines _ _ c.in-Lines.is told run (c.deref-in-Lines.ensures.value ∙ c.in_ok-again-in-Lines.ensures) c.in-None.ensures.none

@@ -1,0 +1,34 @@
+// The run that lines show.
+ghost use Rattle.std.specs.Prelude.{◌≡◌, IfOk};
+ghost use Rattle.report_reader.specs.Read as spec;
+
+use crate::build::{behind_first, callers_of, held_of, slots_of};
+use crate::trace::codecs_of;
+use report_lines::Line;
+use script_types::ScriptData;
+use std::alloc::Global;
+use trace_text::Run;
+use wc_base::{List, NoMemory};
+use wc_chunk::Chunk;
+
+/// The run of this script that the lines show, whatever they are. `media` has the chunks of each of its chunk files.
+#[tactic(auto, unfolding(crate::specs::Read::run_of))]
+pub fn run_of(
+    alloc: Global,
+    script: &ScriptData,
+    media: &[List<Chunk>],
+    lines: &[Line],
+) -> Result<Run, NoMemory>
+    ensures { IfOk result (λ run. run ≡ spec.run_of script.now media.now lines.now) }
+{
+    let (callers, rest) = callers_of(alloc, script.callers.len(), behind_first(lines))?;
+    let (codecs, rest) = codecs_of(alloc, script, media, script.codecs.len(), rest)?;
+    let rest = behind_first(behind_first(rest));
+    let slots = slots_of(alloc, rest)?;
+    Ok(Run {
+        callers: List::of(callers),
+        codecs: List::of(codecs),
+        slots: List::of(slots),
+        held: held_of(rest),
+    })
+}
