@@ -11,6 +11,8 @@ mod page;
 mod read;
 mod reading;
 mod run;
+#[cfg(test)]
+mod tests;
 mod trace;
 
 pub use fault::ReportFault;

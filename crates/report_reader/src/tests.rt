@@ -1,0 +1,154 @@
+// The ordinary run's report, read back, and texts with a fault at a line that was counted by hand.
+use crate::{ReportFault, read_report};
+use bytes::Bytes;
+use script_types::{
+    CallerItem, ChunkInit, ChunkSource, CodecItem, KindWord, Script, ScriptData, Step, Variable,
+    VariableKind,
+};
+use std::alloc::Global;
+use std::test::Fail;
+use trace_text::write_report;
+use wc_base::{List, MemSink, Text};
+use wc_config::{AudioDecoderConfig, Config};
+
+const REPORT: &str =
+    "wcrun report 1\ncaller a\n0 d.0 ok\n1 ok\n2 d.1 ok\n3 d.2 ok\n4 d:14 resolved\ncodec d audio-decoder 4\n0 a.0 configure = ok\n1 a.2 decode = ok\n2 a.3 flush = ok\n3 start 0.0\n4 done 0.0 1 ran 0\n5 turn unblock\n6 turn process\n7 start 0.1\n8 done 0.1 2 ran 1\n9 turn dequeue\n  dequeue\n10 turn output\n  output audio s16 8000 1 2 0 250 01000200\n11 start 0.2\n12 done 0.2 3 ran 0\n13 turn flushed\n  resolve 2\npool\nslots\n0 d.3 acquire decode:pcm-s16 0\nheld 0\nend\n";
+
+fn text(alloc: Global, text: &str) -> Result<Text, Fail> {
+    Ok(Text::of(String::from_str(alloc, text)?))
+}
+
+fn configure(alloc: Global) -> Result<Step, Fail> {
+    Ok(Step::Configure {
+        on: 0,
+        config: Config::AudioDecoder(AudioDecoderConfig {
+            codec: text(alloc, "pcm-s16")?,
+            rate: 8000,
+            channels: 1,
+            description: None,
+        }),
+    })
+}
+
+fn chunk(alloc: Global) -> Result<Step, Fail> {
+    Ok(Step::Chunk {
+        bind: text(alloc, "c")?,
+        source: ChunkSource::Init(Some(ChunkInit {
+            key: true,
+            timestamp: 0,
+            duration: None,
+            content: Bytes::from_vec(vec![in alloc; 1, 0, 2, 0]?)?,
+        })),
+    })
+}
+
+fn variable(
+    alloc: Global,
+    name: &str,
+    step: u32,
+    kind: VariableKind,
+) -> Result<Variable, Fail> {
+    Ok(Variable {
+        name: text(alloc, name)?,
+        step,
+        kind,
+    })
+}
+
+fn steps(alloc: Global) -> Result<Vec<Step>, Fail> {
+    let decode = Step::Decode {
+        on: 0,
+        chunk: variable(alloc, "c", 1, VariableKind::Chunk)?,
+    };
+    let flush = Step::Flush {
+        on: 0,
+        bind: text(alloc, "p")?,
+    };
+    let wait = Step::Await {
+        promise: variable(alloc, "p", 3, VariableKind::Promise)?,
+    };
+    Ok(vec![in alloc; configure(alloc)?, chunk(alloc)?, decode, flush, wait]?)
+}
+
+// The ordinary script.
+fn script(alloc: Global) -> Result<Script, Fail> {
+    let codec = CodecItem {
+        name: text(alloc, "d")?,
+        kind: KindWord::AudioDecoder,
+        saturation: 4,
+    };
+    let caller = CallerItem {
+        name: text(alloc, "a")?,
+        steps: List::of(steps(alloc)?),
+    };
+    Ok(Script::of(ScriptData {
+        codecs: List::of(vec![in alloc; codec]?),
+        callers: List::of(vec![in alloc; caller]?),
+        order: None,
+        chunk_files: List::empty(alloc),
+        inline: 4,
+    }))
+}
+
+// Reads the report with one text in the place of another: 0 where it is read, or the line at fault.
+fn line_at_fault(rt: &HostRuntime, old: &str, new: &str) -> Result<u64, Fail> {
+    let alloc = rt.alloc();
+    let text = REPORT.replace(alloc, old, new)?;
+    match read_report(alloc, &script(alloc)?, &[], text.as_bytes()) {
+        Ok(_) => Ok(0),
+        Err(ReportFault::BadLine { line }) => Ok(line),
+        Err(ReportFault::NoMemory) => Err(Fail::from("memory")),
+    }
+}
+
+#[test]
+fn the_ordinary_report_is_read_and_written_again(rt: HostRuntime) -> Result<(), Fail> {
+    let alloc = rt.alloc();
+    let script = script(alloc)?;
+    let run = read_report(alloc, &script, &[], REPORT.as_bytes()).expect(&rt, "a report");
+    assert_eq!(rt; run.callers.len(), 1);
+    assert_eq!(rt; run.codecs.len(), 1);
+    assert_eq!(rt; run.slots.len(), 1);
+    let codec = &run.codecs.as_slice()[0];
+    assert_eq!(rt; codec.entries.len(), 14);
+    assert_eq!(rt; codec.shown.len(), 14);
+    let mut sink = MemSink::open(alloc, 1000, Vec::new(alloc))?;
+    assert!(rt; write_report(alloc, &script, &run, &mut sink).is_ok());
+    assert_eq!(rt; sink.bytes(), REPORT.as_bytes());
+    Ok(())
+}
+
+#[test]
+fn lines_without_their_form(rt: HostRuntime) -> Result<(), Fail> {
+    assert_eq!(rt; line_at_fault(&rt, REPORT, "")?, 1);
+    assert_eq!(rt; line_at_fault(&rt, "end\n", "")?, 30);
+    assert_eq!(rt; line_at_fault(&rt, "end\n", "end")?, 30);
+    assert_eq!(rt; line_at_fault(&rt, "end\n", "end\nend\n")?, 31);
+    assert_eq!(rt; line_at_fault(&rt, "pool\n", "")?, 26);
+    assert_eq!(rt; line_at_fault(&rt, "caller a\n", "caller b\n")?, 2);
+    assert_eq!(rt; line_at_fault(&rt, "1 ok\n", "2 ok\n")?, 4);
+    assert_eq!(rt; line_at_fault(&rt, "4 d:14 ", "4 a:14 ")?, 7);
+    assert_eq!(rt; line_at_fault(&rt, "ran 1\n", "ran 01\n")?, 17);
+    assert_eq!(rt; line_at_fault(&rt, "10 turn output", "11 turn output")?, 20);
+    assert_eq!(rt; line_at_fault(&rt, "01000200", "0100020A")?, 21);
+    assert_eq!(rt; line_at_fault(&rt, "0 d.3 acquire", "1 d.3 acquire")?, 28);
+    Ok(())
+}
+
+#[test]
+fn lines_that_differ(rt: HostRuntime) -> Result<(), Fail> {
+    // one unit more is shown than there are outputs: the turn would show two
+    assert_eq!(rt; line_at_fault(&rt, "ran 1\n", "ran 2\n")?, 22);
+    // no unit, no turn that shows one
+    assert_eq!(rt; line_at_fault(&rt, "ran 1\n", "ran 0\n")?, 20);
+    assert_eq!(rt; line_at_fault(&rt, "  dequeue\n", "")?, 19);
+    assert_eq!(rt; line_at_fault(&rt, "  output audio s16 8000 1 2 0 250 01000200\n", "")?, 21);
+    assert_eq!(rt; line_at_fault(&rt, "11 start", "  output audio s16 8000 1 2 0 250 01000200\n11 start")?, 22);
+    // a turn that runs another task, a call whose step is none, an exception that is not thrown
+    assert_eq!(rt; line_at_fault(&rt, "5 turn unblock", "5 turn process")?, 14);
+    assert_eq!(rt; line_at_fault(&rt, "a.2 decode", "a.1 decode")?, 10);
+    assert_eq!(rt; line_at_fault(&rt, "configure = ok", "configure = TypeError")?, 9);
+    // a start of an item that is not the next
+    assert_eq!(rt; line_at_fault(&rt, "7 start 0.1\n", "7 start 0.2\n")?, 16);
+    Ok(())
+}
