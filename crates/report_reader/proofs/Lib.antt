@@ -7,3 +7,4 @@ pub mod PlaceLaws
 pub mod TraceLaws
 pub mod ReadLaws
 pub mod NameLaws
+pub mod ToldLaws

@@ -15,11 +15,12 @@ use Rattle.report_reader.specs.declared.forms.Forms.TheVariants as forms
 use Rattle.report_reader.specs.declared.fault.ReportFault.{ReportFault}
 use Rattle.report_reader.specs.declared.fault.ReportFault.TheVariants as fault
 use Rattle.report_reader.specs.Read.{run_of}
-use Rattle.report_reader.specs.Told.{IsTold}
+use Rattle.report_reader.specs.Told.{IsToldRun, IsTold}
 use Rattle.report_reader.specs.Fault.{IsForms, IsRead, IsFault, IsDifferent, line_of_difference, Gives}
 use Rattle.report_reader.proofs.RunLaws.{run_again}
 use Rattle.report_reader.proofs.FormLaws.{forms_again, never_stuck}
 use Rattle.report_reader.proofs.PassLaws.{run_passes}
+use Rattle.report_reader.proofs.ToldLaws.{run_told}
 
 pub read_differs : (script : ScriptData) (media_of : List (List Chunk)) (bs : List ℕ) (f : Forms) (v : Vec Line) (run : Run) (text : List ℕ) (n : ℕ)
     → f ≡ forms.Lines v → IsForms script bs f → run ≡ run_of script media_of v.items → text ≡ report_of script run → text ≢ bs → n ≡ line_of_difference text bs → IsFault script media_of bs (fault.BadLine n)
@@ -39,10 +40,15 @@ pub read_again : (script : ScriptData) (media_of : List (List Chunk)) (bs : List
     → IfOk result (IsRead script media_of bs) → IfErr result (IsFault script media_of bs) → IsTold script media_of run → bs ≡ report_of script run → Gives result run
 read_again script media_of bs (Ok x) run names ok bad told e =
     let same = forms_again script names bs ok.lines (lines_of script run) ok.forms (run_passes script media_of run told.told) told.fits (e ∙ report_is script run) in
-    ok.shown ∙ ap (run_of script media_of) same ∙ run_again script media_of run told.told
+    ok.shown ∙ ap (run_of script media_of) same ∙ run_again script media_of run told.told told.plain
 read_again script media_of bs (Err fault.NoMemory) run names ok bad told e = tt
 read_again script media_of bs (Err (fault.BadLine n)) run names ok (inl form) told e =
     never_stuck script names bs form.before form.at form.left (lines_of script run) form.reads form.not_all form.none (run_passes script media_of run told.told) told.fits (e ∙ report_is script run)
 read_again script media_of bs (Err (fault.BadLine n)) run names ok (inr d) told e =
     let same = forms_again script names bs d.lines (lines_of script run) d.forms (run_passes script media_of run told.told) told.fits (e ∙ report_is script run) in
-    d.differs (ap (report_of script) (ap (run_of script media_of) same ∙ run_again script media_of run told.told) ∙ sym e)
+    d.differs (ap (report_of script) (ap (run_of script media_of) same ∙ run_again script media_of run told.told told.plain) ∙ sym e)
+
+-- what was read is told
+pub read_told : (script : ScriptData) (media_of : List (List Chunk)) (bs : List ℕ) (result : Result Run ReportFault) → IfOk result (IsRead script media_of bs) → IfOk result (IsToldRun script media_of)
+read_told script media_of bs (Ok run) read = subst (λ (x : Run). IsToldRun script media_of x) (sym read.shown) (run_told script media_of read.lines)
+read_told script media_of bs (Err fault) read = tt

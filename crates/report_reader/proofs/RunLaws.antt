@@ -29,7 +29,7 @@ use Rattle.report_lines.specs.declared.line.Line.TheVariants as line
 use Rattle.report_lines.specs.Laws.{told_of, event_seen}
 use Rattle.report_lines.specs.Whole.{lines_from, result_seen, caller_seen, entry_seen, codec_seen, slot_seen, end_seen, lines_of}
 use Rattle.report_reader.specs.Read.{results_in, behind_results, callers_in, entry_of, next_of, entry_then, entries_from, told_in, behind_entries, description_of, config_in, outputs_in, trace_of, codecs_in, slots_in, held_in, run_of}
-use Rattle.report_reader.specs.Told.{HoldsArguments, IsPlainDescription, IsPlainUnit, IsToldTrace, IsToldRun}
+use Rattle.report_reader.specs.Told.{HoldsArguments, IsPlainDescription, IsPlainUnit, IsPlainTrace, IsToldTrace, IsToldRun}
 
 -- ---- callers
 
@@ -216,25 +216,25 @@ codecs_end : (i : ℕ) (made : List (CodecItem × CodecTrace)) (rest : List Line
 codecs_end i [] rest ends = ends
 codecs_end i (m ∷ made) rest ends = record { told = refl; outputs = refl; behind = refl; config = refl }
 
-codecs_again : (script : ScriptData) (media_of : List (List Chunk)) (i : ℕ) (items : List CodecItem) (cs : List CodecTrace) (rest : List Line) → length cs ≡ length items → EndsEntries rest → AllByRecursion (IsToldTrace script media_of) cs
+codecs_again : (script : ScriptData) (media_of : List (List Chunk)) (i : ℕ) (items : List CodecItem) (cs : List CodecTrace) (rest : List Line) → length cs ≡ length items → EndsEntries rest → AllByRecursion (IsToldTrace script media_of) cs → AllByRecursion IsPlainTrace cs
     → codecs_in script media_of (length items) (lines_from codec_seen i (zip items cs) ++ rest) ≡ (cs, rest)
-codecs_again script media_of i [] [] rest same ends told = refl
-codecs_again script media_of i [] (c ∷ cs) rest same ends told = absurd (omega arith)
-codecs_again script media_of i (x ∷ items) [] rest same ends told = absurd (omega arith)
-codecs_again script media_of i (x ∷ items) (c ∷ cs) rest same ends told =
+codecs_again script media_of i [] [] rest same ends told plain = refl
+codecs_again script media_of i [] (c ∷ cs) rest same ends told plain = absurd (omega arith)
+codecs_again script media_of i (x ∷ items) [] rest same ends told plain = absurd (omega arith)
+codecs_again script media_of i (x ∷ items) (c ∷ cs) rest same ends told plain =
     let tail = lines_from codec_seen (i + 1) (zip items cs) in
     let ends_more : EndsEntries (tail ++ rest) = codecs_end (i + 1) (zip items cs) rest ends in
     let made = zip c.entries c.shown in
     let own = told.0 in
     let count : length c.shown ≡ length c.entries = ap (λ (xs : List Shown). length xs) own.shows ∙ filled_length c.entries (opening_state c.opening) (units_shown c.shown) own.follows in
-    let plain : AllByRecursion IsPlainUnit (units_shown (map shown_of_made made)) = subst (λ (xs : List Shown). AllByRecursion IsPlainUnit (units_shown xs)) (sym (shown_again c.entries c.shown count)) own.plain in
+    let clear : AllByRecursion IsPlainUnit (units_shown (map shown_of_made made)) = subst (λ (xs : List Shown). AllByRecursion IsPlainUnit (units_shown xs)) (sym (shown_again c.entries c.shown count)) plain.0 in
     rw (
       append_assoc (lines_from entry_seen 0 made) tail rest,
       behind_entries_again 0 made (tail ++ rest) ends_more,
       told_again 0 made (tail ++ rest) ends_more,
-      outputs_again 0 made (tail ++ rest) ends_more plain,
+      outputs_again 0 made (tail ++ rest) ends_more clear,
       trace_again script media_of c own,
-      codecs_again script media_of (i + 1) items cs rest (omega arith) ends told.1,
+      codecs_again script media_of (i + 1) items cs rest (omega arith) ends told.1 plain.1,
     ) refl
 
 -- ---- the run
@@ -252,14 +252,14 @@ codecs_end_results i [] rest = (refl, refl)
 codecs_end_results i (m ∷ made) rest = (refl, refl)
 
 -- the lines of a run that is told show that run
-pub run_again : (script : ScriptData) (media_of : List (List Chunk)) (run : Run) → IsToldRun script media_of run → run_of script media_of (lines_of script run) ≡ run
+pub run_again : (script : ScriptData) (media_of : List (List Chunk)) (run : Run) → IsToldRun script media_of run → AllByRecursion IsPlainTrace run.codecs → run_of script media_of (lines_of script run) ≡ run
 unfolding run_of
-run_again script media_of run told =
+run_again script media_of run told plain =
     let end = lines_from slot_seen 0 run.slots ++ end_seen run.held in
     let codecs = lines_from codec_seen 0 (zip script.codecs run.codecs) in
     rw (
       callers_again 0 script.callers run.callers (codecs ++ line.Pool ∷ line.Slots ∷ end) told.callers (codecs_end_results 0 (zip script.codecs run.codecs) (line.Slots ∷ end)),
-      codecs_again script media_of 0 script.codecs run.codecs (line.Pool ∷ line.Slots ∷ end) told.codecs (record { told = refl; outputs = refl; behind = refl; config = refl }) told.traces,
+      codecs_again script media_of 0 script.codecs run.codecs (line.Pool ∷ line.Slots ∷ end) told.codecs (record { told = refl; outputs = refl; behind = refl; config = refl }) told.traces plain,
       slots_again 0 run.slots run.held,
       held_again 0 run.slots run.held,
     ) refl

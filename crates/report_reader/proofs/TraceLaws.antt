@@ -91,6 +91,20 @@ step_of : (s : State) (e : Entry) (u : State) (p : Option Entry) → option_and_
 step_of s e u None h = absurd (not_some h)
 step_of s e u (Some d) h = step_at s e u d (follow_step d s) refl h
 
+pub next_step_is : (script : ScriptData) (media_of : List (List Chunk)) (t : Told) (s : State) (e : Entry) (u : State) → next_of script media_of s t ≡ Some (e, u) → follow_step e s ≡ Some u
+next_step_is script media_of t s e u h = step_of s e u (entry_of script media_of t) h
+
+entry_at : (e : Entry) (u : State) (d : Entry) (o : Option State) → paired d o ≡ Some (e, u) → d ≡ e
+entry_at e u d None h = absurd (not_some h)
+entry_at e u d (Some v) h = let made : Entry × State = (d, v) in ap (λ (x : Entry × State). x.0) (some_is made (e, u) h)
+
+entry_in : (s : State) (e : Entry) (u : State) (p : Option Entry) → option_and_then {U = Entry × State} (λ d. paired d (follow_step d s)) p ≡ Some (e, u) → p ≡ Some e
+entry_in s e u None h = absurd (not_some h)
+entry_in s e u (Some d) h = ap (λ (x : Entry). some x) (entry_at e u d (follow_step d s) h)
+
+pub next_entry_is : (script : ScriptData) (media_of : List (List Chunk)) (t : Told) (s : State) (e : Entry) (u : State) → next_of script media_of s t ≡ Some (e, u) → entry_of script media_of t ≡ Some e
+next_entry_is script media_of t s e u h = entry_in s e u (entry_of script media_of t) h
+
 next_at : (script : ScriptData) (media_of : List (List Chunk)) (t : Told) (s : State) (e : Entry) (blank : Shown) (o : Option (Entry × State)) → next_of script media_of s t ≡ o → showing_at s o ≡ Some (e, blank)
     → IsNext script media_of t s e blank
 next_at script media_of t s e blank None is h = absurd (not_some h)

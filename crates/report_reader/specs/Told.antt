@@ -41,7 +41,9 @@ pub record IsToldTrace (script : ScriptData) (media : List (List Chunk)) (trace 
   pub arguments : AllByRecursion (HoldsArguments script media) (zip trace.entries trace.shown)
   pub follows : IsFollowed trace.opening trace.entries
   pub shows : trace.shown ≡ each_filled trace.opening trace.entries (units_shown trace.shown)
-  pub plain : AllByRecursion IsPlainUnit (units_shown trace.shown)
+
+abbrev pub IsPlainTrace : CodecTrace → Type 0
+IsPlainTrace trace = AllByRecursion IsPlainUnit (units_shown trace.shown)
 
 -- The run has the script's callers and codecs, and the history of each codec is told.
 pub record IsToldRun (script : ScriptData) (media : List (List Chunk)) (run : Run) : Type 0 where
@@ -49,7 +51,9 @@ pub record IsToldRun (script : ScriptData) (media : List (List Chunk)) (run : Ru
   pub codecs : length run.codecs ≡ length script.codecs
   pub traces : AllByRecursion (IsToldTrace script media) run.codecs
 
--- A run that its report tells: besides, the numbers on its lines are within their types.
+-- A run that its report tells: besides, its outputs are written without loss, and the numbers on its lines are within their
+-- types.
 pub record IsTold (script : ScriptData) (media : List (List Chunk)) (run : Run) : Type 0 where
   pub told : IsToldRun script media run
+  pub plain : AllByRecursion IsPlainTrace run.codecs
   pub fits : AllByRecursion (FitsLine script) (lines_of script run)

@@ -2,7 +2,7 @@
 ghost use Rattle.std.specs.Prelude.{◌≡◌, IfOk, IfErr, IsTrue};
 ghost use Rattle.script_types.specs.Sound.{is_sound};
 ghost use Rattle.trace_text.specs.Report.{report_of};
-ghost use Rattle.report_reader.specs.Told.{IsTold};
+ghost use Rattle.report_reader.specs.Told.{IsToldRun, IsTold};
 ghost use Rattle.report_reader.specs.Fault.{IsRead, IsFault, Gives};
 
 use crate::compare::first_difference;
@@ -53,8 +53,9 @@ pub fn read_report(
     media: &[List<Chunk>],
     bytes: &[u8],
 ) -> Result<Run, ReportFault>
-    // What is read has just this report.
+    // What is read has just this report, and its histories hold the script's arguments and follow.
     ensures ok { IfOk result (λ run. bytes.now ≡ report_of script.now run) }
+    ensures told { IfOk result (λ run. IsToldRun script.now media.now run) }
     // A run that its report tells is read, unless memory is wanted.
     ensures only { (run : Run) → IsTold script.now media.now run → bytes.now ≡ report_of script.now run → Gives result run }
     // A refusal names the line at fault.
