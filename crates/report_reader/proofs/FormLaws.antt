@@ -193,5 +193,5 @@ text_tells script names (x ∷ a) (y ∷ b) fa fb e =
 -- Of one script, two runs that are told are equal where their reports are.
 pub report_tells : (script : ScriptData) (media_of : List (List Chunk)) (a b : Run) → AreNames script → IsTold script media_of a → IsTold script media_of b → report_of script a ≡ report_of script b → a ≡ b
 report_tells script media_of a b names ta tb e =
-    let same = text_tells script names (lines_of script a) (lines_of script b) ta.fits tb.fits (sym (report_is script a) ∙ e ∙ report_is script b) in
-    sym (run_again script media_of a ta.told ta.plain) ∙ ap (run_of script media_of) same ∙ run_again script media_of b tb.told tb.plain
+    let same = text_tells script names (lines_of script a) (lines_of script b) ta.whole.fits tb.whole.fits (sym (report_is script a) ∙ e ∙ report_is script b) in
+    sym (run_again script media_of a ta.told ta.whole.plain) ∙ ap (run_of script media_of) same ∙ run_again script media_of b tb.told tb.whole.plain

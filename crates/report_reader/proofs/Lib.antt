@@ -8,3 +8,4 @@ pub mod TraceLaws
 pub mod ReadLaws
 pub mod NameLaws
 pub mod ToldLaws
+pub mod LegalLaws

@@ -39,14 +39,14 @@ read_same script media_of bs f v run text f_is told run_is text_is same =
 pub read_again : (script : ScriptData) (media_of : List (List Chunk)) (bs : List ℕ) (result : Result Run ReportFault) (run : Run) → AreNames script
     → IfOk result (IsRead script media_of bs) → IfErr result (IsFault script media_of bs) → IsTold script media_of run → bs ≡ report_of script run → Gives result run
 read_again script media_of bs (Ok x) run names ok bad told e =
-    let same = forms_again script names bs ok.lines (lines_of script run) ok.forms (run_passes script media_of run told.told) told.fits (e ∙ report_is script run) in
-    ok.shown ∙ ap (run_of script media_of) same ∙ run_again script media_of run told.told told.plain
+    let same = forms_again script names bs ok.lines (lines_of script run) ok.forms (run_passes script media_of run told.told) told.whole.fits (e ∙ report_is script run) in
+    ok.shown ∙ ap (run_of script media_of) same ∙ run_again script media_of run told.told told.whole.plain
 read_again script media_of bs (Err fault.NoMemory) run names ok bad told e = tt
 read_again script media_of bs (Err (fault.BadLine n)) run names ok (inl form) told e =
-    never_stuck script names bs form.before form.at form.left (lines_of script run) form.reads form.not_all form.none (run_passes script media_of run told.told) told.fits (e ∙ report_is script run)
+    never_stuck script names bs form.before form.at form.left (lines_of script run) form.reads form.not_all form.none (run_passes script media_of run told.told) told.whole.fits (e ∙ report_is script run)
 read_again script media_of bs (Err (fault.BadLine n)) run names ok (inr d) told e =
-    let same = forms_again script names bs d.lines (lines_of script run) d.forms (run_passes script media_of run told.told) told.fits (e ∙ report_is script run) in
-    d.differs (ap (report_of script) (ap (run_of script media_of) same ∙ run_again script media_of run told.told told.plain) ∙ sym e)
+    let same = forms_again script names bs d.lines (lines_of script run) d.forms (run_passes script media_of run told.told) told.whole.fits (e ∙ report_is script run) in
+    d.differs (ap (report_of script) (ap (run_of script media_of) same ∙ run_again script media_of run told.told told.whole.plain) ∙ sym e)
 
 -- what was read is told
 pub read_told : (script : ScriptData) (media_of : List (List Chunk)) (bs : List ℕ) (result : Result Run ReportFault) → IfOk result (IsRead script media_of bs) → IfOk result (IsToldRun script media_of)

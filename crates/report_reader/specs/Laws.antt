@@ -2,14 +2,18 @@
 use Rattle.std.specs.Prelude.{◌≡◌, List, IsTrue}
 use Rattle.std.specs.List.{AllByRecursion}
 use Rattle.wc_chunk.specs.declared.chunk.Chunk.{Chunk}
+use Rattle.wc_config.specs.declared.codec.CoderId.{CoderId}
+use Rattle.codec_follow.specs.Laws.{AnswersFlushes}
 use Rattle.script_types.specs.declared.script.ScriptData.{ScriptData}
 use Rattle.script_types.specs.Sound.{is_sound}
 use Rattle.trace_text.specs.declared.run.Run.{Run}
+use Rattle.trace_text.specs.declared.run.CodecTrace.{CodecTrace}
 use Rattle.trace_text.specs.Report.{report_of}
+use Rattle.trace_text.specs.Fits.{Fits, IsLegalRun}
 use Rattle.report_lines.specs.Whole.{lines_of}
 use Rattle.report_lines.specs.Fits.{AreNames}
 use Rattle.report_reader.specs.Read.{run_of}
-use Rattle.report_reader.specs.Told.{IsToldRun, IsPlainTrace, IsTold}
+use Rattle.report_reader.specs.Told.{IsToldRun, IsPlainTrace, IsWithoutLoss, IsTold}
 
 -- the lines of a run show that run, where its histories are told and its outputs are written without loss
 abbrev pub RunAgain : Type 0
@@ -22,3 +26,12 @@ ReportsDetermineRuns = (script : ScriptData) (media : List (List Chunk)) (a b : 
 -- the names of a script with nothing at fault are words and differ
 abbrev pub SoundNames : Type 0
 SoundNames = (script : ScriptData) → IsTrue (is_sound script) → AreNames script
+
+-- no flush item of a run is refused
+abbrev pub AnswerFlushes : List CodecTrace → Type 0
+AnswerFlushes traces = AllByRecursion (λ t. AnswersFlushes t.opening t.entries) traces
+
+-- a legal run that fits its script is told, where no flush is refused
+abbrev pub LegalRunsAreTold : Type 0
+LegalRunsAreTold =
+    (script : ScriptData) (media : List (List Chunk)) (made : List CoderId) (run : Run) → IsLegalRun script run → Fits script media made run → AnswerFlushes run.codecs → IsWithoutLoss script run → IsTold script media run

@@ -51,9 +51,12 @@ pub record IsToldRun (script : ScriptData) (media : List (List Chunk)) (run : Ru
   pub codecs : length run.codecs ≡ length script.codecs
   pub traces : AllByRecursion (IsToldTrace script media) run.codecs
 
--- A run that its report tells: besides, its outputs are written without loss, and the numbers on its lines are within their
--- types.
-pub record IsTold (script : ScriptData) (media : List (List Chunk)) (run : Run) : Type 0 where
-  pub told : IsToldRun script media run
+-- The run's outputs are written without loss, and the numbers on its lines are within their types.
+pub record IsWithoutLoss (script : ScriptData) (run : Run) : Type 0 where
   pub plain : AllByRecursion IsPlainTrace run.codecs
   pub fits : AllByRecursion (FitsLine script) (lines_of script run)
+
+-- A run that its report tells.
+pub record IsTold (script : ScriptData) (media : List (List Chunk)) (run : Run) : Type 0 where
+  pub told : IsToldRun script media run
+  pub whole : IsWithoutLoss script run

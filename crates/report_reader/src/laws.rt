@@ -1,5 +1,5 @@
 // What the report of a run tells.
-ghost use Rattle.report_reader.specs.Laws.{RunAgain, ReportsDetermineRuns, SoundNames};
+ghost use Rattle.report_reader.specs.Laws.{RunAgain, ReportsDetermineRuns, SoundNames, LegalRunsAreTold};
 
 /// Laws: the lines of a run that is told show that run, and two runs of one script that are told are equal where their
 /// reports are. The script's names are words and differ.
@@ -11,4 +11,13 @@ pub fn reports_determine_runs()
 /// Law: the names of a script in which nothing is at fault are words and differ, callers' and codecs' together.
 pub fn names_of_sound_scripts()
     ensures { SoundNames }
+{}
+
+/// Law: a legal run that fits its script is told by its report.
+///
+/// Assumed is that no flush item of it is refused, which holds of every codec whose coder answers drains; that the numbers
+/// on its lines are within their types, as those of each run that was recorded are; and of the configs that its chunks
+/// carry, that the codec's name is a text without a line feed and a description has bytes.
+pub fn legal_runs_are_told()
+    ensures { LegalRunsAreTold }
 {}

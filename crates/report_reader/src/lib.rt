@@ -17,5 +17,5 @@ mod trace;
 
 pub use fault::ReportFault;
 pub use forms::{Forms, Section};
-pub use laws::{names_of_sound_scripts, reports_determine_runs};
+pub use laws::{legal_runs_are_told, names_of_sound_scripts, reports_determine_runs};
 pub use read::read_report;

@@ -1,0 +1,165 @@
+-- Legal runs that fit their scripts are told.
+use Rattle.std.proofs.Common.{◌≡◌, ℕ, zero, suc, ◌+◌, Bool, true, false, List, [], ◌∷◌, ◌++◌, length, map, Option, Some, None, is_some, refl, sym, ap, subst, ◌∙◌, arith, append_assoc}
+use Rattle.std.specs.Prelude.{option_map, option_and_then, unwrap_or}
+use Rattle.std.specs.List.{AllByRecursion, zip, slice_get}
+use Rattle.wc_base.specs.declared.who.Who.{Who}
+use Rattle.wc_config.specs.declared.codec.CoderId.{CoderId}
+use Rattle.wc_config.specs.declared.config.Config.{Config}
+use Rattle.wc_chunk.specs.declared.chunk.Chunk.{Chunk}
+use Rattle.coder_api.specs.declared.unit.Unit as media
+use Rattle.codec_model.specs.declared.entry.Opening.{Opening}
+use Rattle.codec_model.specs.declared.entry.Entry.{Entry}
+use Rattle.codec_model.specs.declared.entry.Entry.TheVariants as entry
+use Rattle.codec_model.specs.declared.entry.Event.{Event}
+use Rattle.codec_model.specs.declared.entry.Shown.{Shown}
+use Rattle.codec_model.specs.Replay.{State, opening_state, step as legal_step}
+use Rattle.codec_model.specs.Shown.{shows, event_units, units_in, outputs_of, shown_from, each_shown_from, shown, each_shown}
+use Rattle.codec_follow.specs.Follow.{each_filled, units_shown}
+use Rattle.codec_follow.proofs.Filling.{legal_follows, legal_fills}
+use Rattle.script_types.specs.declared.script.ScriptData.{ScriptData}
+use Rattle.script_types.specs.declared.script.CodecItem.{CodecItem}
+use Rattle.script_types.specs.declared.steps.Step.{Step}
+use Rattle.script_types.specs.declared.steps.Step.TheVariants as step
+use Rattle.trace_text.specs.declared.run.CodecTrace.{CodecTrace}
+use Rattle.trace_text.specs.declared.run.Run.{Run}
+use Rattle.trace_text.specs.Follow.{at, steps_of, chunk_at}
+use Rattle.trace_text.specs.Fits.{who_of, step_in, HasArguments, Fits, IsLegalTrace, AreLegalTraces, IsLegalRun}
+use Rattle.report_lines.specs.declared.line.CallWord.TheVariants as call
+use Rattle.report_lines.specs.Laws.{told_of}
+use Rattle.report_reader.specs.Read.{call_of, entry_of}
+use Rattle.report_reader.specs.Told.{HoldsArguments, IsToldTrace, IsWithoutLoss, IsTold}
+use Rattle.report_reader.specs.Laws.{AnswerFlushes}
+
+abbrev some : Entry → Option Entry
+some e = Some e
+
+-- ---- arguments
+
+configure_made : (script : ScriptData) (files : List (List Chunk)) (who : Who) (given : Config) (s : Step) → HasArguments script files who (entry.Configure who given) s → call_of files (steps_of script who.caller) who call.Configure s ≡ Some (entry.Configure who given)
+configure_made script files who given (step.Configure on config) has = ap some (sym has)
+configure_made script files who given (step.Chunk bind source) has = absurd has
+configure_made script files who given (step.Decode on chunk) has = absurd (let wrong = has.2 in cc)
+configure_made script files who given (step.Flush on bind) has = absurd cc
+configure_made script files who given (step.Poll promise) has = absurd has
+configure_made script files who given (step.Await promise) has = absurd has
+configure_made script files who given (step.Reset on) has = absurd cc
+configure_made script files who given (step.Close on) has = absurd cc
+configure_made script files who given (step.State on) has = absurd has
+configure_made script files who given (step.Media m) has = absurd has
+
+decode_made : (script : ScriptData) (files : List (List Chunk)) (who : Who) (given : Chunk) (s : Step) → HasArguments script files who (entry.Decode who given) s → call_of files (steps_of script who.caller) who call.Decode s ≡ Some (entry.Decode who given)
+decode_made script files who given (step.Configure on config) has = absurd cc
+decode_made script files who given (step.Chunk bind source) has = absurd has
+decode_made script files who given (step.Decode on chunk) has = rw has.1 (ap some (sym has.2))
+decode_made script files who given (step.Flush on bind) has = absurd cc
+decode_made script files who given (step.Poll promise) has = absurd has
+decode_made script files who given (step.Await promise) has = absurd has
+decode_made script files who given (step.Reset on) has = absurd cc
+decode_made script files who given (step.Close on) has = absurd cc
+decode_made script files who given (step.State on) has = absurd has
+decode_made script files who given (step.Media m) has = absurd has
+
+flush_made : (script : ScriptData) (files : List (List Chunk)) (who : Who) (s : Step) → HasArguments script files who (entry.Flush who) s → call_of files (steps_of script who.caller) who call.Flush s ≡ Some (entry.Flush who)
+flush_made script files who (step.Configure on config) has = absurd cc
+flush_made script files who (step.Chunk bind source) has = absurd has
+flush_made script files who (step.Decode on chunk) has = absurd (let wrong = has.2 in cc)
+flush_made script files who (step.Flush on bind) has = ap some (sym has)
+flush_made script files who (step.Poll promise) has = absurd has
+flush_made script files who (step.Await promise) has = absurd has
+flush_made script files who (step.Reset on) has = absurd cc
+flush_made script files who (step.Close on) has = absurd cc
+flush_made script files who (step.State on) has = absurd has
+flush_made script files who (step.Media m) has = absurd has
+
+reset_made : (script : ScriptData) (files : List (List Chunk)) (who : Who) (s : Step) → HasArguments script files who (entry.Reset who) s → call_of files (steps_of script who.caller) who call.Reset s ≡ Some (entry.Reset who)
+reset_made script files who (step.Configure on config) has = absurd cc
+reset_made script files who (step.Chunk bind source) has = absurd has
+reset_made script files who (step.Decode on chunk) has = absurd (let wrong = has.2 in cc)
+reset_made script files who (step.Flush on bind) has = absurd cc
+reset_made script files who (step.Poll promise) has = absurd has
+reset_made script files who (step.Await promise) has = absurd has
+reset_made script files who (step.Reset on) has = ap some (sym has)
+reset_made script files who (step.Close on) has = absurd cc
+reset_made script files who (step.State on) has = absurd has
+reset_made script files who (step.Media m) has = absurd has
+
+close_made : (script : ScriptData) (files : List (List Chunk)) (who : Who) (s : Step) → HasArguments script files who (entry.Close who) s → call_of files (steps_of script who.caller) who call.Close s ≡ Some (entry.Close who)
+close_made script files who (step.Configure on config) has = absurd cc
+close_made script files who (step.Chunk bind source) has = absurd has
+close_made script files who (step.Decode on chunk) has = absurd (let wrong = has.2 in cc)
+close_made script files who (step.Flush on bind) has = absurd cc
+close_made script files who (step.Poll promise) has = absurd has
+close_made script files who (step.Await promise) has = absurd has
+close_made script files who (step.Reset on) has = absurd cc
+close_made script files who (step.Close on) has = ap some (sym has)
+close_made script files who (step.State on) has = absurd has
+close_made script files who (step.Media m) has = absurd has
+
+-- the entry of a call has a step, and what that gives
+abbrev GetsArguments : ScriptData → List (List Chunk) → Entry → Type 0
+GetsArguments script files e = (who : Who) → who_of e ≡ Some who → (x : Step) × (slice_get (steps_of script who.caller) who.step ≡ Some x) × HasArguments script files who e x
+
+entry_holds : (script : ScriptData) (files : List (List Chunk)) (e : Entry) (x : Shown) → GetsArguments script files e → entry_of script files (told_of e x) ≡ Some e
+entry_holds script files (entry.Configure who given) x h = let found = h who refl in rw found.1 (configure_made script files who given found.0 found.2)
+entry_holds script files (entry.Decode who given) x h = let found = h who refl in rw found.1 (decode_made script files who given found.0 found.2)
+entry_holds script files (entry.Flush who) x h = let found = h who refl in rw found.1 (flush_made script files who found.0 found.2)
+entry_holds script files (entry.Reset who) x h = let found = h who refl in rw found.1 (reset_made script files who found.0 found.2)
+entry_holds script files (entry.Close who) x h = let found = h who refl in rw found.1 (close_made script files who found.0 found.2)
+entry_holds script files (entry.Start epoch item) x h = refl
+entry_holds script files (entry.Done epoch item moment outcome) x h = refl
+entry_holds script files entry.Turn x h = refl
+entry_holds script files (entry.Reclaim moment) x h = refl
+
+entries_hold : (script : ScriptData) (files : List (List Chunk)) (es : List Entry) (xs : List Shown) → ((p : ℕ) (e : Entry) → slice_get es p ≡ Some e → GetsArguments script files e) → AllByRecursion (HoldsArguments script files) (zip es xs)
+entries_hold script files [] xs h = tt
+entries_hold script files (e ∷ es) [] h = tt
+entries_hold script files (e ∷ es) (x ∷ xs) h = (entry_holds script files e x (h 0 e refl), entries_hold script files es xs (λ p d is. h (suc p) d is))
+
+-- ---- outputs
+
+outputs_tagged : (place : ℕ) (xs : List Event) (ys : List (ℕ × Event)) → outputs_of (map (λ x. (place, x)) xs ++ ys) ≡ units_in xs ++ outputs_of ys
+outputs_tagged place [] ys = refl
+outputs_tagged place (x ∷ xs) ys = ap (λ (us : List media.Unit). event_units x ++ us) (outputs_tagged place xs ys) ∙ sym (append_assoc (event_units x) (units_in xs) (outputs_of ys))
+
+units_then : (es : List Entry) (o : Option State) → ((t : State) → outputs_of (shown_from es t) ≡ units_shown (each_shown_from es t))
+    → outputs_of (unwrap_or (option_map (shown_from es) o) []) ≡ units_shown (unwrap_or (option_map (each_shown_from es) o) [])
+units_then es None later = refl
+units_then es (Some t) later = later t
+
+shown_units : (es : List Entry) (s : State) → outputs_of (shown_from es s) ≡ units_shown (each_shown_from es s)
+shown_units [] s = refl
+shown_units (e ∷ es) s =
+    outputs_tagged s.control.place (shows e s) (unwrap_or (option_map (shown_from es) (legal_step e s)) [])
+    ∙ ap (λ (us : List media.Unit). units_in (shows e s) ++ us) (units_then es (legal_step e s) (λ t. shown_units es t))
+
+-- ---- codecs
+
+trace_told : (script : ScriptData) (files : List (List Chunk)) (c : CodecItem) (t : CodecTrace) → IsLegalTrace c t → AnswerFlushes (t ∷ []) → ((p : ℕ) (e : Entry) → slice_get t.entries p ≡ Some e → GetsArguments script files e) → IsToldTrace script files t
+trace_told script files c t legal answers h = record {
+  arguments = entries_hold script files t.entries t.shown h;
+  follows = legal_follows t.opening t.entries legal.legal answers.0;
+  shows = legal.shown ∙ legal_fills t.opening t.entries legal.legal answers.0 ∙ ap (each_filled t.opening t.entries) (shown_units t.entries (opening_state t.opening) ∙ ap units_shown (sym legal.shown));
+}
+
+traces_told : (script : ScriptData) (files : List (List Chunk)) (cs : List CodecItem) (ts : List CodecTrace) → AreLegalTraces cs ts → AnswerFlushes ts
+    → ((k p : ℕ) (e : Entry) → slice_get (at k (map (λ t. t.entries) ts)) p ≡ Some e → GetsArguments script files e) → AllByRecursion (IsToldTrace script files) ts
+traces_told script files [] [] legal answers h = tt
+traces_told script files [] (t ∷ ts) legal answers h = absurd legal
+traces_told script files (c ∷ cs) [] legal answers h = absurd legal
+traces_told script files (c ∷ cs) (t ∷ ts) legal answers h = (trace_told script files c t legal.0 (answers.0, tt) (λ p e is. h 0 p e is), traces_told script files cs ts legal.1 answers.1 (λ k p e is. h (suc k) p e is))
+
+traces_count : (cs : List CodecItem) (ts : List CodecTrace) → AreLegalTraces cs ts → length ts ≡ length cs
+traces_count [] [] legal = refl
+traces_count [] (t ∷ ts) legal = absurd legal
+traces_count (c ∷ cs) [] legal = absurd legal
+traces_count (c ∷ cs) (t ∷ ts) legal = ap (λ (n : ℕ). suc n) (traces_count cs ts legal.1)
+
+pub legal_told : (script : ScriptData) (files : List (List Chunk)) (made : List CoderId) (run : Run) → IsLegalRun script run → Fits script files made run → AnswerFlushes run.codecs → IsWithoutLoss script run → IsTold script files run
+legal_told script files made run legal fits answers whole = record {
+  told = record {
+    callers = legal.callers;
+    codecs = traces_count script.codecs run.codecs legal.codecs;
+    traces = traces_told script files script.codecs run.codecs legal.codecs answers (λ k p e is who names. fits.arguments k p e who is names);
+  };
+  whole = whole;
+}
