@@ -175,9 +175,12 @@ events_pass script k n (event.ErrorCall x ∷ es) = (section.Codecs k n, refl, e
 entries_pass : (script : ScriptData) (k n : ℕ) (made : List (Entry × Shown)) → Passes script (section.Codecs k n) (lines_from entry_seen n made) (section.Codecs k (n + length made))
 entries_pass script k n [] = ap (λ (m : ℕ). section.Codecs k m) (omega arith)
 entries_pass script k n (m ∷ made) =
-    let same : n + 1 + length made ≡ n + suc (length made) = omega arith in
-    (section.Codecs k (n + 1), rw (eq-eqb n n refl) refl, passes_on script (section.Codecs k (n + 1)) (flat_map event_seen m.1.events) (lines_from entry_seen (n + 1) made) (section.Codecs k (n + 1)) (section.Codecs k (n + suc (length made)))
-        (events_pass script k (n + 1) m.1.events) (subst (λ (j : ℕ). Passes script (section.Codecs k (n + 1)) (lines_from entry_seen (n + 1) made) (section.Codecs k j)) same (entries_pass script k (n + 1) made)))
+    let same : n + 1 + length made ≡ n + suc (length made) = omega arith in (
+      section.Codecs k (n + 1),
+      rw (eq-eqb n n refl) refl,
+      passes_on script (section.Codecs k (n + 1)) (flat_map event_seen m.1.events) (lines_from entry_seen (n + 1) made) (section.Codecs k (n + 1)) (section.Codecs k (n + suc (length made)))
+          (events_pass script k (n + 1) m.1.events) (subst (λ (j : ℕ). Passes script (section.Codecs k (n + 1)) (lines_from entry_seen (n + 1) made) (section.Codecs k j)) same (entries_pass script k (n + 1) made)),
+    )
 
 -- in this section the next codec, or the pool, may stand
 pub record IsReady (script : ScriptData) (s : Section) (k : ℕ) : Type 0 where

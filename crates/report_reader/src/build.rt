@@ -64,10 +64,7 @@ pub fn callers_of<'a>(
 }
 
 /// The entries that are told in front, among the lines of what they show, and the lines behind.
-pub fn told_of<'a>(
-    alloc: Global,
-    lines: &'a [Line],
-) -> Result<(Vec<Told>, &'a [Line]), AllocError>
+pub fn told_of<'a>(alloc: Global, lines: &'a [Line]) -> Result<(Vec<Told>, &'a [Line]), AllocError>
     ensures told { IfOk result (λ x. x.0.items ≡ spec.told_in lines.now) }
     ensures behind { IfOk result (λ x. x.1.now ≡ spec.behind_entries lines.now) }
 {

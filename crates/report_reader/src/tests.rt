@@ -1,4 +1,11 @@
 // The ordinary run's report, read back, and texts with a fault at a line that was counted by hand.
+ghost use Rattle.std.specs.Prelude.{◌≡◌, ◌∷◌, [], IfOk, IsTrue, None, Some, codes};
+ghost use Rattle.codec_model.specs.Rows.{pcm};
+ghost use Rattle.script_types.specs.declared.steps.Step.TheVariants as step;
+ghost use Rattle.script_types.specs.declared.steps.ChunkSource.TheVariants as source;
+ghost use Rattle.script_types.specs.Sound.{is_sound};
+ghost use Rattle.trace_text.specs.Rows.{init, steps_with};
+
 use crate::{ReportFault, read_report};
 use bytes::Bytes;
 use script_types::{
@@ -14,11 +21,15 @@ use wc_config::{AudioDecoderConfig, Config};
 const REPORT: &str =
     "wcrun report 1\ncaller a\n0 d.0 ok\n1 ok\n2 d.1 ok\n3 d.2 ok\n4 d:14 resolved\ncodec d audio-decoder 4\n0 a.0 configure = ok\n1 a.2 decode = ok\n2 a.3 flush = ok\n3 start 0.0\n4 done 0.0 1 ran 0\n5 turn unblock\n6 turn process\n7 start 0.1\n8 done 0.1 2 ran 1\n9 turn dequeue\n  dequeue\n10 turn output\n  output audio s16 8000 1 2 0 250 01000200\n11 start 0.2\n12 done 0.2 3 ran 0\n13 turn flushed\n  resolve 2\npool\nslots\n0 d.3 acquire decode:pcm-s16 0\nheld 0\nend\n";
 
-fn text(alloc: Global, text: &str) -> Result<Text, Fail> {
+fn text(alloc: Global, text: &str) -> Result<Text, Fail>
+    ensures { IfOk result (λ t. t ≡ text.now) }
+{
     Ok(Text::of(String::from_str(alloc, text)?))
 }
 
-fn configure(alloc: Global) -> Result<Step, Fail> {
+fn configure(alloc: Global) -> Result<Step, Fail>
+    ensures { IfOk result (λ s. s ≡ step.Configure 0 pcm) }
+{
     Ok(Step::Configure {
         on: 0,
         config: Config::AudioDecoder(AudioDecoderConfig {
@@ -30,7 +41,9 @@ fn configure(alloc: Global) -> Result<Step, Fail> {
     })
 }
 
-fn chunk(alloc: Global) -> Result<Step, Fail> {
+fn chunk(alloc: Global) -> Result<Step, Fail>
+    ensures { IfOk result (λ s. s ≡ step.Chunk (codes "c") (source.Init (Some init))) }
+{
     Ok(Step::Chunk {
         bind: text(alloc, "c")?,
         source: ChunkSource::Init(Some(ChunkInit {
@@ -42,12 +55,9 @@ fn chunk(alloc: Global) -> Result<Step, Fail> {
     })
 }
 
-fn variable(
-    alloc: Global,
-    name: &str,
-    step: u32,
-    kind: VariableKind,
-) -> Result<Variable, Fail> {
+fn variable(alloc: Global, name: &str, step: u32, kind: VariableKind) -> Result<Variable, Fail>
+    ensures { IfOk result (λ v. v ≡ record { name = name.now; step = step; kind = kind }) }
+{
     Ok(Variable {
         name: text(alloc, name)?,
         step,
@@ -55,7 +65,9 @@ fn variable(
     })
 }
 
-fn steps(alloc: Global) -> Result<Vec<Step>, Fail> {
+fn steps(alloc: Global) -> Result<Vec<Step>, Fail>
+    ensures { IfOk result (λ v. v.items ≡ steps_with (source.Init (Some init))) }
+{
     let decode = Step::Decode {
         on: 0,
         chunk: variable(alloc, "c", 1, VariableKind::Chunk)?,
@@ -70,8 +82,10 @@ fn steps(alloc: Global) -> Result<Vec<Step>, Fail> {
     Ok(vec![in alloc; configure(alloc)?, chunk(alloc)?, decode, flush, wait]?)
 }
 
-// The ordinary script.
-fn script(alloc: Global) -> Result<Script, Fail> {
+// What the ordinary script holds.
+fn data(alloc: Global) -> Result<ScriptData, Fail>
+    ensures { IfOk result (λ s. IsTrue (is_sound s)) }
+{
     let codec = CodecItem {
         name: text(alloc, "d")?,
         kind: KindWord::AudioDecoder,
@@ -81,13 +95,17 @@ fn script(alloc: Global) -> Result<Script, Fail> {
         name: text(alloc, "a")?,
         steps: List::of(steps(alloc)?),
     };
-    Ok(Script::of(ScriptData {
+    Ok(ScriptData {
         codecs: List::of(vec![in alloc; codec]?),
         callers: List::of(vec![in alloc; caller]?),
         order: None,
         chunk_files: List::empty(alloc),
         inline: 4,
-    }))
+    })
+}
+
+fn script(alloc: Global) -> Result<Script, Fail> {
+    Ok(Script::of(data(alloc)?))
 }
 
 // Reads the report with one text in the place of another: 0 where it is read, or the line at fault.
@@ -142,12 +160,25 @@ fn lines_that_differ(rt: HostRuntime) -> Result<(), Fail> {
     // no unit, no turn that shows one
     assert_eq!(rt; line_at_fault(&rt, "ran 1\n", "ran 0\n")?, 20);
     assert_eq!(rt; line_at_fault(&rt, "  dequeue\n", "")?, 19);
-    assert_eq!(rt; line_at_fault(&rt, "  output audio s16 8000 1 2 0 250 01000200\n", "")?, 21);
-    assert_eq!(rt; line_at_fault(&rt, "11 start", "  output audio s16 8000 1 2 0 250 01000200\n11 start")?, 22);
+    assert_eq!(rt;
+        line_at_fault(&rt, "  output audio s16 8000 1 2 0 250 01000200\n", "")?,
+        21
+    );
+    assert_eq!(rt;
+        line_at_fault(
+            &rt,
+            "11 start",
+            "  output audio s16 8000 1 2 0 250 01000200\n11 start"
+        )?,
+        22
+    );
     // a turn that runs another task, a call whose step is none, an exception that is not thrown
     assert_eq!(rt; line_at_fault(&rt, "5 turn unblock", "5 turn process")?, 14);
     assert_eq!(rt; line_at_fault(&rt, "a.2 decode", "a.1 decode")?, 10);
-    assert_eq!(rt; line_at_fault(&rt, "configure = ok", "configure = TypeError")?, 9);
+    assert_eq!(rt;
+        line_at_fault(&rt, "configure = ok", "configure = TypeError")?,
+        9
+    );
     // a start of an item that is not the next
     assert_eq!(rt; line_at_fault(&rt, "7 start 0.1\n", "7 start 0.2\n")?, 16);
     Ok(())
