@@ -1,19 +1,18 @@
 -- Legal runs that fit their scripts are told.
-use Rattle.std.proofs.Common.{◌≡◌, ℕ, zero, suc, ◌+◌, Bool, true, false, List, [], ◌∷◌, ◌++◌, length, map, Option, Some, None, is_some, refl, sym, ap, subst, ◌∙◌, arith, append_assoc}
-use Rattle.std.specs.Prelude.{option_map, option_and_then, unwrap_or}
+use Rattle.std.proofs.Common.{◌≡◌, ℕ, suc, List, [], ◌∷◌, ◌++◌, length, map, Option, Some, None, refl, sym, ap, ◌∙◌, append_assoc}
+use Rattle.std.specs.Prelude.{option_map, unwrap_or}
 use Rattle.std.specs.List.{AllByRecursion, zip, slice_get}
 use Rattle.wc_base.specs.declared.who.Who.{Who}
 use Rattle.wc_config.specs.declared.codec.CoderId.{CoderId}
 use Rattle.wc_config.specs.declared.config.Config.{Config}
 use Rattle.wc_chunk.specs.declared.chunk.Chunk.{Chunk}
 use Rattle.coder_api.specs.declared.unit.Unit as media
-use Rattle.codec_model.specs.declared.entry.Opening.{Opening}
 use Rattle.codec_model.specs.declared.entry.Entry.{Entry}
 use Rattle.codec_model.specs.declared.entry.Entry.TheVariants as entry
 use Rattle.codec_model.specs.declared.entry.Event.{Event}
 use Rattle.codec_model.specs.declared.entry.Shown.{Shown}
 use Rattle.codec_model.specs.Replay.{State, opening_state, step as legal_step}
-use Rattle.codec_model.specs.Shown.{shows, event_units, units_in, outputs_of, shown_from, each_shown_from, shown, each_shown}
+use Rattle.codec_model.specs.Shown.{shows, event_units, units_in, outputs_of, shown_from, each_shown_from}
 use Rattle.codec_follow.specs.Follow.{each_filled, units_shown}
 use Rattle.codec_follow.proofs.Filling.{legal_follows, legal_fills}
 use Rattle.script_types.specs.declared.script.ScriptData.{ScriptData}
@@ -22,8 +21,8 @@ use Rattle.script_types.specs.declared.steps.Step.{Step}
 use Rattle.script_types.specs.declared.steps.Step.TheVariants as step
 use Rattle.trace_text.specs.declared.run.CodecTrace.{CodecTrace}
 use Rattle.trace_text.specs.declared.run.Run.{Run}
-use Rattle.trace_text.specs.Follow.{at, steps_of, chunk_at}
-use Rattle.trace_text.specs.Fits.{who_of, step_in, HasArguments, Fits, IsLegalTrace, AreLegalTraces, IsLegalRun}
+use Rattle.trace_text.specs.Follow.{at, steps_of}
+use Rattle.trace_text.specs.Fits.{who_of, HasArguments, Fits, IsLegalTrace, AreLegalTraces, IsLegalRun}
 use Rattle.report_lines.specs.declared.line.CallWord.TheVariants as call
 use Rattle.report_lines.specs.Laws.{told_of}
 use Rattle.report_reader.specs.Read.{call_of, entry_of}

@@ -1,5 +1,5 @@
 -- The names of a script in which nothing is at fault are words, and all differ.
-use Rattle.std.proofs.Common.{ℕ, zero, suc, ◌≡◌, ◌<◌, ◌&&◌, ◌||◌, ◌==◌, not, nat_le, Bool, true, false, List, [], ◌∷◌, ◌++◌, take, length, append_assoc, append-nil, Option, Some, None, refl, ap, sym, subst, ◌∙◌, ◌⊎◌, inl, inr, arith}
+use Rattle.std.proofs.Common.{ℕ, zero, suc, ◌≡◌, ◌<◌, ◌&&◌, ◌||◌, ◌==◌, not, nat_le, Bool, true, false, List, [], ◌∷◌, ◌++◌, take, length, append_assoc, append-nil, Option, Some, refl, ap, sym, subst, ◌∙◌, arith}
 use Rattle.std.specs.List.{list_all, list_any, slice_get}
 use Rattle.std.specs.Prelude.{unwrap_or, option_map}
 use Rattle.std.specs.Str.{bytes_eq}
@@ -8,7 +8,7 @@ use Rattle.script_types.specs.declared.script.CodecItem.{CodecItem}
 use Rattle.script_types.specs.declared.script.CallerItem.{CallerItem}
 use Rattle.script_types.specs.declared.script.ScriptData.{ScriptData}
 use Rattle.script_types.specs.Names.{is_name_byte, is_name, is_codec_name, is_caller_name}
-use Rattle.script_types.specs.Sound.{is_sound, is_sound_codec, are_sound_codecs, is_sound_caller, are_sound_callers}
+use Rattle.script_types.specs.Sound.{is_sound, is_sound_caller, are_sound_callers}
 use Rattle.script_types.proofs.SoundLaws.{parts_of, codec_at}
 use Rattle.trace_text.specs.Report.{caller_name, codec_name}
 use Rattle.report_fields.specs.Words.{is_word_byte}

@@ -1,5 +1,5 @@
 -- What was read is the report's run, or names its line at fault.
-use Rattle.std.proofs.Common.{◌≡◌, ◌≢◌, ℕ, List, refl, sym, ap, subst, ◌∙◌, inl, inr, ◌⊎◌}
+use Rattle.std.proofs.Common.{◌≡◌, ◌≢◌, ℕ, List, sym, ap, subst, ◌∙◌, inl, inr}
 use Rattle.std.specs.Global.{Vec}
 use Rattle.std.specs.Prelude.{Result, Ok, Err, IfOk, IfErr}
 use Rattle.wc_chunk.specs.declared.chunk.Chunk.{Chunk}
@@ -16,7 +16,7 @@ use Rattle.report_reader.specs.declared.fault.ReportFault.{ReportFault}
 use Rattle.report_reader.specs.declared.fault.ReportFault.TheVariants as fault
 use Rattle.report_reader.specs.Read.{run_of}
 use Rattle.report_reader.specs.Told.{IsToldRun, IsTold}
-use Rattle.report_reader.specs.Fault.{IsForms, IsRead, IsFault, IsDifferent, line_of_difference, Gives}
+use Rattle.report_reader.specs.Fault.{IsForms, IsRead, IsFault, line_of_difference, Gives}
 use Rattle.report_reader.proofs.RunLaws.{run_again}
 use Rattle.report_reader.proofs.FormLaws.{forms_again, never_stuck}
 use Rattle.report_reader.proofs.PassLaws.{run_passes}

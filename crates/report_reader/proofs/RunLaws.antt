@@ -1,21 +1,18 @@
 -- The lines of a run that is told show that run.
-use Rattle.std.proofs.Common.{◌≡◌, ℕ, zero, suc, ◌+◌, ◌<◌, ◌≤◌, Bool, true, false, List, [], ◌∷◌, ◌++◌, length, map, drop, Option, Some, None, is_some, refl, sym, ap, subst, ◌∙◌, arith, append_assoc}
-use Rattle.std.specs.Prelude.{flat_map, unwrap_or, option_map, option_and_then}
+use Rattle.std.proofs.Common.{◌≡◌, ℕ, suc, ◌+◌, true, List, [], ◌∷◌, ◌++◌, length, map, Option, Some, None, is_some, refl, sym, ap, subst, ◌∙◌, arith, append_assoc}
+use Rattle.std.specs.Prelude.{flat_map, unwrap_or, option_and_then}
 use Rattle.std.specs.List.{AllByRecursion, zip}
-use Rattle.wc_base.specs.declared.error.DomError.{DomError}
-use Rattle.wc_config.specs.declared.config.AudioDecoderConfig.{AudioDecoderConfig}
 use Rattle.wc_chunk.specs.declared.chunk.Chunk.{Chunk}
 use Rattle.coder_api.specs.declared.unit.Unit as media
 use Rattle.coder_api.specs.declared.unit.Unit.TheVariants as unit
 use Rattle.coder_api.specs.declared.slot.SlotEntry.{SlotEntry}
-use Rattle.codec_model.specs.declared.entry.Opening.{Opening}
 use Rattle.codec_model.specs.declared.entry.Entry.{Entry}
 use Rattle.codec_model.specs.declared.entry.Event.{Event}
 use Rattle.codec_model.specs.declared.entry.Event.TheVariants as event
 use Rattle.codec_model.specs.declared.entry.Shown.{Shown}
 use Rattle.codec_model.specs.Replay.{State, opening_state}
 use Rattle.codec_model.specs.Shown.{shows, units_in}
-use Rattle.codec_follow.specs.Follow.{follow_step, follow_from, filled, filled_at, each_filled_from, each_filled, units_shown, IsFollowed}
+use Rattle.codec_follow.specs.Follow.{follow_step, follow_from, filled, each_filled_from, units_shown}
 use Rattle.script_types.specs.declared.script.ScriptData.{ScriptData}
 use Rattle.script_types.specs.declared.script.CallerItem.{CallerItem}
 use Rattle.script_types.specs.declared.script.CodecItem.{CodecItem}
@@ -28,7 +25,7 @@ use Rattle.report_lines.specs.declared.line.Line.{Line}
 use Rattle.report_lines.specs.declared.line.Line.TheVariants as line
 use Rattle.report_lines.specs.Laws.{told_of, event_seen}
 use Rattle.report_lines.specs.Whole.{lines_from, result_seen, caller_seen, entry_seen, codec_seen, slot_seen, end_seen, lines_of}
-use Rattle.report_reader.specs.Read.{results_in, behind_results, callers_in, entry_of, next_of, entry_then, entries_from, told_in, behind_entries, description_of, config_in, outputs_in, trace_of, codecs_in, slots_in, held_in, run_of}
+use Rattle.report_reader.specs.Read.{results_in, behind_results, callers_in, entries_from, told_in, behind_entries, description_of, config_in, outputs_in, trace_of, codecs_in, slots_in, held_in, run_of}
 use Rattle.report_reader.specs.Told.{HoldsArguments, IsPlainDescription, IsPlainUnit, IsPlainTrace, IsToldTrace, IsToldRun}
 
 -- ---- callers

@@ -1,6 +1,6 @@
 -- What lines show is told: each entry holds its arguments and follows, and shows what it shows with its own outputs.
-use Rattle.std.proofs.Common.{◌≡◌, ℕ, zero, suc, ◌+◌, Bool, true, false, List, [], ◌∷◌, ◌++◌, length, drop, Option, Some, None, is_some, refl, sym, ap, subst, ◌∙◌, arith, append_assoc}
-use Rattle.std.specs.Prelude.{option_map, option_and_then, unwrap_or}
+use Rattle.std.proofs.Common.{◌≡◌, ℕ, zero, suc, true, List, [], ◌∷◌, ◌++◌, length, drop, Option, Some, None, is_some, refl, sym, ap, subst, ◌∙◌}
+use Rattle.std.specs.Prelude.{option_map, option_and_then}
 use Rattle.std.specs.List.{AllByRecursion, zip, slice_get}
 use Rattle.wc_base.specs.declared.who.Who.{Who}
 use Rattle.wc_chunk.specs.declared.chunk.Chunk.{Chunk}
@@ -13,11 +13,10 @@ use Rattle.codec_model.specs.declared.entry.Event.TheVariants as event
 use Rattle.codec_model.specs.declared.entry.Shown.{Shown}
 use Rattle.codec_model.specs.Replay.{State, opening_state}
 use Rattle.codec_model.specs.Shown.{shows, units_in}
-use Rattle.codec_follow.specs.Follow.{follow_step, follow_from, filled, filled_at, each_filled_from, units_shown}
+use Rattle.codec_follow.specs.Follow.{follow_from, filled, filled_at, each_filled_from, units_shown}
 use Rattle.script_types.specs.declared.script.ScriptData.{ScriptData}
 use Rattle.script_types.specs.declared.steps.Step.{Step}
 use Rattle.script_types.specs.declared.steps.Step.TheVariants as step
-use Rattle.trace_text.specs.declared.run.Run.{Run}
 use Rattle.trace_text.specs.Follow.{steps_of, chunk_at}
 use Rattle.trace_text.specs.Report.{refusal_in}
 use Rattle.report_lines.specs.declared.line.CallWord.{CallWord}
@@ -26,7 +25,7 @@ use Rattle.report_lines.specs.declared.line.Told.{Told}
 use Rattle.report_lines.specs.declared.line.Told.TheVariants as told
 use Rattle.report_lines.specs.declared.line.Line.{Line}
 use Rattle.report_lines.specs.Laws.{told_of}
-use Rattle.report_reader.specs.Read.{call_of, call_entry, entry_of, next_of, entry_then, entries_from, trace_of, codec_in, callers_in, behind_results, codecs_in, behind_entries, run_of}
+use Rattle.report_reader.specs.Read.{call_of, entry_of, next_of, entry_then, entries_from, trace_of, callers_in, behind_results, codecs_in, behind_entries, run_of}
 use Rattle.report_reader.specs.Told.{HoldsArguments, IsToldTrace, IsToldRun}
 use Rattle.report_reader.proofs.RunLaws.{step_of_followed}
 use Rattle.report_reader.proofs.TraceLaws.{next_entry_is, next_step_is}

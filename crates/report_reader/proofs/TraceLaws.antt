@@ -1,5 +1,5 @@
 -- A codec is followed, entry after entry.
-use Rattle.std.proofs.Common.{◌≡◌, ℕ, suc, ◌+◌, ◌-◌, ◌<◌, take, drop, get_or, List, [], ◌∷◌, ◌++◌, length, Option, Some, None, refl, sym, ap, subst, ◌∙◌, arith, append_assoc, append-nil}
+use Rattle.std.proofs.Common.{◌≡◌, suc, ◌-◌, ◌<◌, take, drop, get_or, List, [], ◌∷◌, ◌++◌, length, Option, Some, None, refl, sym, ap, subst, ◌∙◌, arith, append_assoc, append-nil}
 use Rattle.std.specs.Prelude.{option_map, option_and_then, unwrap_or}
 use Rattle.std.proofs.Math.Seq.{take-length}
 use Rattle.wc_chunk.specs.declared.chunk.Chunk.{Chunk}
@@ -11,11 +11,11 @@ use Rattle.codec_model.specs.declared.entry.Shown.{Shown}
 use Rattle.codec_model.specs.Replay.{State, opening_state}
 use Rattle.codec_model.specs.Shown.{shows, shown_at}
 use Rattle.codec_follow.specs.Follow.{follow_step, filled, filled_at, each_filled_from, each_filled}
-use Rattle.codec_follow.specs.Followed.{FollowerValue, follower_of, shown_where, state_after, Follows}
+use Rattle.codec_follow.specs.Followed.{FollowerValue, follower_of, Follows}
 use Rattle.script_types.specs.declared.script.ScriptData.{ScriptData}
 use Rattle.trace_text.specs.declared.run.CodecTrace.{CodecTrace}
 use Rattle.report_lines.specs.declared.line.Told.{Told}
-use Rattle.report_reader.specs.Read.{entry_of, next_of, entry_then, entries_from, trace_of}
+use Rattle.report_reader.specs.Read.{entry_of, next_of, entries_from, trace_of}
 use Rattle.report_reader.specs.Next.{shown_next, NextIs}
 
 -- ---- the next entry

@@ -1,4 +1,4 @@
-use Rattle.std.proofs.Common.{arith, sym, ◌∙◌, inl, inr}
+use Rattle.std.proofs.Common.{sym, ◌∙◌, inl, inr}
 use Rattle.report_reader.proofs.DifferenceLaws.{differs_at_end}
 use Rattle.report_reader.proofs.compare.difference.Goals as goal
 use Rattle.report_reader.proofs.compare.difference.Goals.{then-loop-i-test+else-i-b, else-loop-i-test}

@@ -1,4 +1,4 @@
-use Rattle.std.proofs.Common.{◌+◌, ◌∷◌, [], arith}
+use Rattle.std.proofs.Common.{◌∷◌, [], arith}
 use Rattle.std.proofs.lemmas.List.{length-append}
 use Rattle.report_reader.proofs.FormLaws.{form_shorter, reads_more}
 use Rattle.report_reader.proofs.PassLaws.{form_numbered}

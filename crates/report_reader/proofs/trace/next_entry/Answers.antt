@@ -1,5 +1,5 @@
 use Rattle.std.proofs.Common.{sym, ◌∙◌}
-use Rattle.report_reader.proofs.TraceLaws.{entry_follows, no_arguments}
+use Rattle.report_reader.proofs.TraceLaws.{entry_follows}
 use Rattle.report_reader.proofs.trace.next_entry.Goals as goal
 
 pub returns : goal.returns

@@ -1,5 +1,5 @@
-use Rattle.std.proofs.Common.{sym, ◌∙◌, ◌<◌, length, arith, refl}
-use Rattle.report_reader.proofs.TraceLaws.{tracing_start, tracing_more, tracing_stop, tracing_end, head_is}
+use Rattle.std.proofs.Common.{◌<◌, length, arith}
+use Rattle.report_reader.proofs.TraceLaws.{tracing_start, tracing_more, tracing_stop, head_is}
 use Rattle.report_reader.proofs.trace.trace_of.Goals as goal
 
 pub loop-rest-init : goal.loop-rest-init
