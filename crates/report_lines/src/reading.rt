@@ -16,11 +16,11 @@ use report_fields::{
     FieldFault, after, are_digits, bytes_upto, number_or_dash_upto, number_upto, short_upto,
     signed_upto, upto, word_at,
 };
+use script_types::{CallerItem, CodecItem, ScriptData};
 use std::alloc::Global;
 use trace_text::StepResult;
 use wc_base::{By, DomError, List, PictureShape, SoundShape, Who};
 use wc_config::CoderId;
-use script_types::{CallerItem, CodecItem, ScriptData};
 
 fn short(n: u64) -> Option<u32>
     ensures { result ≡ short_of n }

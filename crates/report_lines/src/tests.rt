@@ -1,11 +1,11 @@
 // A text with each line of a report, and lines that are not written so.
 use crate::{Line, line_at, line_text};
 use report_fields::FieldFault;
+use script_types::{CallerItem, CodecItem, KindWord, ScriptData};
 use std::alloc::Global;
 use std::test::Fail;
 use trace_text::StepResult;
 use wc_base::{By, List, Text};
-use script_types::{CallerItem, CodecItem, KindWord, ScriptData};
 
 const LINES: &str =
     "wcrun report 1\ncaller a\n0 d.0 ok\n1 QuotaExceededError\n2 d.1 DataError\n3 d:14 pending\n4 d:15 rejected AbortError\n5 d:15 closed 3\n6 absent\ncodec d audio-decoder 4\n0 a.0 configure = ok\n1 a.2 decode = TypeError\n2 start 0.1\n3 done 0.1 250 ran 1\n4 done 1.0 7 no-slot 2\n5 done 1.1 8 no-memory\n6 turn -\n7 turn close EncodingError\n8 reclaim 9\n  output audio s16 8000 1 2 0 250 01000200\n  output video NV12 2 2 -5 - 0001\n  output chunk delta 3 20 ff\n  config pcm-s16 8000 2 -\n  resolve 2\n  reject 3 AbortError\n  error OutOfMemory\n  dequeue\npool\nslots\n0 d.3 acquire decode:pcm-s16 0\n1 d.4 acquire encode:x-raw-nv12 none 2 2\n2 a.1 give decode:flac 1\nheld 0\nend\n";

@@ -10,12 +10,12 @@ use crate::words::{
 };
 use codec_model::{Opening, Outcome, PromiseState, TurnWord};
 use coder_api::{SlotEntry, SlotOp};
+use script_types::{CallerItem, CodecItem, ScriptData};
 use std::alloc::{AllocError, Global};
 use std::fmt;
 use trace_text::StepResult;
 use wc_base::{By, DomError, PictureShape, SoundShape, Who};
 use wc_config::CoderId;
-use script_types::{CallerItem, CodecItem, ScriptData};
 
 fn codec_name(codecs: &[CodecItem], number: u32) -> &str
     ensures { result.now ≡ spec.codec_name codecs.now number }
