@@ -1,7 +1,7 @@
 -- The headline, from how a call ends and from what its last step writes.
 use Rattle.std.proofs.Common.{◌≡◌, ◌≢◌, ℕ, List, [], ◌++◌, Option, ◌⊎◌, inl, inr, refl, sym, subst, ◌∙◌, arith}
 use Rattle.wc_base.specs.Told.{AppendsPart}
-use Rattle.wc_base.proofs.Parts.{appended_twice, part_after}
+use Rattle.wcrun.proofs.Parts.{one_after_another, then_a_part}
 use Rattle.wc_config.specs.declared.codec.CoderId.{CoderId}
 use Rattle.wcrun.specs.declared.refusal.Refusal.{Refusal}
 use Rattle.wcrun.specs.declared.refusal.Refusal.TheVariants as refusal
@@ -45,13 +45,13 @@ headline_of_report r ids w text k p = record {
   out_of_memory = λ e. let m = p.memory e in record {
     text = m.1.part ++ memory_line;
     cut = cut_after r ids w.before text m.0 k m.1;
-    told = appended_twice w.before m.0 w.after m.1.part memory_line m.1.told m.2;
+    told = one_after_another w.before m.0 w.after m.1.part memory_line m.1.told m.2;
   };
   sink_failed = λ e. let m = p.part e in record {
     rose = p.failed e;
     text = m.1.part ++ memory_line;
     allowed = inr (inl (cut_after r ids w.before text m.0 k m.1));
-    part = part_after w.before m.0 m.1.part memory_line w.after m.1.told m.2;
+    part = then_a_part w.before m.0 m.1.part memory_line w.after m.1.told m.2;
   };
   refused = λ n0 n5 n6. absurd (n5 (p.only n0 n6));
 }

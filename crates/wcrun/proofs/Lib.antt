@@ -1,3 +1,5 @@
+mod Counts
+mod Parts
 mod Files
 mod Outcomes
 mod Prepared

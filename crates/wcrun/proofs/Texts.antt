@@ -2,7 +2,7 @@
 use Rattle.std.proofs.Common.{◌≡◌, ℕ, List, Option, refl, arith}
 use Rattle.wc_base.specs.Causes.{Rose}
 use Rattle.wc_base.specs.Told.{appended, AppendsPart}
-use Rattle.wc_base.proofs.Parts.{part_none}
+use Rattle.wcrun.proofs.Parts.{nothing_yet}
 use Rattle.wcrun.specs.Refusals.{memory_line}
 use Rattle.wcrun.specs.Headline.{writing}
 use Rattle.wcrun.specs.Writing.{WritesText}
@@ -13,7 +13,7 @@ text_failed old text new before now p rose = record {
   done = λ e. absurd (omega arith);
   memory = λ e. absurd (omega arith);
   failed = λ e. rose;
-  part = λ e. (new, p, part_none new memory_line);
+  part = λ e. (new, p, nothing_yet new memory_line);
   only = λ n0 n6. refl;
 }
 

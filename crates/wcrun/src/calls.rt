@@ -65,7 +65,7 @@ fn refuse<S: Sink>(alloc: Global, refusal: &Refusal, sink: &mut S) -> u8
 }
 
 // Ends with the report of a run.
-#[tactic(auto, using(wc_base::proofs::Parts::part_none))]
+#[tactic(auto, using(crate::proofs::Parts::nothing_yet))]
 fn report<S: Sink>(alloc: Global, script: &Script, run: &Run, sink: &mut S) -> u8
     ensures { WritesText (report_of script.now run.now)
         (writing (S.told sink.old) (S.told sink.new) (S.faults sink.old) (S.faults sink.new) result) }
