@@ -9,3 +9,4 @@ pub mod ReadLaws
 pub mod NameLaws
 pub mod ToldLaws
 pub mod LegalLaws
+pub mod FaultLaws

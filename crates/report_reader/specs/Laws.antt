@@ -1,5 +1,5 @@
 -- What the report of a run tells.
-use Rattle.std.specs.Prelude.{◌≡◌, List, IsTrue}
+use Rattle.std.specs.Prelude.{ℕ, ◌≡◌, List, IsTrue}
 use Rattle.std.specs.List.{AllByRecursion}
 use Rattle.wc_chunk.specs.declared.chunk.Chunk.{Chunk}
 use Rattle.wc_config.specs.declared.codec.CoderId.{CoderId}
@@ -12,7 +12,9 @@ use Rattle.trace_text.specs.Report.{report_of}
 use Rattle.trace_text.specs.Fits.{Fits, IsLegalRun}
 use Rattle.report_lines.specs.Whole.{lines_of}
 use Rattle.report_lines.specs.Fits.{AreNames}
+use Rattle.report_reader.specs.declared.fault.ReportFault.TheVariants as fault
 use Rattle.report_reader.specs.Read.{run_of}
+use Rattle.report_reader.specs.Fault.{IsFault}
 use Rattle.report_reader.specs.Told.{IsToldRun, IsPlainTrace, IsWithoutLoss, IsTold}
 
 -- the lines of a run show that run, where its histories are told and its outputs are written without loss
@@ -35,3 +37,7 @@ AnswerFlushes traces = AllByRecursion (λ t. AnswersFlushes t.opening t.entries)
 abbrev pub LegalRunsAreTold : Type 0
 LegalRunsAreTold =
     (script : ScriptData) (media : List (List Chunk)) (made : List CoderId) (run : Run) → IsLegalRun script run → Fits script media made run → AnswerFlushes run.codecs → IsWithoutLoss script run → IsTold script media run
+
+-- a fault has one line
+abbrev pub FaultIsOne : Type 0
+FaultIsOne = (script : ScriptData) (media : List (List Chunk)) (bs : List ℕ) (m n : ℕ) → IsFault script media bs (fault.BadLine m) → IsFault script media bs (fault.BadLine n) → m ≡ n

@@ -4,3 +4,4 @@ pub mod Told
 pub mod Fault
 pub mod Laws
 pub mod Next
+pub mod Rows

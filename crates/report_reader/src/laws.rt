@@ -1,5 +1,5 @@
 // What the report of a run tells.
-ghost use Rattle.report_reader.specs.Laws.{RunAgain, ReportsDetermineRuns, SoundNames, LegalRunsAreTold};
+ghost use Rattle.report_reader.specs.Laws.{RunAgain, ReportsDetermineRuns, SoundNames, LegalRunsAreTold, FaultIsOne};
 
 /// Laws: the lines of a run that is told show that run, and two runs of one script that are told are equal where their
 /// reports are. The script's names are words and differ.
@@ -20,4 +20,9 @@ pub fn names_of_sound_scripts()
 /// carry, that the codec's name is a text without a line feed and a description has bytes.
 pub fn legal_runs_are_told()
     ensures { LegalRunsAreTold }
+{}
+
+/// Law: bytes that are no report of a run have one line at fault.
+pub fn faults_are_one()
+    ensures { FaultIsOne }
 {}

@@ -10,6 +10,7 @@ mod laws;
 mod page;
 mod read;
 mod reading;
+mod rows;
 mod run;
 #[cfg(test)]
 mod tests;
@@ -17,5 +18,8 @@ mod trace;
 
 pub use fault::ReportFault;
 pub use forms::{Forms, Section};
-pub use laws::{legal_runs_are_told, names_of_sound_scripts, reports_determine_runs};
+pub use laws::{
+    faults_are_one, legal_runs_are_told, names_of_sound_scripts, reports_determine_runs,
+};
 pub use read::read_report;
+pub use rows::ordinary_run_again;

@@ -1,0 +1,20 @@
+-- The ordinary run and its report.
+use Rattle.std.specs.Prelude.{◌≡◌, [], ◌∷◌, codes}
+use Rattle.trace_text.specs.Rows.{ordinary_script, file_script, two_chunks, ordinary_run}
+use Rattle.report_lines.specs.Whole.{lines_of}
+use Rattle.report_reader.specs.Read.{run_of}
+use Rattle.report_reader.specs.Fault.{line_of_difference}
+
+-- its lines show it, its chunk made or from a file
+abbrev pub OrdinaryAgain : Type 0
+OrdinaryAgain = run_of ordinary_script [] (lines_of ordinary_script ordinary_run) ≡ ordinary_run
+
+abbrev pub FileAgain : Type 0
+FileAgain = run_of file_script (two_chunks ∷ []) (lines_of file_script ordinary_run) ≡ ordinary_run
+
+-- texts that differ in a line, and one that lacks its last
+abbrev pub SecondDiffers : Type 0
+SecondDiffers = line_of_difference (codes "a\nb\nc\n") (codes "a\nd\nc\n") ≡ 2
+
+abbrev pub ThirdIsMissing : Type 0
+ThirdIsMissing = line_of_difference (codes "a\nb\nc\n") (codes "a\nb\n") ≡ 3

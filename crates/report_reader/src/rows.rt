@@ -1,0 +1,10 @@
+// The definitions on the ordinary run, computed by the checker.
+ghost use Rattle.report_reader.specs.Rows.{OrdinaryAgain, FileAgain, SecondDiffers, ThirdIsMissing};
+
+/// The lines of the ordinary run show it, its chunk made or from a file; and the lines in which two texts differ.
+pub fn ordinary_run_again()
+    ensures made { OrdinaryAgain }
+    ensures file { FileAgain }
+    ensures second { SecondDiffers }
+    ensures third { ThirdIsMissing }
+{}
