@@ -1,3 +1,4 @@
 pub mod Erased
 pub mod Filling
+pub mod Answered
 pub mod Moves

@@ -1,6 +1,15 @@
 -- What holds between legal histories and histories that follow.
-use Rattle.std.specs.Prelude.{◌≡◌, ◌≤◌, ◌&&◌, not, Bool, true, false, List, [], ◌∷◌, length, take, Option, Some, None, option_map, unwrap_or}
+use Rattle.std.specs.Prelude.{◌≡◌, ◌≤◌, ◌&&◌, not, Bool, true, false, List, [], ◌∷◌, length, take, Option, Some, None, is_some, option_map, unwrap_or}
+use Rattle.wc_config.specs.declared.codec.CoderId.{CoderId}
+use Rattle.wc_config.specs.declared.config.Config.{Config}
+use Rattle.wc_config.specs.declared.config.Config.TheVariants as config
+use Rattle.wc_config.specs.declared.codec.CodecId.{CodecId}
+use Rattle.wc_config.specs.declared.codec.CodecId.TheVariants as codec
+use Rattle.wc_config.specs.Configs.{audio_codec, coder_id_of}
 use Rattle.coder_api.specs.declared.unit.Unit as media
+use Rattle.coder_api.specs.declared.coder.Command.{Command}
+use Rattle.coder_api.specs.declared.coder.Command.TheVariants as command
+use Rattle.coder_api.specs.Commands.{answer_after}
 use Rattle.codec_model.specs.declared.entry.Opening.{Opening}
 use Rattle.codec_model.specs.declared.entry.WorkKind.TheVariants as kind
 use Rattle.codec_model.specs.declared.entry.Running.{Running}
@@ -32,6 +41,40 @@ answers_flushes_from (e ∷ es) s = not (refuses_flush e s) && unwrap_or (option
 -- no flush item is refused (W3C WebCodecs, AudioDecoder: `flush`: its work has no failure)
 abbrev pub AnswersFlushes : Opening → List Entry → Type 0
 AnswersFlushes o h = answers_flushes_from h (opening_state o) ≡ true
+
+-- the coder that a config asks for answers each drain, after any commands
+abbrev pub AnswersDrain : Config → Type 0
+AnswersDrain c = (id : CoderId) → coder_id_of c ≡ Some id → (before : List Command) → is_some (answer_after id c before command.Drain) ≡ true
+
+-- so do the coders of all configs
+abbrev pub AnswersDrains : List Entry → Type 0
+AnswersDrains [] = Unit {0}
+AnswersDrains (entry.Configure who c ∷ es) = AnswersDrain c × AnswersDrains es
+AnswersDrains (e ∷ es) = AnswersDrains es
+
+-- a codec whose coder answers drains (linear PCM and G.711), or none
+abbrev pub is_drained : Option CodecId → Bool
+is_drained None = true
+is_drained (Some codec.PcmU8) = true
+is_drained (Some codec.PcmS16) = true
+is_drained (Some codec.PcmS24) = true
+is_drained (Some codec.PcmS32) = true
+is_drained (Some codec.Alaw) = true
+is_drained (Some codec.Ulaw) = true
+is_drained _ = false
+
+abbrev pub has_drain : Config → Bool
+has_drain (config.AudioDecoder c) = is_drained (audio_codec c.codec)
+has_drain (config.AudioEncoder c) = is_drained (audio_codec c.codec)
+has_drain (config.VideoDecoder c) = false
+has_drain config.Bad = true
+
+abbrev pub KnownDrains : Type 0
+KnownDrains = (c : Config) → has_drain c ≡ true → AnswersDrain c
+
+-- a legal history refuses no flush item, where drains are answered
+abbrev pub LegalAnswers : Type 0
+LegalAnswers = (o : Opening) (h : List Entry) → IsLegal o h → AnswersDrains h → AnswersFlushes o h
 
 -- a legal history follows
 abbrev pub LegalFollows : Type 0

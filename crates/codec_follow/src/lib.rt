@@ -11,5 +11,5 @@ mod rows;
 mod tests;
 
 pub use follower::Follower;
-pub use laws::legal_histories_follow;
+pub use laws::{legal_flushes_are_answered, legal_histories_follow};
 pub use rows::{decoding_followed, ordinary_followed};

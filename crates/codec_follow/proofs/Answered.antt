@@ -1,0 +1,594 @@
+-- After a legal history no flush item is refused, where drains are answered.
+use Rattle.std.proofs.Common.{ℕ, ◌≡◌, ◌+◌, ◌≤◌, ◌&&◌, not, Bool, true, false, eqb, eq-eqb, cond, List, [], ◌∷◌, ◌++◌, append_assoc, append-nil, map, Option, Some, None, is_some, is_none, refl, ap, sym, subst, ◌∙◌, arith}
+use Rattle.std.specs.Prelude.{option_and_then, option_map, unwrap_or, max}
+use Rattle.std.proofs.lemmas.Bool.{eqb-true}
+use Rattle.std.proofs.lemmas.List.{map-append}
+use Rattle.wc_base.specs.declared.error.DomError.{DomError}
+use Rattle.wc_base.specs.declared.error.DomError.TheVariants as dom
+use Rattle.wc_config.specs.declared.codec.CoderId.{CoderId}
+use Rattle.wc_config.specs.declared.codec.CodecId.{CodecId}
+use Rattle.wc_config.specs.declared.codec.CodecId.TheVariants as codec
+use Rattle.wc_config.specs.declared.codec.Role.TheVariants as role
+use Rattle.wc_config.specs.declared.config.AudioDecoderConfig.{AudioDecoderConfig}
+use Rattle.wc_config.specs.declared.config.AudioEncoderConfig.{AudioEncoderConfig}
+use Rattle.wc_config.specs.declared.config.Config.{Config}
+use Rattle.wc_config.specs.declared.config.Config.TheVariants as config
+use Rattle.wc_config.specs.Configs.{is_valid, is_within, is_supported, coder_id_of, id_with, audio_codec}
+use Rattle.coder_api.specs.declared.unit.Unit as media
+use Rattle.coder_api.specs.declared.coder.Command.{Command}
+use Rattle.coder_api.specs.declared.coder.Command.TheVariants as command
+use Rattle.coder_api.specs.Commands.{audio_decoder_answer, audio_encoder_answer, answer_after, answers_from, until_refused, last_answer}
+use Rattle.codec_model.specs.declared.entry.CodecState.{CodecState}
+use Rattle.codec_model.specs.declared.entry.CodecState.TheVariants.{Unconfigured, Configured, Closed}
+use Rattle.codec_model.specs.declared.entry.Opening.{Opening}
+use Rattle.codec_model.specs.declared.entry.Call.{Call}
+use Rattle.codec_model.specs.declared.entry.Call.TheVariants as call
+use Rattle.codec_model.specs.declared.entry.Entry.{Entry}
+use Rattle.codec_model.specs.declared.entry.Entry.TheVariants as entry
+use Rattle.codec_model.specs.declared.entry.Work.{Work}
+use Rattle.codec_model.specs.declared.entry.Work.TheVariants as work
+use Rattle.codec_model.specs.declared.entry.WorkKind.{WorkKind}
+use Rattle.codec_model.specs.declared.entry.WorkKind.TheVariants as kind
+use Rattle.codec_model.specs.declared.entry.Message.{Message}
+use Rattle.codec_model.specs.declared.entry.Item.{Item}
+use Rattle.codec_model.specs.declared.entry.Running.{Running}
+use Rattle.codec_model.specs.declared.entry.Task.{Task}
+use Rattle.codec_model.specs.declared.entry.Task.TheVariants as task
+use Rattle.codec_model.specs.declared.entry.Ended.{Ended}
+use Rattle.codec_model.specs.declared.entry.Ended.TheVariants as ended
+use Rattle.codec_model.specs.declared.entry.Outcome.{Outcome}
+use Rattle.codec_model.specs.declared.entry.Outcome.TheVariants as outcome
+use Rattle.codec_model.specs.Control.{Control, kind_of, is_taken, after_message, process_queue, entered, run_task, done_running, settled, settled_ran, after_reset, after_close, may_reclaim, may_start}
+use Rattle.codec_model.specs.Replay.{State, Given, given_more, answer_to, answers_to, opening_state, step, replay, replay_from, done_ended, ended_of, ended_run, decode_error, flush_error, configure_error, removal_error, after_call, call_error, call_step, accepted, removal_step, removed, start_step, done_step, with_control, turn_step}
+use Rattle.codec_model.proofs.FactLaws.{cond_is, some_same}
+use Rattle.codec_follow.specs.Laws.{is_refusal, is_flush, refuses_flush, answers_flushes_from, AnswersDrain, AnswersDrains, is_drained, KnownDrains, LegalAnswers}
+
+-- the answers of a coder that refused nothing so far
+both : (a b : Bool) → (a && b) ≡ true → (a ≡ true) × (b ≡ true)
+both true b h = (refl, h)
+both false b h = absurd cc
+
+some_is : {X : Type 0} (o : Option X) → is_some o ≡ true → (x : X) × (o ≡ Some x)
+some_is None h = absurd cc
+some_is (Some x) h = (x, refl)
+
+abbrev none_refused : CoderId → Config → List Command → List Command → Bool
+none_refused id config before [] = true
+none_refused id config before (x ∷ xs) = is_some (answer_after id config before x) && none_refused id config (before ++ x ∷ []) xs
+
+until_some : (o : Option (List media.Unit)) (rest : List (Option (List media.Unit))) → (v : Option (List media.Unit)) × (vs : List (Option (List media.Unit))) × (until_refused o rest ≡ v ∷ vs)
+until_some None rest = (None, [], refl)
+until_some (Some units) rest = (Some units, rest, refl)
+
+answers_some : (id : CoderId) (c : Config) (before xs : List Command) (x : Command) → (v : Option (List media.Unit)) × (vs : List (Option (List media.Unit))) × (answers_from id c before (xs ++ x ∷ []) ≡ v ∷ vs)
+answers_some id c before [] x = until_some (answer_after id c before x) []
+answers_some id c before (y ∷ ys) x = until_some (answer_after id c before y) (answers_from id c (before ++ y ∷ []) (ys ++ x ∷ []))
+
+last_of_one : (o : Option (List media.Unit)) → last_answer (until_refused o []) ≡ o
+last_of_one None = refl
+last_of_one (Some units) = refl
+
+last_more : (id : CoderId) (c : Config) (before xs : List Command) (x : Command) → none_refused id c before xs ≡ true → last_answer (answers_from id c before (xs ++ x ∷ [])) ≡ answer_after id c (before ++ xs) x
+last_more id c before [] x h = last_of_one (answer_after id c before x) ∙ ap (λ b. answer_after id c b x) (sym (append-nil before))
+last_more id c before (y ∷ ys) x h =
+    let parts = both (is_some (answer_after id c before y)) (none_refused id c (before ++ y ∷ []) ys) h in
+    let u = some_is (answer_after id c before y) parts.0 in
+    let rest = last_more id c (before ++ y ∷ []) ys x parts.1 in
+    let more = answers_some id c (before ++ y ∷ []) ys x in
+    let same : answer_after id c ((before ++ y ∷ []) ++ ys) x ≡ answer_after id c (before ++ y ∷ ys) x = ap (λ b. answer_after id c b x) (append_assoc before (y ∷ []) ys) in
+    rw (u.1, more.2) (rw more.2 at (rest ∙ same))
+
+none_refused_more : (id : CoderId) (c : Config) (before xs : List Command) (x : Command) → none_refused id c before xs ≡ true → is_some (answer_after id c (before ++ xs) x) ≡ true → none_refused id c before (xs ++ x ∷ []) ≡ true
+none_refused_more id c before [] x h s = let here : is_some (answer_after id c before x) ≡ true = ap (λ b. is_some (answer_after id c b x)) (sym (append-nil before)) ∙ s in rw here refl
+none_refused_more id c before (y ∷ ys) x h s =
+    let parts = both (is_some (answer_after id c before y)) (none_refused id c (before ++ y ∷ []) ys) h in
+    let same : is_some (answer_after id c ((before ++ y ∷ []) ++ ys) x) ≡ true = ap (λ b. is_some (answer_after id c b x)) (append_assoc before (y ∷ []) ys) ∙ s in
+    let rest = none_refused_more id c (before ++ y ∷ []) ys x parts.1 same in
+    rw (parts.0, rest) refl
+
+-- the coder was given all this, refused none of it, and answers drains
+record IsOpen (g : Given) : Type 0 where
+  id : CoderId
+  asked : coder_id_of g.config ≡ Some id
+  accepted_all : none_refused id g.config [] g.commands ≡ true
+  drained : AnswersDrain g.config
+
+abbrev more : Command → Given → Given
+more x g = record g { commands = g.commands ++ x ∷ [] }
+
+-- the last answer is that of the command
+last_is : (g : Given) (x : Command) → (k : IsOpen g) → last_answer (answers_to (more x g)) ≡ answer_after k.id g.config g.commands x
+last_is g x k = rw k.asked (last_more k.id g.config [] g.commands x k.accepted_all)
+
+open_more : (g : Given) (x : Command) → IsOpen g → (us : List media.Unit) → last_answer (answers_to (more x g)) ≡ Some us → IsOpen (more x g)
+open_more g x k us h = record {
+  id = k.id;
+  asked = k.asked;
+  accepted_all = none_refused_more k.id g.config [] g.commands x k.accepted_all (ap (λ (o : Option (List media.Unit)). is_some o) (sym (last_is g x k) ∙ h));
+  drained = k.drained;
+}
+
+supported_asks : (config : Config) → is_supported config ≡ true → is_some (coder_id_of config) ≡ true
+supported_asks config s = (both (is_valid config) (is_some (coder_id_of config)) (both (is_valid config && is_some (coder_id_of config)) (is_within config) s).0).1
+
+configure_asks : (config : Config) (b : Bool) (us : List media.Unit) → is_supported config ≡ b → cond b (Some []) None ≡ Some us → is_supported config ≡ true
+configure_asks config true us e h = e
+configure_asks config false us e h = absurd cc
+
+open_configured : (config : Config) (us : List media.Unit) → AnswersDrain config → answer_to kind.Configure (record { config = config; commands = [] }) ≡ Some us → IsOpen (record { config = config; commands = [] })
+open_configured config us drains h =
+    let supported = configure_asks config (is_supported config) us refl h in
+    let id = some_is (coder_id_of config) (supported_asks config supported) in
+    record { id = id.0; asked = id.1; accepted_all = refl; drained = drains }
+
+-- what is queued for a coder: nothing, or a configure first
+abbrev leads : List Work → Bool
+leads [] = false
+leads (work.Configure config ∷ ws) = true
+leads (work.Coded chunk ∷ ws) = false
+leads (work.Flush ∷ ws) = false
+
+abbrev starts : List Work → Bool
+starts [] = true
+starts (w ∷ ws) = leads (w ∷ ws)
+
+leads_starts : (ws : List Work) → leads ws ≡ true → starts ws ≡ true
+leads_starts [] h = refl
+leads_starts (w ∷ ws) h = h
+
+leads_push : (ws : List Work) (w : Work) → leads ws ≡ true → leads (ws ++ w ∷ []) ≡ true
+leads_push [] w h = absurd cc
+leads_push (work.Configure config ∷ ws) w h = refl
+leads_push (work.Coded chunk ∷ ws) w h = absurd cc
+leads_push (work.Flush ∷ ws) w h = absurd cc
+
+starts_push : (ws : List Work) (config : Config) → starts ws ≡ true → leads (ws ++ work.Configure config ∷ []) ≡ true
+starts_push [] config h = refl
+starts_push (work.Configure c ∷ ws) config h = refl
+starts_push (work.Coded chunk ∷ ws) config h = absurd cc
+starts_push (work.Flush ∷ ws) config h = absurd cc
+
+abbrev DrainedBy : Work → Type 0
+DrainedBy (work.Configure config) = AnswersDrain config
+DrainedBy (work.Coded chunk) = Unit {0}
+DrainedBy work.Flush = Unit {0}
+
+abbrev Drained : List Work → Type 0
+Drained [] = Unit {0}
+Drained (w ∷ ws) = DrainedBy w × Drained ws
+
+drained_push : (ws : List Work) (w : Work) → Drained ws → DrainedBy w → Drained (ws ++ w ∷ [])
+drained_push [] w h k = (k, tt)
+drained_push (v ∷ ws) w h k = (h.0, drained_push ws w h.1 k)
+
+-- the works that are queued, as items and then as messages
+abbrev works_on : List Item → List Message → List Work
+works_on is ms = map (λ (i : Item). i.work) is ++ map (λ (m : Message). m.work) ms
+
+abbrev works : Control → List Work
+works c = works_on c.work c.messages
+
+works_moved : (is : List Item) (i : Item) (ms : List Message) → works_on (is ++ i ∷ []) ms ≡ map (λ (j : Item). j.work) is ++ i.work ∷ map (λ (m : Message). m.work) ms
+works_moved is i ms =
+    ap (λ (l : List Work). l ++ map (λ (m : Message). m.work) ms) (map-append (λ (j : Item). j.work) is (i ∷ []))
+    ∙ append_assoc (map (λ (j : Item). j.work) is) (i.work ∷ []) (map (λ (m : Message). m.work) ms)
+
+works_more : (is : List Item) (ms : List Message) (m : Message) → works_on is (ms ++ m ∷ []) ≡ works_on is ms ++ m.work ∷ []
+works_more is ms m =
+    ap (λ (l : List Work). map (λ (j : Item). j.work) is ++ l) (map-append (λ (x : Message). x.work) ms (m ∷ []))
+    ∙ sym (append_assoc (map (λ (j : Item). j.work) is) (map (λ (x : Message). x.work) ms) (m.work ∷ []))
+
+-- What keeps each flush item from being refused.
+record Parts (phase : CodecState) (epoch : ℕ) (halted : Bool) (ws : List Work) (running : Option Running) (given busy : Given) : Type 0 where
+  -- an item was started in this epoch
+  begun : Bool
+  first : begun ≡ false → starts ws ≡ true
+  calls : phase ≡ Configured → begun ≡ false → leads ws ≡ true
+  drained : Drained ws
+  open_now : begun ≡ true → halted ≡ false → ((r : Running) → running ≡ Some r → r.epoch ≡ epoch → ⊥) → IsOpen given
+  open_then : (r : Running) → running ≡ Some r → r.epoch ≡ epoch → (us : List media.Unit) → answer_to r.kind given ≡ Some us → IsOpen given
+  same : (r : Running) → running ≡ Some r → r.epoch ≡ epoch → busy ≡ given
+  flushed : (r : Running) → running ≡ Some r → r.kind ≡ kind.Flush → is_some (answer_to kind.Flush busy) ≡ true
+  before : (r : Running) → running ≡ Some r → r.epoch ≤ epoch
+
+abbrev At : Control → Given → Given → Type 0
+At c given busy = Parts c.phase c.epoch c.halted (works c) c.running given busy
+
+abbrev Sound : State → Type 0
+Sound s = At s.control s.given s.running_given
+
+-- steps that leave all of this as it is
+record Same (c d : Control) : Type 0 where
+  phase : d.phase ≡ c.phase
+  epoch : d.epoch ≡ c.epoch
+  halted : d.halted ≡ c.halted
+  queued : works d ≡ works c
+  running : d.running ≡ c.running
+
+at_same : (c d : Control) (given busy : Given) → Same c d → At c given busy → At d given busy
+at_same c d given busy k h = rw (k.phase, k.epoch, k.halted, k.queued, k.running) h
+
+same_after : (c d e : Control) → Same c d → Same d e → Same c e
+same_after c d e h k = record { phase = k.phase ∙ h.phase; epoch = k.epoch ∙ h.epoch; halted = k.halted ∙ h.halted; queued = k.queued ∙ h.queued; running = k.running ∙ h.running }
+
+same_self : (c : Control) → Same c c
+same_self c = record { phase = refl; epoch = refl; halted = refl; queued = refl; running = refl }
+
+taken_same : (w : Work) (at : ℕ) (ms : List Message) (c : Control) → c.messages ≡ record { place = at; work = w } ∷ ms → Same c (record (after_message (record { place = at; work = w }) c) { messages = ms })
+taken_same (work.Configure config) at ms c e = record { phase = refl; epoch = refl; halted = refl; queued = works_moved c.work (record { number = c.next_item; place = at; work = work.Configure config }) ms ∙ ap (λ (l : List Message). works_on c.work l) (sym e); running = refl }
+taken_same (work.Coded chunk) at ms c e = record { phase = refl; epoch = refl; halted = refl; queued = works_moved c.work (record { number = c.next_item; place = at; work = work.Coded chunk }) ms ∙ ap (λ (l : List Message). works_on c.work l) (sym e); running = refl }
+taken_same work.Flush at ms c e = record { phase = refl; epoch = refl; halted = refl; queued = works_moved c.work (record { number = c.next_item; place = at; work = work.Flush }) ms ∙ ap (λ (l : List Message). works_on c.work l) (sym e); running = refl }
+
+same_by : (b : Bool) (c d : Control) → Same c d → Same c (cond b d c)
+same_by true c d h = h
+same_by false c d h = same_self c
+
+process_same : (ms : List Message) (c : Control) → c.messages ≡ ms → Same c (process_queue ms c)
+process_same [] c e = same_self c
+process_same (m ∷ ms) c e =
+    let d : Control = record (after_message m c) { messages = ms } in
+    same_by (is_taken m c) c (process_queue ms d) (same_after c d (process_queue ms d) (taken_same m.work m.place ms c e) (process_same ms d refl))
+
+processed : (c : Control) (given busy : Given) → At c given busy → At (process_queue c.messages c) given busy
+processed c given busy h = at_same c (process_queue c.messages c) given busy (process_same c.messages c refl) h
+
+-- a call that is taken
+abbrev queues : Control → Message → Control
+queues c m = record c { messages = c.messages ++ m ∷ [] }
+
+pushed_configure : (c : Control) (place : ℕ) (config : Config) (given busy : Given) → AnswersDrain config → At c given busy → At (record (queues c (record { place = place; work = work.Configure config })) { phase = Configured }) given busy
+pushed_configure c place config given busy drains h =
+    rw (works_more c.work c.messages (record { place = place; work = work.Configure config }))
+    (record {
+      begun = h.begun;
+      first = λ b. leads_starts _ (starts_push (works c) config (h.first b));
+      calls = λ p b. starts_push (works c) config (h.first b);
+      drained = drained_push (works c) (work.Configure config) h.drained drains;
+      open_now = h.open_now;
+      open_then = h.open_then;
+      same = h.same;
+      flushed = h.flushed;
+      before = h.before;
+    })
+
+pushed_other : (c : Control) (m : Message) (given busy : Given) → c.phase ≡ Configured → DrainedBy m.work → At c given busy → At (queues c m) given busy
+pushed_other c m given busy configured drains h =
+    rw (works_more c.work c.messages m)
+    (record {
+      begun = h.begun;
+      first = λ b. leads_starts _ (leads_push (works c) m.work (h.calls configured b));
+      calls = λ p b. leads_push (works c) m.work (h.calls configured b);
+      drained = drained_push (works c) m.work h.drained drains;
+      open_now = h.open_now;
+      open_then = h.open_then;
+      same = h.same;
+      flushed = h.flushed;
+      before = h.before;
+    })
+
+decodes_configured : (p : CodecState) (b : Bool) → ◌≡◌ {A = Option DomError} (elim p [ Unconfigured ↦ Some dom.InvalidState | Configured ↦ cond b (Some dom.Data) None | Closed ↦ Some dom.InvalidState ]) None → p ≡ Configured
+decodes_configured Unconfigured b h = absurd cc
+decodes_configured Configured b h = refl
+decodes_configured Closed b h = absurd cc
+
+flushes_configured : (p : CodecState) → ◌≡◌ {A = Option DomError} (elim p [ Unconfigured ↦ Some dom.InvalidState | Configured ↦ None | Closed ↦ Some dom.InvalidState ]) None → p ≡ Configured
+flushes_configured Unconfigured h = absurd cc
+flushes_configured Configured h = refl
+flushes_configured Closed h = absurd cc
+
+abbrev DrainedCall : Call → Type 0
+DrainedCall (call.Configure config) = AnswersDrain config
+DrainedCall (call.Decode chunk) = Unit {0}
+DrainedCall call.Flush = Unit {0}
+
+accepted_at : (x : Call) (c : Control) (given busy : Given) → call_error x c ≡ None → DrainedCall x → At c given busy → At (accepted x c) given busy
+accepted_at (call.Configure config) c given busy e drains h = processed _ given busy (pushed_configure c c.place config given busy drains h)
+accepted_at (call.Decode chunk) c given busy e drains h = processed _ given busy (pushed_other c (record { place = c.place; work = work.Coded chunk }) given busy (decodes_configured c.phase (c.key_required && not chunk.key) e) tt h)
+accepted_at call.Flush c given busy e drains h = processed _ given busy (pushed_other c (record { place = c.place; work = work.Flush }) given busy (flushes_configured c.phase e) tt h)
+
+called_at : (o : Option DomError) (x : Call) (c : Control) (given busy : Given) → call_error x c ≡ o → DrainedCall x → At c given busy → At (after_call o x c) given busy
+called_at None x c given busy e drains h = accepted_at x c given busy e drains h
+called_at (Some error) (call.Configure config) c given busy e drains h = h
+called_at (Some error) (call.Decode chunk) c given busy e drains h = h
+called_at (Some error) call.Flush c given busy e drains h = h
+
+-- a removal
+removed_at : (phase new : CodecState) (epoch : ℕ) (halted : Bool) (ws : List Work) (running : Option Running) (given busy none : Given) → (new ≡ Configured → ⊥) → Parts phase epoch halted ws running given busy → Parts new (epoch + 1) false [] running none busy
+removed_at phase new epoch halted ws running given busy none shut h = record {
+  begun = false;
+  first = λ b. refl;
+  calls = λ p b. absurd (shut p);
+  drained = tt;
+  open_now = λ b fine free. absurd cc;
+  open_then = λ r is e us answer. absurd (late r (h.before r is) e);
+  same = λ r is e. absurd (late r (h.before r is) e);
+  flushed = h.flushed;
+  before = λ r is. omega (arith, h.before r is);
+}
+  where
+    late : (r : Running) → r.epoch ≤ epoch → r.epoch ≡ epoch + 1 → ⊥
+    late r few e = omega (arith, few, e)
+
+removal_sound : (o : Option DomError) (made : Control) (s : State) → At made (removed made s).given s.running_given → Sound s → Sound (removal_step o made s)
+removal_sound None made s h old = h
+removal_sound (Some e) made s h old = old
+
+reset_sound : (s : State) (x : DomError) → Sound s → Sound (removed (after_reset x (entered s.control)) s)
+reset_sound s x h = removed_at s.control.phase Unconfigured s.control.epoch s.control.halted (works s.control) s.control.running s.given s.running_given _ (λ p. absurd cc) h
+
+close_sound : (s : State) (x : DomError) → Sound s → Sound (removed (after_close x (entered s.control)) s)
+close_sound s x h = removed_at s.control.phase Closed s.control.epoch s.control.halted (works s.control) s.control.running s.given s.running_given _ (λ p. absurd cc) h
+
+-- a start
+starts_one : (phase : CodecState) (epoch number place : ℕ) (w : Work) (ws : List Work) (given busy : Given) → Parts phase epoch false (w ∷ ws) None given busy → Parts phase epoch false ws (Some (record { epoch = epoch; number = number; place = place; kind = kind_of w })) (given_more w given) (given_more w given)
+starts_one phase epoch number place (work.Configure config) ws given busy h =
+    let g : Given = record { config = config; commands = [] } in
+    record {
+      begun = true;
+      first = λ b. absurd cc;
+      calls = λ p b. absurd cc;
+      drained = h.drained.1;
+      open_now = λ b fine free. absurd (free _ refl refl);
+      open_then = λ r is e us answer. open_configured config us h.drained.0 (subst (λ (x : Running). answer_to x.kind g ≡ Some us) (sym (some_same _ r is)) answer);
+      same = λ r is e. refl;
+      flushed = λ r is k. absurd cc;
+      before = λ r is. rw (← ap (λ (x : Running). x.epoch) (some_same _ r is)) (omega arith);
+    }
+starts_one phase epoch number place (work.Coded chunk) ws given busy h =
+    let k = begins h.begun refl in
+    record {
+      begun = true;
+      first = λ b. absurd cc;
+      calls = λ p b. absurd cc;
+      drained = h.drained.1;
+      open_now = λ b fine free. absurd (free _ refl refl);
+      open_then = λ r is e us answer. open_more given (command.Chunk chunk) k us (subst (λ (x : Running). answer_to x.kind (more (command.Chunk chunk) given) ≡ Some us) (sym (some_same _ r is)) answer);
+      same = λ r is e. refl;
+      flushed = λ r is f. absurd cc;
+      before = λ r is. rw (← ap (λ (x : Running). x.epoch) (some_same _ r is)) (omega arith);
+    }
+  where
+    begins : (b : Bool) → h.begun ≡ b → IsOpen given
+    begins true e = h.open_now e refl (λ r is. absurd cc)
+    begins false e = let no : false ≡ true = h.first e in absurd cc
+starts_one phase epoch number place work.Flush ws given busy h =
+    let k = begins h.begun refl in
+    record {
+      begun = true;
+      first = λ b. absurd cc;
+      calls = λ p b. absurd cc;
+      drained = h.drained.1;
+      open_now = λ b fine free. absurd (free _ refl refl);
+      open_then = λ r is e us answer. open_more given command.Drain k us (subst (λ (x : Running). answer_to x.kind (more command.Drain given) ≡ Some us) (sym (some_same _ r is)) answer);
+      same = λ r is e. refl;
+      flushed = λ r is f. ap (λ (o : Option (List media.Unit)). is_some o) (last_is given command.Drain k) ∙ k.drained k.id k.asked given.commands;
+      before = λ r is. rw (← ap (λ (x : Running). x.epoch) (some_same _ r is)) (omega arith);
+    }
+  where
+    begins : (b : Bool) → h.begun ≡ b → IsOpen given
+    begins true e = h.open_now e refl (λ r is. absurd cc)
+    begins false e = let no : false ≡ true = h.first e in absurd cc
+
+idle_is : (halted : Bool) (running : Option Running) → (is_none running && not halted) ≡ true → (halted ≡ false) × (running ≡ None)
+idle_is false None h = (refl, refl)
+idle_is true None h = absurd cc
+idle_is halted (Some r) h = absurd cc
+
+started_sound : (is : List Item) (epoch item : ℕ) (s t : State) → s.control.work ≡ is → start_step is epoch item s ≡ Some t → Sound s → Sound t
+started_sound [] epoch item s t e step h = absurd cc
+started_sound (i ∷ is) epoch item s t e step h =
+    let k = cond_is (may_start s.control && eqb epoch s.control.epoch && eqb item i.number) _ t step in
+    let idle = idle_is s.control.halted s.control.running (both (may_start s.control) (eqb epoch s.control.epoch) (both (may_start s.control && eqb epoch s.control.epoch) (eqb item i.number) k.0).0).0 in
+    let there : Parts s.control.phase s.control.epoch false (i.work ∷ works_on is s.control.messages) None s.given s.running_given = rw (← idle.0, ← idle.1) (subst (λ (l : List Item). Parts s.control.phase s.control.epoch s.control.halted (works_on l s.control.messages) s.control.running s.given s.running_given) e h) in
+    let begun = starts_one s.control.phase s.control.epoch i.number i.place i.work (works_on is s.control.messages) s.given s.running_given there in
+    subst (λ (u : State). Sound u) (some_same _ t k.1) (subst (λ (l : List Item). At (Rattle.codec_model.specs.Control.started_on l (entered s.control)) (given_more i.work s.given) (given_more i.work s.given)) (sym e) (rw idle.0 begun))
+
+-- the end of an item
+ran_answer : (k : WorkKind) (g : Given) (x : Outcome) (us : List media.Unit) → ended_of k g x ≡ Some (ended.Ran us) → answer_to k g ≡ Some us
+ran_answer k g (outcome.Ran units) us h = by (answer_to k g) h
+  where
+    by : (a : Option (List media.Unit)) → ended_run units a ≡ Some (ended.Ran us) → a ≡ Some us
+    by None e = absurd cc
+    by (Some vs) e = let one : Some (ended.Ran vs) ≡ Some (ended.Ran us) = (cond_is _ (Some (ended.Ran vs)) (ended.Ran us) e).1 in cc
+ran_answer k g outcome.Refused us h = by (answer_to k g) h
+  where
+    by : (a : Option (List media.Unit)) → Rattle.codec_model.specs.Replay.ended_refused a ≡ Some (ended.Ran us) → a ≡ Some us
+    by None e = absurd cc
+    by (Some vs) e = absurd cc
+ran_answer kind.Configure g (outcome.NoSlot n) us h = let one : Some (ended.NoSlot n) ≡ Some (ended.Ran us) = (cond_is (is_supported g.config) (Some (ended.NoSlot n)) (ended.Ran us) h).1 in absurd cc
+ran_answer kind.Coded g (outcome.NoSlot n) us h = absurd cc
+ran_answer kind.Flush g (outcome.NoSlot n) us h = absurd cc
+ran_answer k g outcome.NoMemory us h = absurd cc
+
+-- an item of an older epoch ended
+stale_at : (phase : CodecState) (epoch : ℕ) (halted : Bool) (ws : List Work) (r : Running) (given busy : Given) → (r.epoch ≡ epoch → ⊥) → Parts phase epoch halted ws (Some r) given busy → Parts phase epoch halted ws None given busy
+stale_at phase epoch halted ws r given busy old h = record {
+  begun = h.begun;
+  first = h.first;
+  calls = h.calls;
+  drained = h.drained;
+  open_now = λ b fine free. h.open_now b fine (λ q is e. old (ap (λ (x : Running). x.epoch) (some_same r q is) ∙ e));
+  open_then = λ q is. absurd cc;
+  same = λ q is. absurd cc;
+  flushed = λ q is. absurd cc;
+  before = λ q is. absurd cc;
+}
+
+-- an item of this epoch ended: the coder is still open, or the codec is halted
+ended_at : (phase : CodecState) (epoch : ℕ) (halted now : Bool) (ws : List Work) (r : Running) (given busy : Given) → (now ≡ false → IsOpen given) → Parts phase epoch halted ws (Some r) given busy → Parts phase epoch now ws None given busy
+ended_at phase epoch halted now ws r given busy stays h = record {
+  begun = h.begun;
+  first = h.first;
+  calls = h.calls;
+  drained = h.drained;
+  open_now = λ b fine free. stays fine;
+  open_then = λ q is. absurd cc;
+  same = λ q is. absurd cc;
+  flushed = λ q is. absurd cc;
+  before = λ q is. absurd cc;
+}
+
+ran_same : (epoch number place : ℕ) (k : WorkKind) (units : List media.Unit) (c : Control) → Same c (settled_ran (record { epoch = epoch; number = number; place = place; kind = k }) units c)
+ran_same epoch number place kind.Configure units c = record { phase = refl; epoch = refl; halted = refl; queued = refl; running = refl }
+ran_same epoch number place kind.Coded units c = record { phase = refl; epoch = refl; halted = refl; queued = refl; running = refl }
+ran_same epoch number place kind.Flush units c = record { phase = refl; epoch = refl; halted = refl; queued = refl; running = refl }
+
+settled_at : (r : Running) (e : Ended) (x : Outcome) (c : Control) (given busy : Given) → c.running ≡ None → r.epoch ≡ c.epoch → ended_of r.kind busy x ≡ Some e → Parts c.phase c.epoch c.halted (works c) (Some r) given busy → At (settled r e c) given busy
+settled_at r (ended.Ran us) x c given busy idle now is h =
+    at_same c (settled_ran r us c) given busy (ran_same r.epoch r.number r.place r.kind us c)
+    (rw idle (ended_at c.phase c.epoch c.halted c.halted (works c) r given busy (λ fine. h.open_then r refl now us (subst (λ (g : Given). answer_to r.kind g ≡ Some us) (h.same r refl now) (ran_answer r.kind busy x us is))) h))
+settled_at r ended.Refused x c given busy idle now is h = rw idle (ended_at c.phase c.epoch c.halted true (works c) r given busy (λ fine. absurd cc) h)
+settled_at r (ended.NoSlot n) x c given busy idle now is h = rw idle (ended_at c.phase c.epoch c.halted true (works c) r given busy (λ fine. absurd cc) h)
+settled_at r ended.NoMemory x c given busy idle now is h = rw idle (ended_at c.phase c.epoch c.halted true (works c) r given busy (λ fine. absurd cc) h)
+
+done_at : (r : Running) (e : Ended) (x : Outcome) (moment : ℕ) (c : Control) (given busy : Given) → ended_of r.kind busy x ≡ Some e → Parts c.phase c.epoch c.halted (works c) (Some r) given busy → At (done_running r e moment (entered c)) given busy
+done_at r e x moment c given busy is h = by (eqb r.epoch c.epoch) refl
+  where
+    by : (b : Bool) → eqb r.epoch c.epoch ≡ b → At (cond b (settled r e (record (entered c) { running = None; progress = Some (max moment (unwrap_or c.progress moment)) })) (record (entered c) { running = None })) given busy
+    by true k = settled_at r e x (record (entered c) { running = None; progress = Some (max moment (unwrap_or c.progress moment)) }) given busy refl (eqb-true r.epoch c.epoch k) is h
+    by false k = stale_at c.phase c.epoch c.halted (works c) r given busy (λ same. let no : true ≡ false = sym (eq-eqb r.epoch c.epoch same) ∙ k in absurd cc) h
+
+ended_sound : (r : Running) (x : Outcome) (o : Option Ended) (moment : ℕ) (s t : State) → s.control.running ≡ Some r → ended_of r.kind s.running_given x ≡ o → done_ended r o moment s ≡ Some t → Sound s → Sound t
+ended_sound r x None moment s t out is step h = absurd cc
+ended_sound r x (Some e) moment s t out is step h =
+    subst (λ (u : State). Sound u) (some_same (with_control (done_running r e moment (entered s.control)) s) t step)
+    (done_at r e x moment s.control s.given s.running_given is (subst (λ (o : Option Running). Parts s.control.phase s.control.epoch s.control.halted (works s.control) o s.given s.running_given) out h))
+
+done_sound : (o : Option Running) (epoch item moment : ℕ) (x : Outcome) (s t : State) → s.control.running ≡ o → done_step o epoch item moment x s ≡ Some t → Sound s → Sound t
+done_sound None epoch item moment x s t out step h = absurd cc
+done_sound (Some r) epoch item moment x s t out step h = ended_sound r x (ended_of r.kind s.running_given x) moment s t out refl (cond_is (eqb r.epoch epoch && eqb r.number item) (done_ended r (ended_of r.kind s.running_given x) moment s) t step).1 h
+
+-- a turn
+task_sound : (task : Task) (ts : List Task) (s t : State) → s.control.tasks ≡ task ∷ ts → turn_step (task ∷ ts) s ≡ Some t → Sound s → Sound t
+task_sound task.Unblock ts s t e step h = subst (λ (u : State). Sound u) (some_same _ t step) (rw e h)
+task_sound task.Process ts s t e step h = subst (λ (u : State). Sound u) (some_same _ t step) (rw e (processed (record (entered s.control) { tasks = ts }) s.given s.running_given h))
+task_sound task.Desaturate ts s t e step h = subst (λ (u : State). Sound u) (some_same _ t step) (rw e (processed (record (entered s.control) { tasks = ts; saturated = false }) s.given s.running_given h))
+task_sound (task.Output units) ts s t e step h = subst (λ (u : State). Sound u) (some_same _ t step) (rw e h)
+task_sound (task.Flushed promise units) ts s t e step h = subst (λ (u : State). Sound u) (some_same _ t step) (rw e h)
+task_sound task.Dequeue ts s t e step h = subst (λ (u : State). Sound u) (some_same _ t step) (rw e h)
+task_sound (task.Close x) ts s t e step h = subst (λ (u : State). Sound u) (some_same _ t step) (rw e (close_sound (record s { control = record s.control { tasks = ts } }) x h))
+
+turned_sound : (ts : List Task) (s t : State) → s.control.tasks ≡ ts → turn_step ts s ≡ Some t → Sound s → Sound t
+turned_sound [] s t e step h = absurd cc
+turned_sound (x ∷ ts) s t e step h = task_sound x ts s t e step h
+
+abbrev DrainedEntry : Entry → Type 0
+DrainedEntry (entry.Configure who config) = AnswersDrain config
+DrainedEntry _ = Unit {0}
+
+step_sound : (e : Entry) (s t : State) → DrainedEntry e → step e s ≡ Some t → Sound s → Sound t
+step_sound (entry.Configure who config) s t drains is h = subst (λ (u : State). Sound u) (some_same _ t is) (called_at (call_error (call.Configure config) s.control) (call.Configure config) s.control s.given s.running_given refl drains h)
+step_sound (entry.Decode who chunk) s t drains is h = subst (λ (u : State). Sound u) (some_same _ t is) (called_at (call_error (call.Decode chunk) s.control) (call.Decode chunk) s.control s.given s.running_given refl tt h)
+step_sound (entry.Flush who) s t drains is h = subst (λ (u : State). Sound u) (some_same _ t is) (called_at (call_error call.Flush s.control) call.Flush s.control s.given s.running_given refl tt h)
+step_sound (entry.Reset who) s t drains is h = subst (λ (u : State). Sound u) (some_same _ t is) (removal_sound (removal_error s.control) (after_reset dom.Abort (entered s.control)) s (reset_sound s dom.Abort h) h)
+step_sound (entry.Close who) s t drains is h = subst (λ (u : State). Sound u) (some_same _ t is) (removal_sound (removal_error s.control) (after_close dom.Abort (entered s.control)) s (close_sound s dom.Abort h) h)
+step_sound (entry.Start epoch item) s t drains is h = started_sound s.control.work epoch item s t refl is h
+step_sound (entry.Done epoch item moment x) s t drains is h = done_sound s.control.running epoch item moment x s t refl is h
+step_sound entry.Turn s t drains is h = turned_sound s.control.tasks s t refl is h
+step_sound (entry.Reclaim moment) s t drains is h = subst (λ (u : State). Sound u) (some_same _ t (cond_is (may_reclaim moment s.control) _ t is).1) (close_sound s dom.QuotaExceeded h)
+
+-- a legal end of a flush item is no refusal
+not_refused : (k : WorkKind) (g : Given) (e : Option Ended) → (k ≡ kind.Flush → is_some (answer_to kind.Flush g) ≡ true) → ended_of k g outcome.Refused ≡ e → is_some e ≡ true → k ≡ kind.Flush → ⊥
+not_refused kind.Configure g e some is there flush = absurd cc
+not_refused kind.Coded g e some is there flush = absurd cc
+not_refused kind.Flush g e some is there flush = by (answer_to kind.Flush g) (some refl) (ap (λ (o : Option Ended). is_some o) is ∙ there)
+  where
+    by : (a : Option (List media.Unit)) → is_some a ≡ true → is_some (Rattle.codec_model.specs.Replay.ended_refused a) ≡ true → ⊥
+    by None x y = absurd cc
+    by (Some us) x y = absurd cc
+
+flush_by : (epoch number place : ℕ) (k : WorkKind) → (k ≡ kind.Flush → ⊥) → is_flush (Some (record { epoch = epoch; number = number; place = place; kind = k })) ≡ false
+flush_by epoch number place kind.Configure h = refl
+flush_by epoch number place kind.Coded h = refl
+flush_by epoch number place kind.Flush h = absurd (h refl)
+
+done_some : (r : Running) (o : Option Ended) (moment : ℕ) (s t : State) → done_ended r o moment s ≡ Some t → is_some o ≡ true
+done_some r None moment s t h = absurd cc
+done_some r (Some e) moment s t h = refl
+
+refused_fine : (o : Option Running) (epoch item moment : ℕ) (s t : State) → s.control.running ≡ o → done_step o epoch item moment outcome.Refused s ≡ Some t → Sound s → is_flush o ≡ false
+refused_fine None epoch item moment s t out step h = refl
+refused_fine (Some r) epoch item moment s t out step h =
+    let k = cond_is (eqb r.epoch epoch && eqb r.number item) (done_ended r (ended_of r.kind s.running_given outcome.Refused) moment s) t step in
+    flush_by r.epoch r.number r.place r.kind (not_refused r.kind s.running_given (ended_of r.kind s.running_given outcome.Refused) (h.flushed r out) refl (done_some r _ moment s t k.1))
+
+done_fine : (x : Outcome) (epoch item moment : ℕ) (s t : State) → done_step s.control.running epoch item moment x s ≡ Some t → Sound s → (is_refusal x && is_flush s.control.running) ≡ false
+done_fine (outcome.Ran units) epoch item moment s t step h = refl
+done_fine outcome.Refused epoch item moment s t step h = refused_fine s.control.running epoch item moment s t refl step h
+done_fine (outcome.NoSlot n) epoch item moment s t step h = refl
+done_fine outcome.NoMemory epoch item moment s t step h = refl
+
+step_fine : (e : Entry) (s t : State) → step e s ≡ Some t → Sound s → refuses_flush e s ≡ false
+step_fine (entry.Configure who config) s t is h = refl
+step_fine (entry.Decode who chunk) s t is h = refl
+step_fine (entry.Flush who) s t is h = refl
+step_fine (entry.Reset who) s t is h = refl
+step_fine (entry.Close who) s t is h = refl
+step_fine (entry.Start epoch item) s t is h = refl
+step_fine (entry.Done epoch item moment x) s t is h = done_fine x epoch item moment s t is h
+step_fine entry.Turn s t is h = refl
+step_fine (entry.Reclaim moment) s t is h = refl
+
+drained_parts : (e : Entry) (es : List Entry) → AnswersDrains (e ∷ es) → DrainedEntry e × AnswersDrains es
+drained_parts (entry.Configure who config) es h = h
+drained_parts (entry.Decode who chunk) es h = (tt, h)
+drained_parts (entry.Flush who) es h = (tt, h)
+drained_parts (entry.Reset who) es h = (tt, h)
+drained_parts (entry.Close who) es h = (tt, h)
+drained_parts (entry.Start epoch item) es h = (tt, h)
+drained_parts (entry.Done epoch item moment x) es h = (tt, h)
+drained_parts entry.Turn es h = (tt, h)
+drained_parts (entry.Reclaim moment) es h = (tt, h)
+
+answers_rest : (es : List Entry) (e : Entry) (s : State) (o : Option State) → step e s ≡ o → DrainedEntry e → Sound s → is_some (option_and_then (replay_from es) o) ≡ true → ((t : State) → Sound t → is_some (replay_from es t) ≡ true → answers_flushes_from es t ≡ true) → (not (refuses_flush e s) && unwrap_or (option_map (answers_flushes_from es) o) true) ≡ true
+answers_rest es e s None is drains h legal ih = absurd cc
+answers_rest es e s (Some t) is drains h legal ih = rw (step_fine e s t is h) (ih t (step_sound e s t drains is h) legal)
+
+answers_all : (h : List Entry) (s : State) → AnswersDrains h → Sound s → is_some (replay_from h s) ≡ true → answers_flushes_from h s ≡ true
+answers_all [] s drains sound legal = refl
+answers_all (e ∷ es) s drains sound legal =
+    let d = drained_parts e es drains in
+    answers_rest es e s (step e s) refl d.0 sound legal (λ t k l. answers_all es t d.1 k l)
+
+opened : (o : Opening) → Sound (opening_state o)
+opened o = record {
+  begun = false;
+  first = λ b. refl;
+  calls = λ p b. absurd cc;
+  drained = tt;
+  open_now = λ b fine free. absurd cc;
+  open_then = λ r is. absurd cc;
+  same = λ r is. absurd cc;
+  flushed = λ r is. absurd cc;
+  before = λ r is. absurd cc;
+}
+
+pub legal_answers : LegalAnswers
+legal_answers o h legal drains = answers_all h (opening_state o) drains (opened o) legal
+
+-- the codecs whose drains are known
+decoder_drains : (o : Option CodecId) (c : AudioDecoderConfig) (id : CoderId) → is_drained o ≡ true → id_with role.Decode o ≡ Some id → is_some (audio_decoder_answer id.codec c command.Drain) ≡ true
+decoder_drains None c id h is = absurd cc
+decoder_drains (Some codec.PcmU8) c id h is = rw (← ap (λ (x : CoderId). x.codec) (some_same _ id is)) refl
+decoder_drains (Some codec.PcmS16) c id h is = rw (← ap (λ (x : CoderId). x.codec) (some_same _ id is)) refl
+decoder_drains (Some codec.PcmS24) c id h is = rw (← ap (λ (x : CoderId). x.codec) (some_same _ id is)) refl
+decoder_drains (Some codec.PcmS32) c id h is = rw (← ap (λ (x : CoderId). x.codec) (some_same _ id is)) refl
+decoder_drains (Some codec.Alaw) c id h is = rw (← ap (λ (x : CoderId). x.codec) (some_same _ id is)) refl
+decoder_drains (Some codec.Ulaw) c id h is = rw (← ap (λ (x : CoderId). x.codec) (some_same _ id is)) refl
+decoder_drains (Some _) c id h is = absurd cc
+
+encoder_drains : (o : Option CodecId) (c : AudioEncoderConfig) (id : CoderId) → is_drained o ≡ true → id_with role.Encode o ≡ Some id → is_some (audio_encoder_answer id.codec c command.Drain) ≡ true
+encoder_drains None c id h is = absurd cc
+encoder_drains (Some codec.PcmU8) c id h is = rw (← ap (λ (x : CoderId). x.codec) (some_same _ id is)) refl
+encoder_drains (Some codec.PcmS16) c id h is = rw (← ap (λ (x : CoderId). x.codec) (some_same _ id is)) refl
+encoder_drains (Some codec.PcmS24) c id h is = rw (← ap (λ (x : CoderId). x.codec) (some_same _ id is)) refl
+encoder_drains (Some codec.PcmS32) c id h is = rw (← ap (λ (x : CoderId). x.codec) (some_same _ id is)) refl
+encoder_drains (Some codec.Alaw) c id h is = rw (← ap (λ (x : CoderId). x.codec) (some_same _ id is)) refl
+encoder_drains (Some codec.Ulaw) c id h is = rw (← ap (λ (x : CoderId). x.codec) (some_same _ id is)) refl
+encoder_drains (Some _) c id h is = absurd cc
+
+pub known_drains : KnownDrains
+known_drains (config.AudioDecoder c) h = λ id is before. decoder_drains (audio_codec c.codec) c id h is
+known_drains (config.AudioEncoder c) h = λ id is before. encoder_drains (audio_codec c.codec) c id h is
+known_drains (config.VideoDecoder c) h = absurd cc
+known_drains config.Bad h = λ id is before. absurd cc
