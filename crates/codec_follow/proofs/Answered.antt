@@ -1,23 +1,18 @@
--- After a legal history no flush item is refused, where drains are answered.
+-- After a legal history the running flush item is answered, where its codec answers drains.
 use Rattle.std.proofs.Common.{ℕ, ◌≡◌, ◌+◌, ◌≤◌, ◌&&◌, not, Bool, true, false, eqb, eq-eqb, cond, List, [], ◌∷◌, ◌++◌, append_assoc, append-nil, map, Option, Some, None, is_some, is_none, refl, ap, sym, subst, ◌∙◌, arith}
-use Rattle.std.specs.Prelude.{option_and_then, option_map, unwrap_or, max}
+use Rattle.std.specs.Prelude.{option_map, unwrap_or, max}
 use Rattle.std.proofs.lemmas.Bool.{eqb-true}
 use Rattle.std.proofs.lemmas.List.{map-append}
 use Rattle.wc_base.specs.declared.error.DomError.{DomError}
 use Rattle.wc_base.specs.declared.error.DomError.TheVariants as dom
 use Rattle.wc_config.specs.declared.codec.CoderId.{CoderId}
-use Rattle.wc_config.specs.declared.codec.CodecId.{CodecId}
-use Rattle.wc_config.specs.declared.codec.CodecId.TheVariants as codec
-use Rattle.wc_config.specs.declared.codec.Role.TheVariants as role
-use Rattle.wc_config.specs.declared.config.AudioDecoderConfig.{AudioDecoderConfig}
-use Rattle.wc_config.specs.declared.config.AudioEncoderConfig.{AudioEncoderConfig}
 use Rattle.wc_config.specs.declared.config.Config.{Config}
 use Rattle.wc_config.specs.declared.config.Config.TheVariants as config
-use Rattle.wc_config.specs.Configs.{is_valid, is_within, is_supported, coder_id_of, id_with, audio_codec}
+use Rattle.wc_config.specs.Configs.{is_valid, is_within, is_supported, coder_id_of}
 use Rattle.coder_api.specs.declared.unit.Unit as media
 use Rattle.coder_api.specs.declared.coder.Command.{Command}
 use Rattle.coder_api.specs.declared.coder.Command.TheVariants as command
-use Rattle.coder_api.specs.Commands.{audio_decoder_answer, audio_encoder_answer, answer_after, answers_from, until_refused, last_answer}
+use Rattle.coder_api.specs.Commands.{answer_after, answers_from, until_refused, last_answer}
 use Rattle.codec_model.specs.declared.entry.CodecState.{CodecState}
 use Rattle.codec_model.specs.declared.entry.CodecState.TheVariants.{Unconfigured, Configured, Closed}
 use Rattle.codec_model.specs.declared.entry.Opening.{Opening}
@@ -41,7 +36,7 @@ use Rattle.codec_model.specs.declared.entry.Outcome.TheVariants as outcome
 use Rattle.codec_model.specs.Control.{Control, kind_of, is_taken, after_message, process_queue, entered, run_task, done_running, settled, settled_ran, after_reset, after_close, may_reclaim, may_start}
 use Rattle.codec_model.specs.Replay.{State, Given, given_more, answer_to, answers_to, opening_state, step, replay, replay_from, done_ended, ended_of, ended_run, decode_error, flush_error, configure_error, removal_error, after_call, call_error, call_step, accepted, removal_step, removed, start_step, done_step, with_control, turn_step}
 use Rattle.codec_model.proofs.FactLaws.{cond_is, some_same}
-use Rattle.codec_follow.specs.Laws.{is_refusal, is_flush, refuses_flush, answers_flushes_from, AnswersDrain, AnswersDrains, is_drained, KnownDrains, LegalAnswers}
+use Rattle.codec_follow.specs.Follow.{answers_drain}
 
 -- the answers of a coder that refused nothing so far
 both : (a b : Bool) → (a && b) ≡ true → (a ≡ true) × (b ≡ true)
@@ -52,7 +47,7 @@ some_is : {X : Type 0} (o : Option X) → is_some o ≡ true → (x : X) × (o �
 some_is None h = absurd cc
 some_is (Some x) h = (x, refl)
 
-abbrev none_refused : CoderId → Config → List Command → List Command → Bool
+abbrev pub none_refused : CoderId → Config → List Command → List Command → Bool
 none_refused id config before [] = true
 none_refused id config before (x ∷ xs) = is_some (answer_after id config before x) && none_refused id config (before ++ x ∷ []) xs
 
@@ -86,12 +81,11 @@ none_refused_more id c before (y ∷ ys) x h s =
     let rest = none_refused_more id c (before ++ y ∷ []) ys x parts.1 same in
     rw (parts.0, rest) refl
 
--- the coder was given all this, refused none of it, and answers drains
-record IsOpen (g : Given) : Type 0 where
+-- the coder was given all this, and refused none of it
+pub record IsOpen (g : Given) : Type 0 where
   id : CoderId
   asked : coder_id_of g.config ≡ Some id
   accepted_all : none_refused id g.config [] g.commands ≡ true
-  drained : AnswersDrain g.config
 
 abbrev more : Command → Given → Given
 more x g = record g { commands = g.commands ++ x ∷ [] }
@@ -105,7 +99,6 @@ open_more g x k us h = record {
   id = k.id;
   asked = k.asked;
   accepted_all = none_refused_more k.id g.config [] g.commands x k.accepted_all (ap (λ (o : Option (List media.Unit)). is_some o) (sym (last_is g x k) ∙ h));
-  drained = k.drained;
 }
 
 supported_asks : (config : Config) → is_supported config ≡ true → is_some (coder_id_of config) ≡ true
@@ -115,20 +108,20 @@ configure_asks : (config : Config) (b : Bool) (us : List media.Unit) → is_supp
 configure_asks config true us e h = e
 configure_asks config false us e h = absurd cc
 
-open_configured : (config : Config) (us : List media.Unit) → AnswersDrain config → answer_to kind.Configure (record { config = config; commands = [] }) ≡ Some us → IsOpen (record { config = config; commands = [] })
-open_configured config us drains h =
+open_configured : (config : Config) (us : List media.Unit) → answer_to kind.Configure (record { config = config; commands = [] }) ≡ Some us → IsOpen (record { config = config; commands = [] })
+open_configured config us h =
     let supported = configure_asks config (is_supported config) us refl h in
     let id = some_is (coder_id_of config) (supported_asks config supported) in
-    record { id = id.0; asked = id.1; accepted_all = refl; drained = drains }
+    record { id = id.0; asked = id.1; accepted_all = refl }
 
 -- what is queued for a coder: nothing, or a configure first
-abbrev leads : List Work → Bool
+abbrev pub leads : List Work → Bool
 leads [] = false
 leads (work.Configure config ∷ ws) = true
 leads (work.Coded chunk ∷ ws) = false
 leads (work.Flush ∷ ws) = false
 
-abbrev starts : List Work → Bool
+abbrev pub starts : List Work → Bool
 starts [] = true
 starts (w ∷ ws) = leads (w ∷ ws)
 
@@ -148,24 +141,21 @@ starts_push (work.Configure c ∷ ws) config h = refl
 starts_push (work.Coded chunk ∷ ws) config h = absurd cc
 starts_push (work.Flush ∷ ws) config h = absurd cc
 
-abbrev DrainedBy : Work → Type 0
-DrainedBy (work.Configure config) = AnswersDrain config
-DrainedBy (work.Coded chunk) = Unit {0}
-DrainedBy work.Flush = Unit {0}
+-- a definition answers a drain after any commands, where it answers one
+drain_again : (id : CoderId) (c : Config) (before : List Command) → is_some (answer_after id c [] command.Drain) ≡ true → is_some (answer_after id c before command.Drain) ≡ true
+drain_again id (config.AudioDecoder c) before h = h
+drain_again id (config.AudioEncoder c) before h = h
+drain_again id (config.VideoDecoder c) before h = h
+drain_again id config.Bad before h = h
 
-abbrev Drained : List Work → Type 0
-Drained [] = Unit {0}
-Drained (w ∷ ws) = DrainedBy w × Drained ws
-
-drained_push : (ws : List Work) (w : Work) → Drained ws → DrainedBy w → Drained (ws ++ w ∷ [])
-drained_push [] w h k = (k, tt)
-drained_push (v ∷ ws) w h k = (h.0, drained_push ws w h.1 k)
+open_drains : (g : Given) → IsOpen g → answers_drain g.config ≡ true → is_some (last_answer (answers_to (more command.Drain g))) ≡ true
+open_drains g k h = ap (λ (o : Option (List media.Unit)). is_some o) (last_is g command.Drain k) ∙ drain_again k.id g.config g.commands (sym (ap (λ (o : Option CoderId). unwrap_or (option_map (λ id. is_some (answer_after id g.config [] command.Drain)) o) true) k.asked) ∙ h)
 
 -- the works that are queued, as items and then as messages
-abbrev works_on : List Item → List Message → List Work
+abbrev pub works_on : List Item → List Message → List Work
 works_on is ms = map (λ (i : Item). i.work) is ++ map (λ (m : Message). m.work) ms
 
-abbrev works : Control → List Work
+abbrev pub works : Control → List Work
 works c = works_on c.work c.messages
 
 works_moved : (is : List Item) (i : Item) (ms : List Message) → works_on (is ++ i ∷ []) ms ≡ map (λ (j : Item). j.work) is ++ i.work ∷ map (λ (m : Message). m.work) ms
@@ -179,22 +169,21 @@ works_more is ms m =
     ∙ sym (append_assoc (map (λ (j : Item). j.work) is) (map (λ (x : Message). x.work) ms) (m.work ∷ []))
 
 -- What keeps each flush item from being refused.
-record Parts (phase : CodecState) (epoch : ℕ) (halted : Bool) (ws : List Work) (running : Option Running) (given busy : Given) : Type 0 where
+pub record Parts (phase : CodecState) (epoch : ℕ) (halted : Bool) (ws : List Work) (running : Option Running) (given busy : Given) : Type 0 where
   -- an item was started in this epoch
   begun : Bool
   first : begun ≡ false → starts ws ≡ true
   calls : phase ≡ Configured → begun ≡ false → leads ws ≡ true
-  drained : Drained ws
   open_now : begun ≡ true → halted ≡ false → ((r : Running) → running ≡ Some r → r.epoch ≡ epoch → ⊥) → IsOpen given
   open_then : (r : Running) → running ≡ Some r → r.epoch ≡ epoch → (us : List media.Unit) → answer_to r.kind given ≡ Some us → IsOpen given
   same : (r : Running) → running ≡ Some r → r.epoch ≡ epoch → busy ≡ given
-  flushed : (r : Running) → running ≡ Some r → r.kind ≡ kind.Flush → is_some (answer_to kind.Flush busy) ≡ true
+  pub flushed : (r : Running) → running ≡ Some r → r.kind ≡ kind.Flush → answers_drain busy.config ≡ true → is_some (answer_to kind.Flush busy) ≡ true
   before : (r : Running) → running ≡ Some r → r.epoch ≤ epoch
 
-abbrev At : Control → Given → Given → Type 0
+abbrev pub At : Control → Given → Given → Type 0
 At c given busy = Parts c.phase c.epoch c.halted (works c) c.running given busy
 
-abbrev Sound : State → Type 0
+abbrev pub Sound : State → Type 0
 Sound s = At s.control s.given s.running_given
 
 -- steps that leave all of this as it is
@@ -236,14 +225,13 @@ processed c given busy h = at_same c (process_queue c.messages c) given busy (pr
 abbrev queues : Control → Message → Control
 queues c m = record c { messages = c.messages ++ m ∷ [] }
 
-pushed_configure : (c : Control) (place : ℕ) (config : Config) (given busy : Given) → AnswersDrain config → At c given busy → At (record (queues c (record { place = place; work = work.Configure config })) { phase = Configured }) given busy
-pushed_configure c place config given busy drains h =
+pushed_configure : (c : Control) (place : ℕ) (config : Config) (given busy : Given) → At c given busy → At (record (queues c (record { place = place; work = work.Configure config })) { phase = Configured }) given busy
+pushed_configure c place config given busy h =
     rw (works_more c.work c.messages (record { place = place; work = work.Configure config }))
     (record {
       begun = h.begun;
       first = λ b. leads_starts _ (starts_push (works c) config (h.first b));
       calls = λ p b. starts_push (works c) config (h.first b);
-      drained = drained_push (works c) (work.Configure config) h.drained drains;
       open_now = h.open_now;
       open_then = h.open_then;
       same = h.same;
@@ -251,14 +239,13 @@ pushed_configure c place config given busy drains h =
       before = h.before;
     })
 
-pushed_other : (c : Control) (m : Message) (given busy : Given) → c.phase ≡ Configured → DrainedBy m.work → At c given busy → At (queues c m) given busy
-pushed_other c m given busy configured drains h =
+pushed_other : (c : Control) (m : Message) (given busy : Given) → c.phase ≡ Configured → At c given busy → At (queues c m) given busy
+pushed_other c m given busy configured h =
     rw (works_more c.work c.messages m)
     (record {
       begun = h.begun;
       first = λ b. leads_starts _ (leads_push (works c) m.work (h.calls configured b));
       calls = λ p b. leads_push (works c) m.work (h.calls configured b);
-      drained = drained_push (works c) m.work h.drained drains;
       open_now = h.open_now;
       open_then = h.open_then;
       same = h.same;
@@ -276,21 +263,16 @@ flushes_configured Unconfigured h = absurd cc
 flushes_configured Configured h = refl
 flushes_configured Closed h = absurd cc
 
-abbrev DrainedCall : Call → Type 0
-DrainedCall (call.Configure config) = AnswersDrain config
-DrainedCall (call.Decode chunk) = Unit {0}
-DrainedCall call.Flush = Unit {0}
+accepted_at : (x : Call) (c : Control) (given busy : Given) → call_error x c ≡ None → At c given busy → At (accepted x c) given busy
+accepted_at (call.Configure config) c given busy e h = processed _ given busy (pushed_configure c c.place config given busy h)
+accepted_at (call.Decode chunk) c given busy e h = processed _ given busy (pushed_other c (record { place = c.place; work = work.Coded chunk }) given busy (decodes_configured c.phase (c.key_required && not chunk.key) e) h)
+accepted_at call.Flush c given busy e h = processed _ given busy (pushed_other c (record { place = c.place; work = work.Flush }) given busy (flushes_configured c.phase e) h)
 
-accepted_at : (x : Call) (c : Control) (given busy : Given) → call_error x c ≡ None → DrainedCall x → At c given busy → At (accepted x c) given busy
-accepted_at (call.Configure config) c given busy e drains h = processed _ given busy (pushed_configure c c.place config given busy drains h)
-accepted_at (call.Decode chunk) c given busy e drains h = processed _ given busy (pushed_other c (record { place = c.place; work = work.Coded chunk }) given busy (decodes_configured c.phase (c.key_required && not chunk.key) e) tt h)
-accepted_at call.Flush c given busy e drains h = processed _ given busy (pushed_other c (record { place = c.place; work = work.Flush }) given busy (flushes_configured c.phase e) tt h)
-
-called_at : (o : Option DomError) (x : Call) (c : Control) (given busy : Given) → call_error x c ≡ o → DrainedCall x → At c given busy → At (after_call o x c) given busy
-called_at None x c given busy e drains h = accepted_at x c given busy e drains h
-called_at (Some error) (call.Configure config) c given busy e drains h = h
-called_at (Some error) (call.Decode chunk) c given busy e drains h = h
-called_at (Some error) call.Flush c given busy e drains h = h
+called_at : (o : Option DomError) (x : Call) (c : Control) (given busy : Given) → call_error x c ≡ o → At c given busy → At (after_call o x c) given busy
+called_at None x c given busy e h = accepted_at x c given busy e h
+called_at (Some error) (call.Configure config) c given busy e h = h
+called_at (Some error) (call.Decode chunk) c given busy e h = h
+called_at (Some error) call.Flush c given busy e h = h
 
 -- a removal
 removed_at : (phase new : CodecState) (epoch : ℕ) (halted : Bool) (ws : List Work) (running : Option Running) (given busy none : Given) → (new ≡ Configured → ⊥) → Parts phase epoch halted ws running given busy → Parts new (epoch + 1) false [] running none busy
@@ -298,7 +280,6 @@ removed_at phase new epoch halted ws running given busy none shut h = record {
   begun = false;
   first = λ b. refl;
   calls = λ p b. absurd (shut p);
-  drained = tt;
   open_now = λ b fine free. absurd cc;
   open_then = λ r is e us answer. absurd (late r (h.before r is) e);
   same = λ r is e. absurd (late r (h.before r is) e);
@@ -327,11 +308,10 @@ starts_one phase epoch number place (work.Configure config) ws given busy h =
       begun = true;
       first = λ b. absurd cc;
       calls = λ p b. absurd cc;
-      drained = h.drained.1;
       open_now = λ b fine free. absurd (free _ refl refl);
-      open_then = λ r is e us answer. open_configured config us h.drained.0 (subst (λ (x : Running). answer_to x.kind g ≡ Some us) (sym (some_same _ r is)) answer);
+      open_then = λ r is e us answer. open_configured config us (subst (λ (x : Running). answer_to x.kind g ≡ Some us) (sym (some_same _ r is)) answer);
       same = λ r is e. refl;
-      flushed = λ r is k. absurd cc;
+      flushed = λ r is f d. absurd cc;
       before = λ r is. rw (← ap (λ (x : Running). x.epoch) (some_same _ r is)) (omega arith);
     }
 starts_one phase epoch number place (work.Coded chunk) ws given busy h =
@@ -340,11 +320,10 @@ starts_one phase epoch number place (work.Coded chunk) ws given busy h =
       begun = true;
       first = λ b. absurd cc;
       calls = λ p b. absurd cc;
-      drained = h.drained.1;
       open_now = λ b fine free. absurd (free _ refl refl);
       open_then = λ r is e us answer. open_more given (command.Chunk chunk) k us (subst (λ (x : Running). answer_to x.kind (more (command.Chunk chunk) given) ≡ Some us) (sym (some_same _ r is)) answer);
       same = λ r is e. refl;
-      flushed = λ r is f. absurd cc;
+      flushed = λ r is f d. absurd cc;
       before = λ r is. rw (← ap (λ (x : Running). x.epoch) (some_same _ r is)) (omega arith);
     }
   where
@@ -357,11 +336,10 @@ starts_one phase epoch number place work.Flush ws given busy h =
       begun = true;
       first = λ b. absurd cc;
       calls = λ p b. absurd cc;
-      drained = h.drained.1;
       open_now = λ b fine free. absurd (free _ refl refl);
       open_then = λ r is e us answer. open_more given command.Drain k us (subst (λ (x : Running). answer_to x.kind (more command.Drain given) ≡ Some us) (sym (some_same _ r is)) answer);
       same = λ r is e. refl;
-      flushed = λ r is f. ap (λ (o : Option (List media.Unit)). is_some o) (last_is given command.Drain k) ∙ k.drained k.id k.asked given.commands;
+      flushed = λ r is f d. open_drains given k d;
       before = λ r is. rw (← ap (λ (x : Running). x.epoch) (some_same _ r is)) (omega arith);
     }
   where
@@ -406,7 +384,6 @@ stale_at phase epoch halted ws r given busy old h = record {
   begun = h.begun;
   first = h.first;
   calls = h.calls;
-  drained = h.drained;
   open_now = λ b fine free. h.open_now b fine (λ q is e. old (ap (λ (x : Running). x.epoch) (some_same r q is) ∙ e));
   open_then = λ q is. absurd cc;
   same = λ q is. absurd cc;
@@ -420,7 +397,6 @@ ended_at phase epoch halted now ws r given busy stays h = record {
   begun = h.begun;
   first = h.first;
   calls = h.calls;
-  drained = h.drained;
   open_now = λ b fine free. stays fine;
   open_then = λ q is. absurd cc;
   same = λ q is. absurd cc;
@@ -472,123 +448,25 @@ turned_sound : (ts : List Task) (s t : State) → s.control.tasks ≡ ts → tur
 turned_sound [] s t e step h = absurd cc
 turned_sound (x ∷ ts) s t e step h = task_sound x ts s t e step h
 
-abbrev DrainedEntry : Entry → Type 0
-DrainedEntry (entry.Configure who config) = AnswersDrain config
-DrainedEntry _ = Unit {0}
+pub step_sound : (e : Entry) (s t : State) → step e s ≡ Some t → Sound s → Sound t
+step_sound (entry.Configure who config) s t is h = subst (λ (u : State). Sound u) (some_same _ t is) (called_at (call_error (call.Configure config) s.control) (call.Configure config) s.control s.given s.running_given refl h)
+step_sound (entry.Decode who chunk) s t is h = subst (λ (u : State). Sound u) (some_same _ t is) (called_at (call_error (call.Decode chunk) s.control) (call.Decode chunk) s.control s.given s.running_given refl h)
+step_sound (entry.Flush who) s t is h = subst (λ (u : State). Sound u) (some_same _ t is) (called_at (call_error call.Flush s.control) call.Flush s.control s.given s.running_given refl h)
+step_sound (entry.Reset who) s t is h = subst (λ (u : State). Sound u) (some_same _ t is) (removal_sound (removal_error s.control) (after_reset dom.Abort (entered s.control)) s (reset_sound s dom.Abort h) h)
+step_sound (entry.Close who) s t is h = subst (λ (u : State). Sound u) (some_same _ t is) (removal_sound (removal_error s.control) (after_close dom.Abort (entered s.control)) s (close_sound s dom.Abort h) h)
+step_sound (entry.Start epoch item) s t is h = started_sound s.control.work epoch item s t refl is h
+step_sound (entry.Done epoch item moment x) s t is h = done_sound s.control.running epoch item moment x s t refl is h
+step_sound entry.Turn s t is h = turned_sound s.control.tasks s t refl is h
+step_sound (entry.Reclaim moment) s t is h = subst (λ (u : State). Sound u) (some_same _ t (cond_is (may_reclaim moment s.control) _ t is).1) (close_sound s dom.QuotaExceeded h)
 
-step_sound : (e : Entry) (s t : State) → DrainedEntry e → step e s ≡ Some t → Sound s → Sound t
-step_sound (entry.Configure who config) s t drains is h = subst (λ (u : State). Sound u) (some_same _ t is) (called_at (call_error (call.Configure config) s.control) (call.Configure config) s.control s.given s.running_given refl drains h)
-step_sound (entry.Decode who chunk) s t drains is h = subst (λ (u : State). Sound u) (some_same _ t is) (called_at (call_error (call.Decode chunk) s.control) (call.Decode chunk) s.control s.given s.running_given refl tt h)
-step_sound (entry.Flush who) s t drains is h = subst (λ (u : State). Sound u) (some_same _ t is) (called_at (call_error call.Flush s.control) call.Flush s.control s.given s.running_given refl tt h)
-step_sound (entry.Reset who) s t drains is h = subst (λ (u : State). Sound u) (some_same _ t is) (removal_sound (removal_error s.control) (after_reset dom.Abort (entered s.control)) s (reset_sound s dom.Abort h) h)
-step_sound (entry.Close who) s t drains is h = subst (λ (u : State). Sound u) (some_same _ t is) (removal_sound (removal_error s.control) (after_close dom.Abort (entered s.control)) s (close_sound s dom.Abort h) h)
-step_sound (entry.Start epoch item) s t drains is h = started_sound s.control.work epoch item s t refl is h
-step_sound (entry.Done epoch item moment x) s t drains is h = done_sound s.control.running epoch item moment x s t refl is h
-step_sound entry.Turn s t drains is h = turned_sound s.control.tasks s t refl is h
-step_sound (entry.Reclaim moment) s t drains is h = subst (λ (u : State). Sound u) (some_same _ t (cond_is (may_reclaim moment s.control) _ t is).1) (close_sound s dom.QuotaExceeded h)
-
--- a legal end of a flush item is no refusal
-not_refused : (k : WorkKind) (g : Given) (e : Option Ended) → (k ≡ kind.Flush → is_some (answer_to kind.Flush g) ≡ true) → ended_of k g outcome.Refused ≡ e → is_some e ≡ true → k ≡ kind.Flush → ⊥
-not_refused kind.Configure g e some is there flush = absurd cc
-not_refused kind.Coded g e some is there flush = absurd cc
-not_refused kind.Flush g e some is there flush = by (answer_to kind.Flush g) (some refl) (ap (λ (o : Option Ended). is_some o) is ∙ there)
-  where
-    by : (a : Option (List media.Unit)) → is_some a ≡ true → is_some (Rattle.codec_model.specs.Replay.ended_refused a) ≡ true → ⊥
-    by None x y = absurd cc
-    by (Some us) x y = absurd cc
-
-flush_by : (epoch number place : ℕ) (k : WorkKind) → (k ≡ kind.Flush → ⊥) → is_flush (Some (record { epoch = epoch; number = number; place = place; kind = k })) ≡ false
-flush_by epoch number place kind.Configure h = refl
-flush_by epoch number place kind.Coded h = refl
-flush_by epoch number place kind.Flush h = absurd (h refl)
-
-done_some : (r : Running) (o : Option Ended) (moment : ℕ) (s t : State) → done_ended r o moment s ≡ Some t → is_some o ≡ true
-done_some r None moment s t h = absurd cc
-done_some r (Some e) moment s t h = refl
-
-refused_fine : (o : Option Running) (epoch item moment : ℕ) (s t : State) → s.control.running ≡ o → done_step o epoch item moment outcome.Refused s ≡ Some t → Sound s → is_flush o ≡ false
-refused_fine None epoch item moment s t out step h = refl
-refused_fine (Some r) epoch item moment s t out step h =
-    let k = cond_is (eqb r.epoch epoch && eqb r.number item) (done_ended r (ended_of r.kind s.running_given outcome.Refused) moment s) t step in
-    flush_by r.epoch r.number r.place r.kind (not_refused r.kind s.running_given (ended_of r.kind s.running_given outcome.Refused) (h.flushed r out) refl (done_some r _ moment s t k.1))
-
-done_fine : (x : Outcome) (epoch item moment : ℕ) (s t : State) → done_step s.control.running epoch item moment x s ≡ Some t → Sound s → (is_refusal x && is_flush s.control.running) ≡ false
-done_fine (outcome.Ran units) epoch item moment s t step h = refl
-done_fine outcome.Refused epoch item moment s t step h = refused_fine s.control.running epoch item moment s t refl step h
-done_fine (outcome.NoSlot n) epoch item moment s t step h = refl
-done_fine outcome.NoMemory epoch item moment s t step h = refl
-
-step_fine : (e : Entry) (s t : State) → step e s ≡ Some t → Sound s → refuses_flush e s ≡ false
-step_fine (entry.Configure who config) s t is h = refl
-step_fine (entry.Decode who chunk) s t is h = refl
-step_fine (entry.Flush who) s t is h = refl
-step_fine (entry.Reset who) s t is h = refl
-step_fine (entry.Close who) s t is h = refl
-step_fine (entry.Start epoch item) s t is h = refl
-step_fine (entry.Done epoch item moment x) s t is h = done_fine x epoch item moment s t is h
-step_fine entry.Turn s t is h = refl
-step_fine (entry.Reclaim moment) s t is h = refl
-
-drained_parts : (e : Entry) (es : List Entry) → AnswersDrains (e ∷ es) → DrainedEntry e × AnswersDrains es
-drained_parts (entry.Configure who config) es h = h
-drained_parts (entry.Decode who chunk) es h = (tt, h)
-drained_parts (entry.Flush who) es h = (tt, h)
-drained_parts (entry.Reset who) es h = (tt, h)
-drained_parts (entry.Close who) es h = (tt, h)
-drained_parts (entry.Start epoch item) es h = (tt, h)
-drained_parts (entry.Done epoch item moment x) es h = (tt, h)
-drained_parts entry.Turn es h = (tt, h)
-drained_parts (entry.Reclaim moment) es h = (tt, h)
-
-answers_rest : (es : List Entry) (e : Entry) (s : State) (o : Option State) → step e s ≡ o → DrainedEntry e → Sound s → is_some (option_and_then (replay_from es) o) ≡ true → ((t : State) → Sound t → is_some (replay_from es t) ≡ true → answers_flushes_from es t ≡ true) → (not (refuses_flush e s) && unwrap_or (option_map (answers_flushes_from es) o) true) ≡ true
-answers_rest es e s None is drains h legal ih = absurd cc
-answers_rest es e s (Some t) is drains h legal ih = rw (step_fine e s t is h) (ih t (step_sound e s t drains is h) legal)
-
-answers_all : (h : List Entry) (s : State) → AnswersDrains h → Sound s → is_some (replay_from h s) ≡ true → answers_flushes_from h s ≡ true
-answers_all [] s drains sound legal = refl
-answers_all (e ∷ es) s drains sound legal =
-    let d = drained_parts e es drains in
-    answers_rest es e s (step e s) refl d.0 sound legal (λ t k l. answers_all es t d.1 k l)
-
-opened : (o : Opening) → Sound (opening_state o)
+pub opened : (o : Opening) → Sound (opening_state o)
 opened o = record {
   begun = false;
   first = λ b. refl;
   calls = λ p b. absurd cc;
-  drained = tt;
   open_now = λ b fine free. absurd cc;
   open_then = λ r is. absurd cc;
   same = λ r is. absurd cc;
   flushed = λ r is. absurd cc;
   before = λ r is. absurd cc;
 }
-
-pub legal_answers : LegalAnswers
-legal_answers o h legal drains = answers_all h (opening_state o) drains (opened o) legal
-
--- the codecs whose drains are known
-decoder_drains : (o : Option CodecId) (c : AudioDecoderConfig) (id : CoderId) → is_drained o ≡ true → id_with role.Decode o ≡ Some id → is_some (audio_decoder_answer id.codec c command.Drain) ≡ true
-decoder_drains None c id h is = absurd cc
-decoder_drains (Some codec.PcmU8) c id h is = rw (← ap (λ (x : CoderId). x.codec) (some_same _ id is)) refl
-decoder_drains (Some codec.PcmS16) c id h is = rw (← ap (λ (x : CoderId). x.codec) (some_same _ id is)) refl
-decoder_drains (Some codec.PcmS24) c id h is = rw (← ap (λ (x : CoderId). x.codec) (some_same _ id is)) refl
-decoder_drains (Some codec.PcmS32) c id h is = rw (← ap (λ (x : CoderId). x.codec) (some_same _ id is)) refl
-decoder_drains (Some codec.Alaw) c id h is = rw (← ap (λ (x : CoderId). x.codec) (some_same _ id is)) refl
-decoder_drains (Some codec.Ulaw) c id h is = rw (← ap (λ (x : CoderId). x.codec) (some_same _ id is)) refl
-decoder_drains (Some _) c id h is = absurd cc
-
-encoder_drains : (o : Option CodecId) (c : AudioEncoderConfig) (id : CoderId) → is_drained o ≡ true → id_with role.Encode o ≡ Some id → is_some (audio_encoder_answer id.codec c command.Drain) ≡ true
-encoder_drains None c id h is = absurd cc
-encoder_drains (Some codec.PcmU8) c id h is = rw (← ap (λ (x : CoderId). x.codec) (some_same _ id is)) refl
-encoder_drains (Some codec.PcmS16) c id h is = rw (← ap (λ (x : CoderId). x.codec) (some_same _ id is)) refl
-encoder_drains (Some codec.PcmS24) c id h is = rw (← ap (λ (x : CoderId). x.codec) (some_same _ id is)) refl
-encoder_drains (Some codec.PcmS32) c id h is = rw (← ap (λ (x : CoderId). x.codec) (some_same _ id is)) refl
-encoder_drains (Some codec.Alaw) c id h is = rw (← ap (λ (x : CoderId). x.codec) (some_same _ id is)) refl
-encoder_drains (Some codec.Ulaw) c id h is = rw (← ap (λ (x : CoderId). x.codec) (some_same _ id is)) refl
-encoder_drains (Some _) c id h is = absurd cc
-
-pub known_drains : KnownDrains
-known_drains (config.AudioDecoder c) h = λ id is before. decoder_drains (audio_codec c.codec) c id h is
-known_drains (config.AudioEncoder c) h = λ id is before. encoder_drains (audio_codec c.codec) c id h is
-known_drains (config.VideoDecoder c) h = absurd cc
-known_drains config.Bad h = λ id is before. absurd cc

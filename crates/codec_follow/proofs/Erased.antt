@@ -1,5 +1,5 @@
 -- A codec with blanks for its outputs takes the same steps.
-use Rattle.std.proofs.Common.{ℕ, ◌≡◌, ◌+◌, ◌&&◌, ◌||◌, not, Bool, true, false, eqb, cond, List, [], ◌∷◌, ◌++◌, length, length-append, map, filter, count_by, Option, Some, None, refl, ap, sym, subst, ◌∙◌, arith}
+use Rattle.std.proofs.Common.{ℕ, ◌≡◌, ◌+◌, ◌&&◌, ◌||◌, not, Bool, true, false, eqb, cond, List, [], ◌∷◌, ◌++◌, length, length-append, map, filter, count_by, Option, Some, None, is_some, refl, ap, sym, subst, ◌∙◌, arith}
 use Rattle.std.specs.Prelude.{option_map, max, unwrap_or}
 use Rattle.std.proofs.lemmas.Bool.{eqb-true}
 use Rattle.std.proofs.lemmas.List.Sums.{sum_by-cons}
@@ -29,8 +29,8 @@ use Rattle.codec_model.specs.declared.entry.Outcome.TheVariants as outcome
 use Rattle.codec_model.specs.Control.{Control, is_decoder, is_dequeue, is_desaturate, is_taken, after_message, process_queue, entered, run_task, done_running, settled, settled_ran, after_reset, after_close, after_reclaim, may_reclaim, may_start}
 use Rattle.codec_model.specs.Replay.{State, Given, step, done_ended, ended_of, ended_run, ended_refused, answer_to, start_step, done_step, turn_step, removed, accepted, after_call, call_error, call_step, removal_error, removal_step, with_control}
 use Rattle.codec_model.proofs.FactLaws.{cond_is, some_same, with_event}
-use Rattle.codec_follow.specs.Follow.{blank, blanks, ran_as, refused_as, ended_as, follow_done, follow_step}
-use Rattle.codec_follow.specs.Laws.{is_refusal, is_flush, refuses_flush}
+use Rattle.codec_follow.specs.Follow.{blank, blanks, answers_drain, known_of, ran_as, refused_as, ended_as, follow_done, follow_step}
+use Rattle.codec_follow.proofs.Answered.{Sound}
 
 abbrev pub erased_task : Task → Task
 erased_task task.Unblock = task.Unblock
@@ -220,10 +220,15 @@ refused_ends : (a : Option (List media.Unit)) (e : Ended) → ended_refused a �
 refused_ends None e h = ap (λ (x : Ended). Some (erased_end x)) (some_same ended.Refused e h)
 refused_ends (Some us) e h = absurd cc
 
-refused_ends_by : (k : WorkKind) (a : Option (List media.Unit)) (e : Ended) → (k ≡ kind.Flush → ⊥) → ended_refused a ≡ Some e → refused_as k ≡ Some (erased_end e)
-refused_ends_by kind.Configure a e not_flush h = refused_ends a e h
-refused_ends_by kind.Coded a e not_flush h = refused_ends a e h
-refused_ends_by kind.Flush a e not_flush h = absurd (not_flush refl)
+flush_refused : (drains : Bool) (a : Option (List media.Unit)) (e : Ended) → (drains ≡ true → is_some a ≡ true) → ended_refused a ≡ Some e → cond drains None (Some ended.Refused) ≡ Some (erased_end e)
+flush_refused true None e answered h = let no : false ≡ true = answered refl in absurd cc
+flush_refused true (Some us) e answered h = absurd cc
+flush_refused false a e answered h = refused_ends a e h
+
+refused_ends_by : (k : WorkKind) (g : Given) (e : Ended) → (k ≡ kind.Flush → answers_drain g.config ≡ true → is_some (answer_to kind.Flush g) ≡ true) → ended_refused (answer_to k g) ≡ Some e → refused_as k (known_of g.config) ≡ Some (erased_end e)
+refused_ends_by kind.Configure g e answered h = refused_ends (answer_to kind.Configure g) e h
+refused_ends_by kind.Coded g e answered h = refused_ends (answer_to kind.Coded g) e h
+refused_ends_by kind.Flush g e answered h = flush_refused (answers_drain g.config) (answer_to kind.Flush g) e (answered refl) h
 
 no_slot_ends : (k : WorkKind) (g : Given) (n : ℕ) (e : Ended) → ended_of k g (outcome.NoSlot n) ≡ Some e → ended_as k g (outcome.NoSlot n) ≡ Some (erased_end e)
 no_slot_ends kind.Configure g n e h = h ∙ ap (λ (x : Ended). Some x) (same e (some_same (ended.NoSlot n) e (cond_is (is_supported g.config) (Some (ended.NoSlot n)) e h).1))
@@ -233,31 +238,23 @@ no_slot_ends kind.Configure g n e h = h ∙ ap (λ (x : Ended). Some x) (same e 
 no_slot_ends kind.Coded g n e h = absurd cc
 no_slot_ends kind.Flush g n e h = absurd cc
 
-pub ends_erased : (k : WorkKind) (g : Given) (o : Outcome) (e : Ended) → (o ≡ outcome.Refused → k ≡ kind.Flush → ⊥) → ended_of k g o ≡ Some e → ended_as k g o ≡ Some (erased_end e)
+pub ends_erased : (k : WorkKind) (g : Given) (o : Outcome) (e : Ended) → (k ≡ kind.Flush → answers_drain g.config ≡ true → is_some (answer_to kind.Flush g) ≡ true) → ended_of k g o ≡ Some e → ended_as k g o ≡ Some (erased_end e)
 ends_erased k g (outcome.Ran units) e answered h = ran_ends_by k units (answer_to k g) e (gives_none k g) h
-ends_erased k g outcome.Refused e answered h = refused_ends_by k (answer_to k g) e (answered refl) h
+ends_erased k g outcome.Refused e answered h = refused_ends_by k g e answered h
 ends_erased k g (outcome.NoSlot n) e answered h = no_slot_ends k g n e h
 ends_erased k g outcome.NoMemory e answered h = ap (λ (x : Ended). Some (erased_end x)) (some_same ended.NoMemory e h)
 
-answered : (epoch number place : ℕ) (k : WorkKind) (x : Outcome) → (is_refusal x && is_flush (Some (record { epoch = epoch; number = number; place = place; kind = k }))) ≡ false → x ≡ outcome.Refused → k ≡ kind.Flush → ⊥
-answered epoch number place kind.Configure x h a b = absurd cc
-answered epoch number place kind.Coded x h a b = absurd cc
-answered epoch number place kind.Flush (outcome.Ran units) h a b = absurd cc
-answered epoch number place kind.Flush outcome.Refused h a b = absurd cc
-answered epoch number place kind.Flush (outcome.NoSlot n) h a b = absurd cc
-answered epoch number place kind.Flush outcome.NoMemory h a b = absurd cc
-
-ended_erased : (r : Running) (x : Outcome) (a : Option Ended) (moment : ℕ) (s t : State) → (x ≡ outcome.Refused → r.kind ≡ kind.Flush → ⊥) → ended_of r.kind s.running_given x ≡ a → done_ended r a moment s ≡ Some t → done_ended r (ended_as r.kind s.running_given x) moment (erased_state s) ≡ Some (erased_state t)
+ended_erased : (r : Running) (x : Outcome) (a : Option Ended) (moment : ℕ) (s t : State) → (r.kind ≡ kind.Flush → answers_drain s.running_given.config ≡ true → is_some (answer_to kind.Flush s.running_given) ≡ true) → ended_of r.kind s.running_given x ≡ a → done_ended r a moment s ≡ Some t → done_ended r (ended_as r.kind s.running_given x) moment (erased_state s) ≡ Some (erased_state t)
 ended_erased r x None moment s t fine is h = absurd cc
 ended_erased r x (Some e) moment s t fine is h =
     rw (ends_erased r.kind s.running_given x e fine is)
     (ap (λ (d : Control). Some (with_control d s)) (done_erased r e moment (entered s.control)) ∙ ap (λ (u : State). Some (erased_state u)) (some_same (with_control (done_running r e moment (entered s.control)) s) t h))
 
-done_step_erased : (o : Option Running) (epoch item moment : ℕ) (x : Outcome) (s t : State) → (is_refusal x && is_flush o) ≡ false → done_step o epoch item moment x s ≡ Some t → follow_done o epoch item moment x (erased_state s) ≡ Some (erased_state t)
-done_step_erased None epoch item moment x s t fine h = absurd cc
-done_step_erased (Some r) epoch item moment x s t fine h =
+done_step_erased : (o : Option Running) (epoch item moment : ℕ) (x : Outcome) (s t : State) → s.control.running ≡ o → Sound s → done_step o epoch item moment x s ≡ Some t → follow_done o epoch item moment x (erased_state s) ≡ Some (erased_state t)
+done_step_erased None epoch item moment x s t out fine h = absurd cc
+done_step_erased (Some r) epoch item moment x s t out fine h =
     let k = cond_is (eqb r.epoch epoch && eqb r.number item) (done_ended r (ended_of r.kind s.running_given x) moment s) t h in
-    rw k.0 (ended_erased r x (ended_of r.kind s.running_given x) moment s t (answered r.epoch r.number r.place r.kind x fine) refl k.1)
+    rw k.0 (ended_erased r x (ended_of r.kind s.running_given x) moment s t (fine.flushed r out) refl k.1)
 
 call_step_erased : (x : Call) (s : State) → call_error x (erased s.control) ≡ call_error x s.control → call_step x (erased_state s) ≡ erased_state (call_step x s)
 call_step_erased x s same = rw same (ap (λ (d : Control). with_control d s) (call_erased (call_error x s.control) x s.control))
@@ -267,7 +264,7 @@ reclaim_by true x y h = ap (λ (u : State). Some u) h
 reclaim_by false x y h = refl
 
 -- One step of a legal history, from blanks.
-pub step_erased : (e : Entry) (s t : State) → refuses_flush e s ≡ false → step e s ≡ Some t → follow_step e (erased_state s) ≡ Some (erased_state t)
+pub step_erased : (e : Entry) (s t : State) → Sound s → step e s ≡ Some t → follow_step e (erased_state s) ≡ Some (erased_state t)
 step_erased (entry.Configure who config) s t fine h = ap (λ (u : State). Some u) (call_step_erased (call.Configure config) s refl) ∙ ap (option_map erased_state) h
 step_erased (entry.Decode who chunk) s t fine h = ap (λ (u : State). Some u) (call_step_erased (call.Decode chunk) s refl) ∙ ap (option_map erased_state) h
 step_erased (entry.Flush who) s t fine h = ap (λ (u : State). Some u) (call_step_erased call.Flush s refl) ∙ ap (option_map erased_state) h
@@ -278,7 +275,7 @@ step_erased (entry.Close who) s t fine h =
     ap (λ (d : Control). Some (removal_step (removal_error s.control) d (erased_state s))) (close_erased dom.Abort (entered s.control))
     ∙ (ap (λ (u : State). Some u) (removal_erased (removal_error s.control) (after_close dom.Abort (entered s.control)) s) ∙ ap (option_map erased_state) h)
 step_erased (entry.Start epoch item) s t fine h = start_erased s.control.work epoch item s.control s.given s.running_given ∙ ap (option_map erased_state) h
-step_erased (entry.Done epoch item moment x) s t fine h = done_step_erased s.control.running epoch item moment x s t fine h
+step_erased (entry.Done epoch item moment x) s t fine h = done_step_erased s.control.running epoch item moment x s t refl fine h
 step_erased entry.Turn s t fine h = turn_erased s.control.tasks s.control s.given s.running_given ∙ ap (option_map erased_state) h
 step_erased (entry.Reclaim moment) s t fine h =
     reclaim_by (may_reclaim moment s.control) _ (removed (after_reclaim (entered s.control)) s) (ap (λ (d : Control). removed d s) (close_erased dom.QuotaExceeded (entered s.control))) ∙ ap (option_map erased_state) h

@@ -1,5 +1,5 @@
 -- What is shown with blanks, and filled.
-use Rattle.std.proofs.Common.{ℕ, ◌≡◌, ◌+◌, ◌≤◌, ◌&&◌, not, Bool, true, false, List, [], ◌∷◌, ◌++◌, append_assoc, length, length-append, map, take, Option, Some, None, is_some, refl, ap, sym, ◌∙◌, arith}
+use Rattle.std.proofs.Common.{ℕ, ◌≡◌, ◌+◌, ◌≤◌, true, List, [], ◌∷◌, ◌++◌, append_assoc, length, length-append, map, take, Option, Some, None, is_some, refl, ap, sym, ◌∙◌, arith}
 use Rattle.std.specs.Prelude.{option_map, option_and_then, unwrap_or}
 use Rattle.std.proofs.lemmas.List.{map-append, length-replicate}
 use Rattle.std.proofs.Math.Seq.{take-append_seam}
@@ -17,7 +17,8 @@ use Rattle.codec_model.specs.Control.{Control}
 use Rattle.codec_model.specs.Replay.{State, opening_state, step, replay_from, removal_error, configure_error, decode_error, flush_error}
 use Rattle.codec_model.specs.Shown.{shows, refusal, rejection, rejections, outputs_from, task_shows, removal_shows, shown_from, shown_at, each_shown_from, turn_word, word_at, event_units, units_in, outputs_of}
 use Rattle.codec_follow.specs.Follow.{blank, blanks, follow_step, follow_from, filled, filled_at, each_filled_from, units_shown}
-use Rattle.codec_follow.specs.Laws.{refuses_flush, answers_flushes_from, LegalFollows, LegalFills, UnitsInOrder}
+use Rattle.codec_follow.specs.Laws.{LegalFollows, LegalFills, UnitsInOrder}
+use Rattle.codec_follow.proofs.Answered.{Sound, step_sound, opened}
 use Rattle.codec_follow.proofs.Erased.{erased_task, erased, erased_state, step_erased}
 
 abbrev erased_event : Event → Event
@@ -118,38 +119,31 @@ filled_shown e s us = rw (shows_erased e s) (fill_erased (shows e s) us)
 at_shown : (e : Entry) (s : State) (us : List media.Unit) → filled_at e (erased_state s) (units_in (shows e s) ++ us) ≡ shown_at e s
 at_shown e s us = rw (word_erased e s, filled_shown e s us) refl
 
-apart : (a b : Bool) → (not a && b) ≡ true → (a ≡ false) × (b ≡ true)
-apart true b h = absurd cc
-apart false b h = (refl, h)
-
 -- a legal history follows
-follows_rest : (es : List Entry) (e : Entry) (s : State) (o : Option State) → step e s ≡ o → is_some (option_and_then (replay_from es) o) ≡ true → (not (refuses_flush e s) && unwrap_or (option_map (answers_flushes_from es) o) true) ≡ true → ((t : State) → is_some (replay_from es t) ≡ true → answers_flushes_from es t ≡ true → is_some (follow_from es (erased_state t)) ≡ true) → is_some (option_and_then (follow_from es) (follow_step e (erased_state s))) ≡ true
-follows_rest es e s None is legal fine ih = absurd cc
-follows_rest es e s (Some t) is legal fine ih =
-    let k = apart (refuses_flush e s) (answers_flushes_from es t) fine in
-    rw (step_erased e s t k.0 is) (ih t legal k.1)
+follows_rest : (es : List Entry) (e : Entry) (s : State) (o : Option State) → step e s ≡ o → Sound s → is_some (option_and_then (replay_from es) o) ≡ true → ((t : State) → Sound t → is_some (replay_from es t) ≡ true → is_some (follow_from es (erased_state t)) ≡ true) → is_some (option_and_then (follow_from es) (follow_step e (erased_state s))) ≡ true
+follows_rest es e s None is fine legal ih = absurd cc
+follows_rest es e s (Some t) is fine legal ih = rw (step_erased e s t fine is) (ih t (step_sound e s t is fine) legal)
 
-follows_all : (h : List Entry) (s : State) → is_some (replay_from h s) ≡ true → answers_flushes_from h s ≡ true → is_some (follow_from h (erased_state s)) ≡ true
-follows_all [] s legal fine = refl
-follows_all (e ∷ es) s legal fine = follows_rest es e s (step e s) refl legal fine (follows_all es)
+follows_all : (h : List Entry) (s : State) → Sound s → is_some (replay_from h s) ≡ true → is_some (follow_from h (erased_state s)) ≡ true
+follows_all [] s fine legal = refl
+follows_all (e ∷ es) s fine legal = follows_rest es e s (step e s) refl fine legal (follows_all es)
 
 pub legal_follows : LegalFollows
-legal_follows o h legal fine = follows_all h (opening_state o) legal fine
+legal_follows o h legal = follows_all h (opening_state o) (opened o) legal
 
 -- and shows the same, with its own outputs
-fills_rest : (es : List Entry) (e : Entry) (s : State) (o : Option State) → step e s ≡ o → is_some (option_and_then (replay_from es) o) ≡ true → (not (refuses_flush e s) && unwrap_or (option_map (answers_flushes_from es) o) true) ≡ true → ((t : State) → is_some (replay_from es t) ≡ true → answers_flushes_from es t ≡ true → each_shown_from es t ≡ each_filled_from es (erased_state t) (outputs_of (shown_from es t))) → shown_at e s ∷ unwrap_or (option_map (each_shown_from es) o) [] ≡ each_filled_from (e ∷ es) (erased_state s) (outputs_of (map (λ x. (s.control.place, x)) (shows e s) ++ unwrap_or (option_map (shown_from es) o) []))
-fills_rest es e s None is legal fine ih = absurd cc
-fills_rest es e s (Some t) is legal fine ih =
-    let k = apart (refuses_flush e s) (answers_flushes_from es t) fine in
-    rw (outputs_tagged s.control.place (shows e s) (shown_from es t), step_erased e s t k.0 is, at_shown e s (outputs_of (shown_from es t)), filled_shown e s (outputs_of (shown_from es t)))
-    (ap (λ (xs : List Shown). shown_at e s ∷ xs) (ih t legal k.1))
+fills_rest : (es : List Entry) (e : Entry) (s : State) (o : Option State) → step e s ≡ o → Sound s → is_some (option_and_then (replay_from es) o) ≡ true → ((t : State) → Sound t → is_some (replay_from es t) ≡ true → each_shown_from es t ≡ each_filled_from es (erased_state t) (outputs_of (shown_from es t))) → shown_at e s ∷ unwrap_or (option_map (each_shown_from es) o) [] ≡ each_filled_from (e ∷ es) (erased_state s) (outputs_of (map (λ x. (s.control.place, x)) (shows e s) ++ unwrap_or (option_map (shown_from es) o) []))
+fills_rest es e s None is fine legal ih = absurd cc
+fills_rest es e s (Some t) is fine legal ih =
+    rw (outputs_tagged s.control.place (shows e s) (shown_from es t), step_erased e s t fine is, at_shown e s (outputs_of (shown_from es t)), filled_shown e s (outputs_of (shown_from es t)))
+    (ap (λ (xs : List Shown). shown_at e s ∷ xs) (ih t (step_sound e s t is fine) legal))
 
-fills_all : (h : List Entry) (s : State) → is_some (replay_from h s) ≡ true → answers_flushes_from h s ≡ true → each_shown_from h s ≡ each_filled_from h (erased_state s) (outputs_of (shown_from h s))
-fills_all [] s legal fine = refl
-fills_all (e ∷ es) s legal fine = fills_rest es e s (step e s) refl legal fine (fills_all es)
+fills_all : (h : List Entry) (s : State) → Sound s → is_some (replay_from h s) ≡ true → each_shown_from h s ≡ each_filled_from h (erased_state s) (outputs_of (shown_from h s))
+fills_all [] s fine legal = refl
+fills_all (e ∷ es) s fine legal = fills_rest es e s (step e s) refl fine legal (fills_all es)
 
 pub legal_fills : LegalFills
-legal_fills o h legal fine = fills_all h (opening_state o) legal fine
+legal_fills o h legal = fills_all h (opening_state o) (opened o) legal
 
 -- the units come in order
 fill_order : (xs : List Event) (us : List media.Unit) → length (units_in (filled xs us).0) ≤ length us → us ≡ units_in (filled xs us).0 ++ (filled xs us).1

@@ -2,7 +2,6 @@
 use Rattle.std.proofs.Common.{ℕ, ◌≡◌, Bool, true, false, eq-eqb, cond, List, [], ◌∷◌, Option, Some, None, is_some, refl, ap, sym, ◌∙◌}
 use Rattle.std.specs.Prelude.{option_map, unwrap_or}
 use Rattle.wc_base.specs.declared.who.Who.{Who}
-use Rattle.wc_config.specs.Configs.{is_supported}
 use Rattle.codec_model.specs.declared.entry.Call.{Call}
 use Rattle.codec_model.specs.declared.entry.Call.TheVariants as call
 use Rattle.codec_model.specs.declared.entry.Entry.TheVariants as entry
@@ -13,8 +12,10 @@ use Rattle.codec_model.specs.declared.entry.Work.TheVariants as work
 use Rattle.codec_model.specs.Control.{Control, may_start, front, start_item, after_start, started, entered}
 use Rattle.codec_model.specs.Replay.{State, Given, given_more, after_call, call_error, entry_of, start_step}
 use Rattle.codec_model.proofs.FactLaws.{cond_is, some_same}
+use Rattle.codec_follow.specs.declared.known.Known.{Known}
+use Rattle.codec_follow.specs.Follow.{known_of}
 use Rattle.codec_follow.specs.Events.{call_events, noted}
-use Rattle.codec_follow.specs.Followed.{FollowerValue, follower_of, shown_where, state_after, Follows, supported_with}
+use Rattle.codec_follow.specs.Followed.{FollowerValue, follower_of, shown_where, state_after, Follows, known_with}
 
 control_is : (s : State) (v : FollowerValue) → follower_of s ≡ v → s.control ≡ v.control
 control_is s v is = ap (λ (w : FollowerValue). w.control) is
@@ -35,10 +36,10 @@ call_follows who x v shown new told moved = record {
   after = λ s is. call_moves who x s ∙ (ap (λ (w : FollowerValue). record w { control = after_call (call_error x w.control) x w.control }) is ∙ ap (λ (c : Control). record v { control = c }) (sym moved));
 }
 
-supported_more : (w : Work) (g : Given) → is_supported (given_more w g).config ≡ supported_with w (is_supported g.config)
-supported_more (work.Configure config) g = refl
-supported_more (work.Coded chunk) g = refl
-supported_more work.Flush g = refl
+known_more : (w : Work) (g : Given) → known_of (given_more w g).config ≡ known_with w (known_of g.config)
+known_more (work.Configure config) g = refl
+known_more (work.Coded chunk) g = refl
+known_more work.Flush g = refl
 
 start_here : (is : List Item) (s : State) (epoch item : ℕ) (i : Item) → cond (may_start s.control) (front is) None ≡ Some i → epoch ≡ s.control.epoch → item ≡ i.number → start_step is epoch item s ≡ Some (record { control = started (entered s.control); given = given_more i.work s.given; running_given = given_more i.work s.given })
 start_here [] s epoch item i h e n = absurd (none (may_start s.control) h)
@@ -55,8 +56,8 @@ start_here (j ∷ js) s epoch item i h e n =
 started_here : (c : Control) (i : Item) → start_item c ≡ Some i → after_start c ≡ started (entered c)
 started_here c i h = ap (λ (o : Option Item). cond (is_some o) (started (entered c)) c) h
 
-pub start_follows : (epoch item : ℕ) (i : Item) (v : FollowerValue) (shown : Option Shown) (new : Control) (supported : Bool) → start_item v.control ≡ Some i → epoch ≡ v.control.epoch → item ≡ i.number → shown ≡ Some (noted []) → new ≡ after_start v.control → supported ≡ supported_with i.work v.supported → Follows (entry.Start epoch item) v shown (record { control = new; supported = supported; running_supported = supported })
-start_follows epoch item i v shown new supported there e n told moved support = record {
+pub start_follows : (epoch item : ℕ) (i : Item) (v : FollowerValue) (shown : Option Shown) (new : Control) (known : Known) → start_item v.control ≡ Some i → epoch ≡ v.control.epoch → item ≡ i.number → shown ≡ Some (noted []) → new ≡ after_start v.control → known ≡ known_with i.work v.known → Follows (entry.Start epoch item) v shown (record { control = new; known = known; running_known = known })
+start_follows epoch item i v shown new known there e n told moved support = record {
   answer = λ s is. ap (λ (o : Option State). option_map (λ (t : State). noted []) o) (steps s is) ∙ sym told;
   after = λ s is. ap (λ (o : Option State). follower_of (unwrap_or o s)) (steps s is) ∙ (same_given s ∙ (ap (λ (w : FollowerValue). at_start w) is ∙ rest));
 }
@@ -65,10 +66,10 @@ start_follows epoch item i v shown new supported there e n told moved support = 
     steps s is = start_here s.control.work s epoch item i (ap (λ (w : FollowerValue). start_item w.control) is ∙ there) (e ∙ ap (λ (w : FollowerValue). w.control.epoch) (sym is)) n
 
     at_start : FollowerValue → FollowerValue
-    at_start w = record { control = started (entered w.control); supported = supported_with i.work w.supported; running_supported = supported_with i.work w.supported }
+    at_start w = record { control = started (entered w.control); known = known_with i.work w.known; running_known = known_with i.work w.known }
 
     same_given : (s : State) → follower_of (record { control = started (entered s.control); given = given_more i.work s.given; running_given = given_more i.work s.given }) ≡ at_start (follower_of s)
-    same_given s = ap (λ (b : Bool). record { control = started (entered s.control); supported = b; running_supported = b }) (supported_more i.work s.given)
+    same_given s = ap (λ (b : Known). record { control = started (entered s.control); known = b; running_known = b }) (known_more i.work s.given)
 
-    rest : at_start v ≡ record { control = new; supported = supported; running_supported = supported }
-    rest = ap (λ (c : Control). record { control = c; supported = supported_with i.work v.supported; running_supported = supported_with i.work v.supported }) (sym (moved ∙ started_here v.control i there)) ∙ ap (λ (b : Bool). record { control = new; supported = b; running_supported = b }) (sym support)
+    rest : at_start v ≡ record { control = new; known = known; running_known = known }
+    rest = ap (λ (c : Control). record { control = c; known = known_with i.work v.known; running_known = known_with i.work v.known }) (sym (moved ∙ started_here v.control i there)) ∙ ap (λ (b : Known). record { control = new; known = b; running_known = b }) (sym support)

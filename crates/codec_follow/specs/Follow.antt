@@ -1,7 +1,10 @@
 -- Histories that follow: each entry is legal after those before it, where each end of an item is taken as it stands (our
 -- choice). What the outputs hold is left open.
 use Rattle.std.specs.Prelude.{ℕ, ◌≡◌, ◌==◌, ◌&&◌, Bool, true, false, pos, List, [], ◌∷◌, ◌++◌, replicate, Option, Some, None, is_some, option_map, option_and_then, unwrap_or, if◌then◌else◌}
-use Rattle.wc_config.specs.Configs.{is_supported}
+use Rattle.wc_config.specs.declared.config.Config.{Config}
+use Rattle.wc_config.specs.Configs.{is_supported, coder_id_of}
+use Rattle.coder_api.specs.declared.coder.Command.TheVariants as command
+use Rattle.coder_api.specs.Commands.{answer_after}
 use Rattle.coder_api.specs.declared.unit.Unit as media
 use Rattle.coder_api.specs.declared.unit.Unit.TheVariants as unit
 use Rattle.codec_model.specs.declared.entry.Opening.{Opening}
@@ -17,6 +20,7 @@ use Rattle.codec_model.specs.declared.entry.Entry.TheVariants as entry
 use Rattle.codec_model.specs.declared.entry.Event.{Event}
 use Rattle.codec_model.specs.declared.entry.Event.TheVariants as event
 use Rattle.codec_model.specs.declared.entry.Shown.{Shown}
+use Rattle.codec_follow.specs.declared.known.Known.{Known}
 use Rattle.codec_model.specs.Replay.{State, Given, opening_state, done_ended, step}
 use Rattle.codec_model.specs.Shown.{shows, word_at, units_in}
 
@@ -33,28 +37,35 @@ ran_as kind.Configure units = if units == 0 then Some (ended.Ran []) else None
 ran_as kind.Coded units = Some (ended.Ran (blanks units))
 ran_as kind.Flush units = Some (ended.Ran (blanks units))
 
--- a flush item is never refused
-abbrev pub refused_as : WorkKind → Option Ended
-refused_as kind.Configure = Some ended.Refused
-refused_as kind.Coded = Some ended.Refused
-refused_as kind.Flush = None
+-- the definition of the codec that a config asks for answers a drain; that of a codec with no coder yet refuses it
+abbrev pub answers_drain : Config → Bool
+answers_drain c = unwrap_or (option_map (λ id. is_some (answer_after id c [] command.Drain)) (coder_id_of c)) true
+
+-- what the ends of items ask of the config that was last given
+abbrev pub known_of : Config → Known
+known_of c = record { supported = is_supported c; drains = answers_drain c }
+
+-- a flush item is never refused where drains are answered
+abbrev pub refused_as : WorkKind → Known → Option Ended
+refused_as kind.Configure known = Some ended.Refused
+refused_as kind.Coded known = Some ended.Refused
+refused_as kind.Flush known = if known.drains then None else Some ended.Refused
 
 -- only a configure item is refused a coder, where its config is supported
-abbrev pub no_slot_as : WorkKind → Bool → ℕ → Option Ended
-no_slot_as kind.Configure supported e = if supported then Some (ended.NoSlot e) else None
-no_slot_as kind.Coded supported e = None
-no_slot_as kind.Flush supported e = None
+abbrev pub no_slot_as : WorkKind → Known → ℕ → Option Ended
+no_slot_as kind.Configure known e = if known.supported then Some (ended.NoSlot e) else None
+no_slot_as kind.Coded known e = None
+no_slot_as kind.Flush known e = None
 
--- how an item of this kind ends with this outcome as it stands, where the config that was last given is supported or not;
--- none where that does not follow
-abbrev pub ended_by : WorkKind → Bool → Outcome → Option Ended
-ended_by k supported (outcome.Ran units) = ran_as k units
-ended_by k supported outcome.Refused = refused_as k
-ended_by k supported (outcome.NoSlot e) = no_slot_as k supported e
-ended_by k supported outcome.NoMemory = Some ended.NoMemory
+-- how an item of this kind ends with this outcome as it stands; none where that does not follow
+abbrev pub ended_by : WorkKind → Known → Outcome → Option Ended
+ended_by k known (outcome.Ran units) = ran_as k units
+ended_by k known outcome.Refused = refused_as k known
+ended_by k known (outcome.NoSlot e) = no_slot_as k known e
+ended_by k known outcome.NoMemory = Some ended.NoMemory
 
 abbrev pub ended_as : WorkKind → Given → Outcome → Option Ended
-ended_as k g o = ended_by k (is_supported g.config) o
+ended_as k g o = ended_by k (known_of g.config) o
 
 abbrev pub follow_done : Option Running → ℕ → ℕ → ℕ → Outcome → State → Option State
 follow_done None epoch item moment o s = None

@@ -1,25 +1,26 @@
 -- What a follower keeps of a state, and what an entry does to it.
-use Rattle.std.specs.Prelude.{◌≡◌, Bool, Option, option_map, unwrap_or}
-use Rattle.wc_config.specs.Configs.{is_supported}
+use Rattle.std.specs.Prelude.{◌≡◌, Option, Some, None, option_map, unwrap_or}
+use Rattle.wc_base.specs.declared.error.DomError.{DomError}
 use Rattle.codec_model.specs.declared.entry.Work.{Work}
 use Rattle.codec_model.specs.declared.entry.Work.TheVariants as work
 use Rattle.codec_model.specs.declared.entry.Entry.{Entry}
 use Rattle.codec_model.specs.declared.entry.Shown.{Shown}
 use Rattle.codec_model.specs.Control.{Control}
-use Rattle.codec_model.specs.Replay.{State}
+use Rattle.codec_model.specs.Replay.{State, nothing_given}
 use Rattle.codec_model.specs.Shown.{shown_at}
-use Rattle.codec_follow.specs.Follow.{follow_step}
+use Rattle.codec_follow.specs.declared.known.Known.{Known}
+use Rattle.codec_follow.specs.Follow.{known_of, follow_step}
 
 pub record FollowerValue : Type 0 where
   pub control : Control
-  -- the config that was last given in this epoch is supported
-  pub supported : Bool
-  -- the config that was last given up to the running item is supported
-  pub running_supported : Bool
+  -- of the config that was last given in this epoch
+  pub known : Known
+  -- of the config that was last given up to the running item
+  pub running_known : Known
 
 -- the follower of a state
 abbrev pub follower_of : State → FollowerValue
-follower_of s = record { control = s.control; supported = is_supported s.given.config; running_supported = is_supported s.running_given.config }
+follower_of s = record { control = s.control; known = known_of s.given.config; running_known = known_of s.running_given.config }
 
 -- what an entry shows where it follows
 abbrev pub shown_where : Entry → State → Option Shown
@@ -34,8 +35,17 @@ pub record Follows (e : Entry) (old : FollowerValue) (shown : Option Shown) (new
   pub answer : (s : State) → follower_of s ≡ old → shown_where e s ≡ shown
   pub after : (s : State) → follower_of s ≡ old → follower_of (state_after e s) ≡ new
 
--- whether the config that was last given is supported, with one more item
-abbrev pub supported_with : Work → Bool → Bool
-supported_with (work.Configure config) before = is_supported config
-supported_with (work.Coded chunk) before = before
-supported_with work.Flush before = before
+-- what is known of the config that was last given, with one more item
+abbrev pub known_with : Work → Known → Known
+known_with (work.Configure config) before = known_of config
+known_with (work.Coded chunk) before = before
+known_with work.Flush before = before
+
+-- what is known where nothing was given
+abbrev pub nothing_known : Known
+nothing_known = known_of nothing_given.config
+
+-- what is known after a removal, refused with this error or else made
+abbrev pub known_after : Option DomError → Known → Known
+known_after None before = nothing_known
+known_after (Some error) before = before

@@ -1,12 +1,15 @@
 -- Whole runs, followed.
-use Rattle.std.specs.Prelude.{ℕ, ◌≡◌, List, [], ◌∷◌, Some, None, map, option_map}
+use Rattle.std.specs.Prelude.{ℕ, ◌≡◌, List, [], ◌∷◌, Some, None, codes, map, option_map}
+use Rattle.wc_config.specs.declared.config.Config.{Config}
+use Rattle.wc_config.specs.declared.config.Config.TheVariants as config
 use Rattle.codec_model.specs.declared.entry.Outcome.TheVariants as outcome
 use Rattle.codec_model.specs.declared.entry.Entry.{Entry}
 use Rattle.codec_model.specs.declared.entry.Entry.TheVariants as entry
 use Rattle.codec_model.specs.declared.entry.Event.TheVariants.{Output, Dequeue}
 use Rattle.codec_model.specs.Shown.{each_shown}
 use Rattle.codec_model.specs.Rows.{four, step_of, pcm, chunk, unit, ordinary, quiet_after}
-use Rattle.codec_follow.specs.Follow.{blank, follows, each_filled}
+use Rattle.codec_model.specs.Replay.{IsLegal}
+use Rattle.codec_follow.specs.Follow.{blank, follows, IsFollowed, each_filled}
 
 -- the ordinary run follows, and its output is blank
 abbrev pub OrdinaryFollows : Type 0
@@ -29,11 +32,23 @@ ThreeShown =
     map (λ x. x.events) (each_filled four (decoding 3) (unit ∷ unit ∷ []))
     ≡ [] ∷ [] ∷ [] ∷ [] ∷ [] ∷ [] ∷ [] ∷ [] ∷ (Dequeue ∷ []) ∷ (Output 0 unit ∷ Output 1 unit ∷ Output 2 blank ∷ []) ∷ []
 
--- a configure item gives no unit, and a flush item is never refused
+-- a configure item gives no unit
 abbrev pub ConfigureGivesNone : Type 0
 ConfigureGivesNone = follows four (entry.Configure (step_of 0) pcm ∷ entry.Start 0 0 ∷ entry.Done 0 0 1 (outcome.Ran 1) ∷ []) ≡ None
 
+-- a configure and a flush whose item is refused
+abbrev pub refusing : Config → List Entry
+refusing c =
+    entry.Configure (step_of 0) c ∷ entry.Flush (step_of 1) ∷ entry.Start 0 0 ∷ entry.Done 0 0 1 (outcome.Ran 0) ∷ entry.Turn ∷ entry.Turn
+    ∷ entry.Start 0 1 ∷ entry.Done 0 1 2 outcome.Refused ∷ []
+
+abbrev pub raw_video : Config
+raw_video = config.VideoDecoder (record { codec = codes "x-raw-i420"; width = Some 2; height = Some 2; aspect_width = None; aspect_height = None })
+
+-- the flush of linear PCM is never refused
 abbrev pub FlushIsAnswered : Type 0
-FlushIsAnswered =
-    follows four (entry.Configure (step_of 0) pcm ∷ entry.Flush (step_of 1) ∷ entry.Start 0 0 ∷ entry.Done 0 0 1 (outcome.Ran 0) ∷ entry.Turn ∷ entry.Turn
-    ∷ entry.Start 0 1 ∷ entry.Done 0 1 2 outcome.Refused ∷ []) ≡ None
+FlushIsAnswered = follows four (refusing pcm) ≡ None
+
+-- raw video has no coder yet, and its definition refuses a drain: the refusal is legal, and follows
+abbrev pub VideoIsRefused : Type 0
+VideoIsRefused = IsLegal four (refusing raw_video) × IsFollowed four (refusing raw_video)

@@ -1,15 +1,21 @@
 // Ends of items as they stand.
-ghost use Rattle.std.specs.Prelude.{◌≡◌, IfOk};
-ghost use Rattle.codec_follow.specs.Follow.{blank as the_blank, blanks as the_blanks, ran_as, ended_by};
-ghost use Rattle.codec_follow.specs.Followed.{supported_with};
+ghost use Rattle.std.specs.Prelude.{◌≡◌, IfOk, is_some};
+ghost use Rattle.wc_config.specs.declared.config.AudioDecoderConfig.{AudioDecoderConfig};
+ghost use Rattle.wc_config.specs.declared.config.AudioEncoderConfig.{AudioEncoderConfig};
+ghost use Rattle.coder_api.specs.declared.coder.Command.TheVariants as Command;
+ghost use Rattle.coder_api.specs.Commands.{audio_decoder_answer, audio_encoder_answer};
+ghost use Rattle.codec_follow.specs.Follow.{blank as the_blank, blanks as the_blanks, ran_as, ended_by, answers_drain};
+ghost use Rattle.codec_follow.specs.Followed.{known_with, known_after, nothing_known as the_nothing};
 
 use crate::events::append;
+use crate::known::Known;
 use bytes::Bytes;
 use codec_model::{Ended, Outcome, Work, WorkKind};
 use coder_api::Unit;
 use std::alloc::Global;
-use wc_base::{List, NoMemory};
+use wc_base::{DomError, List, NoMemory};
 use wc_chunk::Chunk;
+use wc_config::{CodecId, Config};
 
 // The place of an output.
 fn blank() -> Unit
@@ -54,25 +60,24 @@ fn ran(alloc: Global, kind: WorkKind, units: u64) -> Result<Option<Ended>, NoMem
     }
 }
 
-/// How an item of this kind ends with this outcome as it stands, where the config that was last given is supported or
-/// not; none exactly where that does not follow.
+/// How an item of this kind ends with this outcome as it stands; none exactly where that does not follow.
 pub(crate) fn ended_as(
     alloc: Global,
     kind: WorkKind,
-    supported: bool,
+    known: Known,
     outcome: Outcome,
 ) -> Result<Option<Ended>, NoMemory>
-    ensures { IfOk result (λ e. e ≡ ended_by kind supported outcome) }
+    ensures { IfOk result (λ e. e ≡ ended_by kind known outcome) }
 {
     match outcome {
         Outcome::Ran { units } => ran(alloc, kind, units),
         Outcome::Refused => Ok(match kind {
             WorkKind::Configure => Some(Ended::Refused),
             WorkKind::Coded => Some(Ended::Refused),
-            WorkKind::Flush => None,
+            WorkKind::Flush => (!known.drains).then_some(Ended::Refused),
         }),
         Outcome::NoSlot { entry } => Ok(match kind {
-            WorkKind::Configure => supported.then_some(Ended::NoSlot(entry)),
+            WorkKind::Configure => known.supported.then_some(Ended::NoSlot(entry)),
             WorkKind::Coded => None,
             WorkKind::Flush => None,
         }),
@@ -80,13 +85,71 @@ pub(crate) fn ended_as(
     }
 }
 
-/// Whether the config that was last given is supported, with one more item.
-pub(crate) fn supported_after(work: &Work, before: bool) -> bool
-    ensures { result ≡ supported_with work.now before }
+// Whether this audio codec has a definition that answers a drain.
+fn has_drain(codec: CodecId) -> bool
+    ensures decoder { (c : AudioDecoderConfig) → result ≡ is_some (audio_decoder_answer codec c Command.Drain) }
+    ensures encoder { (c : AudioEncoderConfig) → result ≡ is_some (audio_encoder_answer codec c Command.Drain) }
+{
+    match codec {
+        CodecId::PcmU8 => true,
+        CodecId::PcmS16 => true,
+        CodecId::PcmS24 => true,
+        CodecId::PcmS32 => true,
+        CodecId::Alaw => true,
+        CodecId::Ulaw => true,
+        CodecId::Flac => false,
+        CodecId::RawI420 => false,
+        CodecId::RawI422 => false,
+        CodecId::RawI444 => false,
+        CodecId::RawNv12 => false,
+    }
+}
+
+// Whether the definition of the codec that a config asks for answers a drain.
+fn drains(config: &Config) -> bool
+    ensures { result ≡ answers_drain config.now }
+{
+    match config.coder_id() {
+        None => true,
+        Some(id) => match config {
+            Config::AudioDecoder(_) => has_drain(id.codec),
+            Config::AudioEncoder(_) => has_drain(id.codec),
+            Config::VideoDecoder(_) => false,
+            Config::Bad => false,
+        },
+    }
+}
+
+/// What is known where nothing was given.
+pub(crate) fn nothing_known() -> Known
+    ensures { result ≡ the_nothing }
+{
+    Known {
+        supported: false,
+        drains: true,
+    }
+}
+
+/// What is known of the config that was last given, with one more item.
+pub(crate) fn known_after_item(work: &Work, before: Known) -> Known
+    ensures { result ≡ known_with work.now before }
 {
     match work {
-        Work::Configure(config) => config.supported(),
+        Work::Configure(config) => Known {
+            supported: config.supported(),
+            drains: drains(config),
+        },
         Work::Coded(_) => before,
         Work::Flush => before,
+    }
+}
+
+/// What is known after a removal, refused with this error or else made.
+pub(crate) fn known_after_removal(error: Option<DomError>, before: Known) -> Known
+    ensures { result ≡ known_after error before }
+{
+    match error {
+        None => nothing_known(),
+        Some(_) => before,
     }
 }

@@ -5,10 +5,11 @@ ghost use Rattle.codec_model.specs.declared.entry.Entry.TheVariants as entry;
 ghost use Rattle.codec_model.specs.Replay.{entry_of, opening_state};
 ghost use Rattle.codec_follow.specs.Followed.{follower_of, Follows};
 
-use crate::ends::{ended_as, supported_after};
+use crate::ends::{ended_as, known_after_item, known_after_removal, nothing_known};
 use crate::events::{
     events_of_call, events_of_reclaim, events_of_removal, events_of_task, note, word_of,
 };
+use crate::known::Known;
 use codec_model::{Call, Entry, Opening, Outcome, Shown};
 use codec_queues::Machine;
 use std::alloc::Global;
@@ -21,10 +22,10 @@ use wc_base::{List, NoMemory};
 pub struct Follower {
     alloc: Global,
     machine: Machine,
-    // Whether the config that was last given in this epoch is supported.
-    supported: bool,
+    // Of the config that was last given in this epoch.
+    known: Known,
     // The same up to the running item.
-    running_supported: bool,
+    running_known: Known,
 }
 
 impl Model for Follower {
@@ -32,7 +33,7 @@ impl Model for Follower {
 
     ghost Value = { FollowerValue };
 
-    ghost view = { λ f. record { control = f.machine; supported = f.supported; running_supported = f.running_supported } };
+    ghost view = { λ f. record { control = f.machine; known = f.known; running_known = f.running_known } };
 }
 
 impl Follower {
@@ -44,8 +45,8 @@ impl Follower {
         Ok(Follower {
             alloc,
             machine,
-            supported: false,
-            running_supported: false,
+            known: nothing_known(),
+            running_known: nothing_known(),
         })
     }
 
@@ -98,7 +99,7 @@ impl Follower {
         let error = self.machine.removal_error();
         let events = events_of_removal(self.alloc, error, self.machine.pending())?;
         self.machine.reset(error);
-        self.supported = self.supported && error.is_some();
+        self.known = known_after_removal(error, self.known);
         Ok(Some(note(events)))
     }
 
@@ -111,7 +112,7 @@ impl Follower {
         let error = self.machine.removal_error();
         let events = events_of_removal(self.alloc, error, self.machine.pending())?;
         self.machine.close(error);
-        self.supported = self.supported && error.is_some();
+        self.known = known_after_removal(error, self.known);
         Ok(Some(note(events)))
     }
 
@@ -127,10 +128,10 @@ impl Follower {
         if epoch != self.machine.epoch() || item != next.number {
             return Ok(None);
         }
-        let supported = supported_after(&next.work, self.supported);
+        let known = known_after_item(&next.work, self.known);
         self.machine.start();
-        self.supported = supported;
-        self.running_supported = supported;
+        self.known = known;
+        self.running_known = known;
         Ok(Some(note(List::empty(self.alloc))))
     }
 
@@ -152,8 +153,8 @@ impl Follower {
         if running.epoch != epoch || running.number != item {
             return Ok(None);
         }
-        let supported = self.running_supported;
-        let Some(ended) = ended_as(self.alloc, running.kind, supported, outcome)? else {
+        let known = self.running_known;
+        let Some(ended) = ended_as(self.alloc, running.kind, known, outcome)? else {
             return Ok(None);
         };
         self.machine.done(ended, moment);
@@ -173,8 +174,9 @@ impl Follower {
         // No memory holds more outputs than a u64 counts.
         let first = self.machine.shown_count().ok_or(NoMemory)?;
         let events = events_of_task(self.alloc, task, first, self.machine.pending())?;
-        let closes = self.machine.turn() == Some(true);
-        self.supported = self.supported && !closes;
+        if self.machine.turn() == Some(true) {
+            self.known = nothing_known();
+        }
         Ok(Some(Shown { turn, events }))
     }
 
@@ -189,7 +191,7 @@ impl Follower {
         }
         let events = events_of_reclaim(self.alloc, self.machine.pending())?;
         self.machine.reclaim(moment);
-        self.supported = false;
+        self.known = nothing_known();
         Ok(Some(note(events)))
     }
 }

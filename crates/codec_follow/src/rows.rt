@@ -1,5 +1,5 @@
 // The definitions on whole runs, computed by the checker.
-ghost use Rattle.codec_follow.specs.Rows.{OrdinaryFollows, OrdinaryFills, ThreeShown, ConfigureGivesNone, FlushIsAnswered};
+ghost use Rattle.codec_follow.specs.Rows.{OrdinaryFollows, OrdinaryFills, ThreeShown, ConfigureGivesNone, FlushIsAnswered, VideoIsRefused};
 
 /// One configure, one decode, one flush: the state after the run as it is followed, and what it shows with its output.
 pub fn ordinary_followed()
@@ -7,9 +7,10 @@ pub fn ordinary_followed()
     ensures fills { OrdinaryFills }
 {}
 
-/// A decode that is told to have given three units; and ends that do not follow.
+/// A decode that is told to have given three units; and ends that do not follow, or that do.
 pub fn decoding_followed()
     ensures shown { ThreeShown }
     ensures configure { ConfigureGivesNone }
     ensures flush { FlushIsAnswered }
+    ensures video { VideoIsRefused }
 {}

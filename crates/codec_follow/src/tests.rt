@@ -7,7 +7,7 @@ use std::alloc::{AllocError, Global};
 use std::test::Fail;
 use wc_base::{DomError, List, NoMemory, Text, Who};
 use wc_chunk::Chunk;
-use wc_config::{AudioDecoderConfig, Config};
+use wc_config::{AudioDecoderConfig, Config, VideoDecoderConfig};
 
 const OPENING: Opening = Opening {
     kind: Kind::AudioDecoder,
@@ -195,23 +195,46 @@ fn ends_of_configure_items(rt: HostRuntime) -> Result<(), Fail> {
     Ok(())
 }
 
-#[test]
-fn flush_is_not_refused(rt: HostRuntime) -> Result<(), Fail> {
-    let alloc = rt.alloc();
-    let refused = done(1, Outcome::Refused);
-    let entries = vec![in alloc;
-        configure(alloc, "pcm-s16")?,
+// A flush to the refusal of its item.
+fn refusing(alloc: Global, configure: Entry) -> Result<Vec<Entry>, AllocError> {
+    Ok(vec![in alloc;
+        configure,
         flush(),
         start(0),
         ran(0, 0),
         Entry::Turn,
         Entry::Turn,
         start(1),
-        refused,
-    ]?;
+        done(1, Outcome::Refused),
+    ]?)
+}
+
+#[test]
+fn flush_is_not_refused(rt: HostRuntime) -> Result<(), Fail> {
+    let alloc = rt.alloc();
+    let entries = refusing(alloc, configure(alloc, "pcm-s16")?)?;
     assert_eq!(rt;
         followed(alloc, entries.as_slice()).expect(&rt, "memory"),
         7
+    );
+    Ok(())
+}
+
+// Raw video has no coder yet, and its definition refuses a drain.
+#[test]
+fn flush_with_no_coder_yet(rt: HostRuntime) -> Result<(), Fail> {
+    let alloc = rt.alloc();
+    let config = Config::VideoDecoder(VideoDecoderConfig {
+        codec: Text::of(String::from_str(alloc, "x-raw-i420")?),
+        width: Some(2),
+        height: Some(2),
+        aspect_width: None,
+        aspect_height: None,
+    });
+    let entries = refusing(alloc, Entry::Configure { who: WHO, config })?;
+    assert_eq!(rt;
+        followed(alloc, entries.as_slice()).expect(&rt, "memory"),
+        8
     );
     Ok(())
 }

@@ -11,6 +11,6 @@ returns-clause-follows c = λ who.
     let m = c.self.inside.machine in
     let told : Some c.note.result ≡ Some (noted (call_events c.args.call m.place (call_error c.args.call m))) = rw (c.note.ensures, c.in_ok-events.ensures, c.place.ensures, c.error_of-error.ensures) refl in
     let moved = c.in_ok-call.ensures.ok ∙ ap (λ (e : Option DomError). after_call e c.args.call m) c.error_of-error.ensures in
-    subst (λ (v : FollowerValue). Follows (entry_of who c.args.call) v (Some c.note.result) (record { control = c.call-2.new.self; supported = c.self.inside.supported; running_supported = c.self.inside.running_supported }))
+    subst (λ (v : FollowerValue). Follows (entry_of who c.args.call) v (Some c.note.result) (record { control = c.call-2.new.self; known = c.self.inside.known; running_known = c.self.inside.running_known }))
     c.self.view_is
-    (call_follows who c.args.call (record { control = m; supported = c.self.inside.supported; running_supported = c.self.inside.running_supported }) (Some c.note.result) c.call-2.new.self told moved)
+    (call_follows who c.args.call (record { control = m; known = c.self.inside.known; running_known = c.self.inside.running_known }) (Some c.note.result) c.call-2.new.self told moved)

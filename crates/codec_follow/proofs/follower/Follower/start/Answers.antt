@@ -9,12 +9,12 @@ use Rattle.codec_follow.proofs.follower.Follower.start.Goals as goal
 pub returns-clause-follows : goal.returns-clause-follows
 returns-clause-follows c =
     let f = c.self.inside in
-    subst (λ (v : FollowerValue). Follows (entry.Start c.args.epoch c.args.item) v (Some c.note.result) (record { control = c.start.new.self; supported = c.supported_after-supported.result; running_supported = c.supported_after-supported.result }))
+    subst (λ (v : FollowerValue). Follows (entry.Start c.args.epoch c.args.item) v (Some c.note.result) (record { control = c.start.new.self; known = c.known_after_item-known.result; running_known = c.known_after_item-known.result }))
     c.self.view_is
-    (start_follows c.args.epoch c.args.item c.in-Some.next.now (record { control = f.machine; supported = f.supported; running_supported = f.running_supported }) (Some c.note.result) c.start.new.self c.supported_after-supported.result
+    (start_follows c.args.epoch c.args.item c.in-Some.next.now (record { control = f.machine; known = f.known; running_known = f.running_known }) (Some c.note.result) c.start.new.self c.known_after_item-known.result
     (sym c.in-Some.ensures)
     (search rules)
     (search rules)
     (ap (λ (x : _). Some x) (c.note.ensures ∙ ap (λ (l : List Event). noted l) c.empty.ensures))
     c.start.ensures.after
-    c.supported_after-supported.ensures)
+    c.known_after_item-known.ensures)

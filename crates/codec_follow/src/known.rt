@@ -1,0 +1,10 @@
+// What is known of a config.
+
+/// What the ends of items ask of the config that was last given.
+#[derive(Clone, Copy)]
+pub(crate) struct Known {
+    // It is supported.
+    pub(crate) supported: bool,
+    // The definition of its codec answers a drain.
+    pub(crate) drains: bool,
+}
