@@ -2,3 +2,4 @@ pub mod Erased
 pub mod Filling
 pub mod Answered
 pub mod Moves
+pub mod Callers
