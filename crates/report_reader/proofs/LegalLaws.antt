@@ -27,7 +27,9 @@ use Rattle.report_lines.specs.declared.line.CallWord.TheVariants as call
 use Rattle.report_lines.specs.Laws.{told_of}
 use Rattle.report_reader.specs.Read.{call_of, entry_of}
 use Rattle.report_reader.specs.Told.{HoldsArguments, IsToldTrace, IsWithoutLoss, IsTold}
-use Rattle.report_reader.specs.Laws.{AnswerFlushes}
+use Rattle.report_lines.specs.Fits.{AreNames}
+use Rattle.trace_text.specs.Report.{report_of}
+use Rattle.report_reader.proofs.FormLaws.{report_tells}
 
 abbrev some : Entry → Option Entry
 some e = Some e
@@ -133,19 +135,19 @@ shown_units (e ∷ es) s =
 
 -- ---- codecs
 
-trace_told : (script : ScriptData) (files : List (List Chunk)) (c : CodecItem) (t : CodecTrace) → IsLegalTrace c t → AnswerFlushes (t ∷ []) → ((p : ℕ) (e : Entry) → slice_get t.entries p ≡ Some e → GetsArguments script files e) → IsToldTrace script files t
-trace_told script files c t legal answers h = record {
+trace_told : (script : ScriptData) (files : List (List Chunk)) (c : CodecItem) (t : CodecTrace) → IsLegalTrace c t → ((p : ℕ) (e : Entry) → slice_get t.entries p ≡ Some e → GetsArguments script files e) → IsToldTrace script files t
+trace_told script files c t legal h = record {
   arguments = entries_hold script files t.entries t.shown h;
-  follows = legal_follows t.opening t.entries legal.legal answers.0;
-  shows = legal.shown ∙ legal_fills t.opening t.entries legal.legal answers.0 ∙ ap (each_filled t.opening t.entries) (shown_units t.entries (opening_state t.opening) ∙ ap units_shown (sym legal.shown));
+  follows = legal_follows t.opening t.entries legal.legal;
+  shows = legal.shown ∙ legal_fills t.opening t.entries legal.legal ∙ ap (each_filled t.opening t.entries) (shown_units t.entries (opening_state t.opening) ∙ ap units_shown (sym legal.shown));
 }
 
-traces_told : (script : ScriptData) (files : List (List Chunk)) (cs : List CodecItem) (ts : List CodecTrace) → AreLegalTraces cs ts → AnswerFlushes ts
+traces_told : (script : ScriptData) (files : List (List Chunk)) (cs : List CodecItem) (ts : List CodecTrace) → AreLegalTraces cs ts
     → ((k p : ℕ) (e : Entry) → slice_get (at k (map (λ t. t.entries) ts)) p ≡ Some e → GetsArguments script files e) → AllByRecursion (IsToldTrace script files) ts
-traces_told script files [] [] legal answers h = tt
-traces_told script files [] (t ∷ ts) legal answers h = absurd legal
-traces_told script files (c ∷ cs) [] legal answers h = absurd legal
-traces_told script files (c ∷ cs) (t ∷ ts) legal answers h = (trace_told script files c t legal.0 (answers.0, tt) (λ p e is. h 0 p e is), traces_told script files cs ts legal.1 answers.1 (λ k p e is. h (suc k) p e is))
+traces_told script files [] [] legal h = tt
+traces_told script files [] (t ∷ ts) legal h = absurd legal
+traces_told script files (c ∷ cs) [] legal h = absurd legal
+traces_told script files (c ∷ cs) (t ∷ ts) legal h = (trace_told script files c t legal.0 (λ p e is. h 0 p e is), traces_told script files cs ts legal.1 (λ k p e is. h (suc k) p e is))
 
 traces_count : (cs : List CodecItem) (ts : List CodecTrace) → AreLegalTraces cs ts → length ts ≡ length cs
 traces_count [] [] legal = refl
@@ -153,12 +155,17 @@ traces_count [] (t ∷ ts) legal = absurd legal
 traces_count (c ∷ cs) [] legal = absurd legal
 traces_count (c ∷ cs) (t ∷ ts) legal = ap (λ (n : ℕ). suc n) (traces_count cs ts legal.1)
 
-pub legal_told : (script : ScriptData) (files : List (List Chunk)) (made : List CoderId) (run : Run) → IsLegalRun script run → Fits script files made run → AnswerFlushes run.codecs → IsWithoutLoss script run → IsTold script files run
-legal_told script files made run legal fits answers whole = record {
+pub legal_told : (script : ScriptData) (files : List (List Chunk)) (made : List CoderId) (run : Run) → IsLegalRun script run → Fits script files made run → IsWithoutLoss script run → IsTold script files run
+legal_told script files made run legal fits whole = record {
   told = record {
     callers = legal.callers;
     codecs = traces_count script.codecs run.codecs legal.codecs;
-    traces = traces_told script files script.codecs run.codecs legal.codecs answers (λ k p e is who names. fits.arguments k p e who is names);
+    traces = traces_told script files script.codecs run.codecs legal.codecs (λ k p e is who names. fits.arguments k p e who is names);
   };
   whole = whole;
 }
+
+-- legal runs of one script with the same report
+pub legal_same : (script : ScriptData) (files : List (List Chunk)) (made : List CoderId) (a b : Run) → AreNames script → IsLegalRun script a → Fits script files made a → IsWithoutLoss script a
+    → IsLegalRun script b → Fits script files made b → IsWithoutLoss script b → report_of script a ≡ report_of script b → a ≡ b
+legal_same script files made a b names la fa wa lb fb wb same = report_tells script files a b names (legal_told script files made a la fa wa) (legal_told script files made b lb fb wb) same

@@ -3,11 +3,9 @@ use Rattle.std.specs.Prelude.{ℕ, ◌≡◌, List, IsTrue}
 use Rattle.std.specs.List.{AllByRecursion}
 use Rattle.wc_chunk.specs.declared.chunk.Chunk.{Chunk}
 use Rattle.wc_config.specs.declared.codec.CoderId.{CoderId}
-use Rattle.codec_follow.specs.Laws.{AnswersFlushes}
 use Rattle.script_types.specs.declared.script.ScriptData.{ScriptData}
 use Rattle.script_types.specs.Sound.{is_sound}
 use Rattle.trace_text.specs.declared.run.Run.{Run}
-use Rattle.trace_text.specs.declared.run.CodecTrace.{CodecTrace}
 use Rattle.trace_text.specs.Report.{report_of}
 use Rattle.trace_text.specs.Fits.{Fits, IsLegalRun}
 use Rattle.report_lines.specs.Whole.{lines_of}
@@ -29,14 +27,16 @@ ReportsDetermineRuns = (script : ScriptData) (media : List (List Chunk)) (a b : 
 abbrev pub SoundNames : Type 0
 SoundNames = (script : ScriptData) → IsTrue (is_sound script) → AreNames script
 
--- no flush item of a run is refused
-abbrev pub AnswerFlushes : List CodecTrace → Type 0
-AnswerFlushes traces = AllByRecursion (λ t. AnswersFlushes t.opening t.entries) traces
-
--- a legal run that fits its script is told, where no flush is refused
+-- a legal run that fits its script is told, where it is written without loss
 abbrev pub LegalRunsAreTold : Type 0
 LegalRunsAreTold =
-    (script : ScriptData) (media : List (List Chunk)) (made : List CoderId) (run : Run) → IsLegalRun script run → Fits script media made run → AnswerFlushes run.codecs → IsWithoutLoss script run → IsTold script media run
+    (script : ScriptData) (media : List (List Chunk)) (made : List CoderId) (run : Run) → IsLegalRun script run → Fits script media made run → IsWithoutLoss script run → IsTold script media run
+
+-- two runs that are legal, fit one script with its chunk files, are written without loss and have the same report are equal
+abbrev pub LegalReportsDetermineRuns : Type 0
+LegalReportsDetermineRuns =
+    (script : ScriptData) (media : List (List Chunk)) (made : List CoderId) (a b : Run) → IsTrue (is_sound script)
+    → IsLegalRun script a → Fits script media made a → IsWithoutLoss script a → IsLegalRun script b → Fits script media made b → IsWithoutLoss script b → report_of script a ≡ report_of script b → a ≡ b
 
 -- a fault has one line
 abbrev pub FaultIsOne : Type 0

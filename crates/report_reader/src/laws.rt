@@ -1,5 +1,5 @@
 // What the report of a run tells.
-ghost use Rattle.report_reader.specs.Laws.{RunAgain, ReportsDetermineRuns, SoundNames, LegalRunsAreTold, FaultIsOne};
+ghost use Rattle.report_reader.specs.Laws.{RunAgain, ReportsDetermineRuns, SoundNames, LegalRunsAreTold, LegalReportsDetermineRuns, FaultIsOne};
 
 /// Laws: the lines of a run that is told show that run, and two runs of one script that are told are equal where their
 /// reports are. The script's names are words and differ.
@@ -15,11 +15,12 @@ pub fn names_of_sound_scripts()
 
 /// Law: a legal run that fits its script is told by its report.
 ///
-/// Assumed is that no flush item of it is refused, which holds of every codec whose coder answers drains; that the numbers
-/// on its lines are within their types, as those of each run that was recorded are; and of the configs that its chunks
-/// carry, that the codec's name is a text without a line feed and a description has bytes.
+/// Assumed is that it is written without loss: that the numbers on its lines are within their types, as those of each run
+/// that was recorded are; and of the configs that its chunks carry, that the codec's name is a text without a line feed
+/// and a description has bytes. So two such runs of one script with the same report are equal.
 pub fn legal_runs_are_told()
-    ensures { LegalRunsAreTold }
+    ensures told { LegalRunsAreTold }
+    ensures determine { LegalReportsDetermineRuns }
 {}
 
 /// Law: bytes that are no report of a run have one line at fault.
