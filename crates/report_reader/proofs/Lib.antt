@@ -3,7 +3,7 @@ pub mod FormLaws
 pub mod PassLaws
 pub mod DifferenceLaws
 pub mod BuildLaws
-pub mod PlaceLaws
+pub mod TextLaws
 pub mod TraceLaws
 pub mod ReadLaws
 pub mod NameLaws

@@ -1,87 +1,13 @@
 // Entries get the arguments of their steps.
 ghost use Rattle.std.specs.Prelude.{◌≡◌, IfOk, Some, None, option_map};
-ghost use Rattle.std.specs.Option.{option_copied};
-ghost use Rattle.trace_text.specs.Follow as follow;
 ghost use Rattle.report_reader.specs.Read as spec;
 
 use codec_model::Entry;
 use report_lines::{CallWord, Told};
-use script_types::{ChunkInit, ChunkSource, ScriptData, Step};
+use script_types::{ScriptData, Step};
+use trace_text::{find_chunk, steps_of};
 use wc_base::{List, NoMemory, Who};
 use wc_chunk::Chunk;
-
-// The steps of the caller with this number.
-fn steps_of(script: &ScriptData, caller: u32) -> &[Step]
-    ensures { result.now ≡ follow.steps_of script.now caller }
-{
-    match script.callers.as_slice().get(caller as usize) {
-        Some(caller) => caller.steps.as_slice(),
-        None => &[],
-    }
-}
-
-// The chunks of the chunk file with this number.
-fn chunks_of(media: &[List<Chunk>], file: u32) -> &[Chunk]
-    ensures { result.now ≡ follow.at file media.now }
-{
-    match media.get(file as usize) {
-        Some(chunks) => chunks.as_slice(),
-        None => &[],
-    }
-}
-
-// The chunk that an init makes.
-fn chunk_of(init: &ChunkInit) -> Result<Chunk, NoMemory>
-    ensures { IfOk result (λ c. c ≡ follow.chunk_of init.now) }
-{
-    Ok(Chunk {
-        key: init.key,
-        timestamp: init.timestamp,
-        duration: init.duration,
-        bytes: init.content.clone()?,
-    })
-}
-
-// The chunk with this number.
-fn chunk_in(chunks: &[Chunk], index: u64) -> Result<Option<Chunk>, NoMemory>
-    ensures { IfOk result (λ o. o ≡ Rattle.std.specs.Prelude.slice_get chunks.now index) }
-{
-    match chunks.get(index as usize) {
-        Some(chunk) => Ok(Some(chunk.copy()?)),
-        None => Ok(None),
-    }
-}
-
-// The chunk that a source gives.
-fn chunk_from(media: &[List<Chunk>], source: &ChunkSource) -> Result<Option<Chunk>, NoMemory>
-    ensures { IfOk result (λ o. o ≡ follow.chunk_from media.now source.now) }
-{
-    match source {
-        ChunkSource::Init(Some(init)) => Ok(Some(chunk_of(init)?)),
-        ChunkSource::Init(None) => Ok(None),
-        ChunkSource::File { file, index } => chunk_in(chunks_of(media, *file), *index),
-    }
-}
-
-// The chunk that a step makes or takes from a file, if it does.
-fn chunk_by(media: &[List<Chunk>], step: &Step) -> Result<Option<Chunk>, NoMemory>
-    ensures { IfOk result (λ o. o ≡ follow.chunk_by media.now step.now) }
-{
-    match step {
-        Step::Chunk { bind: _, source } => chunk_from(media, source),
-        _ => Ok(None),
-    }
-}
-
-// The chunk of the variable that the step with this number defines.
-fn chunk_at(media: &[List<Chunk>], steps: &[Step], step: u32) -> Result<Option<Chunk>, NoMemory>
-    ensures { IfOk result (λ o. o ≡ follow.chunk_at media.now steps.now step) }
-{
-    match steps.get(step as usize) {
-        Some(step) => chunk_by(media, step),
-        None => Ok(None),
-    }
-}
 
 // A decode of this chunk, if there is one.
 fn decode_of(who: Who, chunk: Option<Chunk>) -> Option<Entry>
@@ -109,7 +35,7 @@ fn call_of(
             config: config.copy()?,
         })),
         (CallWord::Decode, Step::Decode { on: _, chunk }) => {
-            let chunk = chunk_at(media, steps, chunk.step)?;
+            let chunk = find_chunk(media, steps, chunk.step)?;
             Ok(decode_of(who, chunk))
         }
         (CallWord::Flush, Step::Flush { on: _, bind: _ }) => Ok(Some(Entry::Flush { who })),

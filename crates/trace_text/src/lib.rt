@@ -1,6 +1,7 @@
 //! What a run recorded, and the report of it.
 #![tactic(auto)]
 
+mod chunks;
 mod lines;
 mod outputs;
 mod report;
@@ -10,6 +11,7 @@ mod run;
 mod tests;
 mod words;
 
+pub use chunks::{chunks_of, find_chunk, steps_of};
 pub use report::{WriteFault, write_report};
 pub use rows::{boxes_of_histories, ordinary_report, run_from_a_file};
 pub use run::{CallerTrace, CodecTrace, Run, StepResult};

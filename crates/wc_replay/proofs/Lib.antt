@@ -17,7 +17,6 @@ pub mod AccountsRefusals
 pub mod AccountsEnds
 pub mod AccountsOrder
 pub mod Runs
-pub mod Places
 pub mod Desks
 pub mod Among
 pub mod Plays

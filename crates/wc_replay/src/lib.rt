@@ -2,7 +2,6 @@
 #![tactic(auto)]
 
 mod boxes;
-mod chunks;
 mod desk;
 mod events;
 mod laws;

@@ -4,8 +4,8 @@ ghost use Rattle.script_types.specs.declared.script.CallerItem.{CallerItem};
 ghost use Rattle.trace_text.specs.Missing.{missing_in};
 ghost use Rattle.trace_text.specs.Missing as spec;
 
-use crate::chunks::chunks_of;
 use script_types::{CallerItem, ChunkSource, Place, Script, Step};
+use trace_text::chunks_of;
 use wc_base::List;
 use wc_chunk::Chunk;
 

@@ -8,7 +8,6 @@ ghost use Rattle.script_types.specs.declared.script.OrderItem.TheVariants as ite
 ghost use Rattle.wc_replay.specs.Player.{course, AreOpened, KeepsShape, AreHeld, IsInRange, IsPlayable, call_in, look_at};
 ghost use Rattle.wc_replay.specs.Refusals.{RefusalsStand};
 
-use crate::chunks::find_chunk;
 use crate::desk::Desk;
 use crate::moving::{call_at, close_at, done_at, reclaim_at, reset_at, start_at, turn_at};
 use crate::results::{Results, made_by, note, result_of};
@@ -18,7 +17,7 @@ use script_types::{ChunkSource, OrderItem, ScriptData, Step};
 use slot_registry::Slots;
 use std::alloc::Global;
 use std::marker::Model;
-use trace_text::StepResult;
+use trace_text::{StepResult, find_chunk, steps_of};
 use wc_base::{DomError, List, NoMemory, Who};
 use wc_chunk::Chunk;
 
@@ -112,16 +111,6 @@ fn step_at(steps: &[Step], number: usize) -> Option<&Step>
     ensures { option_copied result ≡ slice_get steps.now number }
 {
     steps.get(number)
-}
-
-/// The steps of a caller.
-fn steps_of(script: &ScriptData, caller: u32) -> &[Step]
-    ensures { result.now ≡ steps_of script.now caller }
-{
-    match script.callers.as_slice().get(caller as usize) {
-        Some(caller) => caller.steps.as_slice(),
-        None => &[],
-    }
 }
 
 impl<C: Coder> Player<C> {

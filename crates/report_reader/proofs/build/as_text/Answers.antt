@@ -1,6 +1,6 @@
 use Rattle.std.proofs.Common.{refl}
 use Rattle.std.proofs.lemmas.Str.{is_utf8-from_IsUtf8}
-use Rattle.report_reader.proofs.PlaceLaws.{no_utf8}
+use Rattle.report_reader.proofs.TextLaws.{no_utf8}
 use Rattle.report_reader.proofs.build.as_text.Goals as goal
 
 pub returns-in-Ok : goal.returns-in-Ok

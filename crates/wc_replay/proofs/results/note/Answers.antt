@@ -1,6 +1,6 @@
 use Rattle.std.proofs.Common.{rules}
 use Rattle.std.proofs.lemmas.Result.{on_ok_weaker}
-use Rattle.wc_replay.proofs.Places.{noted, none_noted}
+use Rattle.trace_text.proofs.Places.{noted, none_noted}
 use Rattle.wc_replay.proofs.results.note.Goals as goal
 
 pub returns-in-Some : goal.returns-in-Some

@@ -1,12 +1,22 @@
-// The chunks that steps make or take from chunk files.
+// The steps of callers, and the chunks that they make or take from chunk files.
 ghost use Rattle.std.specs.Prelude.{◌≡◌, IfOk, slice_get};
-ghost use Rattle.trace_text.specs.Follow.{at, chunk_at, chunk_by, chunk_from, chunk_of};
+ghost use Rattle.trace_text.specs.Follow.{at, chunk_at, chunk_by, chunk_from, chunk_of, steps_of};
 
-use script_types::{ChunkInit, ChunkSource, Step};
+use script_types::{ChunkInit, ChunkSource, ScriptData, Step};
 use wc_base::{List, NoMemory};
 use wc_chunk::Chunk;
 
-/// The chunk that an init makes.
+/// The steps of a caller; none where no caller has the number.
+pub fn steps_of(script: &ScriptData, caller: u32) -> &[Step]
+    ensures { result.now ≡ steps_of script.now caller }
+{
+    match script.callers.as_slice().get(caller as usize) {
+        Some(caller) => caller.steps.as_slice(),
+        None => &[],
+    }
+}
+
+// The chunk that an init makes.
 fn chunk_of(init: &ChunkInit) -> Result<Chunk, NoMemory>
     ensures { IfOk result (λ c. c ≡ chunk_of init.now) }
 {
@@ -18,7 +28,7 @@ fn chunk_of(init: &ChunkInit) -> Result<Chunk, NoMemory>
     })
 }
 
-/// The chunks of a file; none where no file has the number.
+/// The chunks of a chunk file; none where no file has the number.
 pub fn chunks_of(media: &[List<Chunk>], file: u32) -> &[Chunk]
     ensures { result.now ≡ at file media.now }
 {
@@ -28,7 +38,7 @@ pub fn chunks_of(media: &[List<Chunk>], file: u32) -> &[Chunk]
     }
 }
 
-/// The chunk with this number, if there is one.
+// The chunk with this number, if there is one.
 fn chunk_in(chunks: &[Chunk], index: u64) -> Result<Option<Chunk>, NoMemory>
     ensures { IfOk result (λ o. o ≡ slice_get chunks.now index) }
 {
@@ -38,7 +48,7 @@ fn chunk_in(chunks: &[Chunk], index: u64) -> Result<Option<Chunk>, NoMemory>
     }
 }
 
-/// The chunk that a source gives: one that is made, unless its init breaks a rule of WebIDL, or one of a file.
+// The chunk that a source gives: one that is made, unless its init breaks a rule of WebIDL, or one of a file.
 fn chunk_from(media: &[List<Chunk>], source: &ChunkSource) -> Result<Option<Chunk>, NoMemory>
     ensures { IfOk result (λ o. o ≡ chunk_from media.now source.now) }
 {
@@ -49,7 +59,7 @@ fn chunk_from(media: &[List<Chunk>], source: &ChunkSource) -> Result<Option<Chun
     }
 }
 
-/// The chunk that a step makes or takes from a file, if it does.
+// The chunk that a step makes or takes from a file, if it does.
 fn chunk_by(media: &[List<Chunk>], step: &Step) -> Result<Option<Chunk>, NoMemory>
     ensures { IfOk result (λ o. o ≡ chunk_by media.now step.now) }
 {
@@ -59,8 +69,9 @@ fn chunk_by(media: &[List<Chunk>], step: &Step) -> Result<Option<Chunk>, NoMemor
     }
 }
 
-/// The chunk of the variable that the step with this number defines.
-pub(crate) fn find_chunk(
+/// The chunk of the variable that the step with this number defines: made by the step, or copied from its chunk file.
+/// `None` where the step makes none: its init breaks a rule of WebIDL, or the file lacks the chunk.
+pub fn find_chunk(
     media: &[List<Chunk>],
     steps: &[Step],
     step: u32,

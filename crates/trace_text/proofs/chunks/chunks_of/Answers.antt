@@ -1,6 +1,6 @@
 use Rattle.std.proofs.Common.{sym, ◌∙◌}
-use Rattle.wc_replay.proofs.Places.{at_read, at_past}
-use Rattle.wc_replay.proofs.chunks.chunks_of.Goals as goal
+use Rattle.trace_text.proofs.Places.{at_read, at_past}
+use Rattle.trace_text.proofs.chunks.chunks_of.Goals as goal
 
 pub returns-in-Some : goal.returns-in-Some
 returns-in-Some c =

@@ -1,8 +1,8 @@
 use Rattle.std.proofs.Common.{List, ap, sym, ◌∙◌}
 use Rattle.script_types.specs.declared.script.CallerItem.{CallerItem}
 use Rattle.trace_text.specs.Follow.{steps_in}
-use Rattle.report_reader.proofs.PlaceLaws.{steps_read, steps_past}
-use Rattle.report_reader.proofs.arguments.steps_of.Goals as goal
+use Rattle.trace_text.proofs.Places.{steps_read, steps_past}
+use Rattle.trace_text.proofs.chunks.steps_of.Goals as goal
 
 pub returns-in-Some : goal.returns-in-Some
 returns-in-Some c =
