@@ -1,11 +1,7 @@
 -- Texts in UTF-8.
-use Rattle.std.proofs.Common.{ℕ, zero, suc, ◌≡◌, ◌<◌, ◌≤◌, Bool, true, false, List, [], ◌∷◌, length, get_or, Some, None, refl}
-use Rattle.std.specs.Prelude.{slice_get}
+use Rattle.std.proofs.Common.{ℕ, ◌≡◌, Bool, true, false, List, refl}
 use Rattle.std.specs.Str.{IsUtf8, is_utf8}
 use Rattle.std.proofs.lemmas.Str.{IsUtf8-from_is_utf8}
-use Rattle.std.proofs.lemmas.Option.{slice_get_read, slice_get_past}
-use Rattle.script_types.specs.declared.script.CallerItem.{CallerItem}
-use Rattle.trace_text.specs.Follow.{at, steps_in}
 
 not_true : (q : Bool) → (q ≡ true → ⊥) → q ≡ false
 not_true true h = absurd (h refl)

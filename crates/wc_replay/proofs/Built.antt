@@ -1,8 +1,8 @@
 -- A script in which nothing is at fault can be played.
-use Rattle.std.proofs.Common.{ℕ, zero, suc, ◌≡◌, ◌≤◌, ◌<◌, Bool, true, List, [], ◌∷◌, ◌++◌, take, Option, Some, None, refl, ap, sym, subst, ◌∙◌, arith}
+use Rattle.std.proofs.Common.{ℕ, zero, suc, ◌≡◌, ◌<◌, true, List, [], ◌∷◌, ◌++◌, take, Option, Some, None, refl, ap, sym, subst, ◌∙◌, arith}
 use Rattle.std.specs.Prelude.{length, slice_get, unwrap_or}
 use Rattle.std.specs.List.{list_all}
-use Rattle.std.proofs.lemmas.Bool.{and_parts, and_from, leb-true, ltb-true}
+use Rattle.std.proofs.lemmas.Bool.{and_parts, and_from, ltb-true}
 use Rattle.std.proofs.lemmas.Option.{slice_get_within}
 use Rattle.script_types.specs.declared.script.CallerItem.{CallerItem}
 use Rattle.script_types.specs.declared.script.CodecItem.{CodecItem}
@@ -13,10 +13,10 @@ use Rattle.script_types.specs.declared.steps.Step.{Step}
 use Rattle.script_types.specs.declared.steps.Step.TheVariants as step
 use Rattle.script_types.specs.declared.steps.Variable.{Variable}
 use Rattle.script_types.specs.declared.steps.VariableKind.TheVariants as holds
-use Rattle.script_types.specs.Names.{binds, decodes, is_promise}
+use Rattle.script_types.specs.Names.{decodes, is_promise}
 use Rattle.script_types.specs.Sound.{is_sound, are_sound_codecs, is_sound_step, is_sound_item, is_variable, suits, any_kind}
 use Rattle.script_types.proofs.SoundLaws.{Defines, parts_of, codec_within, step_at, few_steps, variable_is, promise_kind, promise_of_flush, item_at}
-use Rattle.trace_text.specs.Follow.{order_items, steps_in, steps_of}
+use Rattle.trace_text.specs.Follow.{steps_in, steps_of}
 use Rattle.trace_text.specs.Fits.{step_in, called}
 use Rattle.wc_replay.specs.Sound.{IsSound, promise_of, IsFlush}
 use Rattle.wc_replay.specs.Player.{IsPlayable, IsInRange, LooksInRange, is_openable}
