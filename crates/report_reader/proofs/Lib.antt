@@ -10,3 +10,4 @@ pub mod NameLaws
 pub mod ToldLaws
 pub mod LegalLaws
 pub mod FaultLaws
+pub mod RowLaws

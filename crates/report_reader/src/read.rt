@@ -45,8 +45,8 @@ fn run_or_fault(
 ///
 /// Reading stops at the first line that has not its form. Where all lines have theirs, the run that they show is written
 /// again, and the bytes have to be its report. `BadLine` names the line, from 1, at which reading stopped, or else the
-/// first in which the two texts differ: the report of no run whose entries hold the script's arguments and follow.
-/// `NoMemory` from want of memory alone.
+/// first in which the two texts differ; the bytes are then the report of no run that a report tells (`IsTold`). `NoMemory`
+/// comes from want of memory alone. The format and the line at fault are our choice.
 pub fn read_report(
     alloc: Global,
     script: &Script,

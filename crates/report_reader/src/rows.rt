@@ -1,10 +1,12 @@
 // The definitions on the ordinary run, computed by the checker.
-ghost use Rattle.report_reader.specs.Rows.{OrdinaryAgain, FileAgain, SecondDiffers, ThirdIsMissing};
+ghost use Rattle.report_reader.specs.Rows.{OrdinaryAgain, FileAgain, OrdinaryTold, SecondDiffers, ThirdIsMissing};
 
-/// The lines of the ordinary run show it, its chunk made or from a file; and the lines in which two texts differ.
+/// The lines of the ordinary run show it, its chunk made or from a file, and its report tells it; and the lines in which
+/// two texts differ.
 pub fn ordinary_run_again()
     ensures made { OrdinaryAgain }
     ensures file { FileAgain }
+    ensures told { OrdinaryTold }
     ensures second { SecondDiffers }
     ensures third { ThirdIsMissing }
 {}
