@@ -23,7 +23,9 @@ fn script(alloc: Global) -> Result<ScriptData, Fail> {
     Ok(ScriptData {
         codecs: List::of(vec![in alloc; codec]?),
         callers: List::of(vec![in alloc; caller]?),
-        order: List::empty(alloc),
+        order: None,
+        chunk_files: List::empty(alloc),
+        inline: 0,
     })
 }
 

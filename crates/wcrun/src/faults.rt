@@ -114,7 +114,7 @@ fn each_fault_of_a_script_is_named(rt: HostRuntime) -> Result<(), Fail> {
         (&[CHUNK], 2, "script: shape at top\n"),
         (&[CHUNK, "{\"do\":\"x\"}"], 2, "script: shape at step 0 1\n"),
         (&[CHUNK, take], 2, "script: unbuilt at step 0 1\n"),
-        (&[take, decode], 2, "script: unknown name at step 0 1\n"),
+        (&[take, decode], 2, "script: shape at step 0 1\n"),
         (
             &["{\"do\":\"poll\",\"promise\":\"c\"}"],
             1,
