@@ -103,27 +103,42 @@ fn with_steps(alloc: Global, steps: &[&str], turns: usize) -> Result<String, Fai
     Ok(script)
 }
 
+const DECODE: &str = "{\"do\":\"decode\",\"on\":\"d\",\"chunk\":\"x\"}";
+
+const TAKE: &str = "{\"do\":\"take\",\"on\":\"d\",\"as\":\"x\"}";
+
+const POLL: &str = "{\"do\":\"poll\",\"promise\":\"c\"}";
+
+const UNKNOWN: &str = "{\"do\":\"x\"}";
+
+// The status and the text for two steps, or for the first alone.
+fn told_of(
+    alloc: Global,
+    first: &str,
+    second: Option<&str>,
+    turns: usize,
+) -> Result<(u8, MemSink), Fail> {
+    let script = match second {
+        Some(second) => with_steps(alloc, &[first, second], turns)?,
+        None => with_steps(alloc, &[first], turns)?,
+    };
+    told(alloc, script.as_str(), EMPTY, Vec::new(alloc))
+}
+
 #[test]
 fn each_fault_of_a_script_is_named(rt: HostRuntime) -> Result<(), Fail> {
     let alloc = rt.alloc();
-    let decode = "{\"do\":\"decode\",\"on\":\"d\",\"chunk\":\"x\"}";
-    let take = "{\"do\":\"take\",\"on\":\"d\",\"as\":\"x\"}";
-    let rows: [(&[&str], usize, &str); 7] = [
-        (&[CHUNK, CHUNK], 2, "script: twice at step 0 1\n"),
-        (&[decode], 1, "script: unknown name at step 0 0\n"),
-        (&[CHUNK], 2, "script: shape at top\n"),
-        (&[CHUNK, "{\"do\":\"x\"}"], 2, "script: shape at step 0 1\n"),
-        (&[CHUNK, take], 2, "script: unbuilt at step 0 1\n"),
-        (&[take, decode], 2, "script: shape at step 0 1\n"),
-        (
-            &["{\"do\":\"poll\",\"promise\":\"c\"}"],
-            1,
-            "script: unknown name at step 0 0\n",
-        ),
+    let rows: [(&str, Option<&str>, usize, &str); 7] = [
+        (CHUNK, Some(CHUNK), 2, "script: twice at step 0 1\n"),
+        (DECODE, None, 1, "script: unknown name at step 0 0\n"),
+        (CHUNK, None, 2, "script: shape at top\n"),
+        (CHUNK, Some(UNKNOWN), 2, "script: shape at step 0 1\n"),
+        (CHUNK, Some(TAKE), 2, "script: unbuilt at step 0 1\n"),
+        (TAKE, Some(DECODE), 2, "script: shape at step 0 1\n"),
+        (POLL, None, 1, "script: unknown name at step 0 0\n"),
     ];
-    for (steps, turns, text) in rows {
-        let script = with_steps(alloc, steps, turns)?;
-        let (status, sink) = told(alloc, script.as_str(), EMPTY, Vec::new(alloc))?;
+    for (first, second, turns, text) in rows {
+        let (status, sink) = told_of(alloc, first, second, turns)?;
         assert_eq!(rt; status, 3, "at {text}");
         assert_eq!(rt; sink.bytes(), text.as_bytes(), "at {text}");
     }
