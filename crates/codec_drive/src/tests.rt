@@ -1,7 +1,10 @@
 // A decoder's jobs, done with ample memory.
+ghost use Rattle.codec_model.specs.Replay.{State};
+ghost use Rattle.codec_core.specs.Job.{IsJobOf};
+
 use crate::run;
 use bytes::Bytes;
-use codec_core::Core;
+use codec_core::{Core, Job};
 use codec_model::{Call, Kind};
 use coder_api::{Coder, SlotBox, Unit};
 use pcm_coder::PcmCoder;
@@ -29,12 +32,12 @@ fn chunk(alloc: Global, content: &[u8]) -> Result<Call, Fail> {
     }))
 }
 
-// Starts the front item, does its job and ends it; whether memory was there and an item was.
-fn work(alloc: Global, core: &mut Core<PcmCoder>, moment: u64) -> bool {
-    let Some(mut job) = core.start() else {
-        return false;
-    };
-    if let Some(id) = job.lacks() {
+// Gives a job the box that it lacks.
+fn with_box(mut job: Job<PcmCoder>) -> Job<PcmCoder>
+    ensures { (s : State) → IsJobOf s job → IsJobOf s result }
+{
+    if job.lacks().is_some() {
+        let _ = job.take_box();
         let by = By::Codec {
             codec: 0,
             place: job.place(),
@@ -47,10 +50,22 @@ fn work(alloc: Global, core: &mut Core<PcmCoder>, moment: u64) -> bool {
             0,
             by,
         );
-        if coder.id() != id {
-            return false;
+        if job.lacks() == Some(coder.id()) {
+            job.put_box(coder);
         }
-        job.put_box(coder);
+    }
+    job
+}
+
+// Starts the front item, does its job and ends it; whether there was an item, a box and memory.
+fn work(alloc: Global, core: &mut Core<PcmCoder>, moment: u64) -> bool {
+    let Some(job) = core.start() else {
+        return false;
+    };
+    let job = with_box(job);
+    if job.lacks().is_some() {
+        core.done(job.no_memory(), moment);
+        return false;
     }
     let done = run(alloc, job);
     let fine = !done.wants_memory();
