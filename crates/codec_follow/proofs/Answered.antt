@@ -362,7 +362,7 @@ started_sound (i ∷ is) epoch item s t e step h =
     subst (λ (u : State). Sound u) (some_same _ t k.1) (subst (λ (l : List Item). At (Rattle.codec_model.specs.Control.started_on l (entered s.control)) (given_more i.work s.given) (given_more i.work s.given)) (sym e) (rw idle.0 begun))
 
 -- the end of an item
-ran_answer : (k : WorkKind) (g : Given) (x : Outcome) (us : List media.Unit) → ended_of k g x ≡ Some (ended.Ran us) → answer_to k g ≡ Some us
+pub ran_answer : (k : WorkKind) (g : Given) (x : Outcome) (us : List media.Unit) → ended_of k g x ≡ Some (ended.Ran us) → answer_to k g ≡ Some us
 ran_answer k g (outcome.Ran units) us h = by (answer_to k g) h
   where
     by : (a : Option (List media.Unit)) → ended_run units a ≡ Some (ended.Ran us) → a ≡ Some us

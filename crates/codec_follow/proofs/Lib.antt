@@ -3,3 +3,4 @@ pub mod Filling
 pub mod Answered
 pub mod Moves
 pub mod Callers
+pub mod OutputLaws

@@ -1,11 +1,13 @@
 -- What holds between legal histories and histories that follow.
 use Rattle.std.specs.Prelude.{◌≡◌, ◌≤◌, List, length, take}
+use Rattle.std.specs.List.{AllByRecursion}
 use Rattle.coder_api.specs.declared.unit.Unit as media
 use Rattle.codec_model.specs.declared.entry.Opening.{Opening}
 use Rattle.codec_model.specs.declared.entry.Entry.{Entry}
 use Rattle.codec_model.specs.Replay.{IsLegal}
 use Rattle.codec_model.specs.Shown.{shown, outputs_of, each_shown}
 use Rattle.codec_follow.specs.Follow.{IsFollowed, each_filled, units_shown}
+use Rattle.codec_follow.specs.Outputs.{IsOutputOf, ConfiguresAs}
 
 -- a legal history follows
 abbrev pub LegalFollows : Type 0
@@ -18,3 +20,7 @@ LegalFills = (o : Opening) (h : List Entry) → IsLegal o h → each_shown o h �
 -- the units are shown in their order, where they are as many as the outputs or more
 abbrev pub UnitsInOrder : Type 0
 UnitsInOrder = (o : Opening) (h : List Entry) (us : List media.Unit) → length (units_shown (each_filled o h us)) ≤ length us → units_shown (each_filled o h us) ≡ take (length (units_shown (each_filled o h us))) us
+
+-- the outputs that a history shows are of its codec's kind, where the configs that it keeps are
+abbrev pub OutputsAreOfKind : Type 0
+OutputsAreOfKind = (o : Opening) (h : List Entry) → AllByRecursion (ConfiguresAs o.kind) h → AllByRecursion (IsOutputOf o.kind) (units_shown (each_shown o h))

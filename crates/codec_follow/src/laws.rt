@@ -1,5 +1,5 @@
 // What holds between legal histories and histories that follow.
-ghost use Rattle.codec_follow.specs.Laws.{LegalFollows, LegalFills, UnitsInOrder};
+ghost use Rattle.codec_follow.specs.Laws.{LegalFollows, LegalFills, UnitsInOrder, OutputsAreOfKind};
 
 /// Laws: a legal history follows, and what it shows is what it shows as one that follows, with its own outputs; and units
 /// are shown in their order, the first for the first output.
@@ -7,4 +7,9 @@ pub fn legal_histories_follow()
     ensures follows { LegalFollows }
     ensures fills { LegalFills }
     ensures order { UnitsInOrder }
+{}
+
+/// Law: what a codec shows is of its kind, where each of its configs is: samples whose rate is above 0, chunks, or pictures.
+pub fn outputs_are_of_their_kind()
+    ensures { OutputsAreOfKind }
 {}

@@ -13,5 +13,5 @@ mod rows;
 mod tests;
 
 pub use follower::Follower;
-pub use laws::legal_histories_follow;
+pub use laws::{legal_histories_follow, outputs_are_of_their_kind};
 pub use rows::{decoding_followed, ordinary_followed};

@@ -1,0 +1,110 @@
+-- The outputs of a legal run that fits its script are of their codecs' kinds.
+use Rattle.std.proofs.Common.{ℕ, zero, suc, ◌≡◌, Bool, true, List, [], ◌∷◌, map, Option, Some, None, refl, ap, sym, subst, ◌∙◌}
+use Rattle.std.specs.List.{AllByRecursion, slice_get}
+use Rattle.wc_base.specs.declared.error.DomError.{DomError}
+use Rattle.wc_base.specs.declared.who.Who.{Who}
+use Rattle.wc_config.specs.declared.config.Config.{Config}
+use Rattle.wc_config.specs.declared.config.Config.TheVariants as config
+use Rattle.wc_chunk.specs.declared.chunk.Chunk.{Chunk}
+use Rattle.codec_model.specs.declared.entry.Kind.{Kind}
+use Rattle.codec_model.specs.declared.entry.Entry.{Entry}
+use Rattle.codec_model.specs.declared.entry.Entry.TheVariants as entry
+use Rattle.codec_model.specs.declared.entry.Shown.{Shown}
+use Rattle.codec_model.proofs.FactLaws.{some_same}
+use Rattle.codec_follow.specs.Follow.{units_shown}
+use Rattle.codec_follow.specs.Outputs.{IsOutputOf, IsConfigOf, ConfiguresAs}
+use Rattle.codec_follow.proofs.OutputLaws.{outputs_of_kind}
+use Rattle.script_types.specs.declared.script.KindWord.{KindWord}
+use Rattle.script_types.specs.declared.script.KindWord.TheVariants as word
+use Rattle.script_types.specs.declared.script.ScriptData.{ScriptData}
+use Rattle.script_types.specs.declared.script.CodecItem.{CodecItem}
+use Rattle.script_types.specs.declared.script.CallerItem.{CallerItem}
+use Rattle.script_types.specs.declared.steps.Step.{Step}
+use Rattle.script_types.specs.declared.steps.Step.TheVariants as step
+use Rattle.script_types.specs.Sound.{is_sound, suits}
+use Rattle.script_types.proofs.SoundLaws.{step_at, codec_there}
+use Rattle.trace_text.specs.declared.run.StepResult.{StepResult}
+use Rattle.trace_text.specs.declared.run.StepResult.TheVariants as result
+use Rattle.trace_text.specs.declared.run.CodecTrace.{CodecTrace}
+use Rattle.trace_text.specs.declared.run.Run.{Run}
+use Rattle.trace_text.specs.Follow.{Recorded, at, steps_in, steps_of, kind_of_word}
+use Rattle.trace_text.specs.Fits.{CallsAreIn, ArgumentsAreIn, HasArguments, IsResultOf, called, entry_in, step_in, Fits, IsLegalTrace, AreLegalTraces, IsLegalRun}
+use Rattle.report_reader.specs.Told.{IsPlainTrace}
+
+all_from : {X : Type 0} (P : X → Type 0) (xs : List X) → ((i : ℕ) (x : X) → slice_get xs i ≡ Some x → P x) → AllByRecursion P xs
+all_from P [] h = tt
+all_from P (x ∷ xs) h = (h 0 x refl, all_from P xs (λ i y is. h (suc i) y is))
+
+-- the caller whose step stands at a place
+caller_of_step : (cs : List CallerItem) (i j : ℕ) (x : Step) → slice_get (steps_in cs i) j ≡ Some x → (c : CallerItem) × (slice_get cs i ≡ Some c) × (slice_get c.steps j ≡ Some x)
+caller_of_step [] i j x is = absurd cc
+caller_of_step (c ∷ cs) zero j x is = (c, refl, is)
+caller_of_step (c ∷ cs) (suc i) j x is = caller_of_step cs i j x is
+
+suits_kind : (c : Config) (k : KindWord) → suits c k ≡ true → IsConfigOf (kind_of_word k) c
+suits_kind (config.AudioDecoder c) word.AudioDecoder h = tt
+suits_kind (config.AudioDecoder c) word.AudioEncoder h = absurd cc
+suits_kind (config.AudioDecoder c) word.VideoDecoder h = absurd cc
+suits_kind (config.AudioEncoder c) word.AudioDecoder h = absurd cc
+suits_kind (config.AudioEncoder c) word.AudioEncoder h = tt
+suits_kind (config.AudioEncoder c) word.VideoDecoder h = absurd cc
+suits_kind (config.VideoDecoder c) word.AudioDecoder h = absurd cc
+suits_kind (config.VideoDecoder c) word.AudioEncoder h = absurd cc
+suits_kind (config.VideoDecoder c) word.VideoDecoder h = tt
+suits_kind config.Bad word.AudioDecoder h = tt
+suits_kind config.Bad word.AudioEncoder h = tt
+suits_kind config.Bad word.VideoDecoder h = tt
+
+-- the step of a configure, which names its codec, has a config of that codec's kind
+step_suits : (script : ScriptData) (files : List (List Chunk)) (w : Recorded) (who : Who) (k p : ℕ) (error : Option DomError) (c : CodecItem) (given : Config) (x : Step)
+    → is_sound script ≡ true → step_in script who.caller who.step ≡ Some x → IsResultOf script w who (called x) (result.Call k p error) → HasArguments script files who (entry.Configure who given) x
+    → slice_get script.codecs k ≡ Some c → IsConfigOf (kind_of_word c.kind) given
+step_suits script files w who k p error c given (step.Configure on config) sound is kept has at =
+    let caller = caller_of_step script.callers who.caller who.step (step.Configure on config) is in
+    let there = codec_there script.codecs (suits config) on (step_at script who.caller who.step caller.0 (step.Configure on config) sound caller.1.0 caller.1.1) in
+    let same : there.0 ≡ c = some_same there.0 c (sym there.1.0 ∙ ap (λ n. slice_get script.codecs n) (sym kept.0) ∙ at) in
+    let own = subst (λ (y : CodecItem). IsConfigOf (kind_of_word y.kind) config) same (suits_kind config there.0.kind there.1.1) in
+    let kept_config : config ≡ given = cc in
+    subst (λ (y : Config). IsConfigOf (kind_of_word c.kind) y) kept_config own
+step_suits script files w who k p error c given (step.Chunk bind source) sound is kept has at = absurd has
+step_suits script files w who k p error c given (step.Decode on chunk) sound is kept has at = absurd (let wrong = has.2 in cc)
+step_suits script files w who k p error c given (step.Flush on bind) sound is kept has at = absurd cc
+step_suits script files w who k p error c given (step.Poll promise) sound is kept has at = absurd has
+step_suits script files w who k p error c given (step.Await promise) sound is kept has at = absurd has
+step_suits script files w who k p error c given (step.Reset on) sound is kept has at = absurd cc
+step_suits script files w who k p error c given (step.Close on) sound is kept has at = absurd cc
+step_suits script files w who k p error c given (step.State on) sound is kept has at = absurd has
+step_suits script files w who k p error c given (step.Media m) sound is kept has at = absurd has
+
+configures : (script : ScriptData) (files : List (List Chunk)) (w : Recorded) (k p : ℕ) (c : CodecItem) (e : Entry)
+    → is_sound script ≡ true → CallsAreIn script w → ArgumentsAreIn script files w → entry_in w k p ≡ Some e → slice_get script.codecs k ≡ Some c → ConfiguresAs (kind_of_word c.kind) e
+configures script files w k p c (entry.Configure who given) sound calls arguments is at =
+    let kept = calls.only k p (entry.Configure who given) who is refl in
+    let made = calls.made who.caller who.step (result.Call k p kept.0) kept.1 in
+    let gave = arguments k p (entry.Configure who given) who is refl in
+    let same : gave.0 ≡ made.0 = some_same gave.0 made.0 (sym gave.1.0 ∙ made.1.0) in
+    step_suits script files w who k p kept.0 c given made.0 sound made.1.0 made.1.1 (subst (λ (x : Step). HasArguments script files who (entry.Configure who given) x) same gave.1.1) at
+configures script files w k p c (entry.Decode who chunk) sound calls arguments is at = tt
+configures script files w k p c (entry.Flush who) sound calls arguments is at = tt
+configures script files w k p c (entry.Reset who) sound calls arguments is at = tt
+configures script files w k p c (entry.Close who) sound calls arguments is at = tt
+configures script files w k p c (entry.Start epoch item) sound calls arguments is at = tt
+configures script files w k p c (entry.Done epoch item moment outcome) sound calls arguments is at = tt
+configures script files w k p c entry.Turn sound calls arguments is at = tt
+configures script files w k p c (entry.Reclaim moment) sound calls arguments is at = tt
+
+trace_plain : (c : CodecItem) (t : CodecTrace) → IsLegalTrace c t → ((p : ℕ) (e : Entry) → slice_get t.entries p ≡ Some e → ConfiguresAs (kind_of_word c.kind) e) → IsPlainTrace t
+trace_plain c t legal h =
+    let own : AllByRecursion (ConfiguresAs t.opening.kind) t.entries = rw legal.opening (all_from (ConfiguresAs (kind_of_word c.kind)) t.entries h) in
+    subst (λ (xs : List Shown). AllByRecursion (IsOutputOf t.opening.kind) (units_shown xs)) (sym legal.shown) (outputs_of_kind t.opening t.entries own)
+
+traces_plain : (cs : List CodecItem) (ts : List CodecTrace) → AreLegalTraces cs ts
+    → ((k p : ℕ) (c : CodecItem) (e : Entry) → slice_get (at k (map (λ t. t.entries) ts)) p ≡ Some e → slice_get cs k ≡ Some c → ConfiguresAs (kind_of_word c.kind) e) → AllByRecursion IsPlainTrace ts
+traces_plain [] [] legal h = tt
+traces_plain [] (t ∷ ts) legal h = absurd legal
+traces_plain (c ∷ cs) [] legal h = tt
+traces_plain (c ∷ cs) (t ∷ ts) legal h = (trace_plain c t legal.0 (λ p e is. h 0 p c e is refl), traces_plain cs ts legal.1 (λ k p d e is at. h (suc k) p d e is at))
+
+pub legal_plain : (script : ScriptData) (files : List (List Chunk)) (made : List Rattle.wc_config.specs.declared.codec.CoderId.CoderId) (run : Run) → is_sound script ≡ true → IsLegalRun script run → Fits script files made run → AllByRecursion IsPlainTrace run.codecs
+legal_plain script files made run sound legal fits =
+    traces_plain script.codecs run.codecs legal.codecs (λ k p c e is at. configures script files _ k p c e sound fits.calls fits.arguments is at)
