@@ -1,6 +1,6 @@
 use Rattle.std.proofs.Common.{arith, rules, ◌∙◌, sym}
-use Rattle.trace_text.proofs.Hex.{hex_next, hex_end}
-use Rattle.trace_text.proofs.outputs.push_hex.Goals as goal
+use Rattle.report_text.proofs.Hex.{hex_next, hex_end}
+use Rattle.report_text.proofs.outputs.push_hex.Goals as goal
 
 pub loop-byte-preserved : goal.loop-byte-preserved
 loop-byte-preserved c =

@@ -1,0 +1,5 @@
+pub mod Words
+pub mod Told
+pub mod Names
+pub mod Lines
+pub mod Outputs
