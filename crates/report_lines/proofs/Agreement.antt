@@ -8,23 +8,16 @@ use Rattle.codec_model.specs.declared.entry.Event.{Event}
 use Rattle.codec_model.specs.declared.entry.Event.TheVariants as event
 use Rattle.codec_model.specs.declared.entry.Shown.{Shown}
 use Rattle.codec_model.specs.declared.entry.Entry.{Entry}
-use Rattle.codec_model.specs.declared.entry.Entry.TheVariants as entry
 use Rattle.script_types.specs.declared.script.ScriptData.{ScriptData}
-use Rattle.trace_text.specs.Report.{entry_line, event_lines, output_lines, config_lines}
+use Rattle.report_text.specs.Lines.{entry_line}
+use Rattle.trace_text.specs.Report.{event_lines, output_lines, config_lines}
 use Rattle.report_lines.specs.declared.line.Line.TheVariants as line
 use Rattle.report_lines.specs.Text.{line_text}
-use Rattle.report_lines.specs.Laws.{told_of, config_seen, output_seen, event_seen}
+use Rattle.report_text.specs.Told.{told_of}
+use Rattle.report_lines.specs.Laws.{config_seen, output_seen, event_seen}
 
 pub entry_is : (script : ScriptData) (place : ℕ) (e : Entry) (shown : Shown) → entry_line script.callers place e shown ≡ line_text script (line.Entry place (told_of e shown))
-entry_is script place (entry.Configure who config) shown = refl
-entry_is script place (entry.Decode who chunk) shown = refl
-entry_is script place (entry.Flush who) shown = refl
-entry_is script place (entry.Reset who) shown = refl
-entry_is script place (entry.Close who) shown = refl
-entry_is script place (entry.Start epoch item) shown = refl
-entry_is script place (entry.Done epoch item moment outcome) shown = refl
-entry_is script place entry.Turn shown = refl
-entry_is script place (entry.Reclaim moment) shown = refl
+entry_is script place e shown = refl
 
 pub one : (xs : List ℕ) → xs ≡ xs ++ []
 one xs = sym (append-nil xs)

@@ -24,20 +24,25 @@ use Rattle.codec_model.specs.declared.entry.Outcome.TheVariants as outcome
 use Rattle.codec_model.specs.declared.entry.TurnWord.{TurnWord}
 use Rattle.codec_model.specs.declared.entry.TurnWord.TheVariants as turn
 use Rattle.script_types.specs.declared.script.ScriptData.{ScriptData}
-use Rattle.trace_text.specs.declared.run.StepResult.{StepResult}
-use Rattle.trace_text.specs.declared.run.StepResult.TheVariants as result
-use Rattle.trace_text.specs.Report.{error_name, answer_text, kind_text, state_text, sample_format_text, picture_format_text, codec_text, role_text, chunk_type_text, caller_name, codec_name, promise_text, outcome_text, turn_text, item_text, who_text, entry_name, look_name, result_text, coder_text, slot_text, by_text, numbered_line, number_or_dash, hex_or_dash, content_line, sound_text, picture_text, sound_duration}
+use Rattle.report_text.specs.declared.result.StepResult.{StepResult}
+use Rattle.report_text.specs.declared.result.StepResult.TheVariants as result
+use Rattle.report_text.specs.Words.{error_name, answer_text, kind_text, state_text, sample_format_text, picture_format_text, codec_text, role_text, chunk_type_text}
+use Rattle.report_text.specs.Names.{caller_name, codec_name, item_text, who_text, entry_name, look_name, coder_text, by_text}
+use Rattle.report_text.specs.Lines.{promise_text, outcome_text, turn_text, result_text, slot_text, numbered_line}
+use Rattle.report_text.specs.Outputs.{number_or_dash, hex_or_dash, content_line, sound_text, picture_text, sound_duration}
 use Rattle.report_fields.specs.Words.{is_word_byte}
 use Rattle.report_fields.specs.Laws.{FitsOrAbsent}
 use Rattle.report_fields.proofs.WordLaws.{cases_bool}
 use Rattle.report_fields.proofs.FieldLaws.{decimal_word}
-use Rattle.report_lines.specs.declared.line.Told.{Told}
-use Rattle.report_lines.specs.declared.line.Told.TheVariants as told
+use Rattle.report_text.specs.declared.told.Told.{Told}
+use Rattle.report_text.specs.declared.told.Told.TheVariants as told
 use Rattle.report_lines.specs.declared.line.Seen.{Seen}
 use Rattle.report_lines.specs.declared.line.Seen.TheVariants as seen
 use Rattle.report_lines.specs.declared.line.Line.{Line}
 use Rattle.report_lines.specs.declared.line.Line.TheVariants as line
-use Rattle.report_lines.specs.Text.{call_word, told_text, seen_line, line_text}
+use Rattle.report_text.specs.Words.{call_word}
+use Rattle.report_text.specs.Lines.{told_text}
+use Rattle.report_lines.specs.Text.{seen_line, line_text}
 use Rattle.report_lines.specs.Fits.{is_no_feed, AreNames, IsCodec, FitsWho, FitsResult, FitsOutcome, FitsTold, FitsSound, FitsImage, FitsSeen, FitsBy, FitsOp, FitsLine}
 use Rattle.report_lines.specs.Laws.{IsOneLine}
 use Rattle.report_lines.proofs.Vocabulary.{error_is_word, answer_is_word, kind_is_word, state_is_word, call_is_word, sample_format_is_word, picture_format_is_word, codec_id_is_word, role_is_word, key_is_word}

@@ -29,25 +29,30 @@ use Rattle.script_types.specs.declared.script.ScriptData.{ScriptData}
 use Rattle.script_types.specs.declared.script.KindWord.TheVariants as word
 use Rattle.script_types.specs.declared.script.CodecItem.{CodecItem}
 use Rattle.script_types.specs.declared.script.CallerItem.{CallerItem}
-use Rattle.trace_text.specs.declared.run.StepResult.{StepResult}
-use Rattle.trace_text.specs.declared.run.StepResult.TheVariants as result
-use Rattle.trace_text.specs.Report as text
-use Rattle.trace_text.specs.Report.{error_name, answer_text, kind_text, state_text, sample_format_text, picture_format_text, codec_text, role_text, chunk_type_text, caller_name, codec_name, promise_text, outcome_text, turn_text, slot_text, by_text, result_text, result_line, numbered_line, sound_duration, sound_line, picture_line, chunk_line, config_line, slot_line}
+use Rattle.report_text.specs.declared.result.StepResult.{StepResult}
+use Rattle.report_text.specs.declared.result.StepResult.TheVariants as result
+use Rattle.report_text.specs.Outputs as text
+use Rattle.report_text.specs.Words.{error_name, answer_text, kind_text, state_text, sample_format_text, picture_format_text, codec_text, role_text, chunk_type_text}
+use Rattle.report_text.specs.Names.{caller_name, codec_name, by_text}
+use Rattle.report_text.specs.Lines.{promise_text, outcome_text, turn_text, slot_text, result_text, result_line, numbered_line, slot_line}
+use Rattle.report_text.specs.Outputs.{sound_duration, sound_line, picture_line, chunk_line, config_line}
 use Rattle.report_fields.specs.Words.{◌>>=◌, after, is_word_byte}
 use Rattle.report_fields.specs.Fields as fields
 use Rattle.report_fields.specs.Fields.{short, number_upto, short_upto, signed_upto, number_or_dash_upto, bytes_upto}
 use Rattle.report_fields.specs.Laws.{Lacks, FitsOrAbsent}
 use Rattle.report_fields.proofs.WordLaws.{upto_again, after_again, after_only, word_again, same_bytes, not_same}
 use Rattle.report_fields.proofs.FieldLaws.{number_again, short_again, signed_again, number_or_dash_again, bytes_again, decimal_digits, decimal_word, decimal_not_nil}
-use Rattle.report_lines.specs.declared.line.CallWord.{CallWord}
-use Rattle.report_lines.specs.declared.line.CallWord.TheVariants as call
-use Rattle.report_lines.specs.declared.line.Told.{Told}
-use Rattle.report_lines.specs.declared.line.Told.TheVariants as told
+use Rattle.report_text.specs.declared.told.CallWord.{CallWord}
+use Rattle.report_text.specs.declared.told.CallWord.TheVariants as call
+use Rattle.report_text.specs.declared.told.Told.{Told}
+use Rattle.report_text.specs.declared.told.Told.TheVariants as told
 use Rattle.report_lines.specs.declared.line.Seen.{Seen}
 use Rattle.report_lines.specs.declared.line.Seen.TheVariants as seen
 use Rattle.report_lines.specs.declared.line.Line.{Line}
 use Rattle.report_lines.specs.declared.line.Line.TheVariants as line
-use Rattle.report_lines.specs.Text.{call_word, told_text, seen_line, line_text}
+use Rattle.report_text.specs.Words.{call_word}
+use Rattle.report_text.specs.Lines.{told_text}
+use Rattle.report_lines.specs.Text.{seen_line, line_text}
 use Rattle.report_lines.specs.Reading.{caller_of, codec_of, error_at, answer_at, promise_at, look_at, looked, call_result, outcome_at, turn_at, start_at, done_at, call_at, by_of, coder_at, refused_at, acquired_at, given_at, op_at, slot_at, dotted, worded, numbered, sound_at, image_at, chunk_at, output_at, config_at, reject_at, seen_at, shown_at, codec_at, caller_at, headed, parsed, line_at}
 use Rattle.report_lines.specs.Fits.{AreNames, IsCaller, IsCodec, FitsWho, FitsResult, FitsOutcome, FitsTold, FitsSound, FitsImage, FitsSeen, FitsBy, FitsOp, FitsLine}
 use Rattle.report_lines.proofs.Vocabulary.{error_is_word, error_again, answer_is_word, answer_again, kind_is_word, kind_again, state_is_word, state_again, call_is_word, call_again, sample_format_is_word, sample_format_again, picture_format_is_word, picture_format_again, codec_id_is_word, codec_id_again, role_is_word, role_again, key_is_word, key_again}

@@ -11,7 +11,9 @@ use Rattle.script_types.specs.declared.script.CallerItem.{CallerItem}
 use Rattle.trace_text.specs.declared.run.CallerTrace.{CallerTrace}
 use Rattle.trace_text.specs.declared.run.CodecTrace.{CodecTrace}
 use Rattle.trace_text.specs.declared.run.Run.{Run}
-use Rattle.trace_text.specs.Report.{caller_name, codec_name, caller_header, codec_header, each_from, result_line, caller_lines, event_lines, entry_lines, codec_lines, slot_line, callers_text, codecs_text, slots_text, end_text, report_of}
+use Rattle.report_text.specs.Names.{caller_name, codec_name}
+use Rattle.report_text.specs.Lines.{caller_header, codec_header, result_line, slot_line}
+use Rattle.trace_text.specs.Report.{each_from, caller_lines, event_lines, entry_lines, codec_lines, callers_text, codecs_text, slots_text, end_text, report_of}
 use Rattle.report_lines.specs.declared.line.Line.{Line}
 use Rattle.report_lines.specs.Text.{line_text}
 use Rattle.report_lines.specs.Laws.{event_seen}

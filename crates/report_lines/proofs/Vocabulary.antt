@@ -15,11 +15,11 @@ use Rattle.codec_model.specs.declared.entry.Kind.{Kind}
 use Rattle.codec_model.specs.declared.entry.Kind.TheVariants as kind
 use Rattle.codec_model.specs.declared.entry.CodecState.{CodecState}
 use Rattle.codec_model.specs.declared.entry.CodecState.TheVariants as state
-use Rattle.trace_text.specs.Report.{error_name, answer_text, kind_text, state_text, sample_format_text, picture_format_text, codec_text, role_text, chunk_type_text}
+use Rattle.report_text.specs.Words.{error_name, answer_text, kind_text, state_text, sample_format_text, picture_format_text, codec_text, role_text, chunk_type_text}
 use Rattle.report_fields.specs.Words.{is_word_byte}
-use Rattle.report_lines.specs.declared.line.CallWord.{CallWord}
-use Rattle.report_lines.specs.declared.line.CallWord.TheVariants as call
-use Rattle.report_lines.specs.Text.{call_word}
+use Rattle.report_text.specs.declared.told.CallWord.{CallWord}
+use Rattle.report_text.specs.declared.told.CallWord.TheVariants as call
+use Rattle.report_text.specs.Words.{call_word}
 use Rattle.report_lines.specs.Reading.{error_of, answer_of, kind_of, state_of, call_of, sample_format_of, picture_format_of, codec_id_of, role_of, key_of}
 
 pub error_is_word : (x : DomError) → list_all is_word_byte (error_name x) ≡ true

@@ -13,13 +13,13 @@ use Rattle.coder_api.specs.declared.slot.SlotOp.TheVariants as slot
 use Rattle.codec_model.specs.declared.entry.Outcome.{Outcome}
 use Rattle.codec_model.specs.declared.entry.Outcome.TheVariants as outcome
 use Rattle.script_types.specs.declared.script.ScriptData.{ScriptData}
-use Rattle.trace_text.specs.declared.run.StepResult.{StepResult}
-use Rattle.trace_text.specs.declared.run.StepResult.TheVariants as result
-use Rattle.trace_text.specs.Report.{caller_name, codec_name}
+use Rattle.report_text.specs.declared.result.StepResult.{StepResult}
+use Rattle.report_text.specs.declared.result.StepResult.TheVariants as result
+use Rattle.report_text.specs.Names.{caller_name, codec_name}
 use Rattle.report_fields.specs.Words.{is_word_byte}
 use Rattle.report_fields.specs.Laws.{Lacks, FitsOrAbsent}
-use Rattle.report_lines.specs.declared.line.Told.{Told}
-use Rattle.report_lines.specs.declared.line.Told.TheVariants as told
+use Rattle.report_text.specs.declared.told.Told.{Told}
+use Rattle.report_text.specs.declared.told.Told.TheVariants as told
 use Rattle.report_lines.specs.declared.line.Seen.{Seen}
 use Rattle.report_lines.specs.declared.line.Seen.TheVariants as seen
 use Rattle.report_lines.specs.declared.line.Line.{Line}

@@ -8,12 +8,10 @@ use Rattle.codec_model.specs.declared.entry.Event.{Event}
 use Rattle.codec_model.specs.declared.entry.Event.TheVariants as event
 use Rattle.codec_model.specs.declared.entry.Shown.{Shown}
 use Rattle.codec_model.specs.declared.entry.Entry.{Entry}
-use Rattle.codec_model.specs.declared.entry.Entry.TheVariants as entry
 use Rattle.script_types.specs.declared.script.ScriptData.{ScriptData}
-use Rattle.trace_text.specs.Report.{refusal_in, entry_line, event_lines}
-use Rattle.report_lines.specs.declared.line.CallWord.TheVariants as call
-use Rattle.report_lines.specs.declared.line.Told.{Told}
-use Rattle.report_lines.specs.declared.line.Told.TheVariants as told
+use Rattle.report_text.specs.Told.{told_of}
+use Rattle.report_text.specs.Lines.{entry_line}
+use Rattle.trace_text.specs.Report.{event_lines}
 use Rattle.report_lines.specs.declared.line.Seen.TheVariants as seen
 use Rattle.report_lines.specs.declared.line.Line.{Line}
 use Rattle.report_lines.specs.declared.line.Line.TheVariants as line
@@ -35,18 +33,6 @@ pub record IsOneLine (text : List ℕ) : Type 0 where
 
 abbrev pub LineIsOne : Type 0
 LineIsOne = (script : ScriptData) (l : Line) → AreNames script → FitsLine script l → IsOneLine (line_text script l)
-
--- an entry, as its line tells it
-abbrev pub told_of : Entry → Shown → Told
-told_of (entry.Configure who config) shown = told.Call who call.Configure (refusal_in shown.events)
-told_of (entry.Decode who chunk) shown = told.Call who call.Decode (refusal_in shown.events)
-told_of (entry.Flush who) shown = told.Call who call.Flush (refusal_in shown.events)
-told_of (entry.Reset who) shown = told.Call who call.Reset (refusal_in shown.events)
-told_of (entry.Close who) shown = told.Call who call.Close (refusal_in shown.events)
-told_of (entry.Start epoch item) shown = told.Start epoch item
-told_of (entry.Done epoch item moment outcome) shown = told.Done epoch item moment outcome
-told_of entry.Turn shown = told.Turn shown.turn
-told_of (entry.Reclaim moment) shown = told.Reclaim moment
 
 abbrev pub EntryIsALine : Type 0
 EntryIsALine = (script : ScriptData) (place : ℕ) (e : Entry) (shown : Shown) → entry_line script.callers place e shown ≡ line_text script (line.Entry place (told_of e shown))

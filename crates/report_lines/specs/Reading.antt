@@ -31,14 +31,14 @@ use Rattle.codec_model.specs.declared.entry.TurnWord.TheVariants as turn
 use Rattle.script_types.specs.declared.script.ScriptData.{ScriptData}
 use Rattle.script_types.specs.declared.script.CodecItem.{CodecItem}
 use Rattle.script_types.specs.declared.script.CallerItem.{CallerItem}
-use Rattle.trace_text.specs.declared.run.StepResult.{StepResult}
-use Rattle.trace_text.specs.declared.run.StepResult.TheVariants as result
+use Rattle.report_text.specs.declared.result.StepResult.{StepResult}
+use Rattle.report_text.specs.declared.result.StepResult.TheVariants as result
 use Rattle.report_fields.specs.Words.{◌>>=◌, upto, after, word_at}
 use Rattle.report_fields.specs.Fields.{short, number_upto, short_upto, signed_upto, number_or_dash_upto, bytes_upto}
-use Rattle.report_lines.specs.declared.line.CallWord.{CallWord}
-use Rattle.report_lines.specs.declared.line.CallWord.TheVariants as call
-use Rattle.report_lines.specs.declared.line.Told.{Told}
-use Rattle.report_lines.specs.declared.line.Told.TheVariants as told
+use Rattle.report_text.specs.declared.told.CallWord.{CallWord}
+use Rattle.report_text.specs.declared.told.CallWord.TheVariants as call
+use Rattle.report_text.specs.declared.told.Told.{Told}
+use Rattle.report_text.specs.declared.told.Told.TheVariants as told
 use Rattle.report_lines.specs.declared.line.Seen.{Seen}
 use Rattle.report_lines.specs.declared.line.Seen.TheVariants as seen
 use Rattle.report_lines.specs.declared.line.Line.{Line}

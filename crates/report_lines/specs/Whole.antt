@@ -7,7 +7,7 @@ use Rattle.codec_model.specs.declared.entry.Shown.{Shown}
 use Rattle.script_types.specs.declared.script.ScriptData.{ScriptData}
 use Rattle.script_types.specs.declared.script.CodecItem.{CodecItem}
 use Rattle.script_types.specs.declared.script.CallerItem.{CallerItem}
-use Rattle.trace_text.specs.declared.run.StepResult.{StepResult}
+use Rattle.report_text.specs.declared.result.StepResult.{StepResult}
 use Rattle.trace_text.specs.declared.run.CallerTrace.{CallerTrace}
 use Rattle.trace_text.specs.declared.run.CodecTrace.{CodecTrace}
 use Rattle.trace_text.specs.declared.run.Run.{Run}
@@ -15,7 +15,8 @@ use Rattle.trace_text.specs.Report.{report_of}
 use Rattle.report_lines.specs.declared.line.Line.{Line}
 use Rattle.report_lines.specs.declared.line.Line.TheVariants as line
 use Rattle.report_lines.specs.Text.{line_text}
-use Rattle.report_lines.specs.Laws.{told_of, event_seen}
+use Rattle.report_text.specs.Told.{told_of}
+use Rattle.report_lines.specs.Laws.{event_seen}
 
 -- the lines of items, each with its number
 abbrev pub lines_from : {X : Type 0} → (ℕ → X → List Line) → ℕ → List X → List Line

@@ -10,6 +10,7 @@ mod text;
 mod words;
 
 pub use laws::{lines_are_read_again, reports_are_lines};
-pub use line::{CallWord, Line, Seen, Told};
+pub use line::{Line, Seen};
 pub use reading::line_at;
+pub use report_text::{CallWord, Told};
 pub use text::line_text;

@@ -1,42 +1,8 @@
 // What stands on one line.
-use codec_model::{Opening, Outcome, TurnWord};
+use codec_model::Opening;
 use coder_api::SlotEntry;
-use trace_text::StepResult;
-use wc_base::{DomError, List, PictureShape, SoundShape, Who};
-
-/// Which call an entry keeps.
-#[derive(Clone, Copy, Debug, PartialEq, Eq)]
-pub enum CallWord {
-    Configure,
-    Decode,
-    Flush,
-    Reset,
-    Close,
-}
-
-/// An entry as its line tells it: a call with its exception but not its arguments, a turn with the task that it ran.
-#[derive(Clone, Copy, Debug, PartialEq, Eq)]
-pub enum Told {
-    Call {
-        who: Who,
-        call: CallWord,
-        error: Option<DomError>,
-    },
-    Start {
-        epoch: u64,
-        item: u64,
-    },
-    Done {
-        epoch: u64,
-        item: u64,
-        moment: u64,
-        outcome: Outcome,
-    },
-    Turn(Option<TurnWord>),
-    Reclaim {
-        moment: u64,
-    },
-}
+use report_text::{StepResult, Told};
+use wc_base::{DomError, List, PictureShape, SoundShape};
 
 /// A line of what an entry showed. A config's codec is a text in bytes, and a description of no bytes is none.
 #[derive(Debug, PartialEq, Drop)]

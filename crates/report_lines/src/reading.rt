@@ -4,7 +4,7 @@ ghost use Rattle.std.specs.Option.{option_map};
 ghost use Rattle.report_fields.specs.Fields.{short as short_of};
 ghost use Rattle.report_lines.specs.Reading as spec;
 
-use crate::line::{Line, Seen, Told};
+use crate::line::{Line, Seen};
 use crate::text::line_text;
 use crate::words::{
     answer_of, call_of, codec_id_of, error_of, is, key_of, kind_of, picture_format_of, role_of,
@@ -16,9 +16,9 @@ use report_fields::{
     FieldFault, after, are_digits, bytes_upto, number_or_dash_upto, number_upto, short_upto,
     signed_upto, upto, word_at,
 };
+use report_text::{StepResult, Told};
 use script_types::{CallerItem, CodecItem, ScriptData};
 use std::alloc::Global;
-use trace_text::StepResult;
 use wc_base::{By, DomError, List, PictureShape, SoundShape, Who};
 use wc_config::CoderId;
 

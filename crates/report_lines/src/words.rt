@@ -1,11 +1,9 @@
-// The words of a report, written and read.
+// The words of a report, as they are read.
 ghost use Rattle.std.specs.Prelude.{◌≡◌, bytes_eq};
-ghost use Rattle.trace_text.specs.Report as text;
-ghost use Rattle.report_lines.specs.Text.{call_word as word_of_call};
 ghost use Rattle.report_lines.specs.Reading as spec;
 
-use crate::line::CallWord;
 use codec_model::{CodecState, Kind};
+use report_text::CallWord;
 use wc_base::{DomError, PictureFormat, SampleFormat};
 use wc_config::{CodecId, Role};
 
@@ -13,23 +11,6 @@ pub fn is(word: &[u8], text: &str) -> bool
     ensures { result ≡ bytes_eq word.now text.now }
 {
     word == text.as_bytes()
-}
-
-pub fn error_name(error: DomError) -> &'static str
-    ensures { result.now ≡ text.error_name error }
-{
-    match error {
-        DomError::Abort => "AbortError",
-        DomError::InvalidState => "InvalidStateError",
-        DomError::NotSupported => "NotSupportedError",
-        DomError::Encoding => "EncodingError",
-        DomError::Data => "DataError",
-        DomError::DataClone => "DataCloneError",
-        DomError::QuotaExceeded => "QuotaExceededError",
-        DomError::TypeErr => "TypeError",
-        DomError::RangeErr => "RangeError",
-        DomError::OutOfMemory => "OutOfMemory",
-    }
 }
 
 pub fn error_of(word: &[u8]) -> Option<DomError>
@@ -60,16 +41,6 @@ pub fn error_of(word: &[u8]) -> Option<DomError>
     }
 }
 
-pub fn kind_text(kind: Kind) -> &'static str
-    ensures { result.now ≡ text.kind_text kind }
-{
-    match kind {
-        Kind::AudioDecoder => "audio-decoder",
-        Kind::AudioEncoder => "audio-encoder",
-        Kind::VideoDecoder => "video-decoder",
-    }
-}
-
 pub fn kind_of(word: &[u8]) -> Option<Kind>
     ensures { result ≡ spec.kind_of word.now }
 {
@@ -84,16 +55,6 @@ pub fn kind_of(word: &[u8]) -> Option<Kind>
     }
 }
 
-pub fn state_text(state: CodecState) -> &'static str
-    ensures { result.now ≡ text.state_text state }
-{
-    match state {
-        CodecState::Unconfigured => "unconfigured",
-        CodecState::Configured => "configured",
-        CodecState::Closed => "closed",
-    }
-}
-
 pub fn state_of(word: &[u8]) -> Option<CodecState>
     ensures { result ≡ spec.state_of word.now }
 {
@@ -105,18 +66,6 @@ pub fn state_of(word: &[u8]) -> Option<CodecState>
         Some(CodecState::Closed)
     } else {
         None
-    }
-}
-
-pub fn call_word(call: CallWord) -> &'static str
-    ensures { result.now ≡ word_of_call call }
-{
-    match call {
-        CallWord::Configure => "configure",
-        CallWord::Decode => "decode",
-        CallWord::Flush => "flush",
-        CallWord::Reset => "reset",
-        CallWord::Close => "close",
     }
 }
 
@@ -135,19 +84,6 @@ pub fn call_of(word: &[u8]) -> Option<CallWord>
         Some(CallWord::Close)
     } else {
         None
-    }
-}
-
-pub fn sample_format_text(sample_format: SampleFormat) -> &'static str
-    ensures { result.now ≡ text.sample_format_text sample_format }
-{
-    match sample_format {
-        SampleFormat::U8 => "u8",
-        SampleFormat::S16 => "s16",
-        SampleFormat::S32 => "s32",
-        SampleFormat::U8Planar => "u8-planar",
-        SampleFormat::S16Planar => "s16-planar",
-        SampleFormat::S32Planar => "s32-planar",
     }
 }
 
@@ -171,17 +107,6 @@ pub fn sample_format_of(word: &[u8]) -> Option<SampleFormat>
     }
 }
 
-pub fn picture_format_text(picture_format: PictureFormat) -> &'static str
-    ensures { result.now ≡ text.picture_format_text picture_format }
-{
-    match picture_format {
-        PictureFormat::I420 => "I420",
-        PictureFormat::I422 => "I422",
-        PictureFormat::I444 => "I444",
-        PictureFormat::Nv12 => "NV12",
-    }
-}
-
 pub fn picture_format_of(word: &[u8]) -> Option<PictureFormat>
     ensures { result ≡ spec.picture_format_of word.now }
 {
@@ -195,24 +120,6 @@ pub fn picture_format_of(word: &[u8]) -> Option<PictureFormat>
         Some(PictureFormat::Nv12)
     } else {
         None
-    }
-}
-
-pub fn codec_text(codec_id: CodecId) -> &'static str
-    ensures { result.now ≡ text.codec_text codec_id }
-{
-    match codec_id {
-        CodecId::PcmU8 => "pcm-u8",
-        CodecId::PcmS16 => "pcm-s16",
-        CodecId::PcmS24 => "pcm-s24",
-        CodecId::PcmS32 => "pcm-s32",
-        CodecId::Alaw => "alaw",
-        CodecId::Ulaw => "ulaw",
-        CodecId::Flac => "flac",
-        CodecId::RawI420 => "x-raw-i420",
-        CodecId::RawI422 => "x-raw-i422",
-        CodecId::RawI444 => "x-raw-i444",
-        CodecId::RawNv12 => "x-raw-nv12",
     }
 }
 
@@ -246,15 +153,6 @@ pub fn codec_id_of(word: &[u8]) -> Option<CodecId>
     }
 }
 
-pub fn role_text(role: Role) -> &'static str
-    ensures { result.now ≡ text.role_text role }
-{
-    match role {
-        Role::Decode => "decode",
-        Role::Encode => "encode",
-    }
-}
-
 pub fn role_of(word: &[u8]) -> Option<Role>
     ensures { result ≡ spec.role_of word.now }
 {
@@ -267,15 +165,6 @@ pub fn role_of(word: &[u8]) -> Option<Role>
     }
 }
 
-pub fn answer_text(error: Option<DomError>) -> &'static str
-    ensures { result.now ≡ text.answer_text error }
-{
-    match error {
-        None => "ok",
-        Some(error) => error_name(error),
-    }
-}
-
 pub fn answer_of(word: &[u8]) -> Option<Option<DomError>>
     ensures { result ≡ spec.answer_of word.now }
 {
@@ -285,12 +174,6 @@ pub fn answer_of(word: &[u8]) -> Option<Option<DomError>>
         let error = error_of(word)?;
         Some(Some(error))
     }
-}
-
-pub fn chunk_type_text(key: bool) -> &'static str
-    ensures { result.now ≡ text.chunk_type_text key }
-{
-    if key { "key" } else { "delta" }
 }
 
 pub fn key_of(word: &[u8]) -> Option<bool>

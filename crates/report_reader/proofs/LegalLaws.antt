@@ -23,8 +23,8 @@ use Rattle.trace_text.specs.declared.run.CodecTrace.{CodecTrace}
 use Rattle.trace_text.specs.declared.run.Run.{Run}
 use Rattle.trace_text.specs.Follow.{at, steps_of}
 use Rattle.trace_text.specs.Fits.{who_of, HasArguments, Fits, IsLegalTrace, AreLegalTraces, IsLegalRun}
-use Rattle.report_lines.specs.declared.line.CallWord.TheVariants as call
-use Rattle.report_lines.specs.Laws.{told_of}
+use Rattle.report_text.specs.declared.told.CallWord.TheVariants as call
+use Rattle.report_text.specs.Told.{told_of}
 use Rattle.report_reader.specs.Read.{call_of, entry_of}
 use Rattle.report_reader.specs.Told.{HoldsArguments, IsToldTrace, IsWithoutLoss, IsTold}
 use Rattle.report_lines.specs.Fits.{AreNames}

@@ -10,7 +10,7 @@ use Rattle.script_types.specs.declared.script.ScriptData.{ScriptData}
 use Rattle.script_types.specs.Names.{is_name_byte, is_name, is_codec_name, is_caller_name}
 use Rattle.script_types.specs.Sound.{is_sound, is_sound_caller, are_sound_callers}
 use Rattle.script_types.proofs.SoundLaws.{parts_of, codec_at}
-use Rattle.trace_text.specs.Report.{caller_name, codec_name}
+use Rattle.report_text.specs.Names.{caller_name, codec_name}
 use Rattle.report_fields.specs.Words.{is_word_byte}
 use Rattle.report_fields.proofs.WordLaws.{same_bytes}
 use Rattle.report_lines.specs.Fits.{AreNames}

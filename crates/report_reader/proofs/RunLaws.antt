@@ -16,14 +16,15 @@ use Rattle.codec_follow.specs.Follow.{follow_step, follow_from, filled, each_fil
 use Rattle.script_types.specs.declared.script.ScriptData.{ScriptData}
 use Rattle.script_types.specs.declared.script.CallerItem.{CallerItem}
 use Rattle.script_types.specs.declared.script.CodecItem.{CodecItem}
-use Rattle.trace_text.specs.declared.run.StepResult.{StepResult}
+use Rattle.report_text.specs.declared.result.StepResult.{StepResult}
 use Rattle.trace_text.specs.declared.run.CallerTrace.{CallerTrace}
 use Rattle.trace_text.specs.declared.run.CodecTrace.{CodecTrace}
 use Rattle.trace_text.specs.declared.run.Run.{Run}
-use Rattle.report_lines.specs.declared.line.Told.{Told}
+use Rattle.report_text.specs.declared.told.Told.{Told}
 use Rattle.report_lines.specs.declared.line.Line.{Line}
 use Rattle.report_lines.specs.declared.line.Line.TheVariants as line
-use Rattle.report_lines.specs.Laws.{told_of, event_seen}
+use Rattle.report_text.specs.Told.{told_of}
+use Rattle.report_lines.specs.Laws.{event_seen}
 use Rattle.report_lines.specs.Whole.{lines_from, result_seen, caller_seen, entry_seen, codec_seen, slot_seen, end_seen, lines_of}
 use Rattle.report_reader.specs.Read.{results_in, behind_results, callers_in, entries_from, told_in, behind_entries, description_of, config_in, outputs_in, trace_of, codecs_in, slots_in, held_in, run_of}
 use Rattle.report_reader.specs.Told.{HoldsArguments, IsPlainDescription, IsPlainUnit, IsPlainTrace, IsToldTrace, IsToldRun}

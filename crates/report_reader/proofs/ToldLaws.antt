@@ -18,13 +18,13 @@ use Rattle.script_types.specs.declared.script.ScriptData.{ScriptData}
 use Rattle.script_types.specs.declared.steps.Step.{Step}
 use Rattle.script_types.specs.declared.steps.Step.TheVariants as step
 use Rattle.trace_text.specs.Follow.{steps_of, chunk_at}
-use Rattle.trace_text.specs.Report.{refusal_in}
-use Rattle.report_lines.specs.declared.line.CallWord.{CallWord}
-use Rattle.report_lines.specs.declared.line.CallWord.TheVariants as call
-use Rattle.report_lines.specs.declared.line.Told.{Told}
-use Rattle.report_lines.specs.declared.line.Told.TheVariants as told
+use Rattle.report_text.specs.Told.{refusal_in}
+use Rattle.report_text.specs.declared.told.CallWord.{CallWord}
+use Rattle.report_text.specs.declared.told.CallWord.TheVariants as call
+use Rattle.report_text.specs.declared.told.Told.{Told}
+use Rattle.report_text.specs.declared.told.Told.TheVariants as told
 use Rattle.report_lines.specs.declared.line.Line.{Line}
-use Rattle.report_lines.specs.Laws.{told_of}
+use Rattle.report_text.specs.Told.{told_of}
 use Rattle.report_reader.specs.Read.{call_of, entry_of, next_of, entry_then, entries_from, trace_of, callers_in, behind_results, codecs_in, behind_entries, run_of}
 use Rattle.report_reader.specs.Told.{HoldsArguments, IsToldTrace, IsToldRun}
 use Rattle.report_reader.proofs.RunLaws.{step_of_followed}

@@ -14,7 +14,7 @@ use Rattle.codec_follow.specs.Follow.{follow_step, filled, filled_at, each_fille
 use Rattle.codec_follow.specs.Followed.{FollowerValue, follower_of, Follows}
 use Rattle.script_types.specs.declared.script.ScriptData.{ScriptData}
 use Rattle.trace_text.specs.declared.run.CodecTrace.{CodecTrace}
-use Rattle.report_lines.specs.declared.line.Told.{Told}
+use Rattle.report_text.specs.declared.told.Told.{Told}
 use Rattle.report_reader.specs.Read.{entry_of, next_of, entries_from, trace_of}
 use Rattle.report_reader.specs.Next.{shown_next, NextIs}
 

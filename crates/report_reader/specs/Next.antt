@@ -7,7 +7,7 @@ use Rattle.codec_model.specs.Replay.{State}
 use Rattle.codec_model.specs.Shown.{shown_at}
 use Rattle.codec_follow.specs.Followed.{FollowerValue, follower_of}
 use Rattle.script_types.specs.declared.script.ScriptData.{ScriptData}
-use Rattle.report_lines.specs.declared.line.Told.{Told}
+use Rattle.report_text.specs.declared.told.Told.{Told}
 use Rattle.report_reader.specs.Read.{next_of}
 
 -- the entry that is told, with what it shows, where it has its arguments and follows

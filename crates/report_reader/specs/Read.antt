@@ -17,15 +17,15 @@ use Rattle.codec_follow.specs.Follow.{follow_step, each_filled}
 use Rattle.script_types.specs.declared.script.ScriptData.{ScriptData}
 use Rattle.script_types.specs.declared.steps.Step.{Step}
 use Rattle.script_types.specs.declared.steps.Step.TheVariants as step
-use Rattle.trace_text.specs.declared.run.StepResult.{StepResult}
+use Rattle.report_text.specs.declared.result.StepResult.{StepResult}
 use Rattle.trace_text.specs.declared.run.CallerTrace.{CallerTrace}
 use Rattle.trace_text.specs.declared.run.CodecTrace.{CodecTrace}
 use Rattle.trace_text.specs.declared.run.Run.{Run}
 use Rattle.trace_text.specs.Follow.{steps_of, chunk_at}
-use Rattle.report_lines.specs.declared.line.CallWord.{CallWord}
-use Rattle.report_lines.specs.declared.line.CallWord.TheVariants as call
-use Rattle.report_lines.specs.declared.line.Told.{Told}
-use Rattle.report_lines.specs.declared.line.Told.TheVariants as told
+use Rattle.report_text.specs.declared.told.CallWord.{CallWord}
+use Rattle.report_text.specs.declared.told.CallWord.TheVariants as call
+use Rattle.report_text.specs.declared.told.Told.{Told}
+use Rattle.report_text.specs.declared.told.Told.TheVariants as told
 use Rattle.report_lines.specs.declared.line.Seen.{Seen}
 use Rattle.report_lines.specs.declared.line.Seen.TheVariants as seen
 use Rattle.report_lines.specs.declared.line.Line.{Line}

@@ -11,7 +11,7 @@ use Rattle.codec_follow.specs.Follow.{IsFollowed, each_filled, units_shown}
 use Rattle.script_types.specs.declared.script.ScriptData.{ScriptData}
 use Rattle.trace_text.specs.declared.run.CodecTrace.{CodecTrace}
 use Rattle.trace_text.specs.declared.run.Run.{Run}
-use Rattle.report_lines.specs.Laws.{told_of}
+use Rattle.report_text.specs.Told.{told_of}
 use Rattle.report_lines.specs.Whole.{lines_of}
 use Rattle.report_lines.specs.Fits.{FitsLine}
 use Rattle.report_reader.specs.Read.{entry_of, is_one_line}

@@ -124,7 +124,11 @@ pub fn sound_line(alloc: Global, shape: &SoundShape, bytes: &[u8]) -> Result<Vec
 }
 
 /// A picture that an entry showed.
-pub fn picture_line(alloc: Global, shape: &PictureShape, bytes: &[u8]) -> Result<Vec<u8>, AllocError>
+pub fn picture_line(
+    alloc: Global,
+    shape: &PictureShape,
+    bytes: &[u8],
+) -> Result<Vec<u8>, AllocError>
     ensures { IfOk result (λ v. v.items ≡ spec.picture_line shape.now bytes.now) }
 {
     let text = PictureText(*shape);

@@ -9,7 +9,9 @@ use coder_api::{SlotEntry, SlotOp};
 use script_types::{CallerItem, CodecItem, KindWord, ScriptData};
 use std::alloc::Global;
 use std::test::Fail;
-use wc_base::{By, DomError, List, PictureFormat, PictureShape, SampleFormat, SoundShape, Text, Who};
+use wc_base::{
+    By, DomError, List, PictureFormat, PictureShape, SampleFormat, SoundShape, Text, Who,
+};
 use wc_config::{CodecId, CoderId, Role};
 
 fn script(alloc: Global) -> Result<ScriptData, Fail> {
@@ -45,7 +47,10 @@ fn lines_of_callers(rt: HostRuntime) -> Result<(), Fail> {
     assert_eq!(rt; caller_name(script.callers.as_slice(), 0), "a");
     assert_eq!(rt; codec_name(codecs, 1), "");
     assert_eq!(rt; caller_header(alloc, "a")?.as_str(), "caller a\n");
-    assert_eq!(rt; result_line(alloc, codecs, 3, state)?.as_str(), "3 d:14 closed 2\n");
+    assert_eq!(rt;
+        result_line(alloc, codecs, 3, state)?.as_str(),
+        "3 d:14 closed 2\n"
+    );
     Ok(())
 }
 
@@ -64,8 +69,14 @@ fn lines_of_codecs(rt: HostRuntime) -> Result<(), Fail> {
         moment: 7,
         outcome: Outcome::NoSlot { entry: 2 },
     };
-    assert_eq!(rt; codec_header(alloc, "d", opening)?.as_str(), "codec d video-decoder 4\n");
-    assert_eq!(rt; entry_line(alloc, callers, 4, done)?.as_str(), "4 done 1.0 7 no-slot 2\n");
+    assert_eq!(rt;
+        codec_header(alloc, "d", opening)?.as_str(),
+        "codec d video-decoder 4\n"
+    );
+    assert_eq!(rt;
+        entry_line(alloc, callers, 4, done)?.as_str(),
+        "4 done 1.0 7 no-slot 2\n"
+    );
     Ok(())
 }
 
@@ -87,7 +98,10 @@ fn entries_are_told(rt: HostRuntime) -> Result<(), Fail> {
         error: Some(DomError::InvalidState),
     };
     assert_eq!(rt; told_of(&Entry::Flush { who }, &refused), flush);
-    assert_eq!(rt; told_of(&Entry::Turn, &turned), Told::Turn(Some(TurnWord::Output)));
+    assert_eq!(rt;
+        told_of(&Entry::Turn, &turned),
+        Told::Turn(Some(TurnWord::Output))
+    );
     Ok(())
 }
 
@@ -154,7 +168,13 @@ fn lines_of_outputs(rt: HostRuntime) -> Result<(), Fail> {
 fn lines_of_events(rt: HostRuntime) -> Result<(), Fail> {
     let alloc = rt.alloc();
     assert_eq!(rt; resolve_line(alloc, 2)?.as_str(), "  resolve 2\n");
-    assert_eq!(rt; reject_line(alloc, 3, DomError::Abort)?.as_str(), "  reject 3 AbortError\n");
-    assert_eq!(rt; error_line(alloc, DomError::OutOfMemory)?.as_str(), "  error OutOfMemory\n");
+    assert_eq!(rt;
+        reject_line(alloc, 3, DomError::Abort)?.as_str(),
+        "  reject 3 AbortError\n"
+    );
+    assert_eq!(rt;
+        error_line(alloc, DomError::OutOfMemory)?.as_str(),
+        "  error OutOfMemory\n"
+    );
     Ok(())
 }

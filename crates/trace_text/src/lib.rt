@@ -2,16 +2,15 @@
 #![tactic(auto)]
 
 mod chunks;
-mod lines;
 mod outputs;
 mod report;
 mod rows;
 mod run;
 #[cfg(test)]
 mod tests;
-mod words;
 
 pub use chunks::{chunks_of, find_chunk, steps_of};
 pub use report::{WriteFault, write_report};
+pub use report_text::StepResult;
 pub use rows::{boxes_of_histories, ordinary_report, run_from_a_file};
-pub use run::{CallerTrace, CodecTrace, Run, StepResult};
+pub use run::{CallerTrace, CodecTrace, Run};

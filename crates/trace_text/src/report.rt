@@ -3,16 +3,19 @@ ghost use Rattle.std.specs.Prelude.{◌≡◌, ◌≤◌, ◌++◌, OnOk, IsErrO
 ghost use Rattle.std.specs.List.{zip};
 ghost use Rattle.wc_base.specs.Causes.{Rose};
 ghost use Rattle.wc_base.specs.Told.{appended, AppendsPart};
+ghost use Rattle.report_text.specs.Lines as lines;
+ghost use Rattle.report_text.specs.Outputs as outputs;
 ghost use Rattle.trace_text.specs.Report as spec;
 ghost use Rattle.trace_text.specs.Report.{report_of};
 
-use crate::lines::{caller_header, codec_header, entry_line, held_line, result_line, slot_line};
-use crate::outputs::{
-    chunk_line, config_line, error_line, picture_line, reject_line, resolve_line, sound_line,
-};
+use crate::outputs::{line_of_chunk, line_of_config, line_of_picture, line_of_sound};
 use crate::{CallerTrace, CodecTrace, Run, StepResult};
 use codec_model::{Entry, Event, Opening, Shown};
 use coder_api::{SlotEntry, Unit};
+use report_text::{
+    caller_header, codec_header, entry_line, error_line, held_line, reject_line, resolve_line,
+    result_line, slot_line, told_of,
+};
 use script_types::{CallerItem, CodecItem, Script, ScriptData};
 use std::alloc::{AllocError, Global};
 use wc_base::{DomError, Failed, Picture, Samples, Sink};
@@ -58,8 +61,8 @@ fn write_result<S: Sink>(
     found: StepResult,
     sink: &mut S,
 ) -> Result<(), WriteFault>
-    ensures ok { OnOk result (S.told sink.new ≡ appended (S.told sink.old) (spec.result_line codecs.now step found)) }
-    ensures part { AppendsPart (S.told sink.old) (spec.result_line codecs.now step found) (S.told sink.new) }
+    ensures ok { OnOk result (S.told sink.new ≡ appended (S.told sink.old) (lines.result_line codecs.now step found)) }
+    ensures part { AppendsPart (S.told sink.old) (lines.result_line codecs.now step found) (S.told sink.new) }
     ensures later { S.faults sink.old ≤ S.faults sink.new }
     ensures failed { IsErrOf result WriteFault.Failed → Rose (S.faults sink.old) (S.faults sink.new) }
 {
@@ -76,8 +79,8 @@ fn write_results<S: Sink>(
     results: &[StepResult],
     sink: &mut S,
 ) -> Result<(), WriteFault>
-    ensures ok { OnOk result (S.told sink.new ≡ appended (S.told sink.old) (spec.each_from (spec.result_line codecs.now) 0 results.now)) }
-    ensures part { AppendsPart (S.told sink.old) (spec.each_from (spec.result_line codecs.now) 0 results.now) (S.told sink.new) }
+    ensures ok { OnOk result (S.told sink.new ≡ appended (S.told sink.old) (spec.each_from (lines.result_line codecs.now) 0 results.now)) }
+    ensures part { AppendsPart (S.told sink.old) (spec.each_from (lines.result_line codecs.now) 0 results.now) (S.told sink.new) }
     ensures later { S.faults sink.old ≤ S.faults sink.new }
     ensures failed { IsErrOf result WriteFault.Failed → Rose (S.faults sink.old) (S.faults sink.new) }
 {
@@ -94,8 +97,8 @@ fn write_steps<S: Sink>(
     trace: &CallerTrace,
     sink: &mut S,
 ) -> Result<(), WriteFault>
-    ensures ok { OnOk result (S.told sink.new ≡ appended (S.told sink.old) (spec.each_from (spec.result_line script.now.codecs) 0 trace.now.results)) }
-    ensures part { AppendsPart (S.told sink.old) (spec.each_from (spec.result_line script.now.codecs) 0 trace.now.results) (S.told sink.new) }
+    ensures ok { OnOk result (S.told sink.new ≡ appended (S.told sink.old) (spec.each_from (lines.result_line script.now.codecs) 0 trace.now.results)) }
+    ensures part { AppendsPart (S.told sink.old) (spec.each_from (lines.result_line script.now.codecs) 0 trace.now.results) (S.told sink.new) }
     ensures later { S.faults sink.old ≤ S.faults sink.new }
     ensures failed { IsErrOf result WriteFault.Failed → Rose (S.faults sink.old) (S.faults sink.new) }
 {
@@ -114,8 +117,8 @@ fn write_caller_header<S: Sink>(
     caller: &CallerItem,
     sink: &mut S,
 ) -> Result<(), WriteFault>
-    ensures ok { OnOk result (S.told sink.new ≡ appended (S.told sink.old) (spec.caller_header caller.now.name)) }
-    ensures part { AppendsPart (S.told sink.old) (spec.caller_header caller.now.name) (S.told sink.new) }
+    ensures ok { OnOk result (S.told sink.new ≡ appended (S.told sink.old) (lines.caller_header caller.now.name)) }
+    ensures part { AppendsPart (S.told sink.old) (lines.caller_header caller.now.name) (S.told sink.new) }
     ensures later { S.faults sink.old ≤ S.faults sink.new }
     ensures failed { IsErrOf result WriteFault.Failed → Rose (S.faults sink.old) (S.faults sink.new) }
 {
@@ -188,12 +191,12 @@ fn write_all_callers<S: Sink>(
 // Samples.
 #[tactic(auto, using(wc_base::proofs::Parts::part_none))]
 fn write_sound<S: Sink>(alloc: Global, samples: &Samples, sink: &mut S) -> Result<(), WriteFault>
-    ensures ok { OnOk result (S.told sink.new ≡ appended (S.told sink.old) (spec.sound_line samples.now.shape samples.now.bytes)) }
-    ensures part { AppendsPart (S.told sink.old) (spec.sound_line samples.now.shape samples.now.bytes) (S.told sink.new) }
+    ensures ok { OnOk result (S.told sink.new ≡ appended (S.told sink.old) (outputs.sound_line samples.now.shape samples.now.bytes)) }
+    ensures part { AppendsPart (S.told sink.old) (outputs.sound_line samples.now.shape samples.now.bytes) (S.told sink.new) }
     ensures later { S.faults sink.old ≤ S.faults sink.new }
     ensures failed { IsErrOf result WriteFault.Failed → Rose (S.faults sink.old) (S.faults sink.new) }
 {
-    let line = sound_line(alloc, samples)?;
+    let line = line_of_sound(alloc, samples)?;
     sink.write_all(line.as_slice())?;
     Ok(())
 }
@@ -201,12 +204,12 @@ fn write_sound<S: Sink>(alloc: Global, samples: &Samples, sink: &mut S) -> Resul
 // A picture.
 #[tactic(auto, using(wc_base::proofs::Parts::part_none))]
 fn write_picture<S: Sink>(alloc: Global, picture: &Picture, sink: &mut S) -> Result<(), WriteFault>
-    ensures ok { OnOk result (S.told sink.new ≡ appended (S.told sink.old) (spec.picture_line picture.now.shape picture.now.bytes)) }
-    ensures part { AppendsPart (S.told sink.old) (spec.picture_line picture.now.shape picture.now.bytes) (S.told sink.new) }
+    ensures ok { OnOk result (S.told sink.new ≡ appended (S.told sink.old) (outputs.picture_line picture.now.shape picture.now.bytes)) }
+    ensures part { AppendsPart (S.told sink.old) (outputs.picture_line picture.now.shape picture.now.bytes) (S.told sink.new) }
     ensures later { S.faults sink.old ≤ S.faults sink.new }
     ensures failed { IsErrOf result WriteFault.Failed → Rose (S.faults sink.old) (S.faults sink.new) }
 {
-    let line = picture_line(alloc, picture)?;
+    let line = line_of_picture(alloc, picture)?;
     sink.write_all(line.as_slice())?;
     Ok(())
 }
@@ -214,12 +217,12 @@ fn write_picture<S: Sink>(alloc: Global, picture: &Picture, sink: &mut S) -> Res
 // A chunk.
 #[tactic(auto, using(wc_base::proofs::Parts::part_none))]
 fn write_chunk<S: Sink>(alloc: Global, chunk: &Chunk, sink: &mut S) -> Result<(), WriteFault>
-    ensures ok { OnOk result (S.told sink.new ≡ appended (S.told sink.old) (spec.chunk_line chunk.now)) }
-    ensures part { AppendsPart (S.told sink.old) (spec.chunk_line chunk.now) (S.told sink.new) }
+    ensures ok { OnOk result (S.told sink.new ≡ appended (S.told sink.old) (outputs.chunk_line chunk.now)) }
+    ensures part { AppendsPart (S.told sink.old) (outputs.chunk_line chunk.now) (S.told sink.new) }
     ensures later { S.faults sink.old ≤ S.faults sink.new }
     ensures failed { IsErrOf result WriteFault.Failed → Rose (S.faults sink.old) (S.faults sink.new) }
 {
-    let line = chunk_line(alloc, chunk)?;
+    let line = line_of_chunk(alloc, chunk)?;
     sink.write_all(line.as_slice())?;
     Ok(())
 }
@@ -237,7 +240,7 @@ fn write_config<S: Sink>(
     ensures failed { IsErrOf result WriteFault.Failed → Rose (S.faults sink.old) (S.faults sink.new) }
 {
     if let Some(config) = config {
-        let line = config_line(alloc, config)?;
+        let line = line_of_config(alloc, config)?;
         sink.write_all(line.as_slice())?;
     }
     Ok(())
@@ -251,8 +254,8 @@ fn write_coded<S: Sink>(
     config: &Option<AudioDecoderConfig>,
     sink: &mut S,
 ) -> Result<(), WriteFault>
-    ensures ok { OnOk result (S.told sink.new ≡ appended (S.told sink.old) (spec.chunk_line chunk.now ++ spec.config_lines config.now)) }
-    ensures part { AppendsPart (S.told sink.old) (spec.chunk_line chunk.now ++ spec.config_lines config.now) (S.told sink.new) }
+    ensures ok { OnOk result (S.told sink.new ≡ appended (S.told sink.old) (outputs.chunk_line chunk.now ++ spec.config_lines config.now)) }
+    ensures part { AppendsPart (S.told sink.old) (outputs.chunk_line chunk.now ++ spec.config_lines config.now) (S.told sink.new) }
     ensures later { S.faults sink.old ≤ S.faults sink.new }
     ensures failed { IsErrOf result WriteFault.Failed → Rose (S.faults sink.old) (S.faults sink.new) }
 {
@@ -279,8 +282,8 @@ fn write_output<S: Sink>(alloc: Global, unit: &Unit, sink: &mut S) -> Result<(),
 // A promise that was resolved.
 #[tactic(auto, using(wc_base::proofs::Parts::part_none))]
 fn write_resolve<S: Sink>(alloc: Global, promise: u64, sink: &mut S) -> Result<(), WriteFault>
-    ensures ok { OnOk result (S.told sink.new ≡ appended (S.told sink.old) (spec.resolve_line promise)) }
-    ensures part { AppendsPart (S.told sink.old) (spec.resolve_line promise) (S.told sink.new) }
+    ensures ok { OnOk result (S.told sink.new ≡ appended (S.told sink.old) (outputs.resolve_line promise)) }
+    ensures part { AppendsPart (S.told sink.old) (outputs.resolve_line promise) (S.told sink.new) }
     ensures later { S.faults sink.old ≤ S.faults sink.new }
     ensures failed { IsErrOf result WriteFault.Failed → Rose (S.faults sink.old) (S.faults sink.new) }
 {
@@ -297,8 +300,8 @@ fn write_reject<S: Sink>(
     error: DomError,
     sink: &mut S,
 ) -> Result<(), WriteFault>
-    ensures ok { OnOk result (S.told sink.new ≡ appended (S.told sink.old) (spec.reject_line promise error)) }
-    ensures part { AppendsPart (S.told sink.old) (spec.reject_line promise error) (S.told sink.new) }
+    ensures ok { OnOk result (S.told sink.new ≡ appended (S.told sink.old) (outputs.reject_line promise error)) }
+    ensures part { AppendsPart (S.told sink.old) (outputs.reject_line promise error) (S.told sink.new) }
     ensures later { S.faults sink.old ≤ S.faults sink.new }
     ensures failed { IsErrOf result WriteFault.Failed → Rose (S.faults sink.old) (S.faults sink.new) }
 {
@@ -310,8 +313,8 @@ fn write_reject<S: Sink>(
 // A call of the error callback.
 #[tactic(auto, using(wc_base::proofs::Parts::part_none))]
 fn write_error<S: Sink>(alloc: Global, error: DomError, sink: &mut S) -> Result<(), WriteFault>
-    ensures ok { OnOk result (S.told sink.new ≡ appended (S.told sink.old) (spec.error_line error)) }
-    ensures part { AppendsPart (S.told sink.old) (spec.error_line error) (S.told sink.new) }
+    ensures ok { OnOk result (S.told sink.new ≡ appended (S.told sink.old) (outputs.error_line error)) }
+    ensures part { AppendsPart (S.told sink.old) (outputs.error_line error) (S.told sink.new) }
     ensures later { S.faults sink.old ≤ S.faults sink.new }
     ensures failed { IsErrOf result WriteFault.Failed → Rose (S.faults sink.old) (S.faults sink.new) }
 {
@@ -323,8 +326,8 @@ fn write_error<S: Sink>(alloc: Global, error: DomError, sink: &mut S) -> Result<
 // A dequeue event.
 #[tactic(auto, using(wc_base::proofs::Parts::part_none))]
 fn write_dequeue<S: Sink>(sink: &mut S) -> Result<(), WriteFault>
-    ensures ok { OnOk result (S.told sink.new ≡ appended (S.told sink.old) (spec.dequeue_line)) }
-    ensures part { AppendsPart (S.told sink.old) (spec.dequeue_line) (S.told sink.new) }
+    ensures ok { OnOk result (S.told sink.new ≡ appended (S.told sink.old) (outputs.dequeue_line)) }
+    ensures part { AppendsPart (S.told sink.old) (outputs.dequeue_line) (S.told sink.new) }
     ensures later { S.faults sink.old ≤ S.faults sink.new }
     ensures failed { IsErrOf result WriteFault.Failed → Rose (S.faults sink.old) (S.faults sink.new) }
 {
@@ -384,12 +387,12 @@ fn write_entry_line<S: Sink>(
     shown: &Shown,
     sink: &mut S,
 ) -> Result<(), WriteFault>
-    ensures ok { OnOk result (S.told sink.new ≡ appended (S.told sink.old) (spec.entry_line callers.now place entry.now shown.now)) }
-    ensures part { AppendsPart (S.told sink.old) (spec.entry_line callers.now place entry.now shown.now) (S.told sink.new) }
+    ensures ok { OnOk result (S.told sink.new ≡ appended (S.told sink.old) (lines.entry_line callers.now place entry.now shown.now)) }
+    ensures part { AppendsPart (S.told sink.old) (lines.entry_line callers.now place entry.now shown.now) (S.told sink.new) }
     ensures later { S.faults sink.old ≤ S.faults sink.new }
     ensures failed { IsErrOf result WriteFault.Failed → Rose (S.faults sink.old) (S.faults sink.new) }
 {
-    let line = entry_line(alloc, callers, place, entry, shown)?;
+    let line = entry_line(alloc, callers, place, told_of(entry, shown))?;
     sink.write_all(line.as_bytes())?;
     Ok(())
 }
@@ -470,8 +473,8 @@ fn write_codec_header<S: Sink>(
     opening: Opening,
     sink: &mut S,
 ) -> Result<(), WriteFault>
-    ensures ok { OnOk result (S.told sink.new ≡ appended (S.told sink.old) (spec.codec_header codec.now.name opening.kind opening.saturation)) }
-    ensures part { AppendsPart (S.told sink.old) (spec.codec_header codec.now.name opening.kind opening.saturation) (S.told sink.new) }
+    ensures ok { OnOk result (S.told sink.new ≡ appended (S.told sink.old) (lines.codec_header codec.now.name opening.kind opening.saturation)) }
+    ensures part { AppendsPart (S.told sink.old) (lines.codec_header codec.now.name opening.kind opening.saturation) (S.told sink.new) }
     ensures later { S.faults sink.old ≤ S.faults sink.new }
     ensures failed { IsErrOf result WriteFault.Failed → Rose (S.faults sink.old) (S.faults sink.new) }
 {
@@ -550,8 +553,8 @@ fn write_slot<S: Sink>(
     entry: SlotEntry,
     sink: &mut S,
 ) -> Result<(), WriteFault>
-    ensures ok { OnOk result (S.told sink.new ≡ appended (S.told sink.old) (spec.slot_line script.now place entry)) }
-    ensures part { AppendsPart (S.told sink.old) (spec.slot_line script.now place entry) (S.told sink.new) }
+    ensures ok { OnOk result (S.told sink.new ≡ appended (S.told sink.old) (lines.slot_line script.now place entry)) }
+    ensures part { AppendsPart (S.told sink.old) (lines.slot_line script.now place entry) (S.told sink.new) }
     ensures later { S.faults sink.old ≤ S.faults sink.new }
     ensures failed { IsErrOf result WriteFault.Failed → Rose (S.faults sink.old) (S.faults sink.new) }
 {
@@ -568,8 +571,8 @@ fn write_slots<S: Sink>(
     slots: &[SlotEntry],
     sink: &mut S,
 ) -> Result<(), WriteFault>
-    ensures ok { OnOk result (S.told sink.new ≡ appended (S.told sink.old) (spec.each_from (spec.slot_line script.now) 0 slots.now)) }
-    ensures part { AppendsPart (S.told sink.old) (spec.each_from (spec.slot_line script.now) 0 slots.now) (S.told sink.new) }
+    ensures ok { OnOk result (S.told sink.new ≡ appended (S.told sink.old) (spec.each_from (lines.slot_line script.now) 0 slots.now)) }
+    ensures part { AppendsPart (S.told sink.old) (spec.each_from (lines.slot_line script.now) 0 slots.now) (S.told sink.new) }
     ensures later { S.faults sink.old ≤ S.faults sink.new }
     ensures failed { IsErrOf result WriteFault.Failed → Rose (S.faults sink.old) (S.faults sink.new) }
 {
@@ -597,8 +600,8 @@ fn write_slot_entries<S: Sink>(
 // What is still held.
 #[tactic(auto, using(wc_base::proofs::Parts::part_none))]
 fn write_held<S: Sink>(alloc: Global, held: u64, sink: &mut S) -> Result<(), WriteFault>
-    ensures ok { OnOk result (S.told sink.new ≡ appended (S.told sink.old) (spec.held_line held)) }
-    ensures part { AppendsPart (S.told sink.old) (spec.held_line held) (S.told sink.new) }
+    ensures ok { OnOk result (S.told sink.new ≡ appended (S.told sink.old) (lines.held_line held)) }
+    ensures part { AppendsPart (S.told sink.old) (lines.held_line held) (S.told sink.new) }
     ensures later { S.faults sink.old ≤ S.faults sink.new }
     ensures failed { IsErrOf result WriteFault.Failed → Rose (S.faults sink.old) (S.faults sink.new) }
 {

@@ -27,8 +27,8 @@ use Rattle.script_types.specs.declared.steps.Step.{Step}
 use Rattle.script_types.specs.declared.steps.Step.TheVariants as does
 use Rattle.script_types.specs.declared.script.OrderItem.{OrderItem}
 use Rattle.script_types.specs.declared.script.OrderItem.TheVariants as item
-use Rattle.trace_text.specs.declared.run.StepResult.{StepResult}
-use Rattle.trace_text.specs.declared.run.StepResult.TheVariants as result
+use Rattle.report_text.specs.declared.result.StepResult.{StepResult}
+use Rattle.report_text.specs.declared.result.StepResult.TheVariants as result
 use Rattle.trace_text.specs.Follow.{Recorded, Course, BoxOut, Holding, at, append_at, with_entry, state_at, steps_of, chunk_at, source_error, with_result, with_state, with_call, removes, with_decode, with_look, with_box, give_of, gives_back, keeps_box, lets_go, lets_go_if, lets_go_unless, with_start, with_done, with_turn, recording, holding_at, holding_by, nothing_held, next_cause, outcome_by, outcome_for, follow_step, follow_next, follow_item}
 use Rattle.trace_text.specs.Fits.{step_in}
 use Rattle.wc_replay.specs.Sound.{IsSound}

@@ -3,7 +3,7 @@ use Rattle.std.proofs.Common.{List, ℕ, inl, inr}
 use Rattle.wc_chunk.specs.declared.chunk.Chunk.{Chunk}
 use Rattle.codec_model.specs.declared.entry.Entry.{Entry}
 use Rattle.script_types.specs.declared.script.ScriptData.{ScriptData}
-use Rattle.trace_text.specs.declared.run.StepResult.{StepResult}
+use Rattle.report_text.specs.declared.result.StepResult.{StepResult}
 use Rattle.trace_text.specs.Follow.{Recorded}
 use Rattle.trace_text.specs.Fits.{ArgumentsAreIn, LocalsAreIn}
 use Rattle.wc_replay.proofs.Grows.{Grows, NewFits}

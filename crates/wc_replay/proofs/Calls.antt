@@ -8,10 +8,11 @@ use Rattle.wc_chunk.specs.declared.chunk.Chunk.{Chunk}
 use Rattle.codec_model.specs.declared.entry.Entry.{Entry}
 use Rattle.codec_model.specs.declared.entry.Shown.{Shown}
 use Rattle.script_types.specs.declared.script.ScriptData.{ScriptData}
-use Rattle.trace_text.specs.declared.run.StepResult.{StepResult}
-use Rattle.trace_text.specs.declared.run.StepResult.TheVariants as result
+use Rattle.report_text.specs.declared.result.StepResult.{StepResult}
+use Rattle.report_text.specs.declared.result.StepResult.TheVariants as result
 use Rattle.trace_text.specs.Follow.{Recorded, at, opening_at}
-use Rattle.trace_text.specs.Fits.{result_in, called, refusal_in, exception_at, KeepsCall, IsResultOf, CallsAreIn}
+use Rattle.trace_text.specs.Fits.{result_in, called, exception_at, KeepsCall, IsResultOf, CallsAreIn}
+use Rattle.report_text.specs.Told.{refusal_in}
 use Rattle.wc_replay.proofs.Lists.{get_kept}
 use Rattle.wc_replay.proofs.Legal.{Legals, shown_kept}
 use Rattle.wc_replay.proofs.Grows.{Grows, NewFits}

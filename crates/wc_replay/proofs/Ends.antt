@@ -13,7 +13,7 @@ use Rattle.script_types.specs.declared.script.ScriptData.{ScriptData}
 use Rattle.trace_text.specs.declared.run.CallerTrace.{CallerTrace}
 use Rattle.trace_text.specs.declared.run.CodecTrace.{CodecTrace}
 use Rattle.trace_text.specs.declared.run.Run.{Run}
-use Rattle.trace_text.specs.declared.run.StepResult.{StepResult}
+use Rattle.report_text.specs.declared.result.StepResult.{StepResult}
 use Rattle.trace_text.specs.Fits.{FollowsTheOrder, recorded_of}
 use Rattle.trace_text.specs.Follow.{order_items, Recorded, Holding, Course, Follows, nothing_yet, nothing_held, opening_of}
 use Rattle.wc_replay.specs.Desk.{DeskValue}

@@ -27,8 +27,8 @@ use Rattle.script_types.specs.declared.steps.Step.TheVariants as step
 use Rattle.script_types.specs.declared.script.OrderItem.{OrderItem}
 use Rattle.script_types.specs.declared.script.OrderItem.TheVariants as item
 use Rattle.trace_text.specs.declared.run.Run.{Run}
-use Rattle.trace_text.specs.declared.run.StepResult.{StepResult}
-use Rattle.trace_text.specs.declared.run.StepResult.TheVariants as result
+use Rattle.report_text.specs.declared.result.StepResult.{StepResult}
+use Rattle.report_text.specs.declared.result.StepResult.TheVariants as result
 use Rattle.trace_text.specs.Follow.{order_items, Recorded, Course, Holding, at, append_at, with_result, with_entry, opening_at, state_after, state_at, promise_after, steps_in, steps_of, chunk_at, source_error, with_call, removes, with_removal, with_decode, with_look, with_state, lets_go, lets_go_unless, with_start, with_done, with_turn, recording, holding_at, nothing_held, outcome_for, follow_step, follow_next, follow_item, Follows, nothing_yet}
 use Rattle.trace_text.specs.Fits.{result_in, step_in, called, recorded_of, IsResultOf, IsLocalAnswer, FollowsTheOrder}
 use Rattle.wc_replay.specs.Sound.{IsSound, promise_of, IsFlush}

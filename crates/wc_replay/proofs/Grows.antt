@@ -8,8 +8,8 @@ use Rattle.wc_chunk.specs.declared.chunk.Chunk.{Chunk}
 use Rattle.codec_model.specs.declared.entry.Entry.{Entry}
 use Rattle.script_types.specs.declared.script.ScriptData.{ScriptData}
 use Rattle.script_types.specs.declared.steps.Step.{Step}
-use Rattle.trace_text.specs.declared.run.StepResult.{StepResult}
-use Rattle.trace_text.specs.declared.run.StepResult.TheVariants as result
+use Rattle.report_text.specs.declared.result.StepResult.{StepResult}
+use Rattle.report_text.specs.declared.result.StepResult.TheVariants as result
 use Rattle.trace_text.specs.Follow.{Recorded, at, with_result, with_entry}
 use Rattle.trace_text.specs.Fits.{result_in, entry_in, step_in, who_of, called, look_of, IsResultOf, LookShows, IsLocalAnswer, HasArguments}
 use Rattle.wc_replay.proofs.Lists.{IsNew, result_kept, result_more, new_last, at_grows}

@@ -6,8 +6,8 @@ use Rattle.codec_model.specs.declared.entry.Entry.{Entry}
 use Rattle.script_types.specs.declared.script.ScriptData.{ScriptData}
 use Rattle.script_types.specs.declared.steps.Step.{Step}
 use Rattle.script_types.specs.declared.steps.Step.TheVariants as step
-use Rattle.trace_text.specs.declared.run.StepResult.{StepResult}
-use Rattle.trace_text.specs.declared.run.StepResult.TheVariants as result
+use Rattle.report_text.specs.declared.result.StepResult.{StepResult}
+use Rattle.report_text.specs.declared.result.StepResult.TheVariants as result
 use Rattle.trace_text.specs.Follow.{Recorded, at, opening_at, promise_after, state_after}
 use Rattle.trace_text.specs.Fits.{look_of, LookShows, LooksAreIn, CallsAreIn}
 use Rattle.wc_replay.proofs.Calls.{call_within}

@@ -14,10 +14,11 @@ use Rattle.codec_model.specs.Shown.{shows, refusal, rejection, rejections, remov
 use Rattle.script_types.specs.declared.script.ScriptData.{ScriptData}
 use Rattle.script_types.specs.declared.steps.Step.{Step}
 use Rattle.script_types.specs.declared.steps.Step.TheVariants as step
-use Rattle.trace_text.specs.declared.run.StepResult.{StepResult}
-use Rattle.trace_text.specs.declared.run.StepResult.TheVariants as result
+use Rattle.report_text.specs.declared.result.StepResult.{StepResult}
+use Rattle.report_text.specs.declared.result.StepResult.TheVariants as result
 use Rattle.trace_text.specs.Follow.{Recorded, at, with_result, with_entry, opening_at, state_at, exception_of}
-use Rattle.trace_text.specs.Fits.{result_in, step_in, who_of, called, look_of, refusal_in, exception_at, KeepsCall, IsResultOf, CallsAreIn, LooksAreIn, ArgumentsAreIn, LocalsAreIn, LookShows, IsLocalAnswer, HasArguments}
+use Rattle.trace_text.specs.Fits.{result_in, step_in, who_of, called, look_of, exception_at, KeepsCall, IsResultOf, CallsAreIn, LooksAreIn, ArgumentsAreIn, LocalsAreIn, LookShows, IsLocalAnswer, HasArguments}
+use Rattle.report_text.specs.Told.{refusal_in}
 use Rattle.wc_replay.proofs.Lists.{append_at_length, at_same, result_new}
 use Rattle.wc_replay.proofs.Legal.{Legals, Steps, legals_more, shown_last}
 use Rattle.wc_replay.proofs.Grows.{Grows, ResultFits, EntryFits, NewFits, Nothing, grows_call, grows_result, grows_entry, grows_same, of_new}

@@ -23,8 +23,8 @@ use Rattle.slot_registry.specs.Slots.{SlotsValue, acquired}
 use Rattle.script_types.specs.declared.script.OrderItem.{OrderItem}
 use Rattle.script_types.specs.declared.script.OrderItem.TheVariants as item
 use Rattle.script_types.specs.declared.script.ScriptData.{ScriptData}
-use Rattle.trace_text.specs.declared.run.StepResult.{StepResult}
-use Rattle.trace_text.specs.declared.run.StepResult.TheVariants as result
+use Rattle.report_text.specs.declared.result.StepResult.{StepResult}
+use Rattle.report_text.specs.declared.result.StepResult.TheVariants as result
 use Rattle.trace_text.specs.Follow.{Course, Holding, BoxOut, at, append_at, recording, with_call, with_look, with_state, with_result, with_removal, exception_of, give_of, next_cause, opening_at, promise_after, follow_item}
 use Rattle.wc_replay.specs.Boxes.{IsGivable, filled_slots}
 use Rattle.wc_replay.specs.Desk.{DeskValue, more, state_of, next_by, after_removal, removal_box, left_by, started_with, after_start, start_slots, done_by, after_done, done_box, turned_by, after_turn, turn_box, after_reclaim, reclaim_box}

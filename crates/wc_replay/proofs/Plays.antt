@@ -19,8 +19,8 @@ use Rattle.codec_model.specs.Control.{Control, start_item, may_start, front, may
 use Rattle.codec_model.specs.Replay.{State, entry_of, call_error, removal_error, missing_coder, answer_to}
 use Rattle.script_types.specs.declared.script.CodecItem.{CodecItem}
 use Rattle.script_types.specs.declared.script.ScriptData.{ScriptData}
-use Rattle.trace_text.specs.declared.run.StepResult.{StepResult}
-use Rattle.trace_text.specs.declared.run.StepResult.TheVariants as result
+use Rattle.report_text.specs.declared.result.StepResult.{StepResult}
+use Rattle.report_text.specs.declared.result.StepResult.TheVariants as result
 use Rattle.trace_text.specs.Follow.{Holding, nothing_held, Course, BoxOut, at, append_at, with_entry, with_result, holding_at, recording, next_cause, with_slots, give_of, gives_back, lets_go, lets_go_unless, lets_go_if, removes, with_removal, with_call, with_box, with_start, with_done, keeps_box, with_turn, with_reclaim, opening_of, opening_in, opening_at, state_after, state_at, exception_of, outcome_for, follow_item}
 use Rattle.script_types.specs.declared.script.OrderItem.TheVariants as item
 use Rattle.wc_replay.specs.Boxes.{filled_slots, filled_holding}

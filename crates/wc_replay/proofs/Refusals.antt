@@ -23,8 +23,8 @@ use Rattle.codec_core.proofs.Laws.{call_keeps_running, reset_keeps_running, clos
 use Rattle.script_types.specs.declared.script.ScriptData.{ScriptData}
 use Rattle.script_types.specs.declared.steps.Step.{Step}
 use Rattle.script_types.specs.declared.steps.Step.TheVariants as step
-use Rattle.trace_text.specs.declared.run.StepResult.{StepResult}
-use Rattle.trace_text.specs.declared.run.StepResult.TheVariants as result
+use Rattle.report_text.specs.declared.result.StepResult.{StepResult}
+use Rattle.report_text.specs.declared.result.StepResult.TheVariants as result
 use Rattle.trace_text.specs.Follow.{Recorded, Course, Holding, at, append_at, with_result, with_entry, opening_at, state_after, state_at, steps_of, chunk_at, source_error, with_call, with_state, removes, with_removal, with_decode, with_look, with_box, keeps_box, lets_go, lets_go_if, lets_go_unless, with_start, with_done, with_turn, recording, holding_at, outcome_for, follow_step}
 use Rattle.wc_replay.proofs.Lists.{there}
 use Rattle.wc_replay.proofs.Legal.{Legals, Steps, MayBeRefused, cond_some, call_legal, start_legal, done_legal, turn_legal, reclaim_legal}

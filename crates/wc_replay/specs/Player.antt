@@ -15,8 +15,8 @@ use Rattle.codec_model.specs.Shown.{each_shown}
 use Rattle.trace_text.specs.declared.run.CallerTrace.{CallerTrace}
 use Rattle.trace_text.specs.declared.run.CodecTrace.{CodecTrace}
 use Rattle.trace_text.specs.declared.run.Run.{Run}
-use Rattle.trace_text.specs.declared.run.StepResult.{StepResult}
-use Rattle.trace_text.specs.declared.run.StepResult.TheVariants as result
+use Rattle.report_text.specs.declared.result.StepResult.{StepResult}
+use Rattle.report_text.specs.declared.result.StepResult.TheVariants as result
 use Rattle.trace_text.specs.Fits.{step_in}
 use Rattle.trace_text.specs.Follow.{order_items, Course, nothing_held, holding_at, next_cause, opening_of, opening_at, promise_after}
 use Rattle.wc_replay.specs.Boxes.{IsGivable}

@@ -16,7 +16,7 @@ pub(crate) struct Results {
 
 impl Model for Results {
     ghost use Rattle.std.specs.Prelude.{List};
-    ghost use Rattle.trace_text.specs.declared.run.StepResult.{StepResult};
+    ghost use Rattle.report_text.specs.declared.result.StepResult.{StepResult};
 
     ghost Value = { List StepResult };
 

@@ -3,7 +3,7 @@ ghost use Rattle.std.specs.Prelude.{◌≡◌, ◌≤◌, ◌<◌, Bool, false, 
 ghost use Rattle.codec_model.specs.declared.entry.Entry.TheVariants as entry;
 ghost use Rattle.trace_text.specs.Fits.{called};
 ghost use Rattle.trace_text.specs.Follow.{recording, with_call, with_decode, with_look, with_state, with_result, with_removal, follow_step, follow_item, steps_of, source_error};
-ghost use Rattle.trace_text.specs.declared.run.StepResult.TheVariants as came;
+ghost use Rattle.report_text.specs.declared.result.StepResult.TheVariants as came;
 ghost use Rattle.script_types.specs.declared.script.OrderItem.TheVariants as item;
 ghost use Rattle.wc_replay.specs.Player.{course, AreOpened, KeepsShape, AreHeld, IsInRange, IsPlayable, call_in, look_at};
 ghost use Rattle.wc_replay.specs.Refusals.{RefusalsStand};

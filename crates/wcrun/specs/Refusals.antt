@@ -3,7 +3,7 @@ use Rattle.std.specs.Prelude.{ℕ, List, codes, decimal}
 use Rattle.chunk_files.specs.declared.fault.ChunkFault.{ChunkFault}
 use Rattle.chunk_files.specs.declared.fault.ChunkFault.TheVariants as fault
 use Rattle.script_types.specs.Places.{place_text}
-use Rattle.trace_text.specs.Report.{◌<>◌}
+use Rattle.report_text.specs.Words.{◌<>◌}
 use Rattle.wcrun.specs.declared.refusal.Limited.{Limited}
 use Rattle.wcrun.specs.declared.refusal.Limited.TheVariants as limited
 use Rattle.wcrun.specs.declared.refusal.Refusal.{Refusal}

@@ -1,5 +1,6 @@
 use Rattle.std.proofs.Common.{◌≤◌, drop}
-use Rattle.trace_text.specs.Report.{each_from, result_line}
+use Rattle.report_text.specs.Lines.{result_line}
+use Rattle.trace_text.specs.Report.{each_from}
 use Rattle.trace_text.proofs.Steps.{IsSoFar}
 use Rattle.trace_text.proofs.report.write_results.Given as goal
 

@@ -1,7 +1,7 @@
 use Rattle.std.proofs.Common.{◌++◌, ◌∷◌, [], List, length, ap, sym, ◌∙◌, arith}
 use Rattle.std.specs.Vec.Iter.{into_iter_items}
 use Rattle.slot_registry.proofs.Opens.{nothing_left}
-use Rattle.trace_text.specs.declared.run.StepResult.{StepResult}
+use Rattle.report_text.specs.declared.result.StepResult.{StepResult}
 use Rattle.wc_replay.specs.Player.{caller_trace}
 use Rattle.wc_replay.proofs.Ends.{one_more, all_made}
 use Rattle.wc_replay.proofs.playing.caller_traces.Goals as goal

@@ -1,5 +1,5 @@
 use Rattle.std.proofs.Common.{◌++◌, ◌∷◌, [], List, ap, ◌∙◌}
-use Rattle.trace_text.specs.declared.run.StepResult.{StepResult}
+use Rattle.report_text.specs.declared.result.StepResult.{StepResult}
 use Rattle.wc_replay.specs.Player.{new_results}
 use Rattle.wc_replay.proofs.Ends.{next_made, whole_made}
 use Rattle.wc_replay.proofs.playing.open_callers.Goals as goal

@@ -1,6 +1,6 @@
 use Rattle.std.proofs.Common.{refl, sym, ap, ◌∙◌}
 use Rattle.std.proofs.lemmas.Result.{on_ok_weaker}
-use Rattle.trace_text.specs.declared.run.StepResult.{StepResult}
+use Rattle.report_text.specs.declared.result.StepResult.{StepResult}
 use Rattle.trace_text.specs.Follow.{recording, with_result}
 use Rattle.wc_replay.specs.Player.{course}
 use Rattle.wc_replay.proofs.Players.{looked_made}
