@@ -33,8 +33,8 @@ use Rattle.report_text.specs.declared.result.StepResult.{StepResult}
 use Rattle.report_text.specs.declared.result.StepResult.TheVariants as result
 use Rattle.report_text.specs.Outputs as text
 use Rattle.report_text.specs.Words.{error_name, answer_text, kind_text, state_text, sample_format_text, picture_format_text, codec_text, role_text, chunk_type_text}
-use Rattle.report_text.specs.Names.{caller_name, codec_name, by_text}
-use Rattle.report_text.specs.Lines.{promise_text, outcome_text, turn_text, slot_text, result_text, result_line, numbered_line, slot_line}
+use Rattle.report_text.specs.Names.{caller_name, codec_name}
+use Rattle.report_text.specs.Lines.{promise_text, outcome_text, turn_text, slot_text, result_line, numbered_line, slot_line}
 use Rattle.report_text.specs.Outputs.{sound_duration, sound_line, picture_line, chunk_line, config_line}
 use Rattle.report_fields.specs.Words.{◌>>=◌, after, is_word_byte}
 use Rattle.report_fields.specs.Fields as fields
