@@ -3,7 +3,7 @@ ghost use Rattle.std.specs.Prelude.{◌≡◌, ◌==◌, max, ◌≤◌, ◌+◌
 ghost use Rattle.codec_queues.specs.Joined.{joined};
 ghost use Rattle.codec_model.specs.declared.entry.Entry.TheVariants as entry;
 ghost use Rattle.codec_model.specs.Control.{front, start_item, may_reclaim};
-ghost use Rattle.codec_model.specs.Replay.{entry_of, missing_coder, removal_error, IsLegal};
+ghost use Rattle.codec_model.specs.Replay.{entry_of, call_error, missing_coder, removal_error, IsLegal};
 ghost use Rattle.codec_model.specs.Facts.{IsNeverStuck};
 ghost use Rattle.codec_model.specs.Shown.{shown, outputs_of, ends_in, promise_state};
 ghost use Rattle.codec_core.specs.Job.{IsJobOf, IsEndOf, outcome_of, missing_id, stopped_box};
@@ -156,6 +156,20 @@ impl<C: Coder> Core<C> {
             self.machine.phase(),
             self.machine.size(),
         )
+    }
+
+    /// The error with which this call would be refused now; a flush's promise is rejected with it.
+    pub fn error_of(&self, call: &Call) -> Option<DomError>
+        ensures { result ≡ call_error call.now (state_at self.now).control }
+    {
+        self.machine.error_of(call)
+    }
+
+    /// The error with which a reset or close would be refused now.
+    pub fn removal_error(&self) -> Option<DomError>
+        ensures { result ≡ removal_error (state_at self.now).control }
+    {
+        self.machine.removal_error()
     }
 
     /// The moment in microseconds when the last item of this epoch ended, of a configured codec.

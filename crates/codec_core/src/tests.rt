@@ -11,7 +11,7 @@ use codec_model::{Call, CodecState, Kind, PromiseState};
 use coder_api::{Coder, CoderFault, Input, SlotBox, Unit};
 use std::alloc::{AllocError, Global};
 use std::test::Fail;
-use wc_base::{By, List, NoMemory, Text, Who};
+use wc_base::{By, DomError, List, NoMemory, Text, Who};
 use wc_config::{AudioDecoderConfig, CodecId, CoderId, Config, Role};
 
 // A decoder of 16-bit PCM that never has memory for a chunk.
@@ -124,6 +124,7 @@ fn ordinary_run(rt: HostRuntime) -> Result<(), Fail> {
     let alloc = rt.alloc();
     let who = Who { caller: 0, step: 0 };
     let mut core = Core::open(alloc, Kind::AudioDecoder, 4, 2).expect(&rt, "a codec");
+    assert_eq!(rt; core.error_of(&Call::Flush), Some(DomError::InvalidState));
     let configured = core.call(who, pcm(alloc)?).expect(&rt, "configure");
     let flushed = core.call(who, Call::Flush).expect(&rt, "flush");
     assert_eq!(rt; (configured.place, configured.promise), (0, None));
@@ -137,7 +138,9 @@ fn ordinary_run(rt: HostRuntime) -> Result<(), Fail> {
     assert_eq!(rt; core.look(), (9, CodecState::Configured, 0));
     assert_eq!(rt; core.progress(), Some(2));
     assert!(rt; core.spare() >= 2);
+    assert_eq!(rt; (core.error_of(&Call::Flush), core.removal_error()), (None, None));
     let closed = core.close(who);
+    assert_eq!(rt; core.removal_error(), Some(DomError::InvalidState));
     assert!(rt; closed.is_ok_and(|removed| removed.coder.is_some()));
     let (entries, outputs) = core.into_trace();
     assert_eq!(rt; entries.len(), 10);
