@@ -1,5 +1,5 @@
-// What entries show.
-ghost use Rattle.std.specs.Prelude.{◌≡◌, [], ◌∷◌, ◌++◌, IfOk, OnOk, Option};
+// What entries show, by what is told of a codec's state.
+ghost use Rattle.std.specs.Prelude.{◌≡◌, [], ◌∷◌, ◌++◌, IfOk, OnOk, OnErr, Option};
 ghost use Rattle.codec_model.specs.Shown.{outputs_from, rejections, removal_shows, word_of_task};
 ghost use Rattle.codec_follow.specs.Events.{call_events, task_events, reclaim_events, noted};
 
@@ -9,14 +9,14 @@ use std::alloc::Global;
 use wc_base::{DomError, List, NoMemory};
 
 /// What an entry shows that is no turn.
-pub(crate) fn note(events: List<Event>) -> Shown
+pub fn note(events: List<Event>) -> Shown
     ensures { result ≡ noted events }
 {
     Shown { turn: None, events }
 }
 
 /// Which task a turn runs.
-pub(crate) fn word_of(task: &Task) -> TurnWord
+pub fn word_of(task: &Task) -> TurnWord
     ensures { result ≡ word_of_task task.now }
 {
     match task {
@@ -30,9 +30,10 @@ pub(crate) fn word_of(task: &Task) -> TurnWord
     }
 }
 
-/// Appends an item.
-pub(crate) fn append<T: Drop>(items: &mut Vec<T>, item: T) -> Result<(), NoMemory>
-    ensures { OnOk result (items.new.items ≡ items.old.items ++ item ∷ []) }
+/// Appends an item. After want of memory nothing has changed.
+pub fn append<T: Drop>(items: &mut Vec<T>, item: T) -> Result<(), NoMemory>
+    ensures ok { OnOk result (items.new.items ≡ items.old.items ++ item ∷ []) }
+    ensures err { OnErr result (items.new.items ≡ items.old.items) }
 {
     items.reserve(1)?;
     items.push_reserved(item);
@@ -68,7 +69,7 @@ fn push_rejections(
 }
 
 /// What a task shows where it runs, after so many outputs and with these promises pending.
-pub(crate) fn events_of_task(
+pub fn events_of_task(
     alloc: Global,
     task: &Task,
     first: u64,
@@ -100,7 +101,7 @@ pub(crate) fn events_of_task(
 }
 
 /// What a reset or close shows, refused with this error or else made, with these promises pending.
-pub(crate) fn events_of_removal(
+pub fn events_of_removal(
     alloc: Global,
     error: Option<DomError>,
     pending: &[u64],
@@ -120,7 +121,7 @@ pub(crate) fn events_of_removal(
 }
 
 /// What a reclaim shows, with these promises pending.
-pub(crate) fn events_of_reclaim(alloc: Global, pending: &[u64]) -> Result<List<Event>, NoMemory>
+pub fn events_of_reclaim(alloc: Global, pending: &[u64]) -> Result<List<Event>, NoMemory>
     ensures { IfOk result (λ l. l ≡ reclaim_events pending.now) }
 {
     let error = DomError::QuotaExceeded;
@@ -142,7 +143,7 @@ fn refusal_of(call: &Call, promise: u64, error: DomError) -> Event
 }
 
 /// What a call at this place shows, refused with this error or not.
-pub(crate) fn events_of_call(
+pub fn events_of_call(
     alloc: Global,
     call: &Call,
     place: u64,

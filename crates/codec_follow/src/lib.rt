@@ -12,6 +12,9 @@ mod rows;
 #[cfg(test)]
 mod tests;
 
+pub use events::{
+    append, events_of_call, events_of_reclaim, events_of_removal, events_of_task, note, word_of,
+};
 pub use follower::Follower;
 pub use laws::{legal_histories_follow, outputs_are_of_their_kind};
 pub use rows::{decoding_followed, ordinary_followed};
