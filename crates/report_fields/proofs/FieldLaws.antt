@@ -64,7 +64,7 @@ pub short_again : (t n : ℕ) (rest : List ℕ) → n < 2 ^ 32 → is_ascii_digi
 unfolding short_upto
 short_again t n rest lt other = rw (number_again t n rest (omega arith) other, lt-ltb _ _ lt) refl
 
-lacks_cons : (t b : ℕ) (w : List ℕ) → b ≢ t → Lacks t w → Lacks t (b ∷ w)
+pub lacks_cons : (t b : ℕ) (w : List ℕ) → b ≢ t → Lacks t w → Lacks t (b ∷ w)
 lacks_cons t b w differs lacks zero lt = differs
 lacks_cons t b w differs lacks (suc i) lt = lacks i (omega arith)
 

@@ -1,5 +1,5 @@
--- What is written as a field is read again, whatever stands behind it.
-use Rattle.std.specs.Prelude.{ℕ, ℤ, ◌≡◌, ◌≢◌, ◌<◌, ◌^◌, true, false, List, [], ◌∷◌, ◌++◌, length, decimal, Option, Some, slice_index_or}
+-- What is written as a field is read again, whatever stands behind it, and what is read is within its type.
+use Rattle.std.specs.Prelude.{ℕ, ℤ, ◌≡◌, ◌≢◌, ◌<◌, ◌^◌, true, false, List, [], ◌∷◌, ◌++◌, length, decimal, Option, Some, IfSome, slice_index_or}
 use Rattle.std.specs.List.{list_all}
 use Rattle.std.specs.Char.{is_ascii_digit}
 use Rattle.std.specs.Fmt.{signed_decimal}
@@ -48,3 +48,22 @@ NumberOrDashAgain = (mark : ℕ) (n : Option ℕ) (rest : List ℕ) → FitsOrAb
 
 abbrev pub BytesAgain : Type 0
 BytesAgain = (mark : ℕ) (bytes rest : List ℕ) → IsBytes bytes → 45 ≢ mark → is_hex_digit mark ≡ false → bytes_upto mark (hex_or_dash bytes ++ mark ∷ rest) ≡ Some (bytes, rest)
+
+-- bytes that are read up to a mark lack it
+abbrev pub BytesLackTheMark : Type 0
+BytesLackTheMark = (mark : ℕ) (bs : List ℕ) → IfSome (upto mark bs) (λ x. Lacks mark x.0)
+
+abbrev pub NumberFits : Type 0
+NumberFits = (mark : ℕ) (bs : List ℕ) → IfSome (number_upto mark bs) (λ x. x.0 < 2 ^ 64)
+
+abbrev pub ShortFits : Type 0
+ShortFits = (mark : ℕ) (bs : List ℕ) → IfSome (short_upto mark bs) (λ x. x.0 < 2 ^ 32)
+
+abbrev pub SignedFits : Type 0
+SignedFits = (mark : ℕ) (bs : List ℕ) → IfSome (signed_upto mark bs) (λ x. mag x.0 < 2 ^ 63)
+
+abbrev pub NumberOrDashFits : Type 0
+NumberOrDashFits = (mark : ℕ) (bs : List ℕ) → IfSome (number_or_dash_upto mark bs) (λ x. FitsOrAbsent x.0)
+
+abbrev pub BytesFit : Type 0
+BytesFit = (mark : ℕ) (bs : List ℕ) → IfSome (bytes_upto mark bs) (λ x. IsBytes x.0)

@@ -1,5 +1,5 @@
-// What is written as a field is read again, whatever stands behind it.
-ghost use Rattle.report_fields.specs.Laws.{BytesBeforeAMark, PrefixAgain, PrefixOnly, WordAgain, NameAgain, NumberAgain, ShortAgain, SignedAgain, NumberOrDashAgain, BytesAgain};
+// What is written as a field is read again, whatever stands behind it, and what is read is within its type.
+ghost use Rattle.report_fields.specs.Laws.{BytesBeforeAMark, PrefixAgain, PrefixOnly, WordAgain, NameAgain, NumberAgain, ShortAgain, SignedAgain, NumberOrDashAgain, BytesAgain, BytesLackTheMark, NumberFits, ShortFits, SignedFits, NumberOrDashFits, BytesFit};
 
 /// Laws: bytes without the mark are read again up to it; a prefix comes off, and only where it stands; and a word is read
 /// again with the byte that ends it.
@@ -26,4 +26,15 @@ pub fn numbers_are_read_again()
 /// A law: bytes in lower case hex, or `-` for none, are read again up to a mark that is no digit of hex.
 pub fn bytes_are_read_again()
     ensures { BytesAgain }
+{}
+
+/// Laws: bytes that are read up to a mark lack it, a number that is read is within its type, and bytes that are read are
+/// bytes.
+pub fn fields_that_are_read_fit()
+    ensures upto { BytesLackTheMark }
+    ensures number { NumberFits }
+    ensures short { ShortFits }
+    ensures signed { SignedFits }
+    ensures number_or_dash { NumberOrDashFits }
+    ensures bytes { BytesFit }
 {}
