@@ -3,3 +3,4 @@ pub mod LineLaws
 pub mod FeedLaws
 pub mod Agreement
 pub mod Report
+pub mod ReadLaws

@@ -54,7 +54,7 @@ use Rattle.report_text.specs.Words.{call_word}
 use Rattle.report_text.specs.Lines.{told_text}
 use Rattle.report_lines.specs.Text.{seen_line, line_text}
 use Rattle.report_lines.specs.Reading.{caller_of, codec_of, error_at, answer_at, promise_at, look_at, looked, call_result, outcome_at, turn_at, start_at, done_at, call_at, by_of, coder_at, refused_at, acquired_at, given_at, op_at, slot_at, dotted, worded, numbered, sound_at, image_at, chunk_at, output_at, config_at, reject_at, seen_at, shown_at, codec_at, caller_at, headed, parsed, line_at}
-use Rattle.report_lines.specs.Fits.{AreNames, IsCaller, IsCodec, FitsWho, FitsResult, FitsOutcome, FitsTold, FitsSound, FitsImage, FitsSeen, FitsBy, FitsOp, FitsLine}
+use Rattle.report_lines.specs.Fits.{is_no_feed, AreNames, IsCaller, IsCodec, FitsWho, FitsResult, FitsOutcome, FitsTold, FitsSound, FitsImage, FitsSeen, FitsBy, FitsOp, FitsLine}
 use Rattle.report_lines.proofs.Vocabulary.{error_is_word, error_again, answer_is_word, answer_again, kind_is_word, kind_again, state_is_word, state_again, call_is_word, call_again, sample_format_is_word, sample_format_again, picture_format_is_word, picture_format_again, codec_id_is_word, codec_id_again, role_is_word, role_again, key_is_word, key_again}
 
 -- ---- names
@@ -345,12 +345,13 @@ chunk_read key timestamp duration bytes rest lt fits are_bytes =
       hex_read bytes rest are_bytes,
     ) refl
 
-config_read : (codec : List ℕ) (rate channels : ℕ) (description rest : List ℕ) → Lacks 32 codec → rate < 2 ^ 32 → channels < 2 ^ 32 → IsBytes description
+config_read : (codec : List ℕ) (rate channels : ℕ) (description rest : List ℕ) → Lacks 32 codec → list_all is_no_feed codec ≡ true → rate < 2 ^ 32 → channels < 2 ^ 32 → IsBytes description
     → config_at (codec ++ 32 ∷ (decimal rate ++ 32 ∷ (decimal channels ++ 32 ∷ (text.hex_or_dash description ++ 10 ∷ rest)))) ≡ Some (seen.Config codec rate channels description)
 unfolding config_at
-config_read codec rate channels description rest lacks rate_fits channels_fit are_bytes =
+config_read codec rate channels description rest lacks one rate_fits channels_fit are_bytes =
     rw (
       upto_again 32 codec _ lacks,
+      one,
       short_again 32 rate _ rate_fits refl,
       short_again 32 channels _ channels_fit refl,
       hex_read description rest are_bytes,
@@ -369,7 +370,7 @@ seen_again script (seen.Chunk key timestamp duration bytes) rest fits =
     ap (parsed script) regrouped ∙ rw (chunk_read key timestamp duration bytes rest fits.0 fits.1 fits.2) refl
 seen_again script (seen.Config codec rate channels description) rest fits =
     let regrouped : seen_line (seen.Config codec rate channels description) ++ rest ≡ codes "  config " ++ (codec ++ 32 ∷ (decimal rate ++ 32 ∷ (decimal channels ++ 32 ∷ (text.hex_or_dash description ++ 10 ∷ rest)))) = simp append_assoc in
-    ap (parsed script) regrouped ∙ rw (config_read codec rate channels description rest fits.0 fits.2 fits.3 fits.4) refl
+    ap (parsed script) regrouped ∙ rw (config_read codec rate channels description rest fits.0 fits.1 fits.2 fits.3 fits.4) refl
 seen_again script (seen.Resolve p) rest fits = simp append_assoc (rw (number_again 10 p rest fits refl) refl)
 seen_again script (seen.Reject p e) rest fits = simp append_assoc (rw (number_again 32 p _ fits refl, error_at_again e rest) refl)
 seen_again script seen.Dequeue rest fits = refl

@@ -1,5 +1,6 @@
--- What is written as a line is read again, what is read is written so, and the report of a run is made of such lines.
-use Rattle.std.specs.Prelude.{ℕ, ◌≡◌, true, List, [], ◌∷◌, ◌++◌, flat_map, unwrap_or, Option, Some, None}
+-- What is written as a line is read again, what is read is written so and fits the script, and the report of a run is made
+-- of such lines.
+use Rattle.std.specs.Prelude.{ℕ, ◌≡◌, true, List, [], ◌∷◌, ◌++◌, flat_map, unwrap_or, Option, Some, None, IfSome}
 use Rattle.std.specs.List.{list_all}
 use Rattle.coder_api.specs.declared.unit.Unit as media
 use Rattle.coder_api.specs.declared.unit.Unit.TheVariants as unit
@@ -24,6 +25,9 @@ LineAgain = (script : ScriptData) (l : Line) (rest : List ℕ) → AreNames scri
 
 abbrev pub LineSound : Type 0
 LineSound = (script : ScriptData) (bs : List ℕ) (read : Line × List ℕ) → line_at script bs ≡ Some read → bs ≡ line_text script read.0 ++ read.1
+
+abbrev pub LineFits : Type 0
+LineFits = (script : ScriptData) (bs : List ℕ) → IfSome (line_at script bs) (λ read. FitsLine script read.0)
 
 -- a text ends with its only line feed
 pub record IsOneLine (text : List ℕ) : Type 0 where

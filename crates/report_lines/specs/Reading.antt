@@ -44,6 +44,7 @@ use Rattle.report_lines.specs.declared.line.Seen.TheVariants as seen
 use Rattle.report_lines.specs.declared.line.Line.{Line}
 use Rattle.report_lines.specs.declared.line.Line.TheVariants as line
 use Rattle.report_lines.specs.Text.{line_text}
+use Rattle.report_lines.specs.Fits.{is_no_feed}
 
 -- Words.
 
@@ -344,13 +345,18 @@ output_at bs = do
       else if bytes_eq w.0 (codes "video") then image_at w.2
       else chunk_at w.2
 
+-- the text, where it has no line feed
+abbrev pub one_line : List ℕ → Option (List ℕ)
+one_line text = if list_all is_no_feed text then Some text else None
+
 unfoldable pub config_at : List ℕ → Option Seen
 config_at bs = do
   name ← upto 32 bs
+  codec ← one_line name.0
   rate ← short_upto 32 name.1
   channels ← short_upto 32 rate.1
   description ← bytes_upto 10 channels.1
-  Some (seen.Config name.0 rate.0 channels.0 description.0)
+  Some (seen.Config codec rate.0 channels.0 description.0)
 
 unfoldable pub reject_at : List ℕ → Option Seen
 reject_at bs = do

@@ -1,5 +1,5 @@
 // What is written as a line is read again.
-ghost use Rattle.report_lines.specs.Laws.{LineAgain, LineSound, LineIsOne, EntryIsALine, EventIsLines};
+ghost use Rattle.report_lines.specs.Laws.{LineAgain, LineSound, LineFits, LineIsOne, EntryIsALine, EventIsLines};
 ghost use Rattle.report_lines.specs.Whole.{ReportIsLines};
 
 /// Laws: a line that fits the script is read again, whatever stands behind it; what is read stands in front, as it is
@@ -8,6 +8,12 @@ pub fn lines_are_read_again()
     ensures again { LineAgain }
     ensures sound { LineSound }
     ensures one { LineIsOne }
+{}
+
+/// Law: each line that is read fits the script: its numbers are within their types, its callers and codecs are there, its
+/// bytes are bytes, and a config's codec has no blank and no line feed.
+pub fn lines_that_are_read_fit()
+    ensures { LineFits }
 {}
 
 /// Laws: the report's text of an entry is that of a line, its text of an event that of some lines, and the report of a run

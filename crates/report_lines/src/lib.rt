@@ -9,7 +9,7 @@ mod tests;
 mod text;
 mod words;
 
-pub use laws::{lines_are_read_again, reports_are_lines};
+pub use laws::{lines_are_read_again, lines_that_are_read_fit, reports_are_lines};
 pub use line::{Line, Seen};
 pub use reading::line_at;
 pub use report_text::{CallWord, Told};

@@ -1,7 +1,9 @@
 // How the line in front of some bytes is read.
 ghost use Rattle.std.specs.Prelude.{◌≡◌, ◌≢◌, IfOk, IfErr, Some, None, position, bytes_eq};
-ghost use Rattle.std.specs.Option.{option_map};
+ghost use Rattle.std.specs.List.{list_all};
+ghost use Rattle.std.specs.Option.{option_copied, option_map};
 ghost use Rattle.report_fields.specs.Fields.{short as short_of};
+ghost use Rattle.report_lines.specs.Fits.{is_no_feed};
 ghost use Rattle.report_lines.specs.Reading as spec;
 
 use crate::line::{Line, Seen};
@@ -502,12 +504,27 @@ fn copied(alloc: Global, bytes: &[u8]) -> Result<Vec<u8>, FieldFault>
     }
 }
 
+// Whether no byte is a line feed.
+fn has_no_feed(text: &[u8]) -> bool
+    ensures { result ≡ list_all is_no_feed text.now }
+{
+    text.iter().all(|byte| *byte != b'\n')
+}
+
+// The text, where it has no line feed.
+fn one_line(text: &[u8]) -> Option<&[u8]>
+    ensures { option_copied result ≡ spec.one_line text.now }
+{
+    if has_no_feed(text) { Some(text) } else { None }
+}
+
 #[tactic(auto, unfolding(crate::specs::Reading::config_at))]
 fn config_at(alloc: Global, bytes: &[u8]) -> Result<Seen, FieldFault>
     ensures ok { IfOk result (λ s. spec.config_at bytes.now ≡ Some s) }
     ensures err { IfErr result (λ e. e ≢ FieldFault.NoMemory → spec.config_at bytes.now ≡ None) }
 {
     let (name, rest) = upto(b' ', bytes).ok_or(FieldFault::NoField)?;
+    let name = one_line(name).ok_or(FieldFault::NoField)?;
     let (rate, rest) = short_upto(b' ', rest).ok_or(FieldFault::NoField)?;
     let (channels, rest) = short_upto(b' ', rest).ok_or(FieldFault::NoField)?;
     let (description, _) = bytes_upto(alloc, b'\n', rest)?;

@@ -109,5 +109,9 @@ fn other_lines_are_refused(rt: HostRuntime) -> Result<(), Fail> {
         fault(alloc, &script, "0 d.3 acquire decode:pcm-s16 full 1 1\n"),
         no_line
     );
+    assert_eq!(rt;
+        fault(alloc, &script, "  config pcm\n-s16 8000 2 -\n"),
+        no_line
+    );
     Ok(())
 }
