@@ -88,8 +88,9 @@ follows o h = follow_from h (opening_state o)
 abbrev pub IsFollowed : Opening → List Entry → Type 0
 IsFollowed o h = is_some (follows o h) ≡ true
 
--- an output with the next unit for its content, where there is one
+-- an output with the next unit for its content, or blank where there is none
 abbrev pub with_unit : Event → List media.Unit → Event
+with_unit (event.Output number unit) [] = event.Output number blank
 with_unit (event.Output number unit) (u ∷ us) = event.Output number u
 with_unit x us = x
 

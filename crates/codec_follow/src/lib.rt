@@ -12,6 +12,7 @@ mod rows;
 #[cfg(test)]
 mod tests;
 
+pub use ends::blank;
 pub use events::{
     append, events_of_call, events_of_reclaim, events_of_removal, events_of_task, note, word_of,
 };
