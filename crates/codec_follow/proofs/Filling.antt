@@ -6,6 +6,7 @@ use Rattle.std.proofs.Math.Seq.{take-append_seam}
 use Rattle.wc_base.specs.declared.error.DomError.{DomError}
 use Rattle.wc_base.specs.declared.error.DomError.TheVariants as dom
 use Rattle.coder_api.specs.declared.unit.Unit as media
+use Rattle.codec_model.specs.declared.entry.Kind.{Kind}
 use Rattle.codec_model.specs.declared.entry.Entry.{Entry}
 use Rattle.codec_model.specs.declared.entry.Entry.TheVariants as entry
 use Rattle.codec_model.specs.declared.entry.Event.{Event}
@@ -99,25 +100,25 @@ word_erased (entry.Done epoch item moment o) s = refl
 word_erased (entry.Reclaim moment) s = refl
 
 -- blanks that are filled with what was there
-fill_erased : (xs : List Event) (us : List media.Unit) → filled (map erased_event xs) (units_in xs ++ us) ≡ (xs, us)
-fill_erased [] us = refl
-fill_erased (event.Refusal x ∷ xs) us = ap (λ (p : List Event × List media.Unit). (event.Refusal x ∷ p.0, p.1)) (fill_erased xs us)
-fill_erased (event.Output number unit ∷ xs) us = ap (λ (p : List Event × List media.Unit). (event.Output number unit ∷ p.0, p.1)) (fill_erased xs us)
-fill_erased (event.Resolve promise ∷ xs) us = ap (λ (p : List Event × List media.Unit). (event.Resolve promise ∷ p.0, p.1)) (fill_erased xs us)
-fill_erased (event.Reject promise x ∷ xs) us = ap (λ (p : List Event × List media.Unit). (event.Reject promise x ∷ p.0, p.1)) (fill_erased xs us)
-fill_erased (event.Dequeue ∷ xs) us = ap (λ (p : List Event × List media.Unit). (event.Dequeue ∷ p.0, p.1)) (fill_erased xs us)
-fill_erased (event.ErrorCall x ∷ xs) us = ap (λ (p : List Event × List media.Unit). (event.ErrorCall x ∷ p.0, p.1)) (fill_erased xs us)
+fill_erased : (k : Kind) → (xs : List Event) (us : List media.Unit) → filled k (map erased_event xs) (units_in xs ++ us) ≡ (xs, us)
+fill_erased k [] us = refl
+fill_erased k (event.Refusal x ∷ xs) us = ap (λ (p : List Event × List media.Unit). (event.Refusal x ∷ p.0, p.1)) (fill_erased k xs us)
+fill_erased k (event.Output number unit ∷ xs) us = ap (λ (p : List Event × List media.Unit). (event.Output number unit ∷ p.0, p.1)) (fill_erased k xs us)
+fill_erased k (event.Resolve promise ∷ xs) us = ap (λ (p : List Event × List media.Unit). (event.Resolve promise ∷ p.0, p.1)) (fill_erased k xs us)
+fill_erased k (event.Reject promise x ∷ xs) us = ap (λ (p : List Event × List media.Unit). (event.Reject promise x ∷ p.0, p.1)) (fill_erased k xs us)
+fill_erased k (event.Dequeue ∷ xs) us = ap (λ (p : List Event × List media.Unit). (event.Dequeue ∷ p.0, p.1)) (fill_erased k xs us)
+fill_erased k (event.ErrorCall x ∷ xs) us = ap (λ (p : List Event × List media.Unit). (event.ErrorCall x ∷ p.0, p.1)) (fill_erased k xs us)
 
 outputs_tagged : (place : ℕ) (xs : List Event) (ys : List (ℕ × Event)) → outputs_of (map (λ x. (place, x)) xs ++ ys) ≡ units_in xs ++ outputs_of ys
 outputs_tagged place [] ys = refl
 outputs_tagged place (x ∷ xs) ys = ap (λ (us : List media.Unit). event_units x ++ us) (outputs_tagged place xs ys) ∙ sym (append_assoc (event_units x) (units_in xs) (outputs_of ys))
 
 -- what an entry shows, from blanks and what it shows
-filled_shown : (e : Entry) (s : State) (us : List media.Unit) → filled (shows e (erased_state s)) (units_in (shows e s) ++ us) ≡ (shows e s, us)
-filled_shown e s us = rw (shows_erased e s) (fill_erased (shows e s) us)
+filled_shown : (k : Kind) → (e : Entry) (s : State) (us : List media.Unit) → filled k (shows e (erased_state s)) (units_in (shows e s) ++ us) ≡ (shows e s, us)
+filled_shown k e s us = rw (shows_erased e s) (fill_erased k (shows e s) us)
 
-at_shown : (e : Entry) (s : State) (us : List media.Unit) → filled_at e (erased_state s) (units_in (shows e s) ++ us) ≡ shown_at e s
-at_shown e s us = rw (word_erased e s, filled_shown e s us) refl
+at_shown : (k : Kind) → (e : Entry) (s : State) (us : List media.Unit) → filled_at k e (erased_state s) (units_in (shows e s) ++ us) ≡ shown_at e s
+at_shown k e s us = rw (word_erased e s, filled_shown k e s us) refl
 
 -- a legal history follows
 follows_rest : (es : List Entry) (e : Entry) (s : State) (o : Option State) → step e s ≡ o → Sound s → is_some (option_and_then (replay_from es) o) ≡ true → ((t : State) → Sound t → is_some (replay_from es t) ≡ true → is_some (follow_from es (erased_state t)) ≡ true) → is_some (option_and_then (follow_from es) (follow_step e (erased_state s))) ≡ true
@@ -132,49 +133,49 @@ pub legal_follows : LegalFollows
 legal_follows o h legal = follows_all h (opening_state o) (opened o) legal
 
 -- and shows the same, with its own outputs
-fills_rest : (es : List Entry) (e : Entry) (s : State) (o : Option State) → step e s ≡ o → Sound s → is_some (option_and_then (replay_from es) o) ≡ true → ((t : State) → Sound t → is_some (replay_from es t) ≡ true → each_shown_from es t ≡ each_filled_from es (erased_state t) (outputs_of (shown_from es t))) → shown_at e s ∷ unwrap_or (option_map (each_shown_from es) o) [] ≡ each_filled_from (e ∷ es) (erased_state s) (outputs_of (map (λ x. (s.control.place, x)) (shows e s) ++ unwrap_or (option_map (shown_from es) o) []))
-fills_rest es e s None is fine legal ih = absurd cc
-fills_rest es e s (Some t) is fine legal ih =
-    rw (outputs_tagged s.control.place (shows e s) (shown_from es t), step_erased e s t fine is, at_shown e s (outputs_of (shown_from es t)), filled_shown e s (outputs_of (shown_from es t)))
+fills_rest : (k : Kind) → (es : List Entry) (e : Entry) (s : State) (o : Option State) → step e s ≡ o → Sound s → is_some (option_and_then (replay_from es) o) ≡ true → ((t : State) → Sound t → is_some (replay_from es t) ≡ true → each_shown_from es t ≡ each_filled_from k es (erased_state t) (outputs_of (shown_from es t))) → shown_at e s ∷ unwrap_or (option_map (each_shown_from es) o) [] ≡ each_filled_from k (e ∷ es) (erased_state s) (outputs_of (map (λ x. (s.control.place, x)) (shows e s) ++ unwrap_or (option_map (shown_from es) o) []))
+fills_rest k es e s None is fine legal ih = absurd cc
+fills_rest k es e s (Some t) is fine legal ih =
+    rw (outputs_tagged s.control.place (shows e s) (shown_from es t), step_erased e s t fine is, at_shown k e s (outputs_of (shown_from es t)), filled_shown k e s (outputs_of (shown_from es t)))
     (ap (λ (xs : List Shown). shown_at e s ∷ xs) (ih t (step_sound e s t is fine) legal))
 
-fills_all : (h : List Entry) (s : State) → Sound s → is_some (replay_from h s) ≡ true → each_shown_from h s ≡ each_filled_from h (erased_state s) (outputs_of (shown_from h s))
-fills_all [] s fine legal = refl
-fills_all (e ∷ es) s fine legal = fills_rest es e s (step e s) refl fine legal (fills_all es)
+fills_all : (k : Kind) → (h : List Entry) (s : State) → Sound s → is_some (replay_from h s) ≡ true → each_shown_from h s ≡ each_filled_from k h (erased_state s) (outputs_of (shown_from h s))
+fills_all k [] s fine legal = refl
+fills_all k (e ∷ es) s fine legal = fills_rest k es e s (step e s) refl fine legal (fills_all k es)
 
 pub legal_fills : LegalFills
-legal_fills o h legal = fills_all h (opening_state o) (opened o) legal
+legal_fills o h legal = fills_all o.kind h (opening_state o) (opened o) legal
 
 -- the units come in order
-fill_order : (xs : List Event) (us : List media.Unit) → length (units_in (filled xs us).0) ≤ length us → us ≡ units_in (filled xs us).0 ++ (filled xs us).1
-fill_order [] us few = refl
-fill_order (event.Refusal x ∷ xs) us few = fill_order xs us few
-fill_order (event.Output number unit ∷ xs) [] few = absurd (omega (arith, few))
-fill_order (event.Output number unit ∷ xs) (u ∷ us) few = ap (λ (l : List media.Unit). u ∷ l) (fill_order xs us (omega (arith, few)))
-fill_order (event.Resolve promise ∷ xs) us few = fill_order xs us few
-fill_order (event.Reject promise x ∷ xs) us few = fill_order xs us few
-fill_order (event.Dequeue ∷ xs) us few = fill_order xs us few
-fill_order (event.ErrorCall x ∷ xs) us few = fill_order xs us few
+fill_order : (k : Kind) → (xs : List Event) (us : List media.Unit) → length (units_in (filled k xs us).0) ≤ length us → us ≡ units_in (filled k xs us).0 ++ (filled k xs us).1
+fill_order k [] us few = refl
+fill_order k (event.Refusal x ∷ xs) us few = fill_order k xs us few
+fill_order k (event.Output number unit ∷ xs) [] few = absurd (omega (arith, few))
+fill_order k (event.Output number unit ∷ xs) (u ∷ us) few = ap (λ (l : List media.Unit). u ∷ l) (fill_order k xs us (omega (arith, few)))
+fill_order k (event.Resolve promise ∷ xs) us few = fill_order k xs us few
+fill_order k (event.Reject promise x ∷ xs) us few = fill_order k xs us few
+fill_order k (event.Dequeue ∷ xs) us few = fill_order k xs us few
+fill_order k (event.ErrorCall x ∷ xs) us few = fill_order k xs us few
 
 abbrev Begins : List media.Unit → List media.Unit → Type 0
 Begins us front = (rest : List media.Unit) × (us ≡ front ++ rest)
 
-order_rest : (es : List Entry) (e : Entry) (s : State) (us : List media.Unit) (o : Option State) → ((t : State) (vs : List media.Unit) → length (units_shown (each_filled_from es t vs)) ≤ length vs → Begins vs (units_shown (each_filled_from es t vs))) → length (units_shown (unwrap_or (option_map (λ t. filled_at e s us ∷ each_filled_from es t (filled (shows e s) us).1) o) [])) ≤ length us → Begins us (units_shown (unwrap_or (option_map (λ t. filled_at e s us ∷ each_filled_from es t (filled (shows e s) us).1) o) []))
-order_rest es e s us None ih few = (us, refl)
-order_rest es e s us (Some t) ih few =
-    let front = units_in (filled (shows e s) us).0 in
-    let more = units_shown (each_filled_from es t (filled (shows e s) us).1) in
-    let here = fill_order (shows e s) us (omega (arith, few, length-append front more)) in
-    let long : length us ≡ length front + length (filled (shows e s) us).1 = ap (λ (l : List media.Unit). length l) here ∙ length-append front (filled (shows e s) us).1 in
-    let later = ih t (filled (shows e s) us).1 (omega (arith, few, length-append front more, long)) in
+order_rest : (k : Kind) → (es : List Entry) (e : Entry) (s : State) (us : List media.Unit) (o : Option State) → ((t : State) (vs : List media.Unit) → length (units_shown (each_filled_from k es t vs)) ≤ length vs → Begins vs (units_shown (each_filled_from k es t vs))) → length (units_shown (unwrap_or (option_map (λ t. filled_at k e s us ∷ each_filled_from k es t (filled k (shows e s) us).1) o) [])) ≤ length us → Begins us (units_shown (unwrap_or (option_map (λ t. filled_at k e s us ∷ each_filled_from k es t (filled k (shows e s) us).1) o) []))
+order_rest k es e s us None ih few = (us, refl)
+order_rest k es e s us (Some t) ih few =
+    let front = units_in (filled k (shows e s) us).0 in
+    let more = units_shown (each_filled_from k es t (filled k (shows e s) us).1) in
+    let here = fill_order k (shows e s) us (omega (arith, few, length-append front more)) in
+    let long : length us ≡ length front + length (filled k (shows e s) us).1 = ap (λ (l : List media.Unit). length l) here ∙ length-append front (filled k (shows e s) us).1 in
+    let later = ih t (filled k (shows e s) us).1 (omega (arith, few, length-append front more, long)) in
     (later.0, here ∙ (ap (λ (l : List media.Unit). front ++ l) later.1 ∙ sym (append_assoc front more later.0)))
 
-order_all : (h : List Entry) (s : State) (us : List media.Unit) → length (units_shown (each_filled_from h s us)) ≤ length us → Begins us (units_shown (each_filled_from h s us))
-order_all [] s us few = (us, refl)
-order_all (e ∷ es) s us few = order_rest es e s us (follow_step e s) (order_all es) few
+order_all : (k : Kind) → (h : List Entry) (s : State) (us : List media.Unit) → length (units_shown (each_filled_from k h s us)) ≤ length us → Begins us (units_shown (each_filled_from k h s us))
+order_all k [] s us few = (us, refl)
+order_all k (e ∷ es) s us few = order_rest k es e s us (follow_step e s) (order_all k es) few
 
 pub units_in_order : UnitsInOrder
 units_in_order o h us few =
-    let front = units_shown (each_filled_from h (opening_state o) us) in
-    let begins = order_all h (opening_state o) us few in
+    let front = units_shown (each_filled_from o.kind h (opening_state o) us) in
+    let begins = order_all o.kind h (opening_state o) us few in
     sym (ap (λ (l : List media.Unit). take (length front) l) begins.1 ∙ take-append_seam front begins.0)

@@ -7,6 +7,7 @@ use Rattle.coder_api.specs.declared.coder.Command.TheVariants as command
 use Rattle.coder_api.specs.Commands.{answer_after}
 use Rattle.coder_api.specs.declared.unit.Unit as media
 use Rattle.coder_api.specs.declared.unit.Unit.TheVariants as unit
+use Rattle.codec_model.specs.declared.entry.Kind.{Kind}
 use Rattle.codec_model.specs.declared.entry.Opening.{Opening}
 use Rattle.codec_model.specs.declared.entry.WorkKind.{WorkKind}
 use Rattle.codec_model.specs.declared.entry.WorkKind.TheVariants as kind
@@ -21,6 +22,7 @@ use Rattle.codec_model.specs.declared.entry.Event.{Event}
 use Rattle.codec_model.specs.declared.entry.Event.TheVariants as event
 use Rattle.codec_model.specs.declared.entry.Shown.{Shown}
 use Rattle.codec_follow.specs.declared.known.Known.{Known}
+use Rattle.codec_follow.specs.Outputs.{empty_output}
 use Rattle.codec_model.specs.Replay.{State, Given, opening_state, done_ended, step}
 use Rattle.codec_model.specs.Shown.{shows, word_at, units_in}
 
@@ -88,32 +90,32 @@ follows o h = follow_from h (opening_state o)
 abbrev pub IsFollowed : Opening → List Entry → Type 0
 IsFollowed o h = is_some (follows o h) ≡ true
 
--- an output with the next unit for its content, or blank where there is none
-abbrev pub with_unit : Event → List media.Unit → Event
-with_unit (event.Output number unit) [] = event.Output number blank
-with_unit (event.Output number unit) (u ∷ us) = event.Output number u
-with_unit x us = x
+-- an output with the next unit for its content, or with nothing in it where there is none
+abbrev pub with_unit : Kind → Event → List media.Unit → Event
+with_unit k (event.Output number unit) [] = event.Output number (empty_output k)
+with_unit k (event.Output number unit) (u ∷ us) = event.Output number u
+with_unit k x us = x
 
 abbrev pub units_after : Event → List media.Unit → List media.Unit
 units_after (event.Output number unit) (u ∷ us) = us
 units_after x us = us
 
--- events with these units for their outputs, in order, and the units that are left
-abbrev pub filled : List Event → List media.Unit → List Event × List media.Unit
-filled [] us = ([], us)
-filled (x ∷ xs) us = let rest = filled xs (units_after x us) in (with_unit x us ∷ rest.0, rest.1)
+-- a codec's events with these units for their outputs, in order, and the units that are left
+abbrev pub filled : Kind → List Event → List media.Unit → List Event × List media.Unit
+filled k [] us = ([], us)
+filled k (x ∷ xs) us = let rest = filled k xs (units_after x us) in (with_unit k x us ∷ rest.0, rest.1)
 
 -- an entry's turn, if it is one, and what it shows with these units
-abbrev pub filled_at : Entry → State → List media.Unit → Shown
-filled_at e s us = record { turn = word_at e s; events = (filled (shows e s) us).0 }
+abbrev pub filled_at : Kind → Entry → State → List media.Unit → Shown
+filled_at k e s us = record { turn = word_at e s; events = (filled k (shows e s) us).0 }
 
 -- what each entry shows after a state, with these units for the outputs, up to an entry that does not follow
-abbrev pub each_filled_from : List Entry → State → List media.Unit → List Shown
-each_filled_from [] s us = []
-each_filled_from (e ∷ es) s us = unwrap_or (option_map (λ t. filled_at e s us ∷ each_filled_from es t (filled (shows e s) us).1) (follow_step e s)) []
+abbrev pub each_filled_from : Kind → List Entry → State → List media.Unit → List Shown
+each_filled_from k [] s us = []
+each_filled_from k (e ∷ es) s us = unwrap_or (option_map (λ t. filled_at k e s us ∷ each_filled_from k es t (filled k (shows e s) us).1) (follow_step e s)) []
 
 abbrev pub each_filled : Opening → List Entry → List media.Unit → List Shown
-each_filled o h us = each_filled_from h (opening_state o) us
+each_filled o h us = each_filled_from o.kind h (opening_state o) us
 
 -- the outputs of what entries show, in order
 abbrev pub units_shown : List Shown → List media.Unit

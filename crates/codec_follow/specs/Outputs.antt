@@ -1,6 +1,8 @@
 -- The outputs that a codec may show, by its kind (W3C WebCodecs, the output callbacks of AudioDecoder, AudioEncoder and
 -- VideoDecoder).
-use Rattle.std.specs.Prelude.{ℕ, ◌≡◌, ◌<◌, ◌||◌, Bool, true, List, [], ◌∷◌, Option, Some, None, is_some}
+use Rattle.std.specs.Prelude.{ℕ, ◌≡◌, ◌<◌, ◌||◌, Bool, true, false, pos, List, [], ◌∷◌, Option, Some, None, is_some}
+use Rattle.wc_base.specs.declared.media.SampleFormat.TheVariants as sample
+use Rattle.wc_base.specs.declared.media.PictureFormat.TheVariants as picture
 use Rattle.wc_config.specs.declared.config.AudioDecoderConfig.{AudioDecoderConfig}
 use Rattle.wc_config.specs.declared.config.Config.{Config}
 use Rattle.wc_config.specs.declared.config.Config.TheVariants as config
@@ -46,3 +48,9 @@ IsConfigOf k c = ⊥
 abbrev pub ConfiguresAs : Kind → Entry → Type 0
 ConfiguresAs k (entry.Configure who config) = IsConfigOf k config
 ConfiguresAs k e = Unit {0}
+
+-- an output of this kind with nothing in it
+abbrev pub empty_output : Kind → media.Unit
+empty_output kind.AudioDecoder = unit.Sound (record { shape = record { format = sample.U8; rate = 1; channels = 1; frames = 0; timestamp = pos 0 }; bytes = [] })
+empty_output kind.AudioEncoder = unit.Coded (record { key = false; timestamp = pos 0; duration = None; bytes = [] }) None
+empty_output kind.VideoDecoder = unit.Image (record { shape = record { format = picture.I420; width = 0; height = 0; timestamp = pos 0; duration = None }; bytes = [] })

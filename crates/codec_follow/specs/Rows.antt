@@ -9,7 +9,9 @@ use Rattle.codec_model.specs.declared.entry.Event.TheVariants.{Output, Dequeue}
 use Rattle.codec_model.specs.Shown.{each_shown}
 use Rattle.codec_model.specs.Rows.{four, step_of, pcm, chunk, unit, ordinary, quiet_after}
 use Rattle.codec_model.specs.Replay.{IsLegal}
+use Rattle.codec_model.specs.declared.entry.Kind.TheVariants as kind
 use Rattle.codec_follow.specs.Follow.{blank, follows, IsFollowed, each_filled}
+use Rattle.codec_follow.specs.Outputs.{empty_output}
 
 -- the ordinary run follows, and its output is blank
 abbrev pub OrdinaryFollows : Type 0
@@ -26,11 +28,11 @@ decoding units =
     ∷ entry.Start 0 0 ∷ entry.Done 0 0 1 (outcome.Ran 0) ∷ entry.Turn ∷ entry.Turn
     ∷ entry.Start 0 1 ∷ entry.Done 0 1 2 (outcome.Ran units) ∷ entry.Turn ∷ entry.Turn ∷ []
 
--- three units are told; two of them are given
+-- three units are told, two of them are given, and the third is shown with nothing in it
 abbrev pub ThreeShown : Type 0
 ThreeShown =
     map (λ x. x.events) (each_filled four (decoding 3) (unit ∷ unit ∷ []))
-    ≡ [] ∷ [] ∷ [] ∷ [] ∷ [] ∷ [] ∷ [] ∷ [] ∷ (Dequeue ∷ []) ∷ (Output 0 unit ∷ Output 1 unit ∷ Output 2 blank ∷ []) ∷ []
+    ≡ [] ∷ [] ∷ [] ∷ [] ∷ [] ∷ [] ∷ [] ∷ [] ∷ (Dequeue ∷ []) ∷ (Output 0 unit ∷ Output 1 unit ∷ Output 2 (empty_output kind.AudioDecoder) ∷ []) ∷ []
 
 -- a configure item gives no unit
 abbrev pub ConfigureGivesNone : Type 0

@@ -17,8 +17,8 @@ use wc_base::{DomError, List, NoMemory};
 use wc_chunk::Chunk;
 use wc_config::{CodecId, Config};
 
-/// The place of an output whose content is not told.
-pub fn blank() -> Unit
+// The place of an output whose content is not told.
+fn blank() -> Unit
     ensures { result ≡ the_blank }
 {
     Unit::Coded {

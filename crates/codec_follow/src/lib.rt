@@ -8,14 +8,15 @@ mod events;
 mod follower;
 mod known;
 mod laws;
+mod outputs;
 mod rows;
 #[cfg(test)]
 mod tests;
 
-pub use ends::blank;
 pub use events::{
     append, events_of_call, events_of_reclaim, events_of_removal, events_of_task, note, word_of,
 };
 pub use follower::Follower;
 pub use laws::{legal_histories_follow, outputs_are_of_their_kind};
+pub use outputs::empty_output;
 pub use rows::{decoding_followed, ordinary_followed};

@@ -14,3 +14,4 @@ pub use line::{Line, Seen};
 pub use reading::line_at;
 pub use report_text::{CallWord, Told};
 pub use text::line_text;
+pub use words::codec_id_of;

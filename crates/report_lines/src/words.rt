@@ -123,6 +123,7 @@ pub fn picture_format_of(word: &[u8]) -> Option<PictureFormat>
     }
 }
 
+/// The codec of a codec string.
 pub fn codec_id_of(word: &[u8]) -> Option<CodecId>
     ensures { result ≡ spec.codec_id_of word.now }
 {

@@ -1,5 +1,5 @@
 -- Legal runs that fit their scripts are told.
-use Rattle.std.proofs.Common.{◌≡◌, ℕ, suc, List, [], ◌∷◌, ◌++◌, length, map, Option, Some, None, refl, sym, ap, ◌∙◌, append_assoc}
+use Rattle.std.proofs.Common.{◌≡◌, ℕ, suc, true, List, [], ◌∷◌, ◌++◌, length, map, Option, Some, None, refl, sym, ap, ◌∙◌, append_assoc}
 use Rattle.std.specs.Prelude.{option_map, unwrap_or}
 use Rattle.std.specs.List.{AllByRecursion, zip, slice_get}
 use Rattle.wc_base.specs.declared.who.Who.{Who}
@@ -26,7 +26,9 @@ use Rattle.trace_text.specs.Fits.{who_of, HasArguments, Fits, IsLegalTrace, AreL
 use Rattle.report_text.specs.declared.told.CallWord.TheVariants as call
 use Rattle.report_text.specs.Told.{told_of}
 use Rattle.report_reader.specs.Read.{call_of, entry_of}
-use Rattle.report_reader.specs.Told.{HoldsArguments, IsToldTrace, IsWithoutLoss, IsTold}
+use Rattle.report_reader.specs.Told.{HoldsArguments, IsToldTrace, IsWithinTypes, IsTold}
+use Rattle.report_reader.proofs.KindLaws.{legal_plain}
+use Rattle.script_types.specs.Sound.{is_sound}
 use Rattle.report_lines.specs.Fits.{AreNames}
 use Rattle.trace_text.specs.Report.{report_of}
 use Rattle.report_reader.proofs.FormLaws.{report_tells}
@@ -155,17 +157,17 @@ traces_count [] (t ∷ ts) legal = absurd legal
 traces_count (c ∷ cs) [] legal = absurd legal
 traces_count (c ∷ cs) (t ∷ ts) legal = ap (λ (n : ℕ). suc n) (traces_count cs ts legal.1)
 
-pub legal_told : (script : ScriptData) (files : List (List Chunk)) (made : List CoderId) (run : Run) → IsLegalRun script run → Fits script files made run → IsWithoutLoss script run → IsTold script files run
-legal_told script files made run legal fits whole = record {
+pub legal_told : (script : ScriptData) (files : List (List Chunk)) (made : List CoderId) (run : Run) → is_sound script ≡ true → IsLegalRun script run → Fits script files made run → IsWithinTypes script run → IsTold script files run
+legal_told script files made run sound legal fits within = record {
   told = record {
     callers = legal.callers;
     codecs = traces_count script.codecs run.codecs legal.codecs;
     traces = traces_told script files script.codecs run.codecs legal.codecs (λ k p e is who names. fits.arguments k p e who is names);
   };
-  whole = whole;
+  whole = record { plain = legal_plain script files made run sound legal fits; fits = within };
 }
 
 -- legal runs of one script with the same report
-pub legal_same : (script : ScriptData) (files : List (List Chunk)) (made : List CoderId) (a b : Run) → AreNames script → IsLegalRun script a → Fits script files made a → IsWithoutLoss script a
-    → IsLegalRun script b → Fits script files made b → IsWithoutLoss script b → report_of script a ≡ report_of script b → a ≡ b
-legal_same script files made a b names la fa wa lb fb wb same = report_tells script files a b names (legal_told script files made a la fa wa) (legal_told script files made b lb fb wb) same
+pub legal_same : (script : ScriptData) (files : List (List Chunk)) (made : List CoderId) (a b : Run) → is_sound script ≡ true → AreNames script → IsLegalRun script a → Fits script files made a → IsWithinTypes script a
+    → IsLegalRun script b → Fits script files made b → IsWithinTypes script b → report_of script a ≡ report_of script b → a ≡ b
+legal_same script files made a b sound names la fa wa lb fb wb same = report_tells script files a b names (legal_told script files made a sound la fa wa) (legal_told script files made b sound lb fb wb) same

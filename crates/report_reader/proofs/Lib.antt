@@ -5,9 +5,12 @@ pub mod DifferenceLaws
 pub mod BuildLaws
 pub mod TextLaws
 pub mod TraceLaws
-pub mod ReadLaws
 pub mod NameLaws
 pub mod ToldLaws
+pub mod FitLaws
+pub mod ReadLaws
 pub mod LegalLaws
 pub mod FaultLaws
 pub mod RowLaws
+pub mod CodecLaws
+pub mod KindLaws

@@ -1,9 +1,11 @@
 -- What was read is the report's run, or names its line at fault.
-use Rattle.std.proofs.Common.{◌≡◌, ◌≢◌, ℕ, List, sym, ap, subst, ◌∙◌, inl, inr}
+use Rattle.std.proofs.Common.{◌≡◌, ◌≢◌, ℕ, ◌<◌, ◌^◌, true, List, length, sym, ap, subst, ◌∙◌, inl, inr}
 use Rattle.std.specs.Global.{Vec}
 use Rattle.std.specs.Prelude.{Result, Ok, Err, IfOk, IfErr}
+use Rattle.std.specs.List.{AllByRecursion}
 use Rattle.wc_chunk.specs.declared.chunk.Chunk.{Chunk}
 use Rattle.script_types.specs.declared.script.ScriptData.{ScriptData}
+use Rattle.script_types.specs.Sound.{is_sound}
 use Rattle.trace_text.specs.declared.run.Run.{Run}
 use Rattle.trace_text.specs.Report.{report_of}
 use Rattle.report_lines.specs.declared.line.Line.{Line}
@@ -15,12 +17,13 @@ use Rattle.report_reader.specs.declared.forms.Forms.TheVariants as forms
 use Rattle.report_reader.specs.declared.fault.ReportFault.{ReportFault}
 use Rattle.report_reader.specs.declared.fault.ReportFault.TheVariants as fault
 use Rattle.report_reader.specs.Read.{run_of}
-use Rattle.report_reader.specs.Told.{IsToldRun, IsTold}
+use Rattle.report_reader.specs.Told.{IsTold}
+use Rattle.report_reader.specs.Fits.{FitsTrace}
 use Rattle.report_reader.specs.Fault.{IsForms, IsRead, IsFault, line_of_difference, Gives}
 use Rattle.report_reader.proofs.RunLaws.{run_again}
 use Rattle.report_reader.proofs.FormLaws.{forms_again, never_stuck}
 use Rattle.report_reader.proofs.PassLaws.{run_passes}
-use Rattle.report_reader.proofs.ToldLaws.{run_told}
+use Rattle.report_reader.proofs.FitLaws.{forms_told}
 
 pub read_differs : (script : ScriptData) (media_of : List (List Chunk)) (bs : List ℕ) (f : Forms) (v : Vec Line) (run : Run) (text : List ℕ) (n : ℕ)
     → f ≡ forms.Lines v → IsForms script bs f → run ≡ run_of script media_of v.items → text ≡ report_of script run → text ≢ bs → n ≡ line_of_difference text bs → IsFault script media_of bs (fault.BadLine n)
@@ -48,7 +51,9 @@ read_again script media_of bs (Err (fault.BadLine n)) run names ok (inr d) told 
     let same = forms_again script names bs d.lines (lines_of script run) d.forms (run_passes script media_of run told.told) told.whole.fits (e ∙ report_is script run) in
     d.differs (ap (report_of script) (ap (run_of script media_of) same ∙ run_again script media_of run told.told told.whole.plain) ∙ sym e)
 
--- what was read is told
-pub read_told : (script : ScriptData) (media_of : List (List Chunk)) (bs : List ℕ) (result : Result Run ReportFault) → IfOk result (IsRead script media_of bs) → IfOk result (IsToldRun script media_of)
-read_told script media_of bs (Ok run) read = subst (λ (x : Run). IsToldRun script media_of x) (sym read.shown) (run_told script media_of read.lines)
-read_told script media_of bs (Err fault) read = tt
+-- what the lines show is told
+pub shown_told : (script : ScriptData) (media_of : List (List Chunk)) (bs : List ℕ) (f : Forms) (v : Vec Line) (run : Run) → is_sound script ≡ true
+    → f ≡ forms.Lines v → IsForms script bs f → length v.items < 2 ^ 64 → run ≡ run_of script media_of v.items → AllByRecursion FitsTrace run.codecs → IsTold script media_of run
+shown_told script media_of bs f v run sound f_is told few run_is promises =
+    let own : IsForms script bs (forms.Lines v) = subst (λ (x : Forms). IsForms script bs x) f_is told in
+    forms_told script media_of bs v.items run sound own few run_is promises

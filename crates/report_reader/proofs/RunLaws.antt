@@ -6,6 +6,8 @@ use Rattle.wc_chunk.specs.declared.chunk.Chunk.{Chunk}
 use Rattle.coder_api.specs.declared.unit.Unit as media
 use Rattle.coder_api.specs.declared.unit.Unit.TheVariants as unit
 use Rattle.coder_api.specs.declared.slot.SlotEntry.{SlotEntry}
+use Rattle.codec_model.specs.declared.entry.Kind.{Kind}
+use Rattle.codec_model.specs.declared.entry.Kind.TheVariants as kind
 use Rattle.codec_model.specs.declared.entry.Entry.{Entry}
 use Rattle.codec_model.specs.declared.entry.Event.{Event}
 use Rattle.codec_model.specs.declared.entry.Event.TheVariants as event
@@ -27,7 +29,8 @@ use Rattle.report_text.specs.Told.{told_of}
 use Rattle.report_lines.specs.Laws.{event_seen}
 use Rattle.report_lines.specs.Whole.{lines_from, result_seen, caller_seen, entry_seen, codec_seen, slot_seen, end_seen, lines_of}
 use Rattle.report_reader.specs.Read.{results_in, behind_results, callers_in, entries_from, told_in, behind_entries, description_of, config_in, outputs_in, trace_of, codecs_in, slots_in, held_in, run_of}
-use Rattle.report_reader.specs.Told.{HoldsArguments, IsPlainDescription, IsPlainUnit, IsPlainTrace, IsToldTrace, IsToldRun}
+use Rattle.report_reader.specs.Told.{HoldsArguments, IsPlainTrace, IsToldTrace, IsToldRun}
+use Rattle.codec_follow.specs.Outputs.{IsPlainDescription, IsOutputOf}
 
 -- ---- callers
 
@@ -105,24 +108,34 @@ description_again None plain = refl
 description_again (Some []) plain = absurd plain
 description_again (Some (b ∷ bs)) plain = refl
 
-outputs_events : (es : List Event) (ls : List Line) → config_in ls ≡ None → AllByRecursion IsPlainUnit (units_in es) → outputs_in (flat_map event_seen es ++ ls) ≡ units_in es ++ outputs_in ls
-outputs_events [] ls none plain = refl
-outputs_events (event.Refusal x ∷ es) ls none plain = outputs_events es ls none plain
-outputs_events (event.Output n (unit.Sound samples) ∷ es) ls none plain = ap (λ (us : List media.Unit). unit.Sound samples ∷ us) (outputs_events es ls none plain.1)
-outputs_events (event.Output n (unit.Image picture) ∷ es) ls none plain = ap (λ (us : List media.Unit). unit.Image picture ∷ us) (outputs_events es ls none plain.1)
-outputs_events (event.Output n (unit.Coded chunk None) ∷ es) ls none plain = rw (config_events es ls none) (ap (λ (us : List media.Unit). unit.Coded chunk None ∷ us) (outputs_events es ls none plain.1))
-outputs_events (event.Output n (unit.Coded chunk (Some c)) ∷ es) ls none plain = rw (plain.0.0, description_again c.description plain.0.1) (ap (λ (us : List media.Unit). unit.Coded chunk (Some c) ∷ us) (outputs_events es ls none plain.1))
-outputs_events (event.Resolve p ∷ es) ls none plain = outputs_events es ls none plain
-outputs_events (event.Reject p x ∷ es) ls none plain = outputs_events es ls none plain
-outputs_events (event.Dequeue ∷ es) ls none plain = outputs_events es ls none plain
-outputs_events (event.ErrorCall x ∷ es) ls none plain = outputs_events es ls none plain
+rate_above : (n : ℕ) → 0 < n → nat_lt 0 n ≡ true
+rate_above zero lt = absurd (omega arith)
+rate_above (suc n) lt = refl
+
+outputs_events : (k : Kind) (es : List Event) (ls : List Line) → config_in ls ≡ None → AllByRecursion (IsOutputOf k) (units_in es) → outputs_in k (flat_map event_seen es ++ ls) ≡ units_in es ++ outputs_in k ls
+outputs_events k [] ls none plain = refl
+outputs_events k (event.Refusal x ∷ es) ls none plain = outputs_events k es ls none plain
+outputs_events kind.AudioDecoder (event.Output n (unit.Sound samples) ∷ es) ls none plain = rw (rate_above samples.shape.rate plain.0) (ap (λ (us : List media.Unit). unit.Sound samples ∷ us) (outputs_events kind.AudioDecoder es ls none plain.1))
+outputs_events kind.AudioDecoder (event.Output n (unit.Image picture) ∷ es) ls none plain = absurd plain.0
+outputs_events kind.AudioDecoder (event.Output n (unit.Coded chunk config) ∷ es) ls none plain = absurd plain.0
+outputs_events kind.VideoDecoder (event.Output n (unit.Image picture) ∷ es) ls none plain = ap (λ (us : List media.Unit). unit.Image picture ∷ us) (outputs_events kind.VideoDecoder es ls none plain.1)
+outputs_events kind.VideoDecoder (event.Output n (unit.Sound samples) ∷ es) ls none plain = absurd plain.0
+outputs_events kind.VideoDecoder (event.Output n (unit.Coded chunk config) ∷ es) ls none plain = absurd plain.0
+outputs_events kind.AudioEncoder (event.Output n (unit.Coded chunk None) ∷ es) ls none plain = rw (config_events es ls none) (ap (λ (us : List media.Unit). unit.Coded chunk None ∷ us) (outputs_events kind.AudioEncoder es ls none plain.1))
+outputs_events kind.AudioEncoder (event.Output n (unit.Coded chunk (Some c)) ∷ es) ls none plain = rw (plain.0.0, description_again c.description plain.0.1) (ap (λ (us : List media.Unit). unit.Coded chunk (Some c) ∷ us) (outputs_events kind.AudioEncoder es ls none plain.1))
+outputs_events kind.AudioEncoder (event.Output n (unit.Sound samples) ∷ es) ls none plain = absurd plain.0
+outputs_events kind.AudioEncoder (event.Output n (unit.Image picture) ∷ es) ls none plain = absurd plain.0
+outputs_events k (event.Resolve p ∷ es) ls none plain = outputs_events k es ls none plain
+outputs_events k (event.Reject p x ∷ es) ls none plain = outputs_events k es ls none plain
+outputs_events k (event.Dequeue ∷ es) ls none plain = outputs_events k es ls none plain
+outputs_events k (event.ErrorCall x ∷ es) ls none plain = outputs_events k es ls none plain
 
 -- ---- entries
 
 -- no entry, and nothing that one showed, stands in front
 pub record EndsEntries (ls : List Line) : Type 0 where
   pub told : told_in ls ≡ []
-  pub outputs : outputs_in ls ≡ []
+  pub outputs : (k : Kind) → outputs_in k ls ≡ []
   pub behind : behind_entries ls ≡ ls
   pub config : config_in ls ≡ None
 
@@ -156,15 +169,15 @@ all_right P (x ∷ xs) ys all = all_right P xs ys all.1
 abbrev shown_of_made : Entry × Shown → Shown
 shown_of_made made = made.1
 
-outputs_again : (n : ℕ) (made : List (Entry × Shown)) (rest : List Line) → EndsEntries rest → AllByRecursion IsPlainUnit (units_shown (map shown_of_made made))
-    → outputs_in (lines_from entry_seen n made ++ rest) ≡ units_shown (map shown_of_made made)
-outputs_again n [] rest ends plain = ends.outputs
-outputs_again n (m ∷ made) rest ends plain =
+outputs_again : (k : Kind) (n : ℕ) (made : List (Entry × Shown)) (rest : List Line) → EndsEntries rest → AllByRecursion (IsOutputOf k) (units_shown (map shown_of_made made))
+    → outputs_in k (lines_from entry_seen n made ++ rest) ≡ units_shown (map shown_of_made made)
+outputs_again k n [] rest ends plain = ends.outputs k
+outputs_again k n (m ∷ made) rest ends plain =
     let tail = lines_from entry_seen (n + 1) made in
     rw (
       append_assoc (flat_map event_seen m.1.events) tail rest,
-      outputs_events m.1.events (tail ++ rest) (config_entries (n + 1) made rest ends) (all_left IsPlainUnit (units_in m.1.events) (units_shown (map shown_of_made made)) plain),
-      outputs_again (n + 1) made rest ends (all_right IsPlainUnit (units_in m.1.events) (units_shown (map shown_of_made made)) plain),
+      outputs_events k m.1.events (tail ++ rest) (config_entries (n + 1) made rest ends) (all_left (IsOutputOf k) (units_in m.1.events) (units_shown (map shown_of_made made)) plain),
+      outputs_again k (n + 1) made rest ends (all_right (IsOutputOf k) (units_in m.1.events) (units_shown (map shown_of_made made)) plain),
     ) refl
 
 pub shown_again : (es : List Entry) (xs : List Shown) → length xs ≡ length es → map shown_of_made (zip es xs) ≡ xs
@@ -187,11 +200,11 @@ step_in e es s (Some t) is some = record { state = t; step = is; more = some }
 pub step_of_followed : (e : Entry) (es : List Entry) (s : State) → is_some (follow_from (e ∷ es) s) ≡ true → IsStep e es s
 step_of_followed e es s some = step_in e es s (follow_step e s) refl some
 
-pub filled_length : (es : List Entry) (s : State) (us : List media.Unit) → is_some (follow_from es s) ≡ true → length (each_filled_from es s us) ≡ length es
-filled_length [] s us some = refl
-filled_length (e ∷ es) s us some =
+pub filled_length : (k : Kind) → (es : List Entry) (s : State) (us : List media.Unit) → is_some (follow_from es s) ≡ true → length (each_filled_from k es s us) ≡ length es
+filled_length k [] s us some = refl
+filled_length k (e ∷ es) s us some =
     let next = step_of_followed e es s some in
-    rw (next.step) (ap (λ (n : ℕ). suc n) (filled_length es next.state (filled (shows e s) us).1 next.more))
+    rw (next.step) (ap (λ (n : ℕ). suc n) (filled_length k es next.state (filled k (shows e s) us).1 next.more))
 
 entries_again : (script : ScriptData) (media_of : List (List Chunk)) (s : State) (es : List Entry) (xs : List Shown) → length xs ≡ length es → AllByRecursion (HoldsArguments script media_of) (zip es xs) → is_some (follow_from es s) ≡ true
     → entries_from script media_of s (map told_of_made (zip es xs)) ≡ es
@@ -207,12 +220,12 @@ entries_again script media_of s (e ∷ es) (x ∷ xs) same holds some =
 trace_again : (script : ScriptData) (media_of : List (List Chunk)) (c : CodecTrace) → IsToldTrace script media_of c
     → trace_of script media_of c.opening (map told_of_made (zip c.entries c.shown)) (units_shown (map shown_of_made (zip c.entries c.shown))) ≡ c
 trace_again script media_of c told =
-    let same : length c.shown ≡ length c.entries = ap (λ (xs : List Shown). length xs) told.shows ∙ filled_length c.entries (opening_state c.opening) (units_shown c.shown) told.follows in
+    let same : length c.shown ≡ length c.entries = ap (λ (xs : List Shown). length xs) told.shows ∙ filled_length c.opening.kind c.entries (opening_state c.opening) (units_shown c.shown) told.follows in
     rw (shown_again c.entries c.shown same, entries_again script media_of (opening_state c.opening) c.entries c.shown same told.arguments told.follows, ← told.shows) refl
 
 codecs_end : (i : ℕ) (made : List (CodecItem × CodecTrace)) (rest : List Line) → EndsEntries rest → EndsEntries (lines_from codec_seen i made ++ rest)
 codecs_end i [] rest ends = ends
-codecs_end i (m ∷ made) rest ends = record { told = refl; outputs = refl; behind = refl; config = refl }
+codecs_end i (m ∷ made) rest ends = record { told = refl; outputs = λ k. refl; behind = refl; config = refl }
 
 codecs_again : (script : ScriptData) (media_of : List (List Chunk)) (i : ℕ) (items : List CodecItem) (cs : List CodecTrace) (rest : List Line) → length cs ≡ length items → EndsEntries rest → AllByRecursion (IsToldTrace script media_of) cs → AllByRecursion IsPlainTrace cs
     → codecs_in script media_of (length items) (lines_from codec_seen i (zip items cs) ++ rest) ≡ (cs, rest)
@@ -224,13 +237,13 @@ codecs_again script media_of i (x ∷ items) (c ∷ cs) rest same ends told plai
     let ends_more : EndsEntries (tail ++ rest) = codecs_end (i + 1) (zip items cs) rest ends in
     let made = zip c.entries c.shown in
     let own = told.0 in
-    let count : length c.shown ≡ length c.entries = ap (λ (xs : List Shown). length xs) own.shows ∙ filled_length c.entries (opening_state c.opening) (units_shown c.shown) own.follows in
-    let clear : AllByRecursion IsPlainUnit (units_shown (map shown_of_made made)) = subst (λ (xs : List Shown). AllByRecursion IsPlainUnit (units_shown xs)) (sym (shown_again c.entries c.shown count)) plain.0 in
+    let count : length c.shown ≡ length c.entries = ap (λ (xs : List Shown). length xs) own.shows ∙ filled_length c.opening.kind c.entries (opening_state c.opening) (units_shown c.shown) own.follows in
+    let clear : AllByRecursion (IsOutputOf c.opening.kind) (units_shown (map shown_of_made made)) = subst (λ (xs : List Shown). AllByRecursion (IsOutputOf c.opening.kind) (units_shown xs)) (sym (shown_again c.entries c.shown count)) plain.0 in
     rw (
       append_assoc (lines_from entry_seen 0 made) tail rest,
       behind_entries_again 0 made (tail ++ rest) ends_more,
       told_again 0 made (tail ++ rest) ends_more,
-      outputs_again 0 made (tail ++ rest) ends_more clear,
+      outputs_again c.opening.kind 0 made (tail ++ rest) ends_more clear,
       trace_again script media_of c own,
       codecs_again script media_of (i + 1) items cs rest (omega arith) ends told.1 plain.1,
     ) refl
@@ -257,7 +270,7 @@ run_again script media_of run told plain =
     let codecs = lines_from codec_seen 0 (zip script.codecs run.codecs) in
     rw (
       callers_again 0 script.callers run.callers (codecs ++ line.Pool ∷ line.Slots ∷ end) told.callers (codecs_end_results 0 (zip script.codecs run.codecs) (line.Slots ∷ end)),
-      codecs_again script media_of 0 script.codecs run.codecs (line.Pool ∷ line.Slots ∷ end) told.codecs (record { told = refl; outputs = refl; behind = refl; config = refl }) told.traces plain,
+      codecs_again script media_of 0 script.codecs run.codecs (line.Pool ∷ line.Slots ∷ end) told.codecs (record { told = refl; outputs = λ k. refl; behind = refl; config = refl }) told.traces plain,
       slots_again 0 run.slots run.held,
       held_again 0 run.slots run.held,
     ) refl

@@ -6,6 +6,7 @@ use Rattle.wc_base.specs.declared.who.Who.{Who}
 use Rattle.wc_chunk.specs.declared.chunk.Chunk.{Chunk}
 use Rattle.coder_api.specs.declared.unit.Unit as media
 use Rattle.codec_model.specs.declared.entry.Opening.{Opening}
+use Rattle.codec_model.specs.declared.entry.Kind.{Kind}
 use Rattle.codec_model.specs.declared.entry.Entry.{Entry}
 use Rattle.codec_model.specs.declared.entry.Entry.TheVariants as entry
 use Rattle.codec_model.specs.declared.entry.Event.{Event}
@@ -33,7 +34,7 @@ use Rattle.report_reader.proofs.TraceLaws.{next_entry_is, next_step_is}
 abbrev some : {A : Type 0} → A → Option A
 some x = Some x
 
-entry_is : (d e : Entry) → some d ≡ some e → d ≡ e
+pub entry_is : (d e : Entry) → some d ≡ some e → d ≡ e
 entry_is d e h = cc
 
 -- ---- an entry's line tells the entry
@@ -94,7 +95,7 @@ word_told files steps who call.Close (step.Close on) e x h = sym (ap (λ (z : En
 word_told files steps who call.Close (step.State on) e x h = absurd cc
 word_told files steps who call.Close (step.Media m) e x h = absurd cc
 
-step_told : (files : List (List Chunk)) (steps : List Step) (who : Who) (word : CallWord) (o : Option Step) (e : Entry) (x : Shown) → option_and_then (call_of files steps who word) o ≡ Some e → told_of e x ≡ told.Call who word (refusal_in x.events)
+pub step_told : (files : List (List Chunk)) (steps : List Step) (who : Who) (word : CallWord) (o : Option Step) (e : Entry) (x : Shown) → option_and_then (call_of files steps who word) o ≡ Some e → told_of e x ≡ told.Call who word (refusal_in x.events)
 step_told files steps who word None e x h = absurd cc
 step_told files steps who word (Some s) e x h = word_told files steps who word s e x h
 
@@ -109,18 +110,18 @@ told_holds script files (told.Reclaim moment) e x h = subst (λ (z : Entry). ent
 
 -- ---- the entries of a history
 
-abbrev HoldAll : ScriptData → List (List Chunk) → List Entry → State → List media.Unit → Type 0
-HoldAll script files es s us = AllByRecursion (HoldsArguments script files) (zip es (each_filled_from es s us))
+abbrev HoldAll : Kind → ScriptData → List (List Chunk) → List Entry → State → List media.Unit → Type 0
+HoldAll k script files es s us = AllByRecursion (HoldsArguments script files) (zip es (each_filled_from k es s us))
 
-hold_then : (script : ScriptData) (files : List (List Chunk)) (t : Told) (ts : List Told) (s : State) (us : List media.Unit) → ((u : State) (vs : List media.Unit) → HoldAll script files (entries_from script files u ts) u vs)
-    → (o : Option (Entry × State)) → next_of script files s t ≡ o → HoldAll script files (entry_then (λ u. entries_from script files u ts) o) s us
-hold_then script files t ts s us later None is = tt
-hold_then script files t ts s us later (Some (e, u)) is =
-    rw (next_step_is script files t s e u is) (told_holds script files t e (filled_at e s us) (next_entry_is script files t s e u is), later u (filled (shows e s) us).1)
+hold_then : (k : Kind) → (script : ScriptData) (files : List (List Chunk)) (t : Told) (ts : List Told) (s : State) (us : List media.Unit) → ((u : State) (vs : List media.Unit) → HoldAll k script files (entries_from script files u ts) u vs)
+    → (o : Option (Entry × State)) → next_of script files s t ≡ o → HoldAll k script files (entry_then (λ u. entries_from script files u ts) o) s us
+hold_then k script files t ts s us later None is = tt
+hold_then k script files t ts s us later (Some (e, u)) is =
+    rw (next_step_is script files t s e u is) (told_holds script files t e (filled_at k e s us) (next_entry_is script files t s e u is), later u (filled k (shows e s) us).1)
 
-all_hold : (script : ScriptData) (files : List (List Chunk)) (ts : List Told) (s : State) (us : List media.Unit) → HoldAll script files (entries_from script files s ts) s us
-all_hold script files [] s us = tt
-all_hold script files (t ∷ ts) s us = hold_then script files t ts s us (λ u vs. all_hold script files ts u vs) (next_of script files s t) refl
+all_hold : (k : Kind) → (script : ScriptData) (files : List (List Chunk)) (ts : List Told) (s : State) (us : List media.Unit) → HoldAll k script files (entries_from script files s ts) s us
+all_hold k script files [] s us = tt
+all_hold k script files (t ∷ ts) s us = hold_then k script files t ts s us (λ u vs. all_hold k script files ts u vs) (next_of script files s t) refl
 
 follow_then : (script : ScriptData) (files : List (List Chunk)) (t : Told) (ts : List Told) (s : State) → ((u : State) → is_some (follow_from (entries_from script files u ts) u) ≡ true)
     → (o : Option (Entry × State)) → next_of script files s t ≡ o → is_some (follow_from (entry_then (λ u. entries_from script files u ts) o) s) ≡ true
@@ -133,29 +134,29 @@ all_follow script files (t ∷ ts) s = follow_then script files t ts s (λ u. al
 
 -- ---- shown with its own outputs
 
-filled_again : (xs : List Event) (us rest : List media.Unit) → filled xs (units_in (filled xs us).0 ++ rest) ≡ ((filled xs us).0, rest)
-filled_again [] us rest = refl
-filled_again (event.Refusal x ∷ xs) us rest = rw (filled_again xs us rest) refl
-filled_again (event.Output n u ∷ xs) [] rest = rw (filled_again xs [] rest) refl
-filled_again (event.Output n u ∷ xs) (v ∷ us) rest = rw (filled_again xs us rest) refl
-filled_again (event.Resolve p ∷ xs) us rest = rw (filled_again xs us rest) refl
-filled_again (event.Reject p x ∷ xs) us rest = rw (filled_again xs us rest) refl
-filled_again (event.Dequeue ∷ xs) us rest = rw (filled_again xs us rest) refl
-filled_again (event.ErrorCall x ∷ xs) us rest = rw (filled_again xs us rest) refl
+filled_again : (k : Kind) → (xs : List Event) (us rest : List media.Unit) → filled k xs (units_in (filled k xs us).0 ++ rest) ≡ ((filled k xs us).0, rest)
+filled_again k [] us rest = refl
+filled_again k (event.Refusal x ∷ xs) us rest = rw (filled_again k xs us rest) refl
+filled_again k (event.Output n u ∷ xs) [] rest = rw (filled_again k xs [] rest) refl
+filled_again k (event.Output n u ∷ xs) (v ∷ us) rest = rw (filled_again k xs us rest) refl
+filled_again k (event.Resolve p ∷ xs) us rest = rw (filled_again k xs us rest) refl
+filled_again k (event.Reject p x ∷ xs) us rest = rw (filled_again k xs us rest) refl
+filled_again k (event.Dequeue ∷ xs) us rest = rw (filled_again k xs us rest) refl
+filled_again k (event.ErrorCall x ∷ xs) us rest = rw (filled_again k xs us rest) refl
 
-each_again : (es : List Entry) (s : State) (us : List media.Unit) → is_some (follow_from es s) ≡ true → each_filled_from es s (units_shown (each_filled_from es s us)) ≡ each_filled_from es s us
-each_again [] s us some = refl
-each_again (e ∷ es) s us some =
+each_again : (k : Kind) → (es : List Entry) (s : State) (us : List media.Unit) → is_some (follow_from es s) ≡ true → each_filled_from k es s (units_shown (each_filled_from k es s us)) ≡ each_filled_from k es s us
+each_again k [] s us some = refl
+each_again k (e ∷ es) s us some =
     let next = step_of_followed e es s some in
-    rw (next.step, filled_again (shows e s) us (units_shown (each_filled_from es next.state (filled (shows e s) us).1)), each_again es next.state (filled (shows e s) us).1 next.more) refl
+    rw (next.step, filled_again k (shows e s) us (units_shown (each_filled_from k es next.state (filled k (shows e s) us).1)), each_again k es next.state (filled k (shows e s) us).1 next.more) refl
 
 -- ---- the run
 
 trace_told : (script : ScriptData) (files : List (List Chunk)) (o : Opening) (ts : List Told) (us : List media.Unit) → IsToldTrace script files (trace_of script files o ts us)
 trace_told script files o ts us = record {
-  arguments = all_hold script files ts (opening_state o) us;
+  arguments = all_hold o.kind script files ts (opening_state o) us;
   follows = all_follow script files ts (opening_state o);
-  shows = sym (each_again (entries_from script files (opening_state o) ts) (opening_state o) us (all_follow script files ts (opening_state o)));
+  shows = sym (each_again o.kind (entries_from script files (opening_state o) ts) (opening_state o) us (all_follow script files ts (opening_state o)));
 }
 
 callers_count : (n : ℕ) (ls : List Line) → length (callers_in n ls).0 ≡ n

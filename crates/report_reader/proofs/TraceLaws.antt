@@ -5,6 +5,7 @@ use Rattle.std.proofs.Math.Seq.{take-length}
 use Rattle.wc_chunk.specs.declared.chunk.Chunk.{Chunk}
 use Rattle.coder_api.specs.declared.unit.Unit as media
 use Rattle.codec_model.specs.declared.entry.Opening.{Opening}
+use Rattle.codec_model.specs.declared.entry.Kind.{Kind}
 use Rattle.codec_model.specs.declared.entry.Entry.{Entry}
 use Rattle.codec_model.specs.declared.entry.Event.{Event}
 use Rattle.codec_model.specs.declared.entry.Shown.{Shown}
@@ -70,7 +71,7 @@ pub record IsTracing (script : ScriptData) (media_of : List (List Chunk)) (o : O
   pub state : State
   pub is : follower_of state ≡ follower
   pub entries_are : entries ++ entries_from script media_of state rest ≡ entries_from script media_of (opening_state o) told
-  pub shown_are : shown ++ each_filled_from (entries_from script media_of state rest) state left ≡ each_filled o (entries_from script media_of (opening_state o) told) units
+  pub shown_are : shown ++ each_filled_from o.kind (entries_from script media_of state rest) state left ≡ each_filled o (entries_from script media_of (opening_state o) told) units
 
 pub tracing_start : (script : ScriptData) (media_of : List (List Chunk)) (o : Opening) (told : List Told) (units : List media.Unit) (follower : FollowerValue) → follower ≡ follower_of (opening_state o)
     → IsTracing script media_of o told units follower [] [] told units
@@ -123,24 +124,24 @@ next_at script media_of t s e blank (Some (d, u)) is h =
 next_in : (script : ScriptData) (media_of : List (List Chunk)) (t : Told) (s : State) (e : Entry) (blank : Shown) → shown_next script media_of s t ≡ Some (e, blank) → IsNext script media_of t s e blank
 next_in script media_of t s e blank h = next_at script media_of t s e blank (next_of script media_of s t) refl h
 
-abbrev pub filled_with : Shown → List media.Unit → Shown
-filled_with blank left = record { turn = blank.turn; events = (filled blank.events left).0 }
+abbrev pub filled_with : Kind → Shown → List media.Unit → Shown
+filled_with k blank left = record { turn = blank.turn; events = (filled k blank.events left).0 }
 
 more_with : (script : ScriptData) (media_of : List (List Chunk)) (o : Opening) (told : List Told) (units : List media.Unit) (new : FollowerValue) (entries : List Entry) (shown : List Shown) (t : Told) (more : List Told) (left : List media.Unit) (e : Entry) (blank : Shown) (s u : State)
     → follow_step e s ≡ Some u → next_of script media_of s t ≡ Some (e, u) → blank ≡ shown_at e s → follower_of u ≡ new
     → entries ++ entries_from script media_of s (t ∷ more) ≡ entries_from script media_of (opening_state o) told
-    → shown ++ each_filled_from (entries_from script media_of s (t ∷ more)) s left ≡ each_filled o (entries_from script media_of (opening_state o) told) units
-    → IsTracing script media_of o told units new (entries ++ (e ∷ [])) (shown ++ (filled_with blank left ∷ [])) more (filled blank.events left).1
+    → shown ++ each_filled_from o.kind (entries_from script media_of s (t ∷ more)) s left ≡ each_filled o (entries_from script media_of (opening_state o) told) units
+    → IsTracing script media_of o told units new (entries ++ (e ∷ [])) (shown ++ (filled_with o.kind blank left ∷ [])) more (filled o.kind blank.events left).1
 more_with script media_of o told units new entries shown t more left e blank s u step next is follower entries_are shown_are = record {
   state = u;
   is = follower;
   entries_are = append_assoc entries (e ∷ []) (entries_from script media_of u more) ∙ rw next at entries_are;
-  shown_are = rw is (append_assoc shown (filled_at e s left ∷ []) (each_filled_from (entries_from script media_of u more) u (filled (shows e s) left).1) ∙ rw (next, step) at shown_are);
+  shown_are = rw is (append_assoc shown (filled_at o.kind e s left ∷ []) (each_filled_from o.kind (entries_from script media_of u more) u (filled o.kind (shows e s) left).1) ∙ rw (next, step) at shown_are);
 }
 
 more_at : (script : ScriptData) (media_of : List (List Chunk)) (o : Opening) (told : List Told) (units : List media.Unit) (follower new : FollowerValue) (entries : List Entry) (shown : List Shown) (t : Told) (more : List Told) (left : List media.Unit) (e : Entry) (blank : Shown)
     → IsTracing script media_of o told units follower entries shown (t ∷ more) left → NextIs script media_of t follower (Some (e, blank)) new
-    → IsTracing script media_of o told units new (entries ++ (e ∷ [])) (shown ++ (filled_with blank left ∷ [])) more (filled blank.events left).1
+    → IsTracing script media_of o told units new (entries ++ (e ∷ [])) (shown ++ (filled_with o.kind blank left ∷ [])) more (filled o.kind blank.events left).1
 more_at script media_of o told units follower new entries shown t more left e blank tracing next =
     let s = tracing.state in
     let n = next_in script media_of t s e blank (next.answer s tracing.is) in
@@ -181,7 +182,7 @@ rest_split (x ∷ xs) t lt is = rw (whole_tail x xs, is) refl
 pub tracing_more : (script : ScriptData) (media_of : List (List Chunk)) (o : Opening) (told : List Told) (units : List media.Unit) (follower new : FollowerValue) (entries made : List Entry) (shown showing : List Shown) (t : Told) (rest : List Told) (left behind : List media.Unit) (e : Entry) (blank x : Shown) (events : List Event)
     → 0 < length rest → t ≡ get_or rest 0 t
     → IsTracing script media_of o told units follower entries shown rest left → NextIs script media_of t follower (Some (e, blank)) new
-    → events ≡ (filled blank.events left).0 → behind ≡ (filled blank.events left).1 → x ≡ record { turn = blank.turn; events = events } → made ≡ entries ++ (e ∷ []) → showing ≡ shown ++ (x ∷ [])
+    → events ≡ (filled o.kind blank.events left).0 → behind ≡ (filled o.kind blank.events left).1 → x ≡ record { turn = blank.turn; events = events } → made ≡ entries ++ (e ∷ []) → showing ≡ shown ++ (x ∷ [])
     → IsTracing script media_of o told units new made showing (take (length rest - 1) (drop 1 rest)) behind
 tracing_more script media_of o told units follower new entries made shown showing t rest left behind e blank x events lt is tracing next events_are behind_is x_is made_is showing_is =
     rw (made_is, showing_is, x_is, events_are, behind_is) (more_at script media_of o told units follower new entries shown t (take (length rest - 1) (drop 1 rest)) left e blank

@@ -13,9 +13,9 @@ use Rattle.report_lines.specs.Fits.{AreNames}
 use Rattle.report_reader.specs.declared.fault.ReportFault.TheVariants as fault
 use Rattle.report_reader.specs.Read.{run_of}
 use Rattle.report_reader.specs.Fault.{IsFault}
-use Rattle.report_reader.specs.Told.{IsToldRun, IsPlainTrace, IsWithoutLoss, IsTold}
+use Rattle.report_reader.specs.Told.{IsToldRun, IsPlainTrace, IsWithinTypes, IsTold}
 
--- the lines of a run show that run, where its histories are told and its outputs are written without loss
+-- the lines of a run show that run, where its histories are told and its outputs are of its codecs' kinds
 abbrev pub RunAgain : Type 0
 RunAgain = (script : ScriptData) (media : List (List Chunk)) (run : Run) → IsToldRun script media run → AllByRecursion IsPlainTrace run.codecs → run_of script media (lines_of script run) ≡ run
 
@@ -27,16 +27,16 @@ ReportsDetermineRuns = (script : ScriptData) (media : List (List Chunk)) (a b : 
 abbrev pub SoundNames : Type 0
 SoundNames = (script : ScriptData) → IsTrue (is_sound script) → AreNames script
 
--- a legal run that fits its script is told, where it is written without loss
+-- a legal run that fits its script, in which nothing is at fault, is told
 abbrev pub LegalRunsAreTold : Type 0
 LegalRunsAreTold =
-    (script : ScriptData) (media : List (List Chunk)) (made : List CoderId) (run : Run) → IsLegalRun script run → Fits script media made run → IsWithoutLoss script run → IsTold script media run
+    (script : ScriptData) (media : List (List Chunk)) (made : List CoderId) (run : Run) → IsTrue (is_sound script) → IsLegalRun script run → Fits script media made run → IsWithinTypes script run → IsTold script media run
 
--- two runs that are legal, fit one script with its chunk files, are written without loss and have the same report are equal
+-- two runs that are legal, fit one script with its chunk files, and have the same report are equal
 abbrev pub LegalReportsDetermineRuns : Type 0
 LegalReportsDetermineRuns =
     (script : ScriptData) (media : List (List Chunk)) (made : List CoderId) (a b : Run) → IsTrue (is_sound script)
-    → IsLegalRun script a → Fits script media made a → IsWithoutLoss script a → IsLegalRun script b → Fits script media made b → IsWithoutLoss script b → report_of script a ≡ report_of script b → a ≡ b
+    → IsLegalRun script a → Fits script media made a → IsWithinTypes script a → IsLegalRun script b → Fits script media made b → IsWithinTypes script b → report_of script a ≡ report_of script b → a ≡ b
 
 -- a fault has one line
 abbrev pub FaultIsOne : Type 0

@@ -1,19 +1,19 @@
 -- The run that the lines of a report show, whatever they are.
-use Rattle.std.specs.Prelude.{ℕ, zero, suc, ◌&&◌, Bool, if◌then◌else◌, List, [], ◌∷◌, ◌++◌, length, drop, slice_get, Option, Some, None, option_map, option_and_then, option_to_list}
-use Rattle.std.specs.List.{list_all}
-use Rattle.std.specs.Str.{is_utf8}
+use Rattle.std.specs.Prelude.{ℕ, zero, suc, nat_lt, if◌then◌else◌, List, [], ◌∷◌, ◌++◌, length, drop, slice_get, Option, Some, None, option_map, option_and_then, option_to_list}
 use Rattle.wc_base.specs.declared.who.Who.{Who}
 use Rattle.wc_config.specs.declared.config.AudioDecoderConfig.{AudioDecoderConfig}
 use Rattle.wc_chunk.specs.declared.chunk.Chunk.{Chunk}
 use Rattle.coder_api.specs.declared.unit.Unit as media
 use Rattle.coder_api.specs.declared.unit.Unit.TheVariants as unit
 use Rattle.coder_api.specs.declared.slot.SlotEntry.{SlotEntry}
+use Rattle.codec_model.specs.declared.entry.Kind.{Kind}
 use Rattle.codec_model.specs.declared.entry.Kind.TheVariants as kind
 use Rattle.codec_model.specs.declared.entry.Opening.{Opening}
 use Rattle.codec_model.specs.declared.entry.Entry.{Entry}
 use Rattle.codec_model.specs.declared.entry.Entry.TheVariants as entry
 use Rattle.codec_model.specs.Replay.{State, opening_state}
 use Rattle.codec_follow.specs.Follow.{follow_step, each_filled}
+use Rattle.codec_follow.specs.Outputs.{is_codec_string}
 use Rattle.script_types.specs.declared.script.ScriptData.{ScriptData}
 use Rattle.script_types.specs.declared.steps.Step.{Step}
 use Rattle.script_types.specs.declared.steps.Step.TheVariants as step
@@ -30,7 +30,6 @@ use Rattle.report_lines.specs.declared.line.Seen.{Seen}
 use Rattle.report_lines.specs.declared.line.Seen.TheVariants as seen
 use Rattle.report_lines.specs.declared.line.Line.{Line}
 use Rattle.report_lines.specs.declared.line.Line.TheVariants as line
-use Rattle.report_lines.specs.Fits.{is_no_feed}
 
 -- ---- callers
 
@@ -109,32 +108,29 @@ abbrev pub description_of : List ℕ → Option (List ℕ)
 description_of [] = None
 description_of (b ∷ bs) = Some (b ∷ bs)
 
--- a text in UTF-8 that has no line feed
-abbrev pub is_one_line : List ℕ → Bool
-is_one_line text = is_utf8 text && list_all is_no_feed text
-
--- the config of these parts, whose codec has to be such a text
+-- the config of these parts, whose codec has to be a codec string
 abbrev pub config_of : List ℕ → ℕ → ℕ → List ℕ → Option AudioDecoderConfig
-config_of codec rate channels description = if is_one_line codec then Some (record { codec = codec; rate = rate; channels = channels; description = description_of description }) else None
+config_of codec rate channels description = if is_codec_string codec then Some (record { codec = codec; rate = rate; channels = channels; description = description_of description }) else None
 
 -- the config in front, if there is one
 abbrev pub config_in : List Line → Option AudioDecoderConfig
 config_in (line.Seen (seen.Config codec rate channels description) ∷ ls) = config_of codec rate channels description
 config_in _ = None
 
--- the output that a line shows, if it shows one; a chunk has the config of the line behind it
-abbrev pub unit_of : Seen → Option AudioDecoderConfig → Option media.Unit
-unit_of (seen.Sound shape bytes) config = Some (unit.Sound (record { shape = shape; bytes = bytes }))
-unit_of (seen.Image shape bytes) config = Some (unit.Image (record { shape = shape; bytes = bytes }))
-unit_of (seen.Chunk key timestamp duration bytes) config = Some (unit.Coded (record { key = key; timestamp = timestamp; duration = duration; bytes = bytes }) config)
-unit_of _ config = None
+-- The output that a line shows, if it shows one of a codec of this kind: an audio decoder gives samples, whose rate is above
+-- 0, an audio encoder chunks, and a video decoder pictures. A chunk has the config of the line behind it.
+abbrev pub unit_of : Kind → Seen → Option AudioDecoderConfig → Option media.Unit
+unit_of kind.AudioDecoder (seen.Sound shape bytes) config = if nat_lt 0 shape.rate then Some (unit.Sound (record { shape = shape; bytes = bytes })) else None
+unit_of kind.AudioEncoder (seen.Chunk key timestamp duration bytes) config = Some (unit.Coded (record { key = key; timestamp = timestamp; duration = duration; bytes = bytes }) config)
+unit_of kind.VideoDecoder (seen.Image shape bytes) config = Some (unit.Image (record { shape = shape; bytes = bytes }))
+unit_of k _ config = None
 
--- the outputs in front, among the lines of entries
-abbrev pub outputs_in : List Line → List media.Unit
-outputs_in [] = []
-outputs_in (line.Entry place t ∷ ls) = outputs_in ls
-outputs_in (line.Seen shown ∷ ls) = option_to_list (unit_of shown (config_in ls)) ++ outputs_in ls
-outputs_in (l ∷ ls) = []
+-- the outputs in front of a codec of this kind, among the lines of entries
+abbrev pub outputs_in : Kind → List Line → List media.Unit
+outputs_in k [] = []
+outputs_in k (line.Entry place t ∷ ls) = outputs_in k ls
+outputs_in k (line.Seen shown ∷ ls) = option_to_list (unit_of k shown (config_in ls)) ++ outputs_in k ls
+outputs_in k (l ∷ ls) = []
 
 -- ---- codecs
 
@@ -150,7 +146,7 @@ trace_of script media o ts us =
     record { opening = o; entries = entries; shown = each_filled o entries us }
 
 abbrev pub codec_in : ScriptData → List (List Chunk) → List Line → CodecTrace
-codec_in script media ls = trace_of script media (opening_of ls) (told_in (drop 1 ls)) (outputs_in (drop 1 ls))
+codec_in script media ls = trace_of script media (opening_of ls) (told_in (drop 1 ls)) (outputs_in (opening_of ls).kind (drop 1 ls))
 
 -- so many codecs, each with its line and its entries, and the lines behind them
 abbrev pub codecs_in : ScriptData → List (List Chunk) → ℕ → List Line → List CodecTrace × List Line

@@ -1,40 +1,22 @@
 -- The runs whose report tells them: each has a report of its own.
-use Rattle.std.specs.Prelude.{ℕ, ◌≡◌, true, List, [], ◌∷◌, length, Option, Some, None}
+use Rattle.std.specs.Prelude.{ℕ, ◌≡◌, List, length, Some}
 use Rattle.std.specs.List.{AllByRecursion, zip}
-use Rattle.wc_config.specs.declared.config.AudioDecoderConfig.{AudioDecoderConfig}
 use Rattle.wc_chunk.specs.declared.chunk.Chunk.{Chunk}
-use Rattle.coder_api.specs.declared.unit.Unit as media
-use Rattle.coder_api.specs.declared.unit.Unit.TheVariants as unit
 use Rattle.codec_model.specs.declared.entry.Entry.{Entry}
 use Rattle.codec_model.specs.declared.entry.Shown.{Shown}
 use Rattle.codec_follow.specs.Follow.{IsFollowed, each_filled, units_shown}
+use Rattle.codec_follow.specs.Outputs.{IsOutputOf}
 use Rattle.script_types.specs.declared.script.ScriptData.{ScriptData}
 use Rattle.trace_text.specs.declared.run.CodecTrace.{CodecTrace}
 use Rattle.trace_text.specs.declared.run.Run.{Run}
 use Rattle.report_text.specs.Told.{told_of}
 use Rattle.report_lines.specs.Whole.{lines_of}
 use Rattle.report_lines.specs.Fits.{FitsLine}
-use Rattle.report_reader.specs.Read.{entry_of, is_one_line}
+use Rattle.report_reader.specs.Read.{entry_of}
 
 -- the entry is what its line tells, with the arguments of its step
 abbrev pub HoldsArguments : ScriptData → List (List Chunk) → Entry × Shown → Type 0
 HoldsArguments script media made = entry_of script media (told_of made.0 made.1) ≡ Some made.0
-
--- a description that is there has bytes, since none are written as `-`, as an absent one is
-abbrev pub IsPlainDescription : Option (List ℕ) → Type 0
-IsPlainDescription None = Unit {0}
-IsPlainDescription (Some []) = ⊥
-IsPlainDescription (Some (b ∷ bs)) = Unit {0}
-
-abbrev pub IsPlainConfig : Option AudioDecoderConfig → Type 0
-IsPlainConfig None = Unit {0}
-IsPlainConfig (Some c) = (is_one_line c.codec ≡ true) × IsPlainDescription c.description
-
--- the config that an output carries, if it carries one, is written without loss
-abbrev pub IsPlainUnit : media.Unit → Type 0
-IsPlainUnit (unit.Sound samples) = Unit {0}
-IsPlainUnit (unit.Image picture) = Unit {0}
-IsPlainUnit (unit.Coded chunk config) = IsPlainConfig config
 
 -- A codec's history follows and holds the arguments of the script's steps, and shows what it shows with its own outputs.
 pub record IsToldTrace (script : ScriptData) (media : List (List Chunk)) (trace : CodecTrace) : Type 0 where
@@ -42,8 +24,10 @@ pub record IsToldTrace (script : ScriptData) (media : List (List Chunk)) (trace 
   pub follows : IsFollowed trace.opening trace.entries
   pub shows : trace.shown ≡ each_filled trace.opening trace.entries (units_shown trace.shown)
 
+-- its outputs are of its codec's kind: a config that a chunk carries has a codec string, and its description, if there is
+-- one, has bytes, since none are written as `-`, as an absent one is
 abbrev pub IsPlainTrace : CodecTrace → Type 0
-IsPlainTrace trace = AllByRecursion IsPlainUnit (units_shown trace.shown)
+IsPlainTrace trace = AllByRecursion (IsOutputOf trace.opening.kind) (units_shown trace.shown)
 
 -- The run has the script's callers and codecs, and the history of each codec is told.
 pub record IsToldRun (script : ScriptData) (media : List (List Chunk)) (run : Run) : Type 0 where
@@ -51,10 +35,14 @@ pub record IsToldRun (script : ScriptData) (media : List (List Chunk)) (run : Ru
   pub codecs : length run.codecs ≡ length script.codecs
   pub traces : AllByRecursion (IsToldTrace script media) run.codecs
 
--- The run's outputs are written without loss, and the numbers on its lines are within their types.
+-- the numbers on the run's lines are within their types, and its bytes are bytes, as in each run that was recorded
+abbrev pub IsWithinTypes : ScriptData → Run → Type 0
+IsWithinTypes script run = AllByRecursion (FitsLine script) (lines_of script run)
+
+-- The run's outputs are of their codecs' kinds, and the numbers on its lines are within their types.
 pub record IsWithoutLoss (script : ScriptData) (run : Run) : Type 0 where
   pub plain : AllByRecursion IsPlainTrace run.codecs
-  pub fits : AllByRecursion (FitsLine script) (lines_of script run)
+  pub fits : IsWithinTypes script run
 
 -- A run that its report tells.
 pub record IsTold (script : ScriptData) (media : List (List Chunk)) (run : Run) : Type 0 where

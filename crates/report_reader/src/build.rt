@@ -1,18 +1,19 @@
 // What the lines of a report show.
 ghost use Rattle.std.specs.Prelude.{◌≡◌, ◌++◌, IfOk, OnOk, Some, None, drop, length, if◌then◌else◌};
 ghost use Rattle.std.specs.Option.{option_copied, option_to_list};
-ghost use Rattle.std.specs.Str.{is_utf8};
-ghost use Rattle.std.specs.List.{list_all};
-ghost use Rattle.report_lines.specs.Fits.{is_no_feed};
+ghost use Rattle.codec_follow.specs.Outputs.{is_codec_string};
+ghost use Rattle.codec_model.specs.declared.entry.Kind.TheVariants as kinds;
+ghost use Rattle.report_lines.specs.declared.line.Seen.TheVariants as seen_as;
 ghost use Rattle.report_reader.specs.Read as spec;
 
 use bytes::Bytes;
 use codec_model::{Kind, Opening};
 use coder_api::{SlotEntry, Unit};
-use report_lines::{Line, Seen, Told};
+use report_lines::{Line, Seen, Told, codec_id_of};
+use report_text::codec_text;
 use std::alloc::{AllocError, Global};
 use trace_text::{CallerTrace, StepResult};
-use wc_base::{List, Picture, Samples, Text};
+use wc_base::{List, Picture, Samples, SoundShape, Text};
 use wc_chunk::Chunk;
 use wc_config::AudioDecoderConfig;
 
@@ -81,34 +82,15 @@ pub fn told_of<'a>(alloc: Global, lines: &'a [Line]) -> Result<(Vec<Told>, &'a [
     Ok((entries, rest))
 }
 
-// The bytes as a text, where they are one in UTF-8.
-fn as_text(bytes: &[u8]) -> Option<&str>
-    ensures { option_copied result ≡ (if is_utf8 bytes.now then Some bytes.now else None) }
+// The text of these bytes, where they are a codec string.
+#[tactic(auto, using(crate::proofs::CodecLaws::string_none, crate::proofs::CodecLaws::string_some))]
+fn codec_string(bytes: &[u8]) -> Option<&str>
+    ensures { option_copied result ≡ (if is_codec_string bytes.now then Some bytes.now else None) }
 {
-    match str::from_utf8(bytes) {
-        Ok(text) => Some(text),
-        Err(_) => None,
+    match codec_id_of(bytes) {
+        Some(id) => Some(codec_text(id)),
+        None => None,
     }
-}
-
-// Whether no byte is a line feed.
-fn has_no_feed(text: &[u8]) -> bool
-    ensures { result ≡ list_all is_no_feed text.now }
-{
-    text.iter().all(|b| *b != b'\n')
-}
-
-// The text, where it is one in UTF-8 with no line feed.
-fn text_of(alloc: Global, bytes: &[u8]) -> Result<Option<Text>, AllocError>
-    ensures { IfOk result (λ t. t ≡ (if spec.is_one_line bytes.now then Some bytes.now else None)) }
-{
-    let Some(text) = as_text(bytes) else {
-        return Ok(None);
-    };
-    if !has_no_feed(bytes) {
-        return Ok(None);
-    }
-    Ok(Some(Text::of(String::from_str(alloc, text)?)))
 }
 
 fn bytes_of(alloc: Global, bytes: &List<u8>) -> Result<Bytes, AllocError>
@@ -137,12 +119,12 @@ fn config_of(
 ) -> Result<Option<AudioDecoderConfig>, AllocError>
     ensures { IfOk result (λ c. c ≡ spec.config_of codec.now rate channels description.now) }
 {
-    match text_of(alloc, codec.as_slice())? {
+    match codec_string(codec.as_slice()) {
         None => Ok(None),
         Some(codec) => {
             let description = description_of(alloc, description)?;
             Ok(Some(AudioDecoderConfig {
-                codec,
+                codec: Text::of(String::from_str(alloc, codec)?),
                 rate,
                 channels,
                 description,
@@ -171,31 +153,48 @@ fn config_in(alloc: Global, lines: &[Line]) -> Result<Option<AudioDecoderConfig>
     }
 }
 
-// The output that a line shows, if it shows one; a chunk has the config of the line behind it.
-fn unit_of(alloc: Global, seen: &Seen, behind: &[Line]) -> Result<Option<Unit>, AllocError>
-    ensures { IfOk result (λ u. u ≡ spec.unit_of seen.now (spec.config_in behind.now)) }
+// The samples of a line, whose rate has to be above 0.
+fn samples_of(
+    alloc: Global,
+    shape: SoundShape,
+    bytes: &List<u8>,
+) -> Result<Option<Unit>, AllocError>
+    ensures { IfOk result (λ u. u ≡ spec.unit_of kinds.AudioDecoder (seen_as.Sound shape bytes.now) None) }
 {
-    match seen {
-        Seen::Sound { shape, bytes } => {
-            let bytes = bytes_of(alloc, bytes)?;
-            Ok(Some(Unit::Sound(Samples {
-                shape: *shape,
-                bytes,
-            })))
-        }
-        Seen::Image { shape, bytes } => {
+    if shape.rate == 0 {
+        return Ok(None);
+    }
+    let bytes = bytes_of(alloc, bytes)?;
+    Ok(Some(Unit::Sound(Samples { shape, bytes })))
+}
+
+// The output that a line shows, if it shows one of a codec of this kind; a chunk has the config of the line behind it.
+fn unit_of(
+    alloc: Global,
+    kind: Kind,
+    seen: &Seen,
+    behind: &[Line],
+) -> Result<Option<Unit>, AllocError>
+    ensures { IfOk result (λ u. u ≡ spec.unit_of kind seen.now (spec.config_in behind.now)) }
+{
+    match (kind, seen) {
+        (Kind::AudioDecoder, Seen::Sound { shape, bytes }) => samples_of(alloc, *shape, bytes),
+        (Kind::VideoDecoder, Seen::Image { shape, bytes }) => {
             let bytes = bytes_of(alloc, bytes)?;
             Ok(Some(Unit::Image(Picture {
                 shape: *shape,
                 bytes,
             })))
         }
-        Seen::Chunk {
-            key,
-            timestamp,
-            duration,
-            bytes,
-        } => {
+        (
+            Kind::AudioEncoder,
+            Seen::Chunk {
+                key,
+                timestamp,
+                duration,
+                bytes,
+            },
+        ) => {
             let chunk = Chunk {
                 key: *key,
                 timestamp: *timestamp,
@@ -218,9 +217,9 @@ fn push_unit(units: &mut Vec<Unit>, unit: Option<Unit>) -> Result<(), AllocError
     }
 }
 
-/// The outputs in front, among the lines of entries.
-pub fn outputs_of(alloc: Global, lines: &[Line]) -> Result<Vec<Unit>, AllocError>
-    ensures { IfOk result (λ v. v.items ≡ spec.outputs_in lines.now) }
+/// The outputs in front of a codec of this kind, among the lines of entries.
+pub fn outputs_of(alloc: Global, kind: Kind, lines: &[Line]) -> Result<Vec<Unit>, AllocError>
+    ensures { IfOk result (λ v. v.items ≡ spec.outputs_in kind lines.now) }
 {
     let mut units = Vec::new(alloc);
     let mut rest = lines;
@@ -228,7 +227,7 @@ pub fn outputs_of(alloc: Global, lines: &[Line]) -> Result<Vec<Unit>, AllocError
         match line {
             Line::Entry { place: _, told: _ } => {}
             Line::Seen(seen) => {
-                let unit = unit_of(alloc, seen, more)?;
+                let unit = unit_of(alloc, kind, seen, more)?;
                 push_unit(&mut units, unit)?;
             }
             _ => return Ok(units),

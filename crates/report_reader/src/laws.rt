@@ -13,11 +13,11 @@ pub fn names_of_sound_scripts()
     ensures { SoundNames }
 {}
 
-/// Law: a legal run that fits its script is told by its report.
+/// Laws: a legal run that fits its script, in which nothing is at fault, is told by its report. So two such runs of one
+/// script with the same report are equal.
 ///
-/// Assumed is that it is written without loss: that the numbers on its lines are within their types, as those of each run
-/// that was recorded are; and of the configs that its chunks carry, that the codec's name is a text without a line feed
-/// and a description has bytes. So two such runs of one script with the same report are equal.
+/// Assumed is that the numbers on its lines are within their types and its bytes are bytes, as in each run that was
+/// recorded.
 pub fn legal_runs_are_told()
     ensures told { LegalRunsAreTold }
     ensures determine { LegalReportsDetermineRuns }

@@ -2,7 +2,7 @@
 ghost use Rattle.std.specs.Prelude.{◌≡◌, IfOk, IfErr, IsTrue};
 ghost use Rattle.script_types.specs.Sound.{is_sound};
 ghost use Rattle.trace_text.specs.Report.{report_of};
-ghost use Rattle.report_reader.specs.Told.{IsToldRun, IsTold};
+ghost use Rattle.report_reader.specs.Told.{IsTold};
 ghost use Rattle.report_reader.specs.Fault.{IsRead, IsFault, Gives};
 
 use crate::compare::first_difference;
@@ -25,6 +25,7 @@ fn run_or_fault(
     bytes: &[u8],
 ) -> Result<Run, ReportFault>
     ensures ok { IfOk result (IsRead script.now media.now bytes.now) }
+    ensures told { IfOk result (λ run. IsTold script.now media.now run) }
     ensures bad { IfErr result (IsFault script.now media.now bytes.now) }
     ensures sound { IsTrue (is_sound script.now) }
 {
@@ -45,17 +46,18 @@ fn run_or_fault(
 ///
 /// Reading stops at the first line that has not its form. Where all lines have theirs, the run that they show is written
 /// again, and the bytes have to be its report. `BadLine` names the line, from 1, at which reading stopped, or else the
-/// first in which the two texts differ; the bytes are then the report of no run that a report tells (`IsTold`). `NoMemory`
-/// comes from want of memory alone. The format and the line at fault are our choice.
+/// first in which the two texts differ; the bytes are then the report of no run that a report tells (`IsTold`). So `Ok` is
+/// answered exactly where they are the report of such a run, unless memory is wanted. `NoMemory` comes from want of memory
+/// alone. The format and the line at fault are our choice.
 pub fn read_report(
     alloc: Global,
     script: &Script,
     media: &[List<Chunk>],
     bytes: &[u8],
 ) -> Result<Run, ReportFault>
-    // What is read has just this report, and its histories hold the script's arguments and follow.
+    // What is read has just this report, and its report tells it.
     ensures ok { IfOk result (λ run. bytes.now ≡ report_of script.now run) }
-    ensures told { IfOk result (λ run. IsToldRun script.now media.now run) }
+    ensures told { IfOk result (λ run. IsTold script.now media.now run) }
     // A run that its report tells is read, unless memory is wanted.
     ensures only { (run : Run) → IsTold script.now media.now run → bytes.now ≡ report_of script.now run → Gives result run }
     // A refusal names the line at fault.

@@ -1,5 +1,7 @@
 // The run that lines show.
 ghost use Rattle.std.specs.Prelude.{◌≡◌, IfOk};
+ghost use Rattle.std.specs.List.{AllByRecursion};
+ghost use Rattle.report_reader.specs.Fits.{FitsTrace};
 ghost use Rattle.report_reader.specs.Read as spec;
 
 use crate::build::{behind_first, callers_of, held_of, slots_of};
@@ -19,7 +21,9 @@ pub fn run_of(
     media: &[List<Chunk>],
     lines: &[Line],
 ) -> Result<Run, NoMemory>
-    ensures { IfOk result (λ run. run ≡ spec.run_of script.now media.now lines.now) }
+    ensures run { IfOk result (λ run. run ≡ spec.run_of script.now media.now lines.now) }
+    // The promises whose ends it shows have numbers of 64 bits.
+    ensures fits { IfOk result (λ run. AllByRecursion FitsTrace run.codecs) }
 {
     let (callers, rest) = callers_of(alloc, script.callers.len(), behind_first(lines))?;
     let (codecs, rest) = codecs_of(alloc, script, media, script.codecs.len(), rest)?;

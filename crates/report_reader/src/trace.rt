@@ -1,13 +1,15 @@
 // The history of a codec, as its lines tell it.
 ghost use Rattle.std.specs.Prelude.{◌≡◌, ◌++◌, ◌∷◌, [], IfOk, OnOk, drop, option_map};
+ghost use Rattle.std.specs.List.{AllByRecursion};
 ghost use Rattle.codec_follow.specs.Follow.{filled, with_unit, units_after};
+ghost use Rattle.report_reader.specs.Fits.{FitsEvent, FitsTrace};
 ghost use Rattle.report_reader.specs.Next.{NextIs};
 ghost use Rattle.report_reader.specs.Read as spec;
 
 use crate::arguments::entry_of;
 use crate::build::{behind_first, opening_of, outputs_of, told_of};
-use codec_follow::Follower;
-use codec_model::{Entry, Event, Opening, Shown, TurnWord};
+use codec_follow::{Follower, empty_output};
+use codec_model::{Entry, Event, Kind, Opening, Shown, TurnWord};
 use coder_api::Unit;
 use report_lines::{Line, Told};
 use script_types::ScriptData;
@@ -16,16 +18,17 @@ use trace_text::CodecTrace;
 use wc_base::{List, NoMemory};
 use wc_chunk::Chunk;
 
-// An event, with the first of the units for its output.
-fn with_unit(event: &Event, units: &[Unit]) -> Result<Event, NoMemory>
-    ensures { IfOk result (λ x. x ≡ with_unit event.now units.now) }
+// An event, with the first of the units for its output, or with nothing in it where there is none.
+fn with_unit(kind: Kind, event: &Event, units: &[Unit]) -> Result<Event, NoMemory>
+    ensures event { IfOk result (λ x. x ≡ with_unit kind event.now units.now) }
+    ensures fits { IfOk result FitsEvent }
 {
     match event {
         Event::Refusal(error) => Ok(Event::Refusal(*error)),
-        Event::Output { number, unit } => match units {
+        Event::Output { number, unit: _ } => match units {
             [] => Ok(Event::Output {
                 number: *number,
-                unit: unit.copy()?,
+                unit: empty_output(kind),
             }),
             [first, ..] => Ok(Event::Output {
                 number: *number,
@@ -55,20 +58,22 @@ fn units_after<'a>(event: &Event, units: &'a [Unit]) -> &'a [Unit]
     }
 }
 
-// The events, with these units for their outputs, and the units that are left.
+// A codec's events, with these units for their outputs, and the units that are left.
 fn filled<'a>(
     alloc: Global,
+    kind: Kind,
     events: &[Event],
     units: &'a [Unit],
 ) -> Result<(Vec<Event>, &'a [Unit]), NoMemory>
-    ensures events { IfOk result (λ x. x.0.items ≡ (filled events.now units.now).0) }
-    ensures left { IfOk result (λ x. x.1.now ≡ (filled events.now units.now).1) }
+    ensures events { IfOk result (λ x. x.0.items ≡ (filled kind events.now units.now).0) }
+    ensures left { IfOk result (λ x. x.1.now ≡ (filled kind events.now units.now).1) }
+    ensures fits { IfOk result (λ x. AllByRecursion FitsEvent x.0.items) }
 {
     let mut made = Vec::new(alloc);
     let mut left = units;
     let mut rest = events;
     while let [event, more @ ..] = rest {
-        let event_made = with_unit(event, left)?;
+        let event_made = with_unit(kind, event, left)?;
         push(&mut made, event_made)?;
         left = units_after(event, left);
         rest = more;
@@ -122,7 +127,8 @@ fn trace_of(
     told: &[Told],
     units: &[Unit],
 ) -> Result<CodecTrace, NoMemory>
-    ensures { IfOk result (λ trace. trace ≡ spec.trace_of script.now media.now opening told.now units.now) }
+    ensures trace { IfOk result (λ trace. trace ≡ spec.trace_of script.now media.now opening told.now units.now) }
+    ensures fits { IfOk result FitsTrace }
 {
     let mut follower = Follower::open(alloc, opening)?;
     let mut entries = Vec::new(alloc);
@@ -133,7 +139,8 @@ fn trace_of(
         match next_entry(&mut follower, script, media, *told)? {
             None => return Ok(trace_with(opening, entries, shown)),
             Some((entry, blank)) => {
-                let (events, behind) = filled(alloc, blank.events.as_slice(), left)?;
+                let (events, behind) =
+                    filled(alloc, opening.kind, blank.events.as_slice(), left)?;
                 push(&mut entries, entry)?;
                 push(&mut shown, shown_with(blank.turn, events))?;
                 left = behind;
@@ -171,12 +178,14 @@ fn codec_of<'a>(
     lines: &'a [Line],
 ) -> Result<(CodecTrace, &'a [Line]), NoMemory>
     ensures codec { IfOk result (λ x. x.0 ≡ spec.codec_in script.now media.now lines.now) }
+    ensures fits { IfOk result (λ x. FitsTrace x.0) }
     ensures behind { IfOk result (λ x. x.1.now ≡ spec.behind_entries (drop 1 lines.now)) }
 {
     let own = behind_first(lines);
     let (told, behind) = told_of(alloc, own)?;
-    let units = outputs_of(alloc, own)?;
-    let trace = trace_of(alloc, script, media, opening_of(lines), &told, &units)?;
+    let opening = opening_of(lines);
+    let units = outputs_of(alloc, opening.kind, own)?;
+    let trace = trace_of(alloc, script, media, opening, &told, &units)?;
     Ok((trace, behind))
 }
 
@@ -188,7 +197,9 @@ pub fn codecs_of<'a>(
     count: usize,
     lines: &'a [Line],
 ) -> Result<(Vec<CodecTrace>, &'a [Line]), NoMemory>
-    ensures { IfOk result (λ x. spec.codecs_in script.now media.now count lines.now ≡ (x.0.items, x.1.now)) }
+    ensures codecs { IfOk result (λ x. spec.codecs_in script.now media.now count lines.now ≡ (x.0.items, x.1.now)) }
+    // The promises whose ends they show have numbers of 64 bits.
+    ensures fits { IfOk result (λ x. AllByRecursion FitsTrace x.0.items) }
 {
     let mut codecs = Vec::new(alloc);
     let mut rest = lines;

@@ -17,3 +17,4 @@ pub use outputs::{
 };
 pub use result::StepResult;
 pub use told::{CallWord, Told, told_of};
+pub use words::codec_text;

@@ -89,6 +89,7 @@ pub fn picture_format_text(format: PictureFormat) -> &'static str
     }
 }
 
+/// The codec string of a codec.
 pub fn codec_text(codec: CodecId) -> &'static str
     ensures { result.now ≡ spec.codec_text codec }
 {

@@ -1,10 +1,7 @@
-use Rattle.report_reader.proofs.ReadLaws.{read_again, read_told}
+use Rattle.report_reader.proofs.ReadLaws.{read_again}
 use Rattle.report_reader.proofs.NameLaws.{sound_names}
 use Rattle.report_reader.proofs.read.read_report.Goals as goal
 
 pub returns-clause-only : goal.returns-clause-only
 returns-clause-only c run told e =
     read_again c.args.script.now c.args.media.now c.args.bytes.now c.run_or_fault.result run (sound_names c.args.script.now c.run_or_fault.ensures.sound) c.run_or_fault.ensures.ok c.run_or_fault.ensures.bad told e
-
-pub returns-clause-told : goal.returns-clause-told
-returns-clause-told c = read_told c.args.script.now c.args.media.now c.args.bytes.now c.run_or_fault.result c.run_or_fault.ensures.ok
