@@ -11,13 +11,10 @@ use Rattle.coder_api.specs.declared.unit.Unit as media
 use Rattle.coder_api.specs.declared.slot.SlotEntry.{SlotEntry}
 use Rattle.codec_model.specs.declared.entry.Call.{Call}
 use Rattle.codec_model.specs.declared.entry.Call.TheVariants as call
-use Rattle.codec_model.specs.declared.entry.CodecState.{CodecState}
-use Rattle.codec_model.specs.declared.entry.CodecState.TheVariants.{Unconfigured, Configured, Closed}
 use Rattle.codec_model.specs.declared.entry.Ended.{Ended}
 use Rattle.codec_model.specs.declared.entry.Ended.TheVariants as ended
 use Rattle.codec_model.specs.declared.entry.Entry.{Entry}
 use Rattle.codec_model.specs.declared.entry.Entry.TheVariants as entry
-use Rattle.codec_model.specs.declared.entry.Event.{Event}
 use Rattle.codec_model.specs.declared.entry.Item.{Item}
 use Rattle.codec_model.specs.declared.entry.Opening.{Opening}
 use Rattle.codec_model.specs.declared.entry.Outcome.{Outcome}
@@ -27,15 +24,15 @@ use Rattle.codec_model.specs.declared.entry.Task.{Task}
 use Rattle.codec_model.specs.declared.entry.Task.TheVariants as task
 use Rattle.codec_model.specs.declared.entry.Work.{Work}
 use Rattle.codec_model.specs.Control.{Control, kind_of, front, start_item, may_start, is_close, may_reclaim}
-use Rattle.codec_model.specs.Replay.{State, missing_coder, entry_of, call_error, flush_error, decode_error, configure_error, removal_error, answer_to}
-use Rattle.codec_model.specs.Shown.{shown_at, word_of_task, removal_shows, refusal, rejection}
+use Rattle.codec_model.specs.Replay.{State, missing_coder, entry_of, call_error, flush_error, removal_error, answer_to}
+use Rattle.codec_model.specs.Shown.{shown_at, word_of_task, rejection}
+use Rattle.codec_follow.specs.Events.{call_events, task_events, noted}
 use Rattle.codec_core.specs.Codec.{Codec, item_parts, state_at, Makes, KeepsRunning, kept_box, handed_back, closes_now}
 use Rattle.codec_core.specs.Job.{JobValue, DoneValue, IsJobOf, EndsBy, outcome_of, stopped_box, missing_id}
 use Rattle.codec_core.proofs.Laws.{makes_shows, job_stays}
-use Rattle.trace_text.specs.Follow.{BoxOut, Holding, exception_of, outcome_for}
+use Rattle.trace_text.specs.Follow.{BoxOut, Holding, outcome_for}
 use Rattle.wc_replay.specs.Boxes.{IsRefused, filled_slots, filled_holding}
 use Rattle.wc_replay.specs.Desk.{DeskValue, JobMatches, IsDesk, moved, state_of, next_by, box_out, box_of, holding_of, holding_with, left_by, let_go, left_unless, let_go_unless, left_if, let_go_if, kept_by, back_by, after_start, start_slots, started_with, slots_with, after_removal, removal_box, turned_by, after_turn, box_by_turn, turn_box, after_reclaim, reclaim_box, after_done, done_box, shown_where, shown_by_turn}
-use Rattle.wc_replay.specs.Events.{task_events, removal_events, flush_rejection, call_event, events_of}
 
 pub record HasBox (job : Option JobValue) (refusal : Option ℕ) (slot : Option Lent) : Type 0 where
   pub refused : IsRefused job refusal
@@ -81,39 +78,11 @@ task_shown s (task.Flushed promise units) ts is = rw is refl
 task_shown s task.Dequeue ts is = rw is refl
 task_shown s (task.Close error) ts is = rw is refl
 
-flush_by : (p : CodecState) (c : Control) → c.phase ≡ p → flush_rejection call.Flush p ≡ flush_error c
-flush_by Unconfigured c is = rw is refl
-flush_by Configured c is = rw is refl
-flush_by Closed c is = rw is refl
-
-refused_events : (place : ℕ) (error : Option DomError) → events_of (call_event place error None) ≡ refusal error
-refused_events place None = refl
-refused_events place (Some e) = refl
-
-rejected_events : (place : ℕ) (error : Option DomError) → events_of (call_event place None error) ≡ rejection place error
-rejected_events place None = refl
-rejected_events place (Some e) = refl
-
 -- what a call shows
-pub call_shown : (s : State) (who : Who) (x : Call) (p : CodecState) (place : ℕ) (error rejected : Option DomError) → s.control.place ≡ place → s.control.phase ≡ p → error ≡ exception_of x (call_error x s.control) → rejected ≡ flush_rejection x p → record { turn = None; events = events_of (call_event place error rejected) } ≡ shown_at (entry_of who x) s
-call_shown s who (call.Configure config) p place error rejected at phase is none =
-    rw (is, none) (ap (λ (xs : List Event). record { turn = None; events = xs }) (refused_events place (configure_error config s.control)))
-call_shown s who (call.Decode chunk) p place error rejected at phase is none =
-    rw (is, none) (ap (λ (xs : List Event). record { turn = None; events = xs }) (refused_events place (decode_error chunk s.control)))
-call_shown s who call.Flush p place error rejected at phase is none =
-    rw (is, none, flush_by p s.control phase) (ap (λ (xs : List Event). record { turn = None; events = xs }) (rejected_events place (flush_error s.control) ∙ ap (λ (n : ℕ). rejection n (flush_error s.control)) (sym at)))
-
--- what a reset or close shows
-removal_by : (p : CodecState) (c : Control) (pending : List ℕ) → c.phase ≡ p → removal_events p pending ≡ removal_shows (removal_error c) pending
-removal_by Unconfigured c pending is = rw is refl
-removal_by Configured c pending is = rw is refl
-removal_by Closed c pending is = rw is refl
-
-pub reset_shown : (s : State) (who : Who) (p : CodecState) → s.control.phase ≡ p → record { turn = None; events = removal_events p s.control.pending } ≡ shown_at (entry.Reset who) s
-reset_shown s who p is = ap (λ (xs : List Event). record { turn = None; events = xs }) (removal_by p s.control s.control.pending is)
-
-pub close_shown : (s : State) (who : Who) (p : CodecState) → s.control.phase ≡ p → record { turn = None; events = removal_events p s.control.pending } ≡ shown_at (entry.Close who) s
-close_shown s who p is = ap (λ (xs : List Event). record { turn = None; events = xs }) (removal_by p s.control s.control.pending is)
+pub call_shown : (s : State) (who : Who) (x : Call) (place : ℕ) → s.control.place ≡ place → noted (call_events x place (call_error x s.control)) ≡ shown_at (entry_of who x) s
+call_shown s who (call.Configure config) place at = refl
+call_shown s who (call.Decode chunk) place at = refl
+call_shown s who call.Flush place at = ap (λ (n : ℕ). noted (rejection n (flush_error s.control))) (sym at)
 
 -- an end by the definition's answer is the outcome of that answer, or memory was wanted
 pub outcome_is : (answer : Option (List media.Unit)) (e : Ended) → EndsBy answer e → (wants : Bool) × (outcome_of e ≡ outcome_for wants None answer)

@@ -1,6 +1,5 @@
 pub mod Boxes
 pub mod Desk
-pub mod Events
 pub mod Player
 pub mod Sound
 pub mod Refusals

@@ -9,16 +9,14 @@ ghost use Rattle.codec_core.specs.Job.{IsJobOf, IsEndOf, stopped_box, outcome_of
 ghost use Rattle.codec_model.specs.Control.{kind_of, may_reclaim};
 ghost use Rattle.wc_replay.specs.Boxes.{IsGivable, IsRefused};
 ghost use Rattle.wc_replay.specs.Desk.{more, state_of, next_by, box_out, after_start, start_slots, after_removal, removal_box, after_turn, turn_box, after_reclaim, reclaim_box, after_done, done_box, shown_by_turn};
-ghost use Rattle.wc_replay.specs.Events.{events_of};
 
 use crate::boxes::fill;
-use crate::events::{
-    event_of_call, events_of_reclaim, events_of_removal, events_of_task, rejection_of_flush,
-    word_of,
-};
 use codec_core::{CallFault, Core, DoneJob, Job};
 use codec_drive::run;
-use codec_model::{Call, CodecState, Entry, Event, Opening, PromiseState, Shown};
+use codec_follow::{
+    events_of_call, events_of_reclaim, events_of_removal, events_of_task, note, word_of,
+};
+use codec_model::{Call, CodecState, Entry, Opening, PromiseState, Shown};
 use coder_api::{Coder, SlotBox};
 use slot_registry::Slots;
 use std::alloc::Global;
@@ -51,13 +49,6 @@ pub(crate) struct Answer {
     pub(crate) error: Option<DomError>,
 }
 
-/// What an entry showed that is no turn.
-fn note(events: List<Event>) -> Shown
-    ensures { result ≡ record { turn = None; events = events } }
-{
-    Shown { turn: None, events }
-}
-
 impl<C: Coder> Desk<C> {
     pub(crate) fn open(alloc: Global, opening: Opening) -> Result<Desk<C>, NoMemory>
         requires low { 1 ≤ opening.saturation }
@@ -79,13 +70,12 @@ impl<C: Coder> Desk<C> {
         ensures place { IfOk result (λ a. a.place ≡ length self.old.history) }
         ensures error { IfOk result (λ a. a.error ≡ exception_of call (call_error call (state_of self.old).control)) }
     {
-        let events = Vec::with_capacity(alloc, 1)?;
         self.shown.reserve(1)?;
-        let (_, state, _) = self.core.look();
-        let rejected = rejection_of_flush(&call, state);
+        let (place, _, _) = self.core.look();
+        let error = self.core.error_of(&call);
+        let events = events_of_call(alloc, &call, place, error)?;
         let answer = ask(&mut self.core, who, call)?;
-        let event = event_of_call(answer.place, answer.error, rejected);
-        self.shown.push_reserved(note(filled(events, event)));
+        self.shown.push_reserved(note(events));
         Ok(answer)
     }
 
@@ -102,8 +92,8 @@ impl<C: Coder> Desk<C> {
     {
         self.shown.reserve(1)?;
         self.core.reserve(1)?;
-        let (_, state, _) = self.core.look();
-        let events = events_of_removal(alloc, state, self.core.pending())?;
+        let error = self.core.removal_error();
+        let events = events_of_removal(alloc, error, self.core.pending())?;
         let (answer, slot) = reset(&mut self.core, who);
         self.shown.push_reserved(note(events));
         Ok((answer, slot))
@@ -122,8 +112,8 @@ impl<C: Coder> Desk<C> {
     {
         self.shown.reserve(1)?;
         self.core.reserve(1)?;
-        let (_, state, _) = self.core.look();
-        let events = events_of_removal(alloc, state, self.core.pending())?;
+        let error = self.core.removal_error();
+        let events = events_of_removal(alloc, error, self.core.pending())?;
         let (answer, slot) = close(&mut self.core, who);
         self.shown.push_reserved(note(events));
         Ok((answer, slot))
@@ -304,18 +294,6 @@ fn close<C: Coder>(core: &mut Core<C>, who: Who) -> (Answer, Option<SlotBox<C>>)
             (Answer { place, error }, None)
         }
     }
-}
-
-// The event of a call, if it shows one, in a list whose place was taken before.
-fn filled(mut events: Vec<Event>, event: Option<Event>) -> List<Event>
-    requires empty { events.items ≡ [] }
-    requires room { vec_len events < vec_capacity events }
-    ensures { result ≡ events_of event }
-{
-    if let Some(event) = event {
-        events.push_reserved(event);
-    }
-    List::of(events)
 }
 
 // The end of a job: no box was free, or it did its work, or memory was wanted.

@@ -3,7 +3,6 @@
 
 mod boxes;
 mod desk;
-mod events;
 mod laws;
 mod missing;
 mod moving;

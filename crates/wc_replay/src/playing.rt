@@ -8,9 +8,9 @@ ghost use Rattle.wc_replay.specs.Player.{course, AreOpened, KeepsShape, IsPlayab
 ghost use Rattle.script_types.specs.Built.{unbuilt_in};
 
 use crate::desk::Desk;
-use crate::events::append;
 use crate::results::Results;
 use crate::steps::Player;
+use codec_follow::append;
 use codec_model::{Kind, Opening};
 use coder_api::Coder;
 use script_types::{CallerItem, CodecItem, KindWord, OrderItem, Script, ScriptData};

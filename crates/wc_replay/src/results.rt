@@ -2,7 +2,7 @@
 ghost use Rattle.std.specs.Prelude.{◌≡◌, [], ◌∷◌, ◌++◌, OnOk, IfOk, length, slice_get, map};
 ghost use Rattle.trace_text.specs.Follow.{at, append_at};
 
-use crate::events::append;
+use codec_follow::append;
 use std::alloc::Global;
 use std::marker::Model;
 use trace_text::StepResult;

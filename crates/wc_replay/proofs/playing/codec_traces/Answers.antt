@@ -12,7 +12,7 @@ loop-desk-preserved g c =
     let steps = c.in-Some.ensures.steps in
     let short = ap length steps.0 in
     record {
-      all = one_more trace_of at.traces.items c.append.new.items.items c.in-Some.desk (into_iter_items c.next.new.self) (into_iter_items at.desk-iterator) c.args.desks.items at.invariant.all steps.0 (c.in_ok-append.ensures ∙ ap (λ (t : CodecTrace). c.loop-desk.traces.items ++ t ∷ []) c.codec_trace-trace.ensures);
+      all = one_more trace_of at.traces.items c.append.new.items.items c.in-Some.desk (into_iter_items c.next.new.self) (into_iter_items at.desk-iterator) c.args.desks.items at.invariant.all steps.0 (c.in_ok-append.ensures.ok ∙ ap (λ (t : CodecTrace). c.loop-desk.traces.items ++ t ∷ []) c.codec_trace-trace.ensures);
       long = omega (arith, short, steps.1, at.invariant.long);
     }
 

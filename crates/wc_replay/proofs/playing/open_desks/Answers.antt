@@ -16,7 +16,7 @@ pub loop-codec-preserved : goal.loop-codec-preserved
 loop-codec-preserved g c =
     let made = c.loop-codec.desks.items in
     next_made new_desk c.args.codecs.now c.loop-codec.codec-index c.codec-item.result made c.append.new.items.items c.loop-codec-test.true c.codec-item.is c.loop-codec.invariant
-    (c.in_ok-append.ensures ∙ ap (λ (d : DeskValue). made ++ d ∷ []) c.in_ok-desk.ensures)
+    (c.in_ok-append.ensures.ok ∙ ap (λ (d : DeskValue). made ++ d ∷ []) c.in_ok-desk.ensures)
 
 pub returns : goal.returns
 returns g c = whole_made new_desk c.args.codecs.now c.loop-codec.codec-index c.loop-codec.desks.items c.loop-codec-test.false c.loop-codec.invariant

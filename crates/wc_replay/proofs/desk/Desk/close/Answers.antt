@@ -1,10 +1,10 @@
-use Rattle.std.proofs.Common.{ap, sym, ◌∙◌, Option, is_some, option_map}
+use Rattle.std.proofs.Common.{refl, ap, ◌∙◌, Option, is_some, option_map}
 use Rattle.coder_api.specs.Lent.{Lent}
 use Rattle.codec_model.specs.declared.entry.Entry.TheVariants as entry
 use Rattle.codec_model.specs.Replay.{removal_error}
 use Rattle.codec_core.specs.Codec.{state_at}
 use Rattle.wc_replay.specs.Desk.{DeskValue, box_out, after_removal, removal_box}
-use Rattle.wc_replay.proofs.Desks.{desk_more, desk_reserved, seen_reserved, job_matches, close_shown, has_box, box_stays, seen_removed, removed_box}
+use Rattle.wc_replay.proofs.Desks.{desk_more, desk_reserved, seen_reserved, job_matches, has_box, box_stays, seen_removed, removed_box}
 use Rattle.wc_replay.proofs.desk.Desk.close.Goals as goal
 
 pub invariant_of-self-2 : goal.invariant_of-self-2
@@ -14,9 +14,9 @@ invariant_of-self-2 g c =
     let kept = desk_reserved desk.core core _ desk.job desk.refusal desk.shown.items c.in_ok-reserve-2.ensures.ok c.self.invariant in
     let s = state_at core in
     let said = c.close-slot.ensures in
-    rw (c.push_reserved.ensures.items, c.reserve.ensures.items, c.note.ensures, c.in_ok-events.ensures, c.pending.ensures)
+    rw (c.push_reserved.ensures.items, c.reserve.ensures.items, c.note.ensures, c.in_ok-events.ensures, c.pending.ensures, c.removal_error-error.ensures)
     (desk_more core c.close-slot.new.core (entry.Close c.args.who) desk.job desk.job desk.refusal desk.refusal desk.shown.items _ kept said.made
-    (close_shown s c.args.who c.look-state.result.1 (sym c.look-state.ensures.state))
+    refl
     (job_matches s (state_at c.close-slot.new.core) desk.job said.running kept.matches)
     (box_stays (is_some (removal_error s.control)) core.slot c.close-slot.new.core.slot desk.job desk.refusal (has_box core desk.job desk.refusal desk.shown.items kept) said.slot))
 
