@@ -138,7 +138,10 @@ fn ordinary_run(rt: HostRuntime) -> Result<(), Fail> {
     assert_eq!(rt; core.look(), (9, CodecState::Configured, 0));
     assert_eq!(rt; core.progress(), Some(2));
     assert!(rt; core.spare() >= 2);
-    assert_eq!(rt; (core.error_of(&Call::Flush), core.removal_error()), (None, None));
+    assert_eq!(rt;
+        (core.error_of(&Call::Flush), core.removal_error()),
+        (None, None)
+    );
     let closed = core.close(who);
     assert_eq!(rt; core.removal_error(), Some(DomError::InvalidState));
     assert!(rt; closed.is_ok_and(|removed| removed.coder.is_some()));
