@@ -28,7 +28,7 @@ text_is w id h =
 either : (a b c d e f g h i j k : Bool)
     → is_some (cond a (Some codec.PcmU8) (cond b (Some codec.PcmS16) (cond c (Some codec.PcmS24) (cond d (Some codec.PcmS32) (cond e (Some codec.Alaw) (cond f (Some codec.Ulaw) (cond g (Some codec.Flac) (cond h (Some codec.RawI420) (cond i (Some codec.RawI422) (cond j (Some codec.RawI444) (cond k (Some codec.RawNv12) None)))))))))))
     ≡ (is_some (cond a (Some codec.PcmU8) (cond b (Some codec.PcmS16) (cond c (Some codec.PcmS24) (cond d (Some codec.PcmS32) (cond e (Some codec.Alaw) (cond f (Some codec.Ulaw) (cond g (Some codec.Flac) None)))))))
-      || is_some (cond h (Some codec.RawI420) (cond i (Some codec.RawI422) (cond j (Some codec.RawI444) (cond k (Some codec.RawNv12) None)))))
+    || is_some (cond h (Some codec.RawI420) (cond i (Some codec.RawI422) (cond j (Some codec.RawI444) (cond k (Some codec.RawNv12) None)))))
 either true b c d e f g h i j k = refl
 either false true c d e f g h i j k = refl
 either false false true d e f g h i j k = refl
@@ -41,7 +41,7 @@ either false false false false false false false h i j k = refl
 named : (w : List ℕ) → is_some (codec_id_of w) ≡ is_codec_string w
 named w =
     either (bytes_eq w (codes "pcm-u8")) (bytes_eq w (codes "pcm-s16")) (bytes_eq w (codes "pcm-s24")) (bytes_eq w (codes "pcm-s32")) (bytes_eq w (codes "alaw")) (bytes_eq w (codes "ulaw")) (bytes_eq w (codes "flac"))
-        (bytes_eq w (codes "x-raw-i420")) (bytes_eq w (codes "x-raw-i422")) (bytes_eq w (codes "x-raw-i444")) (bytes_eq w (codes "x-raw-nv12"))
+    (bytes_eq w (codes "x-raw-i420")) (bytes_eq w (codes "x-raw-i422")) (bytes_eq w (codes "x-raw-i444")) (bytes_eq w (codes "x-raw-nv12"))
 
 pub string_none : (w : List ℕ) → codec_id_of w ≡ None → is_codec_string w ≡ false
 string_none w h = sym (named w) ∙ ap (λ (o : Option CodecId). is_some o) h

@@ -1,9 +1,8 @@
 -- The run that lines show is written without loss where the lines fit the script and are few.
 use Rattle.std.proofs.Common.{◌≡◌, ℕ, zero, suc, ◌+◌, ◌^◌, ◌<◌, ◌≤◌, Bool, true, false, cond, List, [], ◌∷◌, ◌++◌, length, drop, Option, Some, None, refl, sym, subst, arith}
-use Rattle.std.specs.Prelude.{nat_lt, IfSome, IsTrue, flat_map, unwrap_or, option_map, option_to_list}
+use Rattle.std.specs.Prelude.{nat_lt, IfSome, flat_map, unwrap_or, option_map, option_to_list}
 use Rattle.std.specs.List.{AllByRecursion, zip, slice_get}
 use Rattle.std.proofs.lemmas.Bool.{and_parts, leb-true, ltb-true}
-use Rattle.wc_base.specs.declared.who.Who.{Who}
 use Rattle.wc_base.specs.declared.media.SoundShape.{SoundShape}
 use Rattle.wc_config.specs.declared.config.AudioDecoderConfig.{AudioDecoderConfig}
 use Rattle.wc_chunk.specs.declared.chunk.Chunk.{Chunk}
@@ -38,14 +37,13 @@ use Rattle.report_lines.specs.declared.line.Line.{Line}
 use Rattle.report_lines.specs.declared.line.Line.TheVariants as line
 use Rattle.report_text.specs.Told.{told_of}
 use Rattle.report_lines.specs.Laws.{config_seen, output_seen, event_seen}
-use Rattle.report_lines.specs.Reading.{line_at}
-use Rattle.report_lines.specs.Whole.{lines_from, result_seen, caller_seen, entry_seen, codec_seen, slot_seen, end_seen, lines_of}
+use Rattle.report_lines.specs.Whole.{lines_from, result_seen, caller_seen, entry_seen, codec_seen, slot_seen, end_seen}
 use Rattle.report_lines.specs.Fits.{FitsResult, FitsTold, FitsSeen, FitsBy, FitsOp, FitsLine}
 use Rattle.report_lines.proofs.ReadLaws.{line_fits}
 use Rattle.report_reader.specs.declared.forms.Section.{Section}
 use Rattle.report_reader.specs.declared.forms.Section.TheVariants as section
 use Rattle.report_reader.specs.Form.{Reads, AreForms}
-use Rattle.report_reader.specs.Read.{results_in, behind_results, callers_in, entry_of, next_of, entry_then, entries_from, told_in, behind_entries, description_of, config_of, config_in, unit_of, outputs_in, opening_of, codec_in, codecs_in, slots_in, held_in, run_of}
+use Rattle.report_reader.specs.Read.{results_in, behind_results, callers_in, entry_of, next_of, entry_then, entries_from, told_in, behind_entries, description_of, config_in, unit_of, outputs_in, opening_of, codec_in, codecs_in, slots_in, held_in, run_of}
 use Rattle.report_reader.specs.Told.{IsPlainTrace, IsWithoutLoss, IsTold}
 use Rattle.codec_follow.specs.Outputs.{is_codec_string, IsPlainDescription, IsPlainConfig, IsOutputOf, empty_output}
 use Rattle.report_reader.specs.Fits.{FitsEvent, FitsShown, FitsTrace}

@@ -1,12 +1,11 @@
 -- The outputs of a legal run that fits its script are of their codecs' kinds.
-use Rattle.std.proofs.Common.{ℕ, zero, suc, ◌≡◌, Bool, true, List, [], ◌∷◌, map, Option, Some, None, refl, ap, sym, subst, ◌∙◌}
+use Rattle.std.proofs.Common.{ℕ, zero, suc, ◌≡◌, true, List, [], ◌∷◌, map, Option, Some, refl, ap, sym, subst, ◌∙◌}
 use Rattle.std.specs.List.{AllByRecursion, slice_get}
 use Rattle.wc_base.specs.declared.error.DomError.{DomError}
 use Rattle.wc_base.specs.declared.who.Who.{Who}
 use Rattle.wc_config.specs.declared.config.Config.{Config}
 use Rattle.wc_config.specs.declared.config.Config.TheVariants as config
 use Rattle.wc_chunk.specs.declared.chunk.Chunk.{Chunk}
-use Rattle.codec_model.specs.declared.entry.Kind.{Kind}
 use Rattle.codec_model.specs.declared.entry.Entry.{Entry}
 use Rattle.codec_model.specs.declared.entry.Entry.TheVariants as entry
 use Rattle.codec_model.specs.declared.entry.Shown.{Shown}
@@ -23,11 +22,10 @@ use Rattle.script_types.specs.declared.steps.Step.{Step}
 use Rattle.script_types.specs.declared.steps.Step.TheVariants as step
 use Rattle.script_types.specs.Sound.{is_sound, suits}
 use Rattle.script_types.proofs.SoundLaws.{step_at, codec_there}
-use Rattle.report_text.specs.declared.result.StepResult.{StepResult}
 use Rattle.report_text.specs.declared.result.StepResult.TheVariants as result
 use Rattle.trace_text.specs.declared.run.CodecTrace.{CodecTrace}
 use Rattle.trace_text.specs.declared.run.Run.{Run}
-use Rattle.trace_text.specs.Follow.{Recorded, at, steps_in, steps_of, kind_of_word}
+use Rattle.trace_text.specs.Follow.{Recorded, at, steps_in, kind_of_word}
 use Rattle.trace_text.specs.Fits.{CallsAreIn, ArgumentsAreIn, HasArguments, IsResultOf, called, entry_in, step_in, Fits, IsLegalTrace, AreLegalTraces, IsLegalRun}
 use Rattle.report_reader.specs.Told.{IsPlainTrace}
 
@@ -61,9 +59,9 @@ step_suits : (script : ScriptData) (files : List (List Chunk)) (w : Recorded) (w
     → slice_get script.codecs k ≡ Some c → IsConfigOf (kind_of_word c.kind) given
 step_suits script files w who k p error c given (step.Configure on config) sound is kept has at =
     let caller = caller_of_step script.callers who.caller who.step (step.Configure on config) is in
-    let there = codec_there script.codecs (suits config) on (step_at script who.caller who.step caller.0 (step.Configure on config) sound caller.1.0 caller.1.1) in
-    let same : there.0 ≡ c = some_same there.0 c (sym there.1.0 ∙ ap (λ n. slice_get script.codecs n) (sym kept.0) ∙ at) in
-    let own = subst (λ (y : CodecItem). IsConfigOf (kind_of_word y.kind) config) same (suits_kind config there.0.kind there.1.1) in
+    let there = codec_there script.codecs (suits config) on (step_at script who.caller who.step caller.0 (step.Configure on config) sound caller.1 caller.2) in
+    let same : there.0 ≡ c = some_same there.0 c (sym there.1 ∙ ap (λ n. slice_get script.codecs n) (sym kept.0) ∙ at) in
+    let own = subst (λ (y : CodecItem). IsConfigOf (kind_of_word y.kind) config) same (suits_kind config there.0.kind there.2) in
     let kept_config : config ≡ given = cc in
     subst (λ (y : Config). IsConfigOf (kind_of_word c.kind) y) kept_config own
 step_suits script files w who k p error c given (step.Chunk bind source) sound is kept has at = absurd has
@@ -82,8 +80,8 @@ configures script files w k p c (entry.Configure who given) sound calls argument
     let kept = calls.only k p (entry.Configure who given) who is refl in
     let made = calls.made who.caller who.step (result.Call k p kept.0) kept.1 in
     let gave = arguments k p (entry.Configure who given) who is refl in
-    let same : gave.0 ≡ made.0 = some_same gave.0 made.0 (sym gave.1.0 ∙ made.1.0) in
-    step_suits script files w who k p kept.0 c given made.0 sound made.1.0 made.1.1 (subst (λ (x : Step). HasArguments script files who (entry.Configure who given) x) same gave.1.1) at
+    let same : gave.0 ≡ made.0 = some_same gave.0 made.0 (sym gave.1 ∙ made.1) in
+    step_suits script files w who k p kept.0 c given made.0 sound made.1 made.2 (subst (λ (x : Step). HasArguments script files who (entry.Configure who given) x) same gave.2) at
 configures script files w k p c (entry.Decode who chunk) sound calls arguments is at = tt
 configures script files w k p c (entry.Flush who) sound calls arguments is at = tt
 configures script files w k p c (entry.Reset who) sound calls arguments is at = tt

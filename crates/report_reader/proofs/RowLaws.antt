@@ -20,7 +20,7 @@ told = record {
 
 whole : IsWithoutLoss ordinary_script ordinary_run
 whole = record {
-  plain = ((tt, tt), tt);
+  plain = ((omega arith, tt), tt);
   fits = (tt, ((omega arith, omega arith), ((omega arith, ((omega arith, omega arith), omega arith)), ((omega arith, tt), ((omega arith, ((omega arith, omega arith), omega arith)), ((omega arith, ((omega arith, omega arith), omega arith)), ((omega arith, ((omega arith, omega arith), omega arith)), (((omega arith, omega arith), omega arith), ((omega arith, ((omega arith, omega arith), omega arith)), ((omega arith, ((omega arith, omega arith), omega arith)), ((omega arith, ((omega arith, omega arith), omega arith)), ((omega arith, (omega arith, omega arith)), ((omega arith, (omega arith, omega arith, omega arith, omega arith)), ((omega arith, tt), ((omega arith, tt), ((omega arith, (omega arith, omega arith)), ((omega arith, (omega arith, omega arith, omega arith, omega arith)), ((omega arith, tt), (tt, ((omega arith, tt), (record { rate = omega arith; channels = omega arith; frames = omega arith; timestamp = omega arith; are_bytes = small }, ((omega arith, (omega arith, omega arith)), ((omega arith, (omega arith, omega arith, omega arith, omega arith)), ((omega arith, tt), (omega arith, (tt, (tt, ((omega arith, ((omega arith, omega arith), omega arith), omega arith), (omega arith, (tt, tt))))))))))))))))))))))))))))));
 }
 

@@ -1,4 +1,5 @@
 -- The lines of a run that is told show that run.
+use Rattle.std.proofs.lemmas.Bool.{lt-ltb}
 use Rattle.std.proofs.Common.{◌≡◌, ℕ, suc, ◌+◌, true, List, [], ◌∷◌, ◌++◌, length, map, Option, Some, None, is_some, refl, sym, ap, subst, ◌∙◌, arith, append_assoc}
 use Rattle.std.specs.Prelude.{flat_map, unwrap_or, option_and_then}
 use Rattle.std.specs.List.{AllByRecursion, zip}
@@ -108,14 +109,10 @@ description_again None plain = refl
 description_again (Some []) plain = absurd plain
 description_again (Some (b ∷ bs)) plain = refl
 
-rate_above : (n : ℕ) → 0 < n → nat_lt 0 n ≡ true
-rate_above zero lt = absurd (omega arith)
-rate_above (suc n) lt = refl
-
 outputs_events : (k : Kind) (es : List Event) (ls : List Line) → config_in ls ≡ None → AllByRecursion (IsOutputOf k) (units_in es) → outputs_in k (flat_map event_seen es ++ ls) ≡ units_in es ++ outputs_in k ls
 outputs_events k [] ls none plain = refl
 outputs_events k (event.Refusal x ∷ es) ls none plain = outputs_events k es ls none plain
-outputs_events kind.AudioDecoder (event.Output n (unit.Sound samples) ∷ es) ls none plain = rw (rate_above samples.shape.rate plain.0) (ap (λ (us : List media.Unit). unit.Sound samples ∷ us) (outputs_events kind.AudioDecoder es ls none plain.1))
+outputs_events kind.AudioDecoder (event.Output n (unit.Sound samples) ∷ es) ls none plain = rw (lt-ltb 0 samples.shape.rate plain.0) (ap (λ (us : List media.Unit). unit.Sound samples ∷ us) (outputs_events kind.AudioDecoder es ls none plain.1))
 outputs_events kind.AudioDecoder (event.Output n (unit.Image picture) ∷ es) ls none plain = absurd plain.0
 outputs_events kind.AudioDecoder (event.Output n (unit.Coded chunk config) ∷ es) ls none plain = absurd plain.0
 outputs_events kind.VideoDecoder (event.Output n (unit.Image picture) ∷ es) ls none plain = ap (λ (us : List media.Unit). unit.Image picture ∷ us) (outputs_events kind.VideoDecoder es ls none plain.1)
@@ -125,10 +122,18 @@ outputs_events kind.AudioEncoder (event.Output n (unit.Coded chunk None) ∷ es)
 outputs_events kind.AudioEncoder (event.Output n (unit.Coded chunk (Some c)) ∷ es) ls none plain = rw (plain.0.0, description_again c.description plain.0.1) (ap (λ (us : List media.Unit). unit.Coded chunk (Some c) ∷ us) (outputs_events kind.AudioEncoder es ls none plain.1))
 outputs_events kind.AudioEncoder (event.Output n (unit.Sound samples) ∷ es) ls none plain = absurd plain.0
 outputs_events kind.AudioEncoder (event.Output n (unit.Image picture) ∷ es) ls none plain = absurd plain.0
-outputs_events k (event.Resolve p ∷ es) ls none plain = outputs_events k es ls none plain
-outputs_events k (event.Reject p x ∷ es) ls none plain = outputs_events k es ls none plain
-outputs_events k (event.Dequeue ∷ es) ls none plain = outputs_events k es ls none plain
-outputs_events k (event.ErrorCall x ∷ es) ls none plain = outputs_events k es ls none plain
+outputs_events kind.AudioDecoder (event.Resolve p ∷ es) ls none plain = outputs_events kind.AudioDecoder es ls none plain
+outputs_events kind.AudioEncoder (event.Resolve p ∷ es) ls none plain = outputs_events kind.AudioEncoder es ls none plain
+outputs_events kind.VideoDecoder (event.Resolve p ∷ es) ls none plain = outputs_events kind.VideoDecoder es ls none plain
+outputs_events kind.AudioDecoder (event.Reject p x ∷ es) ls none plain = outputs_events kind.AudioDecoder es ls none plain
+outputs_events kind.AudioEncoder (event.Reject p x ∷ es) ls none plain = outputs_events kind.AudioEncoder es ls none plain
+outputs_events kind.VideoDecoder (event.Reject p x ∷ es) ls none plain = outputs_events kind.VideoDecoder es ls none plain
+outputs_events kind.AudioDecoder (event.Dequeue ∷ es) ls none plain = outputs_events kind.AudioDecoder es ls none plain
+outputs_events kind.AudioEncoder (event.Dequeue ∷ es) ls none plain = outputs_events kind.AudioEncoder es ls none plain
+outputs_events kind.VideoDecoder (event.Dequeue ∷ es) ls none plain = outputs_events kind.VideoDecoder es ls none plain
+outputs_events kind.AudioDecoder (event.ErrorCall x ∷ es) ls none plain = outputs_events kind.AudioDecoder es ls none plain
+outputs_events kind.AudioEncoder (event.ErrorCall x ∷ es) ls none plain = outputs_events kind.AudioEncoder es ls none plain
+outputs_events kind.VideoDecoder (event.ErrorCall x ∷ es) ls none plain = outputs_events kind.VideoDecoder es ls none plain
 
 -- ---- entries
 

@@ -1,5 +1,5 @@
 -- The runs whose report tells them: each has a report of its own.
-use Rattle.std.specs.Prelude.{ℕ, ◌≡◌, List, length, Some}
+use Rattle.std.specs.Prelude.{◌≡◌, List, length, Some}
 use Rattle.std.specs.List.{AllByRecursion, zip}
 use Rattle.wc_chunk.specs.declared.chunk.Chunk.{Chunk}
 use Rattle.codec_model.specs.declared.entry.Entry.{Entry}

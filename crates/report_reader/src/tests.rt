@@ -188,10 +188,22 @@ fn lines_that_differ(rt: HostRuntime) -> Result<(), Fail> {
 fn outputs_that_are_none_of_the_codec(rt: HostRuntime) -> Result<(), Fail> {
     let shown = "output audio s16 8000 1 2 0 250 01000200";
     // an output with nothing in it is one
-    assert_eq!(rt; line_at_fault(&rt, shown, "output audio u8 1 1 0 0 0 -")?, 0);
-    assert_eq!(rt; line_at_fault(&rt, shown, "output audio s16 0 1 2 0 0 01000200")?, 21);
-    assert_eq!(rt; line_at_fault(&rt, shown, "output video I420 1 1 0 - 00")?, 21);
-    assert_eq!(rt; line_at_fault(&rt, shown, "output chunk key 0 250 01000200")?, 21);
+    assert_eq!(rt;
+        line_at_fault(&rt, shown, "output audio u8 1 1 0 0 0 -")?,
+        0
+    );
+    assert_eq!(rt;
+        line_at_fault(&rt, shown, "output audio s16 0 1 2 0 0 01000200")?,
+        21
+    );
+    assert_eq!(rt;
+        line_at_fault(&rt, shown, "output video I420 1 1 0 - 00")?,
+        21
+    );
+    assert_eq!(rt;
+        line_at_fault(&rt, shown, "output chunk key 0 250 01000200")?,
+        21
+    );
     assert_eq!(rt; line_at_fault(&rt, shown, "output chunk delta 0 - -")?, 21);
     Ok(())
 }

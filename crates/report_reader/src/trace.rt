@@ -139,8 +139,7 @@ fn trace_of(
         match next_entry(&mut follower, script, media, *told)? {
             None => return Ok(trace_with(opening, entries, shown)),
             Some((entry, blank)) => {
-                let (events, behind) =
-                    filled(alloc, opening.kind, blank.events.as_slice(), left)?;
+                let (events, behind) = filled(alloc, opening.kind, blank.events.as_slice(), left)?;
                 push(&mut entries, entry)?;
                 push(&mut shown, shown_with(blank.turn, events))?;
                 left = behind;
