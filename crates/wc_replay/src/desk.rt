@@ -1,5 +1,5 @@
 // A codec at work in a replay.
-ghost use Rattle.std.specs.Prelude.{◌≡◌, ◌≤◌, ◌<◌, Bool, [], ◌∷◌, ◌++◌, IfOk, IfNone, OnOk, OnErr, OnSome, length, None, Some, is_some, not, option_map, true, false, vec_len, vec_capacity};
+ghost use Rattle.std.specs.Prelude.{◌≡◌, ◌≤◌, ◌<◌, Bool, [], ◌∷◌, ◌++◌, IfOk, IfNone, OnOk, OnErr, OnSome, length, None, Some, is_some, not, option_map, true, false};
 ghost use Rattle.codec_model.specs.declared.entry.Entry.TheVariants as entry;
 ghost use Rattle.codec_model.specs.Replay.{State, entry_of, call_error, IsLegal, removal_error, answer_to};
 ghost use Rattle.codec_model.specs.Shown.{each_shown};
