@@ -15,7 +15,7 @@ use Rattle.report_fields.specs.Fields.{short, number_upto, short_upto, signed_up
 use Rattle.report_fields.specs.Laws.{Lacks, FitsOrAbsent}
 use Rattle.report_fields.proofs.FitLaws.{bind_fits, bind_any, if_fits, upto_fits, number_fits, short_of_fits, short_fits, signed_fits, number_or_dash_fits, bytes_fits}
 use Rattle.report_lines.specs.Text.{line_text}
-use Rattle.report_lines.specs.Reading.{error_of, answer_of, kind_of, state_of, call_of, sample_format_of, picture_format_of, key_of, caller_of, codec_of, error_at, answer_at, promise_at, look_as, look_at, looked, call_result, outcome_at, turn_at, start_at, done_at, call_at, by_as, by_of, coder_at, refused_at, acquired_at, given_at, op_at, slot_at, dotted, worded, numbered, sound_at, image_at, chunk_at, output_at, one_line, config_at, reject_at, seen_at, shown_at, codec_at, caller_at, headed, parsed, line_at}
+use Rattle.report_lines.specs.Reading.{error_of, answer_of, kind_of, state_of, call_of, sample_format_of, picture_format_of, key_of, caller_of, codec_of, error_at, answer_at, promise_at, look_as, look_at, looked, call_result, outcome_at, turn_at, start_at, done_at, call_at, by_as, by_of, coder_at, refused_at, acquired_at, given_at, op_at, slot_at, dotted, worded, numbered, sound_at, image_at, chunk_at, output_at, without_feed, config_at, reject_at, seen_at, shown_at, codec_at, caller_at, headed, parsed, line_at}
 use Rattle.report_lines.specs.Fits.{is_no_feed, IsCaller, IsCodec, FitsResult, FitsOutcome, FitsTold, FitsSeen, FitsBy, FitsOp, FitsLine}
 
 abbrev IsLong : {X : Type 0} → ℕ × X → Type 0
@@ -204,14 +204,14 @@ output_fits bs =
 abbrev IsCodecWord : List ℕ → Type 0
 IsCodecWord text = Lacks 32 text × (list_all is_no_feed text ≡ true)
 
-one_line_fits : (text : List ℕ) → Lacks 32 text → IfSome (one_line text) IsCodecWord
-one_line_fits text lacks = if_fits IsCodecWord (list_all is_no_feed text) _ _ (λ is. (lacks, is)) (λ is. tt)
+without_feed_fits : (text : List ℕ) → Lacks 32 text → IfSome (without_feed text) IsCodecWord
+without_feed_fits text lacks = if_fits IsCodecWord (list_all is_no_feed text) _ _ (λ is. (lacks, is)) (λ is. tt)
 
 config_fits : (bs : List ℕ) → IfSome (config_at bs) FitsSeen
 unfolding config_at
 config_fits bs =
     bind_fits (λ x. Lacks 32 x.0) FitsSeen (upto 32 bs) _ (upto_fits 32 bs)
-    (λ name lacks. bind_fits IsCodecWord FitsSeen (one_line name.0) _ (one_line_fits name.0 lacks)
+    (λ name lacks. bind_fits IsCodecWord FitsSeen (without_feed name.0) _ (without_feed_fits name.0 lacks)
     (λ codec word. bind_fits IsShort FitsSeen (short_upto 32 name.1) _ (short_fits 32 name.1)
     (λ rate r. bind_fits IsShort FitsSeen (short_upto 32 rate.1) _ (short_fits 32 rate.1)
     (λ channels c. bind_fits (λ x. IsBytes x.0) FitsSeen (bytes_upto 10 channels.1) _ (bytes_fits 10 channels.1) (λ description b. (word.0, word.1, r, c, b))))))

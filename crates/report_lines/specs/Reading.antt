@@ -346,13 +346,13 @@ output_at bs = do
       else chunk_at w.2
 
 -- the text, where it has no line feed
-abbrev pub one_line : List ℕ → Option (List ℕ)
-one_line text = if list_all is_no_feed text then Some text else None
+abbrev pub without_feed : List ℕ → Option (List ℕ)
+without_feed text = if list_all is_no_feed text then Some text else None
 
 unfoldable pub config_at : List ℕ → Option Seen
 config_at bs = do
   name ← upto 32 bs
-  codec ← one_line name.0
+  codec ← without_feed name.0
   rate ← short_upto 32 name.1
   channels ← short_upto 32 rate.1
   description ← bytes_upto 10 channels.1

@@ -1,4 +1,4 @@
-// What is written as a line is read again.
+// What is written as a line is read again, and what is read fits the script.
 ghost use Rattle.report_lines.specs.Laws.{LineAgain, LineSound, LineFits, LineIsOne, EntryIsALine, EventIsLines};
 ghost use Rattle.report_lines.specs.Whole.{ReportIsLines};
 

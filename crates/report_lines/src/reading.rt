@@ -512,8 +512,8 @@ fn has_no_feed(text: &[u8]) -> bool
 }
 
 // The text, where it has no line feed.
-fn one_line(text: &[u8]) -> Option<&[u8]>
-    ensures { option_copied result ≡ spec.one_line text.now }
+fn without_feed(text: &[u8]) -> Option<&[u8]>
+    ensures { option_copied result ≡ spec.without_feed text.now }
 {
     if has_no_feed(text) { Some(text) } else { None }
 }
@@ -524,7 +524,7 @@ fn config_at(alloc: Global, bytes: &[u8]) -> Result<Seen, FieldFault>
     ensures err { IfErr result (λ e. e ≢ FieldFault.NoMemory → spec.config_at bytes.now ≡ None) }
 {
     let (name, rest) = upto(b' ', bytes).ok_or(FieldFault::NoField)?;
-    let name = one_line(name).ok_or(FieldFault::NoField)?;
+    let name = without_feed(name).ok_or(FieldFault::NoField)?;
     let (rate, rest) = short_upto(b' ', rest).ok_or(FieldFault::NoField)?;
     let (channels, rest) = short_upto(b' ', rest).ok_or(FieldFault::NoField)?;
     let (description, _) = bytes_upto(alloc, b'\n', rest)?;

@@ -27,17 +27,17 @@ ReportsDetermineRuns = (script : ScriptData) (media : List (List Chunk)) (a b : 
 abbrev pub SoundNames : Type 0
 SoundNames = (script : ScriptData) → IsTrue (is_sound script) → AreNames script
 
--- a legal run that fits its script, in which nothing is at fault, is told
+-- a legal run that fits its script, in which nothing is at fault, is told where each of its lines fits the script
 abbrev pub LegalRunsAreTold : Type 0
 LegalRunsAreTold =
     (script : ScriptData) (media : List (List Chunk)) (made : List CoderId) (run : Run) → IsTrue (is_sound script) → IsLegalRun script run → Fits script media made run → IsWithinTypes script run → IsTold script media run
 
--- two runs that are legal, fit one script with its chunk files, and have the same report are equal
+-- two such runs of one script with its chunk files that have the same report are equal
 abbrev pub LegalReportsDetermineRuns : Type 0
 LegalReportsDetermineRuns =
     (script : ScriptData) (media : List (List Chunk)) (made : List CoderId) (a b : Run) → IsTrue (is_sound script)
     → IsLegalRun script a → Fits script media made a → IsWithinTypes script a → IsLegalRun script b → Fits script media made b → IsWithinTypes script b → report_of script a ≡ report_of script b → a ≡ b
 
--- a fault has one line
+-- at most one line is at fault
 abbrev pub FaultIsOne : Type 0
 FaultIsOne = (script : ScriptData) (media : List (List Chunk)) (bs : List ℕ) (m n : ℕ) → IsFault script media bs (fault.BadLine m) → IsFault script media bs (fault.BadLine n) → m ≡ n

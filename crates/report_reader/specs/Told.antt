@@ -24,8 +24,8 @@ pub record IsToldTrace (script : ScriptData) (media : List (List Chunk)) (trace 
   pub follows : IsFollowed trace.opening trace.entries
   pub shows : trace.shown ≡ each_filled trace.opening trace.entries (units_shown trace.shown)
 
--- its outputs are of its codec's kind: a config that a chunk carries has a codec string, and its description, if there is
--- one, has bytes, since none are written as `-`, as an absent one is
+-- Its outputs are of its codec's kind. A config that a chunk carries has a codec string, and a description with bytes or
+-- none, since no bytes are written as `-`, as an absent description is.
 abbrev pub IsPlainTrace : CodecTrace → Type 0
 IsPlainTrace trace = AllByRecursion (IsOutputOf trace.opening.kind) (units_shown trace.shown)
 
@@ -35,11 +35,12 @@ pub record IsToldRun (script : ScriptData) (media : List (List Chunk)) (run : Ru
   pub codecs : length run.codecs ≡ length script.codecs
   pub traces : AllByRecursion (IsToldTrace script media) run.codecs
 
--- the numbers on the run's lines are within their types, and its bytes are bytes, as in each run that was recorded
+-- each line of the run fits the script: its numbers are within their types, the callers and codecs that it names are there,
+-- and its bytes are bytes
 abbrev pub IsWithinTypes : ScriptData → Run → Type 0
 IsWithinTypes script run = AllByRecursion (FitsLine script) (lines_of script run)
 
--- The run's outputs are of their codecs' kinds, and the numbers on its lines are within their types.
+-- The run's outputs are of their codecs' kinds, and its lines fit the script.
 pub record IsWithoutLoss (script : ScriptData) (run : Run) : Type 0 where
   pub plain : AllByRecursion IsPlainTrace run.codecs
   pub fits : IsWithinTypes script run

@@ -16,14 +16,14 @@ pub fn names_of_sound_scripts()
 /// Laws: a legal run that fits its script, in which nothing is at fault, is told by its report. So two such runs of one
 /// script with the same report are equal.
 ///
-/// Assumed is that the numbers on its lines are within their types and its bytes are bytes, as in each run that was
-/// recorded.
+/// Assumed is that each of its lines fits the script (`IsWithinTypes`): that its numbers are within their types, the callers
+/// and codecs that it names are there, and its bytes are bytes.
 pub fn legal_runs_are_told()
     ensures told { LegalRunsAreTold }
     ensures determine { LegalReportsDetermineRuns }
 {}
 
-/// Law: bytes that are no report of a run have one line at fault.
+/// Law: of bytes that are no report of a run at most one line is at fault.
 pub fn faults_are_one()
     ensures { FaultIsOne }
 {}
