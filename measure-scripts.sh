@@ -12,7 +12,7 @@ cost() {
   local name=$1
   shift
   local spent count
-  spent=$(/usr/bin/time -f '%e s, %M KB' "$@" 2>&1 > out)
+  spent=$(/usr/bin/time -q -f '%e s, %M KB' "$@" 2>&1 > out)
   count=$(valgrind --tool=callgrind --callgrind-out-file=calls "$@" 2>&1 > /dev/null | awk '/Collected/ {print $4}')
   printf '%-44s %s, %s instructions\n' "$name" "$spent" "$count"
 }
