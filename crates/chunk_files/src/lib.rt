@@ -4,8 +4,6 @@
 mod fault;
 mod laws;
 mod read;
-#[cfg(test)]
-mod tests;
 mod write;
 
 pub use fault::ChunkFault;

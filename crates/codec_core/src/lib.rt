@@ -5,8 +5,6 @@ mod codec;
 mod job;
 mod parts;
 mod reply;
-#[cfg(test)]
-mod tests;
 mod work;
 
 pub use codec::Core;

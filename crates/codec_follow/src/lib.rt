@@ -10,8 +10,6 @@ mod known;
 mod laws;
 mod outputs;
 mod rows;
-#[cfg(test)]
-mod tests;
 
 pub use events::{
     append, events_of_call, events_of_reclaim, events_of_removal, events_of_task, note, word_of,

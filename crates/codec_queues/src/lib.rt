@@ -4,7 +4,5 @@
 
 mod machine;
 mod queues;
-#[cfg(test)]
-mod tests;
 
 pub use machine::Machine;

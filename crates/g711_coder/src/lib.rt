@@ -13,6 +13,3 @@ pub use alaw::{alaw_decode, alaw_encode};
 pub use coder::G711Coder;
 pub use laws::{alaw_codes, ulaw_codes};
 pub use ulaw::{ulaw_decode, ulaw_encode};
-
-#[cfg(test)]
-mod tests;

@@ -4,8 +4,6 @@
 mod fault;
 mod laws;
 mod read;
-#[cfg(test)]
-mod tests;
 
 pub use fault::MediaFault;
 pub use laws::media_have_one_reading;

@@ -6,6 +6,3 @@ mod decode;
 mod encode;
 
 pub use coder::PcmCoder;
-
-#[cfg(test)]
-mod tests;

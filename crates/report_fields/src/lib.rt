@@ -4,8 +4,6 @@
 
 mod fields;
 mod laws;
-#[cfg(test)]
-mod tests;
 mod words;
 
 pub use fields::{

@@ -4,8 +4,6 @@
 mod laws;
 mod line;
 mod reading;
-#[cfg(test)]
-mod tests;
 mod text;
 mod words;
 

@@ -12,8 +12,6 @@ mod read;
 mod reading;
 mod rows;
 mod run;
-#[cfg(test)]
-mod tests;
 mod trace;
 
 pub use fault::ReportFault;

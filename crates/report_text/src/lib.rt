@@ -5,8 +5,6 @@ mod lines;
 mod names;
 mod outputs;
 mod result;
-#[cfg(test)]
-mod tests;
 mod told;
 mod words;
 

@@ -18,6 +18,3 @@ pub use members::{
 pub use options::read_options;
 pub use source::{SourceWords, read_source};
 pub use wrong::Wrong;
-
-#[cfg(test)]
-mod tests;

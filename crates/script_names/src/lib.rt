@@ -9,6 +9,3 @@ mod variables;
 pub use files::Files;
 pub use heads::{find_caller, find_codec, is_caller_name, is_codec_name};
 pub use variables::Variables;
-
-#[cfg(test)]
-mod tests;

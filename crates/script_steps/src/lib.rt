@@ -13,6 +13,3 @@ pub use inline::{read_inline_data, word_member};
 pub use laws::steps_are_sound;
 pub use steps::read_step;
 pub use words::{MediaWord, StepWord};
-
-#[cfg(test)]
-mod tests;

@@ -5,6 +5,3 @@ mod place;
 mod slots;
 
 pub use slots::{AcquireFault, Slots};
-
-#[cfg(test)]
-mod tests;

@@ -6,8 +6,6 @@ mod outputs;
 mod report;
 mod rows;
 mod run;
-#[cfg(test)]
-mod tests;
 
 pub use chunks::{chunks_of, find_chunk, steps_of};
 pub use report::{WriteFault, write_report};

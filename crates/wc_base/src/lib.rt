@@ -7,8 +7,6 @@ mod files;
 mod list;
 mod media;
 mod sink;
-#[cfg(test)]
-mod tests;
 mod text;
 mod who;
 

@@ -2,7 +2,5 @@
 #![tactic(auto)]
 
 mod chunk;
-#[cfg(test)]
-mod tests;
 
 pub use chunk::Chunk;

@@ -5,8 +5,6 @@ mod codec;
 mod config;
 mod stream_info;
 mod support;
-#[cfg(test)]
-mod tests;
 
 pub use codec::{CodecId, CoderId, Role};
 pub use config::{AudioDecoderConfig, AudioEncoderConfig, Config, VideoDecoderConfig};

@@ -9,8 +9,6 @@ mod moving;
 mod playing;
 mod results;
 mod steps;
-#[cfg(test)]
-mod tests;
 
 pub use laws::following_fits;
 pub use missing::missing_chunk;

@@ -12,6 +12,3 @@ mod walk;
 pub use laws::scripts_are_sound;
 pub use read::read_script;
 pub use script_types::{Counted, Place, Script, ScriptData, ScriptFault};
-
-#[cfg(test)]
-mod tests;

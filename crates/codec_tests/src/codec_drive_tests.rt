@@ -2,9 +2,9 @@
 ghost use Rattle.codec_model.specs.Replay.{State};
 ghost use Rattle.codec_core.specs.Job.{IsJobOf};
 
-use crate::run;
 use bytes::Bytes;
 use codec_core::{Core, Job};
+use codec_drive::run;
 use codec_model::{Call, Kind};
 use coder_api::{Coder, SlotBox, Unit};
 use pcm_coder::PcmCoder;

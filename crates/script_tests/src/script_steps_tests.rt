@@ -1,7 +1,7 @@
 // Steps that are read, and what is refused.
-use crate::{StepWord, read_inline_data, read_step, word_member};
 use script_members::{Wrong, copied};
 use script_names::{Files, Variables};
+use script_steps::{StepWord, read_inline_data, read_step, word_member};
 use script_types::{ChunkSource, CodecItem, KindWord, MediaStep, Options, Step, VariableKind};
 use serde_json::Value;
 use std::alloc::Global;

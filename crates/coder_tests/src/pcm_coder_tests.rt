@@ -3,9 +3,9 @@ ghost use Rattle.std.specs.Prelude.{◌≡◌, IfSome};
 ghost use Rattle.std.specs.List.{All};
 ghost use Rattle.coder_api.specs.Meaning.{Fits};
 
-use crate::PcmCoder;
 use bytes::Bytes;
 use coder_api::{Coder, CoderBox, CoderFault, Command, Input, SlotBox, Unit, feed};
+use pcm_coder::PcmCoder;
 use std::alloc::Global;
 use std::test::Fail;
 use wc_base::{By, SampleFormat, Samples, SoundShape, Text, Who};

@@ -1,5 +1,4 @@
 // The report of one run, of each other line, and of a sink that fails.
-use crate::{CallerTrace, CodecTrace, Run, StepResult, WriteFault, write_report};
 use bytes::Bytes;
 use codec_model::{
     CodecState, Entry, Event, Kind, Opening, Outcome, PromiseState, Shown, TurnWord,
@@ -8,6 +7,7 @@ use coder_api::{SlotEntry, SlotOp, Unit};
 use script_types::{CallerItem, CodecItem, KindWord, Script, ScriptData};
 use std::alloc::Global;
 use std::test::Fail;
+use trace_text::{CallerTrace, CodecTrace, Run, StepResult, WriteFault, write_report};
 use wc_base::{
     By, DomError, List, MemSink, Picture, PictureFormat, PictureShape, SampleFormat, Samples,
     SoundShape, Text, Who,

@@ -1,5 +1,5 @@
 // Fields that are read, and bytes that begin with none.
-use crate::{
+use report_fields::{
     FieldFault, after, bytes_upto, number_or_dash_upto, number_upto, place_of_name, short_upto,
     signed_upto, word_at,
 };

@@ -1,6 +1,6 @@
 // Copies with ample memory.
-use crate::Unit;
 use bytes::Bytes;
+use coder_api::Unit;
 use std::test::Fail;
 use wc_base::{Picture, PictureFormat, PictureShape, SampleFormat, Samples, SoundShape, Text};
 use wc_chunk::Chunk;

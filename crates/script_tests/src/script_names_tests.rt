@@ -1,5 +1,5 @@
 // The tables by name.
-use crate::{Files, Variables, find_caller, find_codec};
+use script_names::{Files, Variables, find_caller, find_codec};
 use script_types::{
     CallerItem, CodecItem, FoundCodec, FoundVariable, KindWord, Step, VariableKind,
 };

@@ -1,6 +1,5 @@
-use crate::Follower;
-use crate::events::append;
 use bytes::Bytes;
+use codec_follow::Follower;
 use codec_model::{Entry, Event, Kind, Opening, Outcome, Shown, TurnWord};
 use coder_api::Unit;
 use std::alloc::{AllocError, Global};
@@ -86,7 +85,10 @@ fn follow_all(
     let mut all = Vec::new(alloc);
     for entry in entries {
         match follower.follow(entry)? {
-            Some(shown) => append(&mut all, shown)?,
+            Some(shown) => {
+                all.reserve(1)?;
+                all.push_reserved(shown);
+            }
             None => return Ok(all),
         }
     }

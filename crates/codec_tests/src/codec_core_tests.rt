@@ -6,7 +6,7 @@ ghost use Rattle.wc_config.specs.declared.codec.CodecId.TheVariants as codec;
 ghost use Rattle.codec_model.specs.Replay.{State};
 ghost use Rattle.codec_core.specs.Job.{IsJobOf};
 
-use crate::{Core, Job, Reply};
+use codec_core::{Core, Job, Reply};
 use codec_model::{Call, CodecState, Kind, PromiseState};
 use coder_api::{Coder, CoderFault, Input, SlotBox, Unit};
 use std::alloc::{AllocError, Global};

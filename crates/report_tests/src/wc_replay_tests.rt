@@ -5,7 +5,6 @@ ghost use Rattle.script_types.specs.declared.steps.ChunkSource.TheVariants as so
 ghost use Rattle.script_types.specs.declared.script.OrderItem.TheVariants as item;
 ghost use Rattle.trace_text.specs.Rows.{order, other, steps_with, file_script, two_chunks};
 
-use crate::replay;
 use bytes::Bytes;
 use codec_model::Entry;
 use coder_api::CoderBox;
@@ -19,6 +18,7 @@ use trace_text::StepResult;
 use wc_base::{List, Text, Who};
 use wc_chunk::Chunk;
 use wc_config::{AudioDecoderConfig, Config};
+use wc_replay::replay;
 
 fn text(alloc: Global, bytes: &str) -> Result<Text, Fail>
     ensures { IfOk result (λ t. t ≡ bytes.now) }

@@ -1,8 +1,8 @@
 // The chunk files of a script that mentions two, with ample memory.
 ghost use Rattle.std.specs.Prelude.{◌≡◌, ◌≤◌, IfOk};
 
-use crate::{MediaFault, read_media};
 use chunk_files::ChunkFault;
+use media_files::{MediaFault, read_media};
 use script_types::{CallerItem, ChunkSource, Script, ScriptData, Step};
 use std::alloc::Global;
 use std::test::Fail;

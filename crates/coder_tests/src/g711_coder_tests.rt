@@ -1,6 +1,6 @@
-use crate::{G711Coder, alaw_decode, alaw_encode, ulaw_decode, ulaw_encode};
 use bytes::Bytes;
 use coder_api::{Coder, CoderBox, Input, Unit};
+use g711_coder::{G711Coder, alaw_decode, alaw_encode, ulaw_decode, ulaw_encode};
 use std::alloc::Global;
 use std::test::Fail;
 use wc_base::{NoMemory, SampleFormat, Samples, SoundShape, Text};

@@ -1,8 +1,8 @@
 // Scripts that are read, and what is refused.
-use crate::{Counted, Place, Script, ScriptFault, read_script};
 use script_types::{ChunkSource, OrderItem, Step};
 use std::test::Fail;
 use wc_base::Text;
+use wc_script::{Counted, Place, Script, ScriptFault, read_script};
 
 // Two codecs and two callers; three mentions of two chunk files.
 const ORDINARY: &str = r#"{"codecs":[{"name":"d","kind":"audio-decoder"},

@@ -1,6 +1,6 @@
 // A text with each line of a report, and lines that are not written so.
-use crate::{Line, line_at, line_text};
 use report_fields::FieldFault;
+use report_lines::{Line, line_at, line_text};
 use report_text::StepResult;
 use script_types::{CallerItem, CodecItem, KindWord, ScriptData};
 use std::alloc::Global;

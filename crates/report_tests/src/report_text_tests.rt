@@ -1,11 +1,11 @@
 // Each line once, with its text.
-use crate::{
+use codec_model::{CodecState, Entry, Event, Kind, Opening, Outcome, Shown, TurnWord};
+use coder_api::{SlotEntry, SlotOp};
+use report_text::{
     CallWord, StepResult, Told, caller_header, caller_name, chunk_line, codec_header, codec_name,
     config_line, entry_line, error_line, held_line, picture_line, reject_line, resolve_line,
     result_line, slot_line, sound_line, told_of,
 };
-use codec_model::{CodecState, Entry, Event, Kind, Opening, Outcome, Shown, TurnWord};
-use coder_api::{SlotEntry, SlotOp};
 use script_types::{CallerItem, CodecItem, KindWord, ScriptData};
 use std::alloc::Global;
 use std::test::Fail;

@@ -6,8 +6,8 @@ ghost use Rattle.script_types.specs.declared.steps.ChunkSource.TheVariants as so
 ghost use Rattle.script_types.specs.Sound.{is_sound};
 ghost use Rattle.trace_text.specs.Rows.{init, steps_with};
 
-use crate::{ReportFault, read_report};
 use bytes::Bytes;
+use report_reader::{ReportFault, read_report};
 use script_types::{
     CallerItem, ChunkInit, ChunkSource, CodecItem, KindWord, Script, ScriptData, Step, Variable,
     VariableKind,

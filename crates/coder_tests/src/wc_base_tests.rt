@@ -1,7 +1,7 @@
 // Each public call that takes memory, once with ample memory, and the real adapters.
-use crate::{FileFault, Files, List, MemFiles, MemSink, Output, Sink, SystemFiles, Text};
 use std::test::Fail;
 use std::{env, fs, process};
+use wc_base::{FileFault, Files, List, MemFiles, MemSink, Output, Sink, SystemFiles, Text};
 
 fn read<F: Files>(rt: &HostRuntime, files: &mut F, name: &str) -> Result<Vec<u8>, FileFault> {
     files.read_all(rt.alloc(), name, 3)

@@ -1,8 +1,8 @@
 // Copies with ample memory, and into destinations.
-use crate::Chunk;
 use bytes::Bytes;
 use std::test::Fail;
 use wc_base::DomError;
+use wc_chunk::Chunk;
 
 #[test]
 fn chunks_are_copied(rt: HostRuntime) -> Result<(), Fail> {

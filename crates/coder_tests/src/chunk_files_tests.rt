@@ -1,8 +1,8 @@
 // Chunk files that are cut, faulty and whole.
 ghost use Rattle.std.specs.Prelude.{◌<◌, ◌^◌, All, IfOk, length};
 
-use crate::{ChunkFault, read_chunks, write_chunks, written_chunks_are_read};
 use bytes::Bytes;
+use chunk_files::{ChunkFault, read_chunks, write_chunks, written_chunks_are_read};
 use std::alloc::Global;
 use std::test::Fail;
 use wc_base::NoMemory;

@@ -2,8 +2,8 @@ ghost use Rattle.std.specs.Prelude.{◌≡◌, unwrap_or, option_map};
 ghost use Rattle.coder_api.specs.Meaning.{Configured, Stopped, new_state, is_id};
 ghost use Rattle.slot_registry.specs.Slots.{IsHeld, KeepsBoxes};
 
-use crate::{AcquireFault, Slots};
 use coder_api::{Coder, CoderFault, Input, SlotBox, SlotEntry, SlotOp, Unit};
+use slot_registry::{AcquireFault, Slots};
 use std::alloc::Global;
 use std::process::Abort;
 use std::test::Fail;

@@ -1,6 +1,6 @@
-use crate::Machine;
 use bytes::Bytes;
 use codec_model::{Call, CodecState, Ended, Kind, Opening, PromiseState};
+use codec_queues::Machine;
 use coder_api::Unit;
 use std::alloc::{AllocError, Global};
 use std::test::Fail;

@@ -1,8 +1,8 @@
 // Copies with ample memory.
-use crate::{AudioDecoderConfig, AudioEncoderConfig, Config, VideoDecoderConfig};
 use bytes::Bytes;
 use std::test::Fail;
 use wc_base::Text;
+use wc_config::{AudioDecoderConfig, AudioEncoderConfig, Config, VideoDecoderConfig};
 
 #[test]
 fn configs_are_copied(rt: HostRuntime) -> Result<(), Fail> {

@@ -1,0 +1,15 @@
+//! Tests of runs and of their reports.
+#![tactic(auto)]
+
+#[cfg(test)]
+mod report_fields_tests;
+#[cfg(test)]
+mod report_lines_tests;
+#[cfg(test)]
+mod report_reader_tests;
+#[cfg(test)]
+mod report_text_tests;
+#[cfg(test)]
+mod trace_text_tests;
+#[cfg(test)]
+mod wc_replay_tests;
