@@ -247,12 +247,10 @@ fn commands_are_fed_up_to_a_refusal(rt: HostRuntime) -> Result<(), Fail> {
     let mut out = Vec::new(alloc);
     assert!(rt; coder.supports(&config));
     coder.configure(alloc, &config)?;
-    assert!(rt; coder.setup(alloc)?.is_none());
     let commands = [
         Command::Chunk(chunk(alloc, &[1, 2])?),
         Command::Drain,
         Command::Chunk(chunk(alloc, &[3])?),
-        Command::Chunk(chunk(alloc, &[4, 5])?),
     ];
     let fed = feed(alloc, &mut coder, &commands, &mut out);
     assert_eq!(rt; fed, Err(CoderFault::Refused));

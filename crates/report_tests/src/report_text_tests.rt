@@ -14,19 +14,27 @@ use wc_base::{
 };
 use wc_config::{CodecId, CoderId, Role};
 
-fn script(alloc: Global) -> Result<ScriptData, Fail> {
-    let codec = CodecItem {
+fn codec(alloc: Global) -> Result<CodecItem, Fail> {
+    Ok(CodecItem {
         name: Text::of(String::from_str(alloc, "d")?),
         kind: KindWord::AudioDecoder,
         saturation: 4,
-    };
-    let caller = CallerItem {
+    })
+}
+
+fn caller(alloc: Global) -> Result<CallerItem, Fail> {
+    Ok(CallerItem {
         name: Text::of(String::from_str(alloc, "a")?),
         steps: List::empty(alloc),
-    };
+    })
+}
+
+fn script(alloc: Global) -> Result<ScriptData, Fail> {
+    let codecs = List::of(vec![in alloc; codec(alloc)?]?);
+    let callers = List::of(vec![in alloc; caller(alloc)?]?);
     Ok(ScriptData {
-        codecs: List::of(vec![in alloc; codec]?),
-        callers: List::of(vec![in alloc; caller]?),
+        codecs,
+        callers,
         order: None,
         chunk_files: List::empty(alloc),
         inline: 0,

@@ -1,4 +1,7 @@
 // The report of one run, of each other line, and of a sink that fails.
+ghost use Rattle.std.specs.Prelude.{◌≡◌, [], IfOk, codes};
+ghost use Rattle.trace_text.specs.Rows.{decoder};
+
 use bytes::Bytes;
 use codec_model::{
     CodecState, Entry, Event, Kind, Opening, Outcome, PromiseState, Shown, TurnWord,
@@ -24,19 +27,31 @@ fn who(step: u32) -> Who {
     Who { caller: 0, step }
 }
 
-fn script(alloc: Global) -> Result<Script, Fail> {
-    let codec = CodecItem {
+fn codec(alloc: Global) -> Result<CodecItem, Fail>
+    ensures { IfOk result (λ c. c ≡ decoder) }
+{
+    Ok(CodecItem {
         name: Text::of(String::from_str(alloc, "d")?),
         kind: KindWord::AudioDecoder,
         saturation: 4,
-    };
-    let caller = CallerItem {
+    })
+}
+
+fn caller(alloc: Global) -> Result<CallerItem, Fail>
+    ensures { IfOk result (λ c. c ≡ record { name = codes "a"; steps = [] }) }
+{
+    Ok(CallerItem {
         name: Text::of(String::from_str(alloc, "a")?),
         steps: List::empty(alloc),
-    };
+    })
+}
+
+fn script(alloc: Global) -> Result<Script, Fail> {
+    let codecs = List::of(vec![in alloc; codec(alloc)?]?);
+    let callers = List::of(vec![in alloc; caller(alloc)?]?);
     Ok(Script::of(ScriptData {
-        codecs: List::of(vec![in alloc; codec]?),
-        callers: List::of(vec![in alloc; caller]?),
+        codecs,
+        callers,
         order: None,
         chunk_files: List::empty(alloc),
         inline: 0,

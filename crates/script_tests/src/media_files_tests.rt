@@ -1,5 +1,8 @@
 // The chunk files of a script that mentions two, with ample memory.
 ghost use Rattle.std.specs.Prelude.{◌≡◌, ◌≤◌, IfOk};
+ghost use Rattle.script_types.specs.declared.steps.Step.TheVariants as step;
+ghost use Rattle.script_types.specs.declared.steps.ChunkSource.TheVariants as source;
+ghost use Rattle.script_tests.specs.MediaRows.{taker, two_names};
 
 use chunk_files::ChunkFault;
 use media_files::{MediaFault, read_media};
@@ -14,27 +17,47 @@ fn text(alloc: Global, text: &str) -> Result<Text, Fail>
     Ok(Text::of(String::from_str(alloc, text)?))
 }
 
-// A caller takes a chunk of each of the files x and y; the script has so many bytes of inline data.
+fn step(alloc: Global, bind: &str, file: u32) -> Result<Step, Fail>
+    ensures { IfOk result (λ s. s ≡ step.Chunk bind.now (source.File file 0)) }
+{
+    Ok(Step::Chunk {
+        bind: text(alloc, bind)?,
+        source: ChunkSource::File { file, index: 0 },
+    })
+}
+
+// A caller that takes a chunk of each of the files x and y.
+fn caller(alloc: Global) -> Result<CallerItem, Fail>
+    ensures { IfOk result (λ c. c ≡ taker) }
+{
+    let first = step(alloc, "c", 0)?;
+    let second = step(alloc, "e", 1)?;
+    let steps = List::of(vec![in alloc; first, second]?);
+    Ok(CallerItem {
+        name: text(alloc, "a")?,
+        steps,
+    })
+}
+
+fn names(alloc: Global) -> Result<List<Text>, Fail>
+    ensures { IfOk result (λ names. names ≡ two_names) }
+{
+    let x = text(alloc, "x")?;
+    let y = text(alloc, "y")?;
+    Ok(List::of(vec![in alloc; x, y]?))
+}
+
+// The script of one such caller, with so many bytes of inline data.
 fn script(alloc: Global, inline: u64) -> Result<Script, Fail>
     requires { inline ≤ 268435456 }
 {
-    let first = Step::Chunk {
-        bind: text(alloc, "c")?,
-        source: ChunkSource::File { file: 0, index: 0 },
-    };
-    let second = Step::Chunk {
-        bind: text(alloc, "e")?,
-        source: ChunkSource::File { file: 1, index: 0 },
-    };
-    let caller = CallerItem {
-        name: text(alloc, "a")?,
-        steps: List::of(vec![in alloc; first, second]?),
-    };
+    let chunk_files = names(alloc)?;
+    let caller = caller(alloc)?;
     Ok(Script::of(ScriptData {
         codecs: List::empty(alloc),
         callers: List::of(vec![in alloc; caller]?),
         order: None,
-        chunk_files: List::of(vec![in alloc; text(alloc, "x")?, text(alloc, "y")?]?),
+        chunk_files,
         inline,
     }))
 }
@@ -71,14 +94,11 @@ fn two_files_are_read(rt: HostRuntime) -> Result<(), Fail> {
     let script = script(alloc, 0)?;
     let mut files = files(alloc, b"WCC1", Vec::new(alloc))?;
     let media = read_media(alloc, &script, &mut files)?;
-    assert_eq!(rt; media.len(), 2);
-    assert_eq!(rt; media[0].len(), 1);
-    assert_eq!(rt; media[0].as_slice()[0].timestamp, 7);
-    assert_eq!(rt;
-        media[0].as_slice()[0].bytes.as_slice(),
-        b"\x01\x02".as_slice()
-    );
-    assert_eq!(rt; media[1].len(), 0);
+    let counts = (media.len(), media[0].len(), media[1].len());
+    assert_eq!(rt; counts, (2, 1, 0));
+    let chunk = &media[0].as_slice()[0];
+    assert_eq!(rt; chunk.timestamp, 7);
+    assert_eq!(rt; chunk.bytes.as_slice(), b"\x01\x02".as_slice());
     Ok(())
 }
 
