@@ -9,6 +9,7 @@ use codec_model::{Call, Kind};
 use coder_api::{Coder, SlotBox, Unit};
 use pcm_coder::PcmCoder;
 use std::alloc::Global;
+use std::process::Abort;
 use std::test::Fail;
 use wc_base::{By, Text, Who};
 use wc_chunk::Chunk;
@@ -73,18 +74,20 @@ fn work(alloc: Global, core: &mut Core<PcmCoder>, moment: u64) -> bool {
     fine
 }
 
-#[test]
-fn jobs_are_done(rt: HostRuntime) -> Result<(), Fail> {
-    let alloc = rt.alloc();
+// Configures and decodes, and does both jobs.
+fn decodes(rt: &impl Abort, alloc: Global, core: &mut Core<PcmCoder>) -> Result<(), Fail> {
     let who = Who { caller: 0, step: 0 };
-    let mut core = Core::open(alloc, Kind::AudioDecoder, 4, 2)?;
-    core.call(who, pcm(alloc)?).expect(&rt, "configure");
+    core.call(who, pcm(alloc)?).expect(rt, "configure");
     core.call(who, chunk(alloc, b"\x01\x00\x02\x00")?)
-        .expect(&rt, "decode");
-    assert!(rt; work(alloc, &mut core, 1));
+        .expect(rt, "decode");
+    assert!(rt; work(alloc, core, 1));
     assert!(rt; core.turn().is_some() && core.turn().is_some());
-    assert!(rt; work(alloc, &mut core, 2));
+    assert!(rt; work(alloc, core, 2));
     assert!(rt; core.turn().is_some() && core.turn().is_some());
+    Ok(())
+}
+
+fn shows(rt: &impl Abort, core: &Core<PcmCoder>) {
     let outputs = core.outputs();
     assert_eq!(rt; outputs.len(), 1);
     match outputs[0].as_slice() {
@@ -94,5 +97,13 @@ fn jobs_are_done(rt: HostRuntime) -> Result<(), Fail> {
         }
         _ => assert!(rt; false),
     }
+}
+
+#[test]
+fn jobs_are_done(rt: HostRuntime) -> Result<(), Fail> {
+    let alloc = rt.alloc();
+    let mut core = Core::open(alloc, Kind::AudioDecoder, 4, 2)?;
+    decodes(&rt, alloc, &mut core)?;
+    shows(&rt, &core);
     Ok(())
 }

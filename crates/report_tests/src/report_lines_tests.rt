@@ -85,33 +85,25 @@ fn what_a_line_tells_is_read(rt: HostRuntime) -> Result<(), Fail> {
 fn other_lines_are_refused(rt: HostRuntime) -> Result<(), Fail> {
     let alloc = rt.alloc();
     let script = script(alloc)?;
-    let no_line = Some(FieldFault::NoField);
-    assert_eq!(rt; fault(alloc, &script, ""), no_line);
-    assert_eq!(rt; fault(alloc, &script, "end"), no_line);
-    assert_eq!(rt; fault(alloc, &script, "wcrun report 2\n"), no_line);
-    assert_eq!(rt; fault(alloc, &script, "caller b\n"), no_line);
-    assert_eq!(rt; fault(alloc, &script, "00 a.0 configure = ok\n"), no_line);
-    assert_eq!(rt; fault(alloc, &script, "0 d.0 configure = ok\n"), no_line);
-    assert_eq!(rt; fault(alloc, &script, "0 a.0  configure = ok\n"), no_line);
-    assert_eq!(rt;
-        fault(
-            alloc,
-            &script,
-            "  output audio s16 8000 1 2 0 251 01000200\n"
-        ),
-        no_line
-    );
-    assert_eq!(rt;
-        fault(alloc, &script, "  output chunk key 0 - FF\n"),
-        no_line
-    );
-    assert_eq!(rt;
-        fault(alloc, &script, "0 d.3 acquire decode:pcm-s16 full 1 1\n"),
-        no_line
-    );
-    assert_eq!(rt;
-        fault(alloc, &script, "  config pcm\n-s16 8000 2 -\n"),
-        no_line
-    );
+    let rows = [
+        "",
+        "end",
+        "wcrun report 2\n",
+        "caller b\n",
+        "00 a.0 configure = ok\n",
+        "0 d.0 configure = ok\n",
+        "0 a.0  configure = ok\n",
+        "  output audio s16 8000 1 2 0 251 01000200\n",
+        "  output chunk key 0 - FF\n",
+        "0 d.3 acquire decode:pcm-s16 full 1 1\n",
+        "  config pcm\n-s16 8000 2 -\n",
+    ];
+    for row in rows {
+        assert_eq!(rt;
+            fault(alloc, &script, row),
+            Some(FieldFault::NoField),
+            "{row}"
+        );
+    }
     Ok(())
 }

@@ -13,8 +13,9 @@ use script_types::{
     VariableKind,
 };
 use std::alloc::Global;
+use std::process::Abort;
 use std::test::Fail;
-use trace_text::write_report;
+use trace_text::{Run, write_report};
 use wc_base::{List, MemSink, Text};
 use wc_config::{AudioDecoderConfig, Config};
 
@@ -109,8 +110,7 @@ fn script(alloc: Global) -> Result<Script, Fail> {
 }
 
 // Reads the report with one text in the place of another: 0 where it is read, or the line at fault.
-fn line_at_fault(rt: &HostRuntime, old: &str, new: &str) -> Result<u64, Fail> {
-    let alloc = rt.alloc();
+fn line_at_fault(alloc: Global, old: &str, new: &str) -> Result<u64, Fail> {
     let text = REPORT.replace(alloc, old, new)?;
     match read_report(alloc, &script(alloc)?, &[], text.as_bytes()) {
         Ok(_) => Ok(0),
@@ -119,91 +119,91 @@ fn line_at_fault(rt: &HostRuntime, old: &str, new: &str) -> Result<u64, Fail> {
     }
 }
 
+fn counts(run: &Run) -> (usize, usize, usize) {
+    (run.callers.len(), run.codecs.len(), run.slots.len())
+}
+
+fn report(alloc: Global, script: &Script, run: &Run) -> Result<MemSink, Fail> {
+    let mut sink = MemSink::open(alloc, 1000, Vec::new(alloc))?;
+    match write_report(alloc, script, run, &mut sink) {
+        Ok(()) => Ok(sink),
+        Err(_) => Err(Fail::from("memory")),
+    }
+}
+
 #[test]
 fn the_ordinary_report_is_read_and_written_again(rt: HostRuntime) -> Result<(), Fail> {
     let alloc = rt.alloc();
     let script = script(alloc)?;
     let run = read_report(alloc, &script, &[], REPORT.as_bytes()).expect(&rt, "a report");
-    assert_eq!(rt; run.callers.len(), 1);
-    assert_eq!(rt; run.codecs.len(), 1);
-    assert_eq!(rt; run.slots.len(), 1);
-    let codec = &run.codecs.as_slice()[0];
-    assert_eq!(rt; codec.entries.len(), 14);
-    assert_eq!(rt; codec.shown.len(), 14);
-    let mut sink = MemSink::open(alloc, 1000, Vec::new(alloc))?;
-    assert!(rt; write_report(alloc, &script, &run, &mut sink).is_ok());
-    assert_eq!(rt; sink.bytes(), REPORT.as_bytes());
+    assert_eq!(rt; counts(&run), (1, 1, 1));
+    let codec = run.codecs.as_slice().first().expect(&rt, "a codec");
+    assert_eq!(rt; (codec.entries.len(), codec.shown.len()), (14, 14));
+    assert_eq!(rt; report(alloc, &script, &run)?.bytes(), REPORT.as_bytes());
+    Ok(())
+}
+
+// In each row a text, another in its place, and the line at fault.
+fn each_is_refused(rt: &impl Abort, alloc: Global, rows: &[(&str, &str, u64)]) -> Result<(), Fail> {
+    for (old, new, line) in rows {
+        assert_eq!(rt; line_at_fault(alloc, old, new)?, *line, "{new} for {old}");
+    }
     Ok(())
 }
 
 #[test]
 fn lines_without_their_form(rt: HostRuntime) -> Result<(), Fail> {
-    assert_eq!(rt; line_at_fault(&rt, REPORT, "")?, 1);
-    assert_eq!(rt; line_at_fault(&rt, "end\n", "")?, 30);
-    assert_eq!(rt; line_at_fault(&rt, "end\n", "end")?, 30);
-    assert_eq!(rt; line_at_fault(&rt, "end\n", "end\nend\n")?, 31);
-    assert_eq!(rt; line_at_fault(&rt, "pool\n", "")?, 26);
-    assert_eq!(rt; line_at_fault(&rt, "caller a\n", "caller b\n")?, 2);
-    assert_eq!(rt; line_at_fault(&rt, "1 ok\n", "2 ok\n")?, 4);
-    assert_eq!(rt; line_at_fault(&rt, "4 d:14 ", "4 a:14 ")?, 7);
-    assert_eq!(rt; line_at_fault(&rt, "ran 1\n", "ran 01\n")?, 17);
-    assert_eq!(rt; line_at_fault(&rt, "10 turn output", "11 turn output")?, 20);
-    assert_eq!(rt; line_at_fault(&rt, "01000200", "0100020A")?, 21);
-    assert_eq!(rt; line_at_fault(&rt, "0 d.3 acquire", "1 d.3 acquire")?, 28);
-    Ok(())
+    let rows = [
+        (REPORT, "", 1),
+        ("end\n", "", 30),
+        ("end\n", "end", 30),
+        ("end\n", "end\nend\n", 31),
+        ("pool\n", "", 26),
+        ("caller a\n", "caller b\n", 2),
+        ("1 ok\n", "2 ok\n", 4),
+        ("4 d:14 ", "4 a:14 ", 7),
+        ("ran 1\n", "ran 01\n", 17),
+        ("10 turn output", "11 turn output", 20),
+        ("01000200", "0100020A", 21),
+        ("0 d.3 acquire", "1 d.3 acquire", 28),
+    ];
+    each_is_refused(&rt, rt.alloc(), &rows)
 }
 
 #[test]
 fn lines_that_differ(rt: HostRuntime) -> Result<(), Fail> {
-    // one unit more is shown than there are outputs: the turn would show two
-    assert_eq!(rt; line_at_fault(&rt, "ran 1\n", "ran 2\n")?, 22);
-    // no unit, no turn that shows one
-    assert_eq!(rt; line_at_fault(&rt, "ran 1\n", "ran 0\n")?, 20);
-    assert_eq!(rt; line_at_fault(&rt, "  dequeue\n", "")?, 19);
-    assert_eq!(rt;
-        line_at_fault(&rt, "  output audio s16 8000 1 2 0 250 01000200\n", "")?,
-        21
-    );
-    assert_eq!(rt;
-        line_at_fault(
-            &rt,
+    let rows = [
+        // one unit more is shown than there are outputs: the turn would show two
+        ("ran 1\n", "ran 2\n", 22),
+        // no unit, no turn that shows one
+        ("ran 1\n", "ran 0\n", 20),
+        ("  dequeue\n", "", 19),
+        ("  output audio s16 8000 1 2 0 250 01000200\n", "", 21),
+        (
             "11 start",
-            "  output audio s16 8000 1 2 0 250 01000200\n11 start"
-        )?,
-        22
-    );
-    // a turn that runs another task, a call whose step is none, an exception that is not thrown
-    assert_eq!(rt; line_at_fault(&rt, "5 turn unblock", "5 turn process")?, 14);
-    assert_eq!(rt; line_at_fault(&rt, "a.2 decode", "a.1 decode")?, 10);
-    assert_eq!(rt;
-        line_at_fault(&rt, "configure = ok", "configure = TypeError")?,
-        9
-    );
-    // a start of an item that is not the next
-    assert_eq!(rt; line_at_fault(&rt, "7 start 0.1\n", "7 start 0.2\n")?, 16);
-    Ok(())
+            "  output audio s16 8000 1 2 0 250 01000200\n11 start",
+            22,
+        ),
+        // a turn that runs another task, a call whose step is none, an exception that is not thrown
+        ("5 turn unblock", "5 turn process", 14),
+        ("a.2 decode", "a.1 decode", 10),
+        ("configure = ok", "configure = TypeError", 9),
+        // a start of an item that is not the next
+        ("7 start 0.1\n", "7 start 0.2\n", 16),
+    ];
+    each_is_refused(&rt, rt.alloc(), &rows)
 }
 
 #[test]
 fn outputs_that_are_none_of_the_codec(rt: HostRuntime) -> Result<(), Fail> {
     let shown = "output audio s16 8000 1 2 0 250 01000200";
-    // an output with nothing in it is one
-    assert_eq!(rt;
-        line_at_fault(&rt, shown, "output audio u8 1 1 0 0 0 -")?,
-        0
-    );
-    assert_eq!(rt;
-        line_at_fault(&rt, shown, "output audio s16 0 1 2 0 0 01000200")?,
-        21
-    );
-    assert_eq!(rt;
-        line_at_fault(&rt, shown, "output video I420 1 1 0 - 00")?,
-        21
-    );
-    assert_eq!(rt;
-        line_at_fault(&rt, shown, "output chunk key 0 250 01000200")?,
-        21
-    );
-    assert_eq!(rt; line_at_fault(&rt, shown, "output chunk delta 0 - -")?, 21);
-    Ok(())
+    let rows = [
+        // an output with nothing in it is one
+        (shown, "output audio u8 1 1 0 0 0 -", 0),
+        (shown, "output audio s16 0 1 2 0 0 01000200", 21),
+        (shown, "output video I420 1 1 0 - 00", 21),
+        (shown, "output chunk key 0 250 01000200", 21),
+        (shown, "output chunk delta 0 - -", 21),
+    ];
+    each_is_refused(&rt, rt.alloc(), &rows)
 }

@@ -301,30 +301,35 @@ fn coded(alloc: Global) -> Result<Event, Fail> {
     Ok(Event::Output { number: 1, unit })
 }
 
-fn other_shown(alloc: Global) -> Result<Vec<Shown>, Fail> {
-    let refused = Shown {
+fn unturned(alloc: Global, event: Event) -> Result<Shown, Fail> {
+    Ok(Shown {
         turn: None,
-        events: List::of(vec![in alloc; Event::Refusal(DomError::InvalidState)]?),
-    };
-    let rejected = Shown {
-        turn: None,
-        events: List::of(vec![in alloc;
-            Event::Reject {
-                promise: 1,
-                error: DomError::Abort
-            },
-        ]?),
-    };
-    let error = Event::ErrorCall(DomError::Encoding);
-    let closed = Shown {
+        events: List::of(vec![in alloc; event]?),
+    })
+}
+
+fn closed(alloc: Global) -> Result<Shown, Fail> {
+    let mut events = vec![in alloc; picture(alloc)?]?;
+    events.push(coded(alloc)?)?;
+    events.push(Event::ErrorCall(DomError::Encoding))?;
+    Ok(Shown {
         turn: Some(TurnWord::Close(DomError::Encoding)),
-        events: List::of(vec![in alloc; picture(alloc)?, coded(alloc)?, error]?),
+        events: List::of(events),
+    })
+}
+
+fn other_shown(alloc: Global) -> Result<Vec<Shown>, Fail> {
+    let mut shown = Vec::new(alloc);
+    shown.push(unturned(alloc, Event::Refusal(DomError::InvalidState))?)?;
+    let rejected = Event::Reject {
+        promise: 1,
+        error: DomError::Abort,
     };
-    let mut shown = vec![in alloc; refused, rejected]?;
+    shown.push(unturned(alloc, rejected)?)?;
     for _ in 0..3 {
         shown.push(quiet(alloc))?;
     }
-    shown.push(closed)?;
+    shown.push(closed(alloc)?)?;
     shown.push(quiet(alloc))?;
     Ok(shown)
 }

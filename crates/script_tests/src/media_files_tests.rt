@@ -94,8 +94,9 @@ fn two_files_are_read(rt: HostRuntime) -> Result<(), Fail> {
     let script = script(alloc, 0)?;
     let mut files = files(alloc, b"WCC1", Vec::new(alloc))?;
     let media = read_media(alloc, &script, &mut files)?;
-    let counts = (media.len(), media[0].len(), media[1].len());
-    assert_eq!(rt; counts, (2, 1, 0));
+    assert_eq!(rt; media.len(), 2);
+    assert_eq!(rt; media[0].len(), 1);
+    assert_eq!(rt; media[1].len(), 0);
     let chunk = &media[0].as_slice()[0];
     assert_eq!(rt; chunk.timestamp, 7);
     assert_eq!(rt; chunk.bytes.as_slice(), b"\x01\x02".as_slice());

@@ -173,12 +173,14 @@ fn names_stand_twice_or_are_unknown(rt: HostRuntime) -> Result<(), Fail> {
     Ok(())
 }
 
-fn file_of(step: Option<Step>) -> Option<(u32, u64)> {
-    match step? {
-        Step::Chunk {
-            bind: _,
-            source: ChunkSource::File { file, index },
-        } => Some((file, index)),
+fn file_of(step: &Option<Step>) -> Option<(u32, u64)> {
+    match step {
+        Some(
+            Step::Chunk {
+                bind: _,
+                source: ChunkSource::File { file, index },
+            },
+        ) => Some((*file, *index)),
         _ => None,
     }
 }
@@ -194,27 +196,23 @@ fn files_are_numbered(rt: HostRuntime) -> Result<(), Fail> {
     ];
     for (text, file) in rows {
         let step = read(rt.alloc(), &mut files, &before, text).ok();
-        assert_eq!(rt; file_of(step), Some(file), "{text}");
+        assert_eq!(rt; file_of(&step), Some(file), "{text}");
     }
     assert_eq!(rt; files.len(), 2);
     Ok(())
 }
 
-fn kind_of(step: Option<Step>) -> Option<VariableKind> {
-    match step? {
-        Step::Media(
-            MediaStep::Take {
-                on: _,
-                bind: _,
-                kind,
-            },
-        ) => Some(kind),
-        Step::Media(
-            MediaStep::Copy {
-                of,
-                options: Options::Nothing,
-                size: 3,
-            },
+fn kind_of(step: &Option<Step>) -> Option<VariableKind> {
+    match step {
+        Some(Step::Media(MediaStep::Take { kind, .. })) => Some(*kind),
+        Some(
+            Step::Media(
+                MediaStep::Copy {
+                    of,
+                    options: Options::Nothing,
+                    size: 3,
+                },
+            ),
         ) => Some(of.kind),
         _ => None,
     }
@@ -238,7 +236,7 @@ fn kinds_come_with_what_is_found(rt: HostRuntime) -> Result<(), Fail> {
     ];
     for (text, kind) in rows {
         let step = read_after(rt.alloc(), text).ok();
-        assert_eq!(rt; kind_of(step), Some(kind), "{text}");
+        assert_eq!(rt; kind_of(&step), Some(kind), "{text}");
     }
     Ok(())
 }

@@ -1,5 +1,6 @@
 // Scripts that are read, and what is refused.
 use script_types::{ChunkSource, OrderItem, Step};
+use std::alloc::Global;
 use std::test::Fail;
 use wc_base::Text;
 use wc_script::{Counted, Place, Script, ScriptFault, read_script};
@@ -42,10 +43,15 @@ fn files_are_numbered_over_all_callers(rt: HostRuntime) -> Result<(), Fail> {
     assert_eq!(rt; script.files().len(), 2);
     assert_eq!(rt; script.files().get(0).map(Text::as_str), Some("b.wcch"));
     assert_eq!(rt; script.files().get(1).map(Text::as_str), Some("a.wcch"));
-    assert_eq!(rt; file_of(&script, 0, 1), Some((0, 3)));
-    assert_eq!(rt; file_of(&script, 1, 0), Some((1, 0)));
-    assert_eq!(rt; file_of(&script, 1, 1), Some((0, u64::MAX)));
-    assert_eq!(rt; file_of(&script, 1, 2), None);
+    let rows = [
+        (0, 1, Some((0, 3))),
+        (1, 0, Some((1, 0))),
+        (1, 1, Some((0, u64::MAX))),
+        (1, 2, None),
+    ];
+    for (caller, step, file) in rows {
+        assert_eq!(rt; file_of(&script, caller, step), file, "{caller} {step}");
+    }
     Ok(())
 }
 
@@ -189,34 +195,51 @@ fn names_are_told_with_their_place(rt: HostRuntime) -> Result<(), Fail> {
     Ok(())
 }
 
-// A script with so many codecs, callers, and steps of one caller.
+// So many pieces of text, each with a comma before it but the first.
+fn push_many(text: &mut String, many: usize, piece: &str) -> Result<(), Fail> {
+    for i in 0..many {
+        text.push_str(if i == 0 { "" } else { "," })?;
+        text.push_str(piece)?;
+    }
+    Ok(())
+}
+
+fn push_codecs(alloc: Global, text: &mut String, codecs: usize) -> Result<(), Fail> {
+    for i in 0..codecs {
+        let comma = if i == 0 { "" } else { "," };
+        let codec = format!(in alloc; "{comma}{{\"name\":\"d{i}\",\"kind\":\"audio-decoder\"}}")?;
+        text.push_str(&codec)?;
+    }
+    Ok(())
+}
+
+fn push_callers(
+    alloc: Global,
+    text: &mut String,
+    callers: usize,
+    steps: usize,
+) -> Result<(), Fail> {
+    for i in 0..callers {
+        let comma = if i == 0 { "" } else { "," };
+        let caller = format!(in alloc; "{comma}{{\"name\":\"c{i}\",\"steps\":[")?;
+        text.push_str(&caller)?;
+        push_many(text, steps, "{\"do\":\"reset\",\"on\":\"d0\"}")?;
+        text.push_str("]}")?;
+    }
+    Ok(())
+}
+
+// A script with so many codecs, callers, and steps of each caller.
 fn read_many(
     rt: &HostRuntime,
     codecs: usize,
     callers: usize,
     steps: usize,
 ) -> Result<Option<ScriptFault>, Fail> {
-    let mut text = String::new(rt.alloc());
-    text.push_str("{\"codecs\":[")?;
-    for i in 0..codecs {
-        let comma = if i == 0 { "" } else { "," };
-        let codec = format!(in rt.alloc();
-            "{comma}{{\"name\":\"d{i}\",\"kind\":\"audio-decoder\"}}"
-        )?;
-        text.push_str(&codec)?;
-    }
+    let mut text = String::from_str(rt.alloc(), "{\"codecs\":[")?;
+    push_codecs(rt.alloc(), &mut text, codecs)?;
     text.push_str("],\"callers\":[")?;
-    for i in 0..callers {
-        let comma = if i == 0 { "" } else { "," };
-        let caller = format!(in rt.alloc(); "{comma}{{\"name\":\"c{i}\",\"steps\":[")?;
-        text.push_str(&caller)?;
-        for j in 0..steps {
-            let comma = if j == 0 { "" } else { "," };
-            text.push_str(comma)?;
-            text.push_str("{\"do\":\"reset\",\"on\":\"d0\"}")?;
-        }
-        text.push_str("]}")?;
-    }
+    push_callers(rt.alloc(), &mut text, callers, steps)?;
     text.push_str("]}")?;
     Ok(read_script(rt.alloc(), text.as_bytes()).err())
 }

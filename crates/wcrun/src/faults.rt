@@ -1,5 +1,5 @@
 // Scripts and chunk files with a fault, and what is said of each.
-use crate::tests::call_on;
+use crate::tests::{call_on, each_ends};
 use std::alloc::Global;
 use std::test::Fail;
 use wc_base::MemSink;
@@ -147,8 +147,7 @@ fn each_fault_of_a_script_is_named(rt: HostRuntime) -> Result<(), Fail> {
 
 #[test]
 fn faults_of_the_whole_are_named(rt: HostRuntime) -> Result<(), Fail> {
-    let alloc = rt.alloc();
-    let rows: [(&str, u8, &str); 6] = [
+    let rows = [
         (
             "{\"codecs\":[],\"callers\":[]}",
             3,
@@ -180,10 +179,5 @@ fn faults_of_the_whole_are_named(rt: HostRuntime) -> Result<(), Fail> {
             "limit: callers 17\n",
         ),
     ];
-    for (script, status, text) in rows {
-        let (answer, sink) = told(alloc, script, EMPTY, Vec::new(alloc))?;
-        assert_eq!(rt; answer, status, "at {text}");
-        assert_eq!(rt; sink.bytes(), text.as_bytes(), "at {text}");
-    }
-    Ok(())
+    each_ends(&rt, rt.alloc(), &rows)
 }

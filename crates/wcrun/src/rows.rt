@@ -1,6 +1,6 @@
 // Whole replays through the control queue. The reports are written by hand from the rules of docs/FORMATS.md and the
 // definitions of codec_model.
-use crate::tests::call;
+use crate::tests::each_ends;
 use std::test::Fail;
 
 const NOTHING: &str = r#"{"codecs":[],"callers":[],"order":[]}"#;
@@ -511,8 +511,7 @@ end
 
 #[test]
 fn calls_are_answered_as_the_codec_stands(rt: HostRuntime) -> Result<(), Fail> {
-    let alloc = rt.alloc();
-    let rows: [(&str, u8, &str); 6] = [
+    let rows = [
         (NOTHING, 0, NOTHING_REPORT),
         (ORDER_OF_REFUSALS, 0, ORDER_OF_REFUSALS_REPORT),
         (RANGE_OF_A_RATE, 0, RANGE_OF_A_RATE_REPORT),
@@ -520,37 +519,22 @@ fn calls_are_answered_as_the_codec_stands(rt: HostRuntime) -> Result<(), Fail> {
         (KEY_RULE, 0, KEY_RULE_REPORT),
         (TWO_FLUSHES_THEN_CLOSE, 0, TWO_FLUSHES_THEN_CLOSE_REPORT),
     ];
-    for (script, status, text) in rows {
-        let file = Vec::from_slice(alloc, script.as_bytes())?;
-        let words = ["replay", "s.json"];
-        let (answer, sink) = call(alloc, file, &words, Vec::new(alloc), Vec::new(alloc))?;
-        assert_eq!(rt; sink.bytes(), text.as_bytes(), "at {text}");
-        assert_eq!(rt; answer, status, "at {text}");
-    }
-    Ok(())
+    each_ends(&rt, rt.alloc(), &rows)
 }
 
 #[test]
 fn items_tasks_and_boxes_go_as_the_order_says(rt: HostRuntime) -> Result<(), Fail> {
-    let alloc = rt.alloc();
     let rows = [
-        (UNKNOWN_CODEC, UNSUPPORTED_REPORT),
-        (FLAC_WITHOUT_DESCRIPTION, UNSUPPORTED_REPORT),
-        (SATURATED_BY_TWO, SATURATED_BY_TWO_REPORT),
-        (SATURATED_BY_ONE, SATURATED_BY_ONE_REPORT),
-        (RESET_WITH_A_JOB_OUT, RESET_WITH_A_JOB_OUT_REPORT),
-        (CHUNK_WITH_HALF_A_FRAME, CHUNK_WITH_HALF_A_FRAME_REPORT),
-        (EMPTY_CHUNK, EMPTY_CHUNK_REPORT),
-        (ONE_BOX_FOR_TWO_CODECS, ONE_BOX_FOR_TWO_CODECS_REPORT),
-        (CHANGE_OF_CODER, CHANGE_OF_CODER_REPORT),
-        (CODER_WITHOUT_A_BOX, CODER_WITHOUT_A_BOX_REPORT),
+        (UNKNOWN_CODEC, 0, UNSUPPORTED_REPORT),
+        (FLAC_WITHOUT_DESCRIPTION, 0, UNSUPPORTED_REPORT),
+        (SATURATED_BY_TWO, 0, SATURATED_BY_TWO_REPORT),
+        (SATURATED_BY_ONE, 0, SATURATED_BY_ONE_REPORT),
+        (RESET_WITH_A_JOB_OUT, 0, RESET_WITH_A_JOB_OUT_REPORT),
+        (CHUNK_WITH_HALF_A_FRAME, 0, CHUNK_WITH_HALF_A_FRAME_REPORT),
+        (EMPTY_CHUNK, 0, EMPTY_CHUNK_REPORT),
+        (ONE_BOX_FOR_TWO_CODECS, 0, ONE_BOX_FOR_TWO_CODECS_REPORT),
+        (CHANGE_OF_CODER, 0, CHANGE_OF_CODER_REPORT),
+        (CODER_WITHOUT_A_BOX, 0, CODER_WITHOUT_A_BOX_REPORT),
     ];
-    for (script, text) in rows {
-        let file = Vec::from_slice(alloc, script.as_bytes())?;
-        let words = ["replay", "s.json"];
-        let (answer, sink) = call(alloc, file, &words, Vec::new(alloc), Vec::new(alloc))?;
-        assert_eq!(rt; sink.bytes(), text.as_bytes(), "at {text}");
-        assert_eq!(rt; answer, 0, "at {text}");
-    }
-    Ok(())
+    each_ends(&rt, rt.alloc(), &rows)
 }

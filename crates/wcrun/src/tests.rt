@@ -4,6 +4,7 @@ use coder_api::CoderBox;
 use g711_coder::G711Coder;
 use pcm_coder::PcmCoder;
 use std::alloc::Global;
+use std::process::Abort;
 use std::test::Fail;
 use wc_base::{MemFiles, MemSink};
 use wc_config::{CodecId, CoderId, Role};
@@ -145,6 +146,22 @@ pub(crate) fn call_on(
     coders.push(CoderBox::of(Box::new(alloc, G711Coder::new(ulaw))?))?;
     let status = top(alloc, &given, &mut files, &mut sink, coders);
     Ok((status, sink))
+}
+
+// Replays each script, and compares the status and what is written.
+pub(crate) fn each_ends(
+    rt: &impl Abort,
+    alloc: Global,
+    rows: &[(&str, u8, &str)],
+) -> Result<(), Fail> {
+    for (script, status, text) in rows {
+        let file = Vec::from_slice(alloc, script.as_bytes())?;
+        let words = ["replay", "s.json"];
+        let (answer, sink) = call(alloc, file, &words, Vec::new(alloc), Vec::new(alloc))?;
+        assert_eq!(rt; sink.bytes(), text.as_bytes(), "at {text}");
+        assert_eq!(rt; answer, *status, "at {text}");
+    }
+    Ok(())
 }
 
 #[test]
