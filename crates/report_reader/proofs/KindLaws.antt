@@ -34,7 +34,7 @@ all_from P [] h = tt
 all_from P (x ∷ xs) h = (h 0 x refl, all_from P xs (λ i y is. h (suc i) y is))
 
 -- the caller whose step stands at a place
-caller_of_step : (cs : List CallerItem) (i j : ℕ) (x : Step) → slice_get (steps_in cs i) j ≡ Some x → (c : CallerItem) × (slice_get cs i ≡ Some c) × (slice_get c.steps j ≡ Some x)
+pub caller_of_step : (cs : List CallerItem) (i j : ℕ) (x : Step) → slice_get (steps_in cs i) j ≡ Some x → (c : CallerItem) × (slice_get cs i ≡ Some c) × (slice_get c.steps j ≡ Some x)
 caller_of_step [] i j x is = absurd cc
 caller_of_step (c ∷ cs) zero j x is = (c, refl, is)
 caller_of_step (c ∷ cs) (suc i) j x is = caller_of_step cs i j x is

@@ -28,6 +28,7 @@ use Rattle.report_text.specs.Told.{told_of}
 use Rattle.report_reader.specs.Read.{call_of, entry_of}
 use Rattle.report_reader.specs.Told.{HoldsArguments, IsToldTrace, IsWithinTypes, IsTold}
 use Rattle.report_reader.proofs.KindLaws.{legal_plain}
+use Rattle.report_reader.proofs.ThereLaws.{traces_count, lines_fit}
 use Rattle.script_types.specs.Sound.{is_sound}
 use Rattle.report_lines.specs.Fits.{AreNames}
 use Rattle.trace_text.specs.Report.{report_of}
@@ -151,12 +152,6 @@ traces_told script files [] (t ∷ ts) legal h = absurd legal
 traces_told script files (c ∷ cs) [] legal h = absurd legal
 traces_told script files (c ∷ cs) (t ∷ ts) legal h = (trace_told script files c t legal.0 (λ p e is. h 0 p e is), traces_told script files cs ts legal.1 (λ k p e is. h (suc k) p e is))
 
-traces_count : (cs : List CodecItem) (ts : List CodecTrace) → AreLegalTraces cs ts → length ts ≡ length cs
-traces_count [] [] legal = refl
-traces_count [] (t ∷ ts) legal = absurd legal
-traces_count (c ∷ cs) [] legal = absurd legal
-traces_count (c ∷ cs) (t ∷ ts) legal = ap (λ (n : ℕ). suc n) (traces_count cs ts legal.1)
-
 pub legal_told : (script : ScriptData) (files : List (List Chunk)) (made : List CoderId) (run : Run) → is_sound script ≡ true → IsLegalRun script run → Fits script files made run → IsWithinTypes script run → IsTold script files run
 legal_told script files made run sound legal fits within = record {
   told = record {
@@ -164,7 +159,7 @@ legal_told script files made run sound legal fits within = record {
     codecs = traces_count script.codecs run.codecs legal.codecs;
     traces = traces_told script files script.codecs run.codecs legal.codecs (λ k p e is who names. fits.arguments k p e who is names);
   };
-  whole = record { plain = legal_plain script files made run sound legal fits; fits = within };
+  whole = record { plain = legal_plain script files made run sound legal fits; fits = lines_fit script files made run sound legal fits within };
 }
 
 -- legal runs of one script with the same report

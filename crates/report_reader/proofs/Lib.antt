@@ -14,3 +14,4 @@ pub mod FaultLaws
 pub mod RowLaws
 pub mod CodecLaws
 pub mod KindLaws
+pub mod ThereLaws

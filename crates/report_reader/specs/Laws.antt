@@ -27,7 +27,7 @@ ReportsDetermineRuns = (script : ScriptData) (media : List (List Chunk)) (a b : 
 abbrev pub SoundNames : Type 0
 SoundNames = (script : ScriptData) → IsTrue (is_sound script) → AreNames script
 
--- a legal run that fits its script, in which nothing is at fault, is told where each of its lines fits the script
+-- a legal run that fits its script, in which nothing is at fault, is told where its lines are within their types
 abbrev pub LegalRunsAreTold : Type 0
 LegalRunsAreTold =
     (script : ScriptData) (media : List (List Chunk)) (made : List CoderId) (run : Run) → IsTrue (is_sound script) → IsLegalRun script run → Fits script media made run → IsWithinTypes script run → IsTold script media run

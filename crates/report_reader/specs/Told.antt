@@ -10,6 +10,7 @@ use Rattle.script_types.specs.declared.script.ScriptData.{ScriptData}
 use Rattle.trace_text.specs.declared.run.CodecTrace.{CodecTrace}
 use Rattle.trace_text.specs.declared.run.Run.{Run}
 use Rattle.report_text.specs.Told.{told_of}
+use Rattle.report_lines.specs.declared.line.Line.{Line}
 use Rattle.report_lines.specs.Whole.{lines_of}
 use Rattle.report_lines.specs.Fits.{FitsLine}
 use Rattle.report_reader.specs.Read.{entry_of}
@@ -35,15 +36,18 @@ pub record IsToldRun (script : ScriptData) (media : List (List Chunk)) (run : Ru
   pub codecs : length run.codecs ≡ length script.codecs
   pub traces : AllByRecursion (IsToldTrace script media) run.codecs
 
--- each line of the run fits the script: its numbers are within their types, the callers and codecs that it names are there,
--- and its bytes are bytes
+-- A line's numbers are within their types, its bytes are bytes, and the codec string of a config has no blank and no line
+-- feed: it fits some script, which has the callers and codecs that the line names.
+abbrev pub IsLineWithinTypes : Line → Type 0
+IsLineWithinTypes l = (other : ScriptData) × FitsLine other l
+
 abbrev pub IsWithinTypes : ScriptData → Run → Type 0
-IsWithinTypes script run = AllByRecursion (FitsLine script) (lines_of script run)
+IsWithinTypes script run = AllByRecursion IsLineWithinTypes (lines_of script run)
 
 -- The run's outputs are of their codecs' kinds, and its lines fit the script.
 pub record IsWithoutLoss (script : ScriptData) (run : Run) : Type 0 where
   pub plain : AllByRecursion IsPlainTrace run.codecs
-  pub fits : IsWithinTypes script run
+  pub fits : AllByRecursion (FitsLine script) (lines_of script run)
 
 -- A run that its report tells.
 pub record IsTold (script : ScriptData) (media : List (List Chunk)) (run : Run) : Type 0 where

@@ -16,8 +16,8 @@ pub fn names_of_sound_scripts()
 /// Laws: a legal run that fits its script, in which nothing is at fault, is told by its report. So two such runs of one
 /// script with the same report are equal.
 ///
-/// Assumed is that each of its lines fits the script (`IsWithinTypes`): that its numbers are within their types, the callers
-/// and codecs that it names are there, and its bytes are bytes.
+/// Assumed is that its lines are within their types (`IsWithinTypes`): numbers within theirs, bytes that are bytes, and codec
+/// strings without blanks and line feeds.
 pub fn legal_runs_are_told()
     ensures told { LegalRunsAreTold }
     ensures determine { LegalReportsDetermineRuns }
