@@ -7,12 +7,12 @@ use Rattle.wc_config.specs.declared.codec.Role.{Role}
 use Rattle.wc_config.specs.declared.codec.Role.TheVariants as role
 use Rattle.wc_config.specs.declared.config.Config.{Config}
 use Rattle.wc_config.specs.Configs.{is_valid, is_within, is_supported, coder_id_of}
-use Rattle.coder_api.specs.declared.unit.Unit as media
-use Rattle.coder_api.specs.declared.coder.Command.{Command}
-use Rattle.coder_api.specs.declared.coder.Command.TheVariants as command
+use Rattle.codec_definitions.specs.declared.unit.Unit as media
+use Rattle.codec_definitions.specs.declared.command.Command.{Command}
+use Rattle.codec_definitions.specs.declared.command.Command.TheVariants as command
 use Rattle.coder_api.specs.declared.coder.CoderFault.{CoderFault}
 use Rattle.coder_api.specs.declared.coder.CoderFault.TheVariants as fault
-use Rattle.coder_api.specs.Commands.{answer_after, answers_from, until_refused, last_answer}
+use Rattle.codec_definitions.specs.Answers.{answer_after, answers_from, until_refused, last_answer}
 use Rattle.coder_api.specs.Meaning.{Answers, Goes, Takes, IsAt, serves, asks_for, is_id, is_role, is_codec}
 use Rattle.coder_api.specs.Lent.{Lent, stopped_lent}
 use Rattle.codec_model.specs.declared.entry.Work.TheVariants as work

@@ -4,6 +4,8 @@ use Rattle.std.specs.Prelude.{option_and_then, option_map, unwrap_or}
 use Rattle.wc_base.specs.declared.error.DomError.{DomError}
 use Rattle.wc_base.specs.declared.error.DomError.TheVariants as dom
 use Rattle.wc_base.specs.declared.who.Who.{Who}
+use Rattle.codec_model.specs.declared.entry.Removal.{Removal}
+use Rattle.codec_model.specs.declared.entry.Removal.TheVariants as removal
 use Rattle.codec_model.specs.declared.entry.Call.{Call}
 use Rattle.codec_model.specs.declared.entry.Opening.{Opening}
 use Rattle.codec_model.specs.declared.entry.Running.{Running}
@@ -14,13 +16,13 @@ use Rattle.codec_model.specs.declared.entry.Entry.{Entry}
 use Rattle.codec_model.specs.declared.entry.Entry.TheVariants as entry
 use Rattle.codec_model.specs.declared.entry.Task.{Task}
 use Rattle.codec_model.specs.declared.entry.Task.TheVariants as task
-use Rattle.codec_model.specs.Control.{Control, entered, after_reset, after_close, after_reclaim, may_reclaim, turned, done_running}
-use Rattle.codec_model.specs.Replay.{State, opening_state, step, replay_from, with_control, removed, removal_step, removal_error, turn_step, done_step, done_ended, ended_of, entry_of, call_error}
-use Rattle.codec_model.specs.Shown.{shown_at, each_shown, each_shown_from}
+use Rattle.codec_model.specs.Control.{Control, at_next_place, after_close, after_removal, may_reclaim, run_front, done_running}
+use Rattle.codec_model.specs.Replay.{State, opening_state, step, replay, with_control, removed, remove_or_refuse, removal_entry, removal_error, turn_step, done_step, done_ended, ended_of, entry_of, call_error}
+use Rattle.codec_model.specs.Shown.{shown_at, each_shown}
+use Rattle.codec_model.proofs.ShownLaws.{replay_more, each_more}
 use Rattle.codec_core.specs.Job.{JobValue, DoneValue, IsJobOf, IsEndOf}
 use Rattle.codec_core.specs.Codec.{Codec, state_at, Makes, KeepsRunning}
-use Rattle.codec_core.proofs.Steps.{replay_more, call_keeps, call_steps, run_keeps, done_leaves}
-use Rattle.codec_core.proofs.Told.{cond_is}
+use Rattle.codec_core.proofs.Steps.{call_keeps, call_steps, removal_steps, run_keeps, done_leaves}
 
 some_same : {X : Type 0} (a t : X) → Some a ≡ Some t → a ≡ t
 some_same a t h = cc
@@ -36,22 +38,23 @@ call_keeps_running who x s t h =
     let c = call_keeps (call_error x s.control) x s.control in
     keeps_at s _ t (some_same _ _ (sym (call_steps who x s) ∙ h)) c.running refl
 
-removal_keeps : (o : Option DomError) (made : Control) (s t : State) → Some (removal_step o made s) ≡ Some t → made.running ≡ s.control.running → KeepsRunning s t
-removal_keeps None made s t h r = keeps_at s _ t (some_same _ _ h) r refl
-removal_keeps (Some x) made s t h r = keeps_at s _ t (some_same _ _ h) refl refl
+removal_running : (r : Removal) (c : Control) → (after_removal r (at_next_place c)).running ≡ c.running
+removal_running removal.Reset c = refl
+removal_running removal.Close c = refl
 
-pub reset_keeps_running : (who : Who) (s t : State) → step (entry.Reset who) s ≡ Some t → KeepsRunning s t
-reset_keeps_running who s t h = removal_keeps (removal_error s.control) (after_reset dom.Abort (entered s.control)) s t h refl
+removal_keeps : (o : Option DomError) (r : Removal) (s t : State) → Some (remove_or_refuse o r s) ≡ Some t → KeepsRunning s t
+removal_keeps None r s t h = keeps_at s _ t (some_same _ _ h) (removal_running r s.control) refl
+removal_keeps (Some x) r s t h = keeps_at s _ t (some_same _ _ h) refl refl
 
-pub close_keeps_running : (who : Who) (s t : State) → step (entry.Close who) s ≡ Some t → KeepsRunning s t
-close_keeps_running who s t h = removal_keeps (removal_error s.control) (after_close dom.Abort (entered s.control)) s t h refl
+pub removal_keeps_running : (who : Who) (r : Removal) (s t : State) → step (removal_entry who r) s ≡ Some t → KeepsRunning s t
+removal_keeps_running who r s t h = removal_keeps (removal_error s.control) r s t (sym (removal_steps who r s) ∙ h)
 
 turn_keeps : (ts : List Task) (s t : State) → s.control.tasks ≡ ts → turn_step ts s ≡ Some t → KeepsRunning s t
 turn_keeps [] s t e h = absurd cc
-turn_keeps (task.Close x ∷ ts) s t e h = keeps_at s (removed (turned (entered s.control)) s) t (some_same _ _ h) (rw e refl) refl
+turn_keeps (task.Close x ∷ ts) s t e h = keeps_at s (removed (run_front (at_next_place s.control)) s) t (some_same _ _ h) (rw e refl) refl
 turn_keeps (x ∷ ts) s t e h =
-    let k = run_keeps x (record (entered s.control) { tasks = ts }) refl in
-    keeps_at s (with_control (turned (entered s.control)) s) t (some_same _ _ h) (rw e k.running) refl
+    let k = run_keeps x (record (at_next_place s.control) { tasks = ts }) refl in
+    keeps_at s (with_control (run_front (at_next_place s.control)) s) t (some_same _ _ h) (rw e k.running) refl
 
 pub turn_keeps_running : (s t : State) → step entry.Turn s ≡ Some t → KeepsRunning s t
 turn_keeps_running s t h = turn_keeps s.control.tasks s t refl h
@@ -61,7 +64,7 @@ reclaimed true s t u h r g = keeps_at s u t (some_same _ _ h) r g
 reclaimed false s t u h r g = absurd cc
 
 pub reclaim_keeps_running : (now : ℕ) (s t : State) → step (entry.Reclaim now) s ≡ Some t → KeepsRunning s t
-reclaim_keeps_running now s t h = reclaimed (may_reclaim now s.control) s t (removed (after_reclaim (entered s.control)) s) h refl refl
+reclaim_keeps_running now s t h = reclaimed (may_reclaim now s.control) s t (removed (after_close (at_next_place s.control)) s) h refl refl
 
 pub keeps_itself : (s : State) → KeepsRunning s s
 keeps_itself s = record { same_running = refl; same_given = refl }
@@ -91,33 +94,24 @@ then_step : (e : Entry) (o : Option State) (t : State) → option_and_then (step
 then_step e None t h = absurd cc
 then_step e (Some u) t h = (u, refl, h)
 
-then_shows : (x e : Entry) (xs : List Entry) (s u : State) (o : Option State) → step x s ≡ o → option_and_then (replay_from xs) o ≡ Some u → ((v : State) → replay_from xs v ≡ Some u → each_shown_from (xs ++ e ∷ []) v ≡ each_shown_from xs v ++ shown_at e u ∷ []) → each_shown_from (x ∷ xs ++ e ∷ []) s ≡ each_shown_from (x ∷ xs) s ++ shown_at e u ∷ []
-then_shows x e xs s u None h k rest = absurd cc
-then_shows x e xs s u (Some v) h k rest = rw h (ap (λ (l : List Shown). shown_at x s ∷ l) (rest v k))
-
-each_more : (h : List Entry) (s u : State) (e : Entry) → replay_from h s ≡ Some u → each_shown_from (h ++ e ∷ []) s ≡ each_shown_from h s ++ shown_at e u ∷ []
-each_more [] s u e h = let same : s ≡ u = cc in sym (last e s (step e s)) ∙ ap (λ (x : State). shown_at e x ∷ []) same
-  where
-    last : (e : Entry) (s : State) (o : Option State) → shown_at e s ∷ [] ≡ shown_at e s ∷ unwrap_or (option_map (each_shown_from []) o) []
-    last e s None = refl
-    last e s (Some t) = refl
-each_more (x ∷ xs) s u e h = then_shows x e xs s u (step x s) refl h (λ v k. each_more xs v u e k)
-
 -- an entry that is made shows what its step shows, after all that was shown
 pub makes_shows : (old new : Codec) (e : Entry) → Makes old new e → each_shown new.opening new.history ≡ each_shown old.opening old.history ++ shown_at e (state_at old) ∷ []
 makes_shows old new e makes =
-    let again : replay_from (old.history ++ e ∷ []) (opening_state old.opening) ≡ Some (state_at new) = subst (λ (o : Opening). replay_from (old.history ++ e ∷ []) (opening_state o) ≡ Some (state_at new)) makes.same_opening (subst (λ (h : List Entry). replay_from h (opening_state new.opening) ≡ Some (state_at new)) makes.longer makes.legal) in
-    let before = then_step e (replay_from old.history (opening_state old.opening)) (state_at new) (sym (replay_more old.history (opening_state old.opening) e) ∙ again) in
+    let again : replay old.opening (old.history ++ e ∷ []) ≡ Some (state_at new) = subst (λ (o : Opening). replay o (old.history ++ e ∷ []) ≡ Some (state_at new)) makes.same_opening (subst (λ (h : List Entry). replay new.opening h ≡ Some (state_at new)) makes.longer makes.legal) in
+    let before = then_step e (replay old.opening old.history) (state_at new) (sym (replay_more old.history (opening_state old.opening) e) ∙ again) in
     let here : state_at old ≡ before.0 = ap (λ (o : Option State). unwrap_or o (opening_state old.opening)) before.1 in
-    let grown = each_more old.history (opening_state old.opening) before.0 e before.1 in
-    let whole : each_shown new.opening new.history ≡ each_shown_from (old.history ++ e ∷ []) (opening_state old.opening) = ap (λ (h : List Entry). each_shown_from h (opening_state new.opening)) makes.longer ∙ ap (λ (o : Opening). each_shown_from (old.history ++ e ∷ []) (opening_state o)) makes.same_opening in
-    whole ∙ (grown ∙ ap (λ (x : State). each_shown_from old.history (opening_state old.opening) ++ shown_at e x ∷ []) (sym here))
+    let whole : each_shown new.opening new.history ≡ each_shown old.opening (old.history ++ e ∷ []) = ap (λ (h : List Entry). each_shown new.opening h) makes.longer ∙ ap (λ (o : Opening). each_shown o (old.history ++ e ∷ [])) makes.same_opening in
+    whole ∙ (each_more old.opening old.history e before.0 before.1 ∙ ap (λ (x : State). each_shown old.opening old.history ++ shown_at e x ∷ []) (sym here))
+
+cond_is : {X : Type 0} (b : Bool) (o : Option X) (t : X) → cond b o None ≡ Some t → o ≡ Some t
+cond_is true o t h = h
+cond_is false o t h = absurd cc
 
 ended_idle : (r : Running) (o : Option Ended) (moment : ℕ) (s t : State) → done_ended r o moment s ≡ Some t → t.control.running ≡ None
 ended_idle r None moment s t h = absurd cc
 ended_idle r (Some e) moment s t h =
-    let same : with_control (done_running r e moment (entered s.control)) s ≡ t = cc in
-    ap (λ (x : State). x.control.running) (sym same) ∙ (done_leaves r e moment (entered s.control)).running
+    let same : with_control (done_running r e moment (at_next_place s.control)) s ≡ t = cc in
+    ap (λ (x : State). x.control.running) (sym same) ∙ (done_leaves r e moment (at_next_place s.control)).running
 
 done_step_idle : (o : Option Running) (epoch item moment : ℕ) (x : Outcome) (s t : State) → done_step o epoch item moment x s ≡ Some t → t.control.running ≡ None
 done_step_idle None epoch item moment x s t h = absurd cc

@@ -1,4 +1,5 @@
+pub mod Promises
 pub mod Ends
 pub mod Steps
-pub mod Told
+pub mod Recorded
 pub mod Laws

@@ -6,10 +6,12 @@ use Rattle.std.proofs.lemmas.Bool.Decides.{nat_tests}
 use Rattle.wc_base.specs.declared.error.DomError.{DomError}
 use Rattle.wc_base.specs.declared.error.DomError.TheVariants as dom
 use Rattle.wc_base.specs.declared.who.Who.{Who}
-use Rattle.coder_api.specs.declared.unit.Unit as media
+use Rattle.codec_definitions.specs.declared.unit.Unit as media
 use Rattle.coder_api.specs.Lent.{Lent}
 use Rattle.codec_model.specs.declared.entry.CodecState.{CodecState}
 use Rattle.codec_model.specs.declared.entry.CodecState.TheVariants.{Unconfigured, Configured, Closed}
+use Rattle.codec_model.specs.declared.entry.Removal.{Removal}
+use Rattle.codec_model.specs.declared.entry.Removal.TheVariants as removal
 use Rattle.codec_model.specs.declared.entry.Call.{Call}
 use Rattle.codec_model.specs.declared.entry.Call.TheVariants as call
 use Rattle.codec_model.specs.declared.entry.Entry.{Entry}
@@ -25,15 +27,11 @@ use Rattle.codec_model.specs.declared.entry.Task.{Task}
 use Rattle.codec_model.specs.declared.entry.Task.TheVariants as task
 use Rattle.codec_model.specs.declared.entry.Ended.{Ended}
 use Rattle.codec_model.specs.declared.entry.Ended.TheVariants as ended
-use Rattle.codec_model.specs.Control.{Control, is_decoder, is_taken, after_message, process_queue, entered, is_close, turn_closes, run_task, turned, kind_of, after_done, done_running, settled, settled_ran, after_turn, after_reset, after_close, after_reclaim, may_reclaim, front, may_start, start_item, after_start}
-use Rattle.codec_model.specs.Replay.{State, Given, given_more, missing_coder, opening_state, step, replay_from, with_control, removed, accepted, refused, after_call, call_error, entry_of, removal_error}
+use Rattle.codec_model.specs.Control.{Control, is_decoder, is_taken, after_message, process_queue, at_next_place, is_close, turn_closes, run_task, run_front, kind_of, after_done, done_running, after_end, after_turn, after_close, after_removal, may_reclaim, front, may_start, start_item, after_start}
+use Rattle.codec_model.specs.Replay.{State, Given, given_more, missing_coder, opening_state, step, replay_from, with_control, removed, accepted, after_call, call_error, entry_of, removal_error, removal_entry, remove_or_refuse}
+use Rattle.codec_model.proofs.ShownLaws.{replay_more}
 use Rattle.codec_core.specs.Job.{JobValue, DoneValue, missing_for, CoderAt, CoderFor, IsReady, IsReadyBox, StillAt, IsEndOf, IsJobOf, outcome_of}
 use Rattle.codec_core.specs.Codec.{state_at, Makes, CoderHome, IsKept, kept_box, reclaims}
-
--- the replay goes on by one step
-pub replay_more : (h : List Entry) (s : State) (e : Entry) → replay_from (h ++ e ∷ []) s ≡ option_and_then (step e) (replay_from h s)
-replay_more [] s e = elim (step e s) as (λ o. option_and_then (replay_from []) o ≡ o) [ None ↦ refl | Some t ↦ refl ]
-replay_more (x ∷ xs) s e = elim (step x s) as (λ o. option_and_then (replay_from (xs ++ e ∷ [])) o ≡ option_and_then (step e) (option_and_then (replay_from xs) o)) [ None ↦ refl | Some t ↦ replay_more xs t e ]
 
 -- the item that is out, and all that processing leaves
 pub record SameRun (s t : Control) : Type 0 where
@@ -161,7 +159,7 @@ removed_moved slot e s k to steps home = record {
 
 close_moved : (slot : Option Lent) (s : State) (x : DomError) (ts : List Task) → s.control.tasks ≡ task.Close x ∷ ts → CoderHome slot s → Moved None entry.Turn s (after_turn s.control)
 close_moved slot s x ts e home =
-    let m = removed_moved slot entry.Turn s (turned (entered s.control)) (rw e (record { running = refl; epoch = refl; place = refl; opening = refl })) (rw e refl) home in
+    let m = removed_moved slot entry.Turn s (run_front (at_next_place s.control)) (rw e (record { running = refl; epoch = refl; place = refl; opening = refl })) (rw e refl) home in
     rw e (rw e at m)
 
 pub turn_moved : (slot : Option Lent) (s : State) (ts : List Task) (b : Bool) → s.control.tasks ≡ ts → turn_closes ts ≡ Some b → CoderHome slot s → Moved (cond b None slot) entry.Turn s (after_turn s.control)
@@ -170,7 +168,7 @@ turn_moved slot s (task.Close x ∷ ts) true e h home = close_moved slot s x ts 
 turn_moved slot s (task.Close x ∷ ts) false e h home = absurd cc
 turn_moved slot s (t ∷ ts) true e h home = absurd cc
 turn_moved slot s (t ∷ ts) false e h home =
-    let k = run_keeps t (record (entered s.control) { tasks = ts }) refl in
+    let k = run_keeps t (record (at_next_place s.control) { tasks = ts }) refl in
     moved_by slot entry.Turn s (after_turn s.control)
     (rw e k.running) (rw e k.halted) (rw e k.epoch) (rw e k.place) (rw e k.opening)
     (rw e refl) home
@@ -198,7 +196,7 @@ front_is (j ∷ rest) i h = (rest, cc)
 start_moved_to : (s : State) (i : Item) (rest : List Item) → may_start s.control ≡ true → s.control.work ≡ i ∷ rest → Moved None (entry.Start s.control.epoch i.number) s (after_start s.control)
 start_moved_to s i rest may work =
     let out : Running = record { epoch = s.control.epoch; number = i.number; place = i.place; kind = kind_of i.work } in
-    let k : Control = record (entered s.control) { work = rest; running = Some out } in
+    let k : Control = record (at_next_place s.control) { work = rest; running = Some out } in
     let after : after_start s.control ≡ k = rw (may, work) refl in
     let is_out : (r : Running) → Some out ≡ Some r → out ≡ r = λ r e. cc in
     record {
@@ -279,7 +277,7 @@ start_ready h slot k i kept item =
 start_job_at : (s t : State) (i : Item) (rest : List Item) (slot : Option Lent) (at : ℕ) → may_start s.control ≡ true → s.control.work ≡ i ∷ rest → step (entry.Start s.control.epoch i.number) s ≡ Some t → CoderHome slot s → IsJobOf t (record { epoch = s.control.epoch; number = i.number; place = at; work = i.work; coder = slot })
 start_job_at s t i rest slot at may work steps home =
     let out : Running = record { epoch = s.control.epoch; number = i.number; place = i.place; kind = kind_of i.work } in
-    let k : Control = record (entered s.control) { work = rest; running = Some out } in
+    let k : Control = record (at_next_place s.control) { work = rest; running = Some out } in
     let u : State = record { control = k; given = given_more i.work s.given; running_given = given_more i.work s.given } in
     let same : step (entry.Start s.control.epoch i.number) s ≡ Some u = rw (work, may, eq-eqb s.control.epoch s.control.epoch refl, eq-eqb i.number i.number refl) refl in
     let is : u ≡ t = cc in
@@ -314,12 +312,12 @@ pub record Leaves (s t : Control) : Type 0 where
   pub opening : t.opening ≡ s.opening
   pub phase : t.phase ≡ s.phase
 
-ran_leaves : (k : WorkKind) (r : Running) (units : List media.Unit) (s : Control) → r.kind ≡ k → Leaves s (settled_ran r units s)
+ran_leaves : (k : WorkKind) (r : Running) (units : List media.Unit) (s : Control) → r.kind ≡ k → Leaves s (after_end r (ended.Ran units) s)
 ran_leaves kind.Configure r units s e = rw e (record { running = refl; epoch = refl; place = refl; opening = refl; phase = refl })
 ran_leaves kind.Coded r units s e = rw e (record { running = refl; epoch = refl; place = refl; opening = refl; phase = refl })
 ran_leaves kind.Flush r units s e = rw e (record { running = refl; epoch = refl; place = refl; opening = refl; phase = refl })
 
-settled_leaves : (r : Running) (e : Ended) (s : Control) → Leaves s (settled r e s)
+settled_leaves : (r : Running) (e : Ended) (s : Control) → Leaves s (after_end r e s)
 settled_leaves r (ended.Ran units) s = ran_leaves r.kind r units s refl
 settled_leaves r ended.Refused s = record { running = refl; epoch = refl; place = refl; opening = refl; phase = refl }
 settled_leaves r (ended.NoSlot n) s = record { running = refl; epoch = refl; place = refl; opening = refl; phase = refl }
@@ -330,7 +328,7 @@ done_leaves r e moment s =
     let idle : Control = record s { running = None } in
     let noted : Control = record idle { progress = Some (max moment (unwrap_or s.progress moment)) } in
     let l = settled_leaves r e noted in
-    elim (eqb r.epoch s.epoch) as (λ b. Leaves idle (cond b (settled r e noted) idle)) [
+    elim (eqb r.epoch s.epoch) as (λ b. Leaves idle (cond b (after_end r e noted) idle)) [
       | true ↦ record { running = l.running; epoch = l.epoch; place = l.place; opening = l.opening; phase = l.phase }
       | false ↦ record { running = refl; epoch = refl; place = refl; opening = refl; phase = refl }
     ]
@@ -343,10 +341,10 @@ done_fine r (ended.NoSlot n) moment s o h = absurd (let g = rw (eq-eqb r.epoch s
 done_fine r ended.NoMemory moment s o h = absurd (let g = rw (eq-eqb r.epoch s.epoch o) at h in cc)
 
 -- the box that comes home was given all that this epoch was
-idle_after : (slot next : Option Lent) (s : State) (d : DoneValue) (moment : ℕ) (end : IsEndOf s d) → CoderHome slot s → (b : Bool) → eqb d.epoch s.control.epoch ≡ b → next ≡ cond b d.coder None → (done_running end.running d.ended moment (entered s.control)).halted ≡ false → CoderAt next s.given
+idle_after : (slot next : Option Lent) (s : State) (d : DoneValue) (moment : ℕ) (end : IsEndOf s d) → CoderHome slot s → (b : Bool) → eqb d.epoch s.control.epoch ≡ b → next ≡ cond b d.coder None → (done_running end.running d.ended moment (at_next_place s.control)).halted ≡ false → CoderAt next s.given
 idle_after slot next s d moment end home true same next_is fine =
     let o : end.running.epoch ≡ s.control.epoch = end.same_epoch ∙ eqb-true d.epoch s.control.epoch same in
-    let ran = done_fine end.running d.ended moment (entered s.control) o fine in
+    let ran = done_fine end.running d.ended moment (at_next_place s.control) o fine in
     let still : StillAt (ended.Ran ran.0) d.coder s.running_given = rw ran.1 at end.end.box in
     rw (next_is, ← home.busy end.running end.is_running o) still
 idle_after slot next s d moment end home false other next_is fine =
@@ -357,8 +355,8 @@ idle_after slot next s d moment end home false other next_is fine =
 -- the box comes home, if its epoch is not over
 pub done_moved : (slot next : Option Lent) (s : State) (d : DoneValue) (moment : ℕ) (end : IsEndOf s d) → CoderHome slot s → next ≡ cond (eqb d.epoch s.control.epoch) d.coder None → Moved next (entry.Done d.epoch d.number moment (outcome_of d.ended)) s (after_done d.ended moment s.control)
 done_moved slot next s d moment end home next_is =
-    let k = done_running end.running d.ended moment (entered s.control) in
-    let l = done_leaves end.running d.ended moment (entered s.control) in
+    let k = done_running end.running d.ended moment (at_next_place s.control) in
+    let l = done_leaves end.running d.ended moment (at_next_place s.control) in
     let after : after_done d.ended moment s.control ≡ k = rw end.is_running refl in
     let none : (r : Running) → k.running ≡ Some r → ⊥ = λ r e. absurd (let f = sym l.running ∙ e in cc) in
     record {
@@ -391,26 +389,21 @@ pub record SameCall (s t : Control) : Type 0 where
 
 accepted_keeps : (x : Call) (c : Control) → SameCall c (accepted x c)
 accepted_keeps (call.Configure config) c =
-    let s : Control = record (entered c) { phase = Configured; key_required = is_decoder c.opening.kind || c.key_required; messages = c.messages ++ record { place = c.place; work = work.Configure config } ∷ [] } in
+    let s : Control = record (at_next_place c) { phase = Configured; key_required = is_decoder c.opening.kind || c.key_required; messages = c.messages ++ record { place = c.place; work = work.Configure config } ∷ [] } in
     let k = process_keeps s.messages s in
     record { running = k.running; halted = k.halted; epoch = k.epoch; place = k.place; opening = k.opening }
 accepted_keeps (call.Decode chunk) c =
-    let s : Control = record (entered c) { key_required = false; size = c.size + 1; messages = c.messages ++ record { place = c.place; work = work.Coded chunk } ∷ [] } in
+    let s : Control = record (at_next_place c) { key_required = false; size = c.size + 1; messages = c.messages ++ record { place = c.place; work = work.Coded chunk } ∷ [] } in
     let k = process_keeps s.messages s in
     record { running = k.running; halted = k.halted; epoch = k.epoch; place = k.place; opening = k.opening }
 accepted_keeps call.Flush c =
-    let s : Control = record (entered c) { key_required = is_decoder c.opening.kind || c.key_required; pending = c.pending ++ c.place ∷ []; messages = c.messages ++ record { place = c.place; work = work.Flush } ∷ [] } in
+    let s : Control = record (at_next_place c) { key_required = is_decoder c.opening.kind || c.key_required; pending = c.pending ++ c.place ∷ []; messages = c.messages ++ record { place = c.place; work = work.Flush } ∷ [] } in
     let k = process_keeps s.messages s in
     record { running = k.running; halted = k.halted; epoch = k.epoch; place = k.place; opening = k.opening }
 
-refused_keeps : (x : Call) (error : DomError) (c : Control) → SameCall c (refused x error c)
-refused_keeps (call.Configure config) error c = record { running = refl; halted = refl; epoch = refl; place = refl; opening = refl }
-refused_keeps (call.Decode chunk) error c = record { running = refl; halted = refl; epoch = refl; place = refl; opening = refl }
-refused_keeps call.Flush error c = record { running = refl; halted = refl; epoch = refl; place = refl; opening = refl }
-
 pub call_keeps : (error : Option DomError) (x : Call) (c : Control) → SameCall c (after_call error x c)
 call_keeps None x c = accepted_keeps x c
-call_keeps (Some error) x c = refused_keeps x error c
+call_keeps (Some error) x c = record { running = refl; halted = refl; epoch = refl; place = refl; opening = refl }
 
 pub call_steps : (who : Who) (x : Call) (s : State) → step (entry_of who x) s ≡ Some (with_control (after_call (call_error x s.control) x s.control) s)
 call_steps who (call.Configure config) s = refl
@@ -424,30 +417,34 @@ call_moves h slot k k' who x error kept e after =
     rw (after, e, ← kept.is_control) (moved_by slot (entry_of who x) s _ c.running c.halted c.epoch c.place c.opening (call_steps who x s) kept.home)
 
 -- a reset or close: made, or refused with this error
-abbrev pub removal_of : Option DomError → Control → Control → Control
-removal_of None made s = made
-removal_of (Some error) made s = entered s
+abbrev pub removal_of : Option DomError → Removal → Control → Control
+removal_of None r s = after_removal r (at_next_place s)
+removal_of (Some error) r s = at_next_place s
 
-reset_moved : (slot : Option Lent) (who : Who) (s : State) (error : Option DomError) → removal_error s.control ≡ error → CoderHome slot s → Moved (kept_box (is_some error) slot) (entry.Reset who) s (removal_of error (after_reset dom.Abort (entered s.control)) s.control)
-reset_moved slot who s None e home = removed_moved slot (entry.Reset who) s (after_reset dom.Abort (entered s.control)) (record { running = refl; epoch = refl; place = refl; opening = refl }) (rw e refl) home
-reset_moved slot who s (Some error) e home = moved_by slot (entry.Reset who) s (entered s.control) refl refl refl refl refl (rw e refl) home
+removed_to : (r : Removal) (c : Control) → RemovedTo c (after_removal r (at_next_place c))
+removed_to removal.Reset c = record { running = refl; epoch = refl; place = refl; opening = refl }
+removed_to removal.Close c = record { running = refl; epoch = refl; place = refl; opening = refl }
 
-pub reset_moves : (h : List Entry) (slot next : Option Lent) (k k' : Control) (who : Who) (error : Option DomError) (kept : IsKept h slot k) → removal_error k ≡ error → next ≡ kept_box (is_some error) slot → k' ≡ removal_of error (after_reset dom.Abort (entered k)) k → Moved next (entry.Reset who) kept.state k'
-reset_moves h slot next k k' who error kept e slot_is after =
-    rw (slot_is, after, ← kept.is_control) (reset_moved slot who kept.state error (ap removal_error kept.is_control ∙ e) kept.home)
+pub removal_steps : (who : Who) (r : Removal) (s : State) → step (removal_entry who r) s ≡ Some (remove_or_refuse (removal_error s.control) r s)
+removal_steps who removal.Reset s = refl
+removal_steps who removal.Close s = refl
 
-shut_moved : (slot : Option Lent) (who : Who) (s : State) (error : Option DomError) → removal_error s.control ≡ error → CoderHome slot s → Moved (kept_box (is_some error) slot) (entry.Close who) s (removal_of error (after_close dom.Abort (entered s.control)) s.control)
-shut_moved slot who s None e home = removed_moved slot (entry.Close who) s (after_close dom.Abort (entered s.control)) (record { running = refl; epoch = refl; place = refl; opening = refl }) (rw e refl) home
-shut_moved slot who s (Some error) e home = moved_by slot (entry.Close who) s (entered s.control) refl refl refl refl refl (rw e refl) home
+removal_moved : (slot : Option Lent) (who : Who) (r : Removal) (s : State) (error : Option DomError) → removal_error s.control ≡ error → CoderHome slot s → Moved (kept_box (is_some error) slot) (removal_entry who r) s (removal_of error r s.control)
+removal_moved slot who r s None e home =
+    removed_moved slot (removal_entry who r) s (after_removal r (at_next_place s.control)) (removed_to r s.control)
+    (removal_steps who r s ∙ ap (λ (o : Option DomError). Some (remove_or_refuse o r s)) e) home
+removal_moved slot who r s (Some error) e home =
+    moved_by slot (removal_entry who r) s (at_next_place s.control) refl refl refl refl refl
+    (removal_steps who r s ∙ ap (λ (o : Option DomError). Some (remove_or_refuse o r s)) e) home
 
-pub close_moves : (h : List Entry) (slot next : Option Lent) (k k' : Control) (who : Who) (error : Option DomError) (kept : IsKept h slot k) → removal_error k ≡ error → next ≡ kept_box (is_some error) slot → k' ≡ removal_of error (after_close dom.Abort (entered k)) k → Moved next (entry.Close who) kept.state k'
-close_moves h slot next k k' who error kept e slot_is after =
-    rw (slot_is, after, ← kept.is_control) (shut_moved slot who kept.state error (ap removal_error kept.is_control ∙ e) kept.home)
+pub removal_moves : (h : List Entry) (slot next : Option Lent) (k k' : Control) (who : Who) (r : Removal) (error : Option DomError) (kept : IsKept h slot k) → removal_error k ≡ error → next ≡ kept_box (is_some error) slot → k' ≡ removal_of error r k → Moved next (removal_entry who r) kept.state k'
+removal_moves h slot next k k' who r error kept e slot_is after =
+    rw (slot_is, after, ← kept.is_control) (removal_moved slot who r kept.state error (ap removal_error kept.is_control ∙ e) kept.home)
 
-pub reclaim_moves : (h : List Entry) (slot : Option Lent) (k k' : Control) (now : ℕ) (kept : IsKept h slot k) → may_reclaim now k ≡ true → k' ≡ after_reclaim (entered k) → Moved None (entry.Reclaim now) kept.state k'
+pub reclaim_moves : (h : List Entry) (slot : Option Lent) (k k' : Control) (now : ℕ) (kept : IsKept h slot k) → may_reclaim now k ≡ true → k' ≡ after_close (at_next_place k) → Moved None (entry.Reclaim now) kept.state k'
 reclaim_moves h slot k k' now kept may after =
     let here : may_reclaim now kept.state.control ≡ true = rw kept.is_control may in
-    rw (after, ← kept.is_control) (removed_moved slot (entry.Reclaim now) kept.state (after_reclaim (entered kept.state.control)) (record { running = refl; epoch = refl; place = refl; opening = refl }) (rw here refl) kept.home)
+    rw (after, ← kept.is_control) (removed_moved slot (entry.Reclaim now) kept.state (after_close (at_next_place kept.state.control)) (record { running = refl; epoch = refl; place = refl; opening = refl }) (rw here refl) kept.home)
 
 -- the place that is kept for a reclaim stays until the codec is closed
 same_phase : (s t : Control) → t.phase ≡ s.phase → reclaims t.phase ≤ reclaims s.phase
@@ -462,7 +459,7 @@ start_reclaims k k' i item after =
 
 done_phase : (o : Option Running) (e : Ended) (moment : ℕ) (k : Control) → k.running ≡ o → (after_done e moment k).phase ≡ k.phase
 done_phase None e moment k o = rw o refl
-done_phase (Some r) e moment k o = let l = done_leaves r e moment (entered k) in rw o l.phase
+done_phase (Some r) e moment k o = let l = done_leaves r e moment (at_next_place k) in rw o l.phase
 
 pub done_reclaims : (k k' : Control) (e : Ended) (moment : ℕ) → k' ≡ after_done e moment k → reclaims k'.phase ≤ reclaims k.phase
 done_reclaims k k' e moment after = same_phase k k' (ap (λ (c : Control). c.phase) after ∙ done_phase k.running e moment k refl)
@@ -471,7 +468,7 @@ turned_reclaims : (ts : List Task) (k : Control) → k.tasks ≡ ts → reclaims
 turned_reclaims [] k e = rw e (omega arith)
 turned_reclaims (task.Close x ∷ ts) k e = rw e (omega arith)
 turned_reclaims (t ∷ ts) k e =
-    let same = run_keeps t (record (entered k) { tasks = ts }) refl in
+    let same = run_keeps t (record (at_next_place k) { tasks = ts }) refl in
     same_phase k (after_turn k) (rw e same.phase)
 
 pub turn_reclaims : (k k' : Control) → k' ≡ after_turn k → reclaims k'.phase ≤ reclaims k.phase
@@ -482,20 +479,17 @@ open_phase Unconfigured e = refl
 open_phase Configured e = refl
 open_phase Closed e = absurd cc
 
-pub reset_reclaims : (k k' : Control) (error : Option DomError) → removal_error k ≡ error → k' ≡ removal_of error (after_reset dom.Abort (entered k)) k → reclaims k'.phase ≤ reclaims k.phase
-reset_reclaims k k' None e after = rw (after, open_phase k.phase e) (omega arith)
-reset_reclaims k k' (Some x) e after = rw after (omega arith)
-
-pub close_reclaims : (k k' : Control) (error : Option DomError) → removal_error k ≡ error → k' ≡ removal_of error (after_close dom.Abort (entered k)) k → reclaims k'.phase ≤ reclaims k.phase
-close_reclaims k k' None e after = rw after (omega arith)
-close_reclaims k k' (Some x) e after = rw after (omega arith)
+pub removal_reclaims : (k k' : Control) (r : Removal) (error : Option DomError) → removal_error k ≡ error → k' ≡ removal_of error r k → reclaims k'.phase ≤ reclaims k.phase
+removal_reclaims k k' removal.Reset None e after = rw (after, open_phase k.phase e) (omega arith)
+removal_reclaims k k' removal.Close None e after = rw after (omega arith)
+removal_reclaims k k' r (Some x) e after = rw after (omega arith)
 
 reclaimed_phase : (p : CodecState) (b : Bool) → elim p as (λ _. Bool) [ Unconfigured ↦ false | Configured ↦ b | Closed ↦ false ] ≡ true → reclaims p ≡ 1
 reclaimed_phase Unconfigured b e = absurd cc
 reclaimed_phase Configured b e = refl
 reclaimed_phase Closed b e = absurd cc
 
-pub reclaim_reclaims : (k k' : Control) (now : ℕ) → may_reclaim now k ≡ true → k' ≡ after_reclaim (entered k) → reclaims k'.phase + 1 ≤ reclaims k.phase
+pub reclaim_reclaims : (k k' : Control) (now : ℕ) → may_reclaim now k ≡ true → k' ≡ after_close (at_next_place k) → reclaims k'.phase + 1 ≤ reclaims k.phase
 reclaim_reclaims k k' now may after = rw (after, reclaimed_phase k.phase _ may) (omega arith)
 
 pub most_reclaims : (p : CodecState) → reclaims p ≤ 1
@@ -503,9 +497,9 @@ most_reclaims Unconfigured = omega arith
 most_reclaims Configured = omega arith
 most_reclaims Closed = omega arith
 
-pub removal_after : (error : Option DomError) (made s k' : Control) → IfNone error (k' ≡ made) → OnSome error (k' ≡ entered s) → k' ≡ removal_of error made s
-removal_after None made s k' m r = m
-removal_after (Some x) made s k' m r = r
+pub removal_after : (error : Option DomError) (r : Removal) (s k' : Control) → IfNone error (k' ≡ after_removal r (at_next_place s)) → OnSome error (k' ≡ at_next_place s) → k' ≡ removal_of error r s
+removal_after None r s k' m n = m
+removal_after (Some x) r s k' m n = n
 
 -- the error of a removal by the history's state is that by the control state
 pub removal_here : (h : List Entry) (slot : Option Lent) (k : Control) (spare : ℕ) (kept : IsKept h slot k) (error : Option DomError) → removal_error (state_at (record { opening = k.opening; history = h; spare = spare; slot = slot })).control ≡ error → removal_error k ≡ error

@@ -1,5 +1,5 @@
 -- A codec as its history.
-use Rattle.std.specs.Prelude.{ℕ, ◌≡◌, ◌≤◌, ◌<◌, Bool, false, List, [], ◌∷◌, ◌++◌, length, Option, Some, None, unwrap_or, if◌then◌else◌}
+use Rattle.std.specs.Prelude.{ℕ, ◌≡◌, ◌≤◌, ◌<◌, ◌+◌, ◌^◌, Bool, false, List, [], ◌∷◌, ◌++◌, length, Option, Some, None, unwrap_or, if◌then◌else◌}
 use Rattle.wc_base.specs.declared.error.DomError.{DomError}
 use Rattle.wc_base.specs.declared.who.Who.{Who}
 use Rattle.coder_api.specs.Lent.{Lent}
@@ -12,11 +12,13 @@ use Rattle.codec_model.specs.declared.entry.Entry.{Entry}
 use Rattle.codec_model.specs.declared.entry.Work.{Work}
 use Rattle.codec_model.specs.declared.entry.Item.{Item}
 use Rattle.codec_model.specs.declared.entry.Running.{Running}
-use Rattle.codec_model.specs.Control.{Control, turn_closes}
+use Rattle.codec_model.specs.Control.{Control, turn_closes, left}
 use Rattle.codec_model.specs.Replay.{State, opening_state, replay, nothing_given, step, entry_of, call_error}
+use Rattle.codec_model.specs.Shown.{each_shown, exception_of}
 use Rattle.codec_core.specs.declared.reply.CallFault.{CallFault}
 use Rattle.codec_core.specs.declared.reply.CallFault.TheVariants as fault
 use Rattle.codec_core.specs.Job.{CoderAt, stopped_box}
+use Rattle.codec_core.specs.Trace.{TraceValue}
 
 pub record Codec : Type 0 where
   pub opening : Opening
@@ -65,6 +67,15 @@ reclaims Unconfigured = 1
 reclaims Configured = 1
 reclaims Closed = 0
 
+-- the entries are the history of the machine's state, each with what it showed, and there is a place for each entry that
+-- is left and for those that are kept
+pub record IsCore (t : TraceValue) (slot : Option Lent) (k : Control) (spare : ℕ) : Type 0 where
+  pub kept : IsKept t.entries slot k
+  pub shows : t.shown ≡ each_shown k.opening t.entries
+  pub places : left k + spare + reclaims k.phase ≤ t.free
+  -- what memory can hold
+  pub fits : length t.entries + t.free < 2 ^ 63
+
 -- a box that stays where it is, or goes
 abbrev pub kept_box : Bool → Option Lent → Option Lent
 kept_box stays coder = if stays then coder else None
@@ -102,12 +113,6 @@ item_parts i = (i.number, i.work)
 -- the moment of the last item that ended, of a configured codec
 abbrev pub progress_of : Control → Option ℕ
 progress_of s = elim (s.phase) [ Unconfigured ↦ None | Configured ↦ s.progress | Closed ↦ None ]
-
--- The exception that a call shows, if it has one. A flush has none: its promise is rejected.
-abbrev pub exception_of : Call → Option DomError → Option DomError
-exception_of (call.Configure config) error = error
-exception_of (call.Decode chunk) error = error
-exception_of call.Flush error = None
 
 -- a flush gives a promise, which is named by its entry's place
 abbrev pub promise_of : Call → ℕ → Option ℕ

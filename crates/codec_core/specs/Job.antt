@@ -3,11 +3,11 @@ use Rattle.std.specs.Prelude.{ℕ, ◌≡◌, Bool, true, false, ◌&&◌, not, 
 use Rattle.wc_config.specs.declared.codec.CoderId.{CoderId}
 use Rattle.wc_config.specs.declared.config.Config.{Config}
 use Rattle.wc_config.specs.Configs.{is_supported, coder_id_of}
-use Rattle.coder_api.specs.declared.unit.Unit as media
-use Rattle.coder_api.specs.declared.coder.Command.{Command}
+use Rattle.codec_definitions.specs.declared.unit.Unit as media
+use Rattle.codec_definitions.specs.declared.command.Command.{Command}
 use Rattle.coder_api.specs.declared.coder.CoderFault.{CoderFault}
 use Rattle.coder_api.specs.declared.coder.CoderFault.TheVariants as fault
-use Rattle.coder_api.specs.Commands.{answer_after}
+use Rattle.codec_definitions.specs.Answers.{answer_after}
 use Rattle.coder_api.specs.Meaning.{IsAt, IsConfigured, serves}
 use Rattle.coder_api.specs.Lent.{Lent, stopped_lent}
 use Rattle.codec_model.specs.declared.entry.Work.{Work}

@@ -1,45 +1,44 @@
 // One codec, which keeps its history.
-ghost use Rattle.std.specs.Prelude.{◌≡◌, ◌==◌, max, ◌≤◌, ◌+◌, ◌^◌, IfOk, IfErr, IfNone, IfSome, OnSome, OnOk, OnErr, None, Some, [], length, option_map, not, is_some, true, false};
-ghost use Rattle.codec_queues.specs.Joined.{joined};
+ghost use Rattle.std.specs.Prelude.{◌≡◌, ◌==◌, max, ◌≤◌, ◌+◌, ◌^◌, IfOk, IfErr, IfNone, IfSome, OnSome, OnOk, OnErr, None, Some, [], length, map, option_map, not, is_some, false};
 ghost use Rattle.codec_model.specs.declared.entry.Entry.TheVariants as entry;
-ghost use Rattle.codec_model.specs.Control.{front, start_item, may_reclaim};
-ghost use Rattle.codec_model.specs.Replay.{entry_of, call_error, missing_coder, removal_error, IsLegal};
+ghost use Rattle.codec_model.specs.Control.{start_item, may_reclaim};
+ghost use Rattle.codec_model.specs.Replay.{entry_of, removal_entry as the_removal_entry, call_error, missing_coder, removal_error, IsLegal};
 ghost use Rattle.codec_model.specs.Facts.{IsNeverStuck};
-ghost use Rattle.codec_model.specs.Shown.{shown, outputs_of, ends_in, promise_state};
+ghost use Rattle.codec_model.specs.Shown.{shown, shown_of, each_shown, ends_in, promise_state, exception_of};
 ghost use Rattle.codec_core.specs.Job.{IsJobOf, IsEndOf, outcome_of, missing_id, stopped_box};
 ghost use Rattle.codec_core.specs.Codec.{state_at, Makes, KeepsRunning, Replied, FaultIs, promise_of, kept_box, handed_back, removed_if, closes_now, progress_of, item_parts};
 
 use crate::job::{DoneJob, Job};
-use crate::parts::{entry_of_call, exception, hand_back, more_places, promise, removed_if};
+use crate::parts::{entry_of_call, hand_back, more_places, promise, removal_entry, removed_if};
 use crate::reply::{Back, CallFault, Removed, Reply, Turned};
+use crate::trace::Trace;
 use crate::work::outcome_of_end;
-use codec_model::{Call, CodecState, Entry, Kind, Opening, PromiseState, Task};
+use codec_model::{Call, CodecState, Entry, Kind, Opening, PromiseState, Removal, Showing};
 use codec_queues::Machine;
-use coder_api::{Coder, SlotBox, Unit};
+use coder_api::{Coder, SlotBox};
 use std::alloc::Global;
 use std::marker::Model;
 use std::mem;
-use wc_base::{DomError, List, NoMemory, Who};
+use wc_base::{DomError, NoMemory, Who};
 
-/// One codec: its state machine, the history of its entries, and the box that it holds while no item is at work.
+/// One codec: its state machine, the history of its entries with what each of them showed, and the box that it holds while
+/// no item is at work.
 #[derive(Drop)]
 pub struct Core<C: Coder> {
     slot: Option<SlotBox<C>>,
     machine: Machine,
-    entries: Vec<Entry>,
+    trace: Trace,
     spare: usize,
 }
 
 impl<C: Coder> Model for Core<C> {
-    ghost use Rattle.std.specs.Prelude.{◌≤◌, ◌+◌, vec_len, vec_capacity};
-    ghost use Rattle.codec_model.specs.Control.{left};
-    ghost use Rattle.codec_core.specs.Codec.{Codec, IsKept, reclaims};
+    ghost use Rattle.codec_core.specs.Codec.{Codec, IsCore};
 
     ghost Value = { Codec };
 
-    ghost view = { λ c. record { opening = c.machine.opening; history = c.entries.items; spare = c.spare; slot = c.slot } };
+    ghost view = { λ c. record { opening = c.machine.opening; history = c.trace.entries; spare = c.spare; slot = c.slot } };
 
-    ghost invariant = { λ c. IsKept c.entries.items c.slot c.machine × (vec_len c.entries + left c.machine + c.spare + reclaims c.machine.phase ≤ vec_capacity c.entries) };
+    ghost invariant = { λ c. IsCore c.trace c.slot c.machine c.spare };
 }
 
 impl<C: Coder> Core<C> {
@@ -55,11 +54,11 @@ impl<C: Coder> Core<C> {
         let machine = Machine::open(alloc, Opening { kind, saturation })?;
         let spare = calls as usize;
         let places = more_places(0, spare)?;
-        let entries = Vec::with_capacity(alloc, places)?;
+        let trace = Trace::open(alloc, places)?;
         Ok(Core {
             slot: None,
             machine,
-            entries,
+            trace,
             spare,
         })
     }
@@ -85,7 +84,7 @@ impl<C: Coder> Core<C> {
     {
         let spare = self.spare.max(calls as usize);
         let places = more_places(self.machine.room(), spare)?;
-        self.entries.reserve(places)?;
+        self.trace.reserve(places)?;
         self.spare = spare;
         Ok(())
     }
@@ -97,52 +96,30 @@ impl<C: Coder> Core<C> {
         ensures place { (state_at self.now).control.place ≡ length self.now.history }
         ensures facts { IsNeverStuck (state_at self.now).control }
     {
-        self.entries.as_slice()
+        self.trace.entries()
     }
 
-    /// The event task that the next turn runs.
-    pub fn front_task(&self) -> Option<&Task>
-        ensures { option_map (λ t. t.now) result ≡ front (state_at self.now).control.tasks }
+    /// What each of the entries showed.
+    pub fn shown(&self) -> &[Showing]
+        ensures { map shown_of result.now ≡ each_shown self.now.opening self.now.history }
     {
-        self.machine.front_task()
+        self.trace.shown()
     }
 
-    /// The flush promises that are pending, in the order of their calls.
-    pub fn pending(&self) -> &[u64]
-        ensures { result.now ≡ (state_at self.now).control.pending }
-    {
-        self.machine.pending()
-    }
-
-    /// How many outputs were shown; none where they are more than a u64 counts.
-    pub fn shown_count(&self) -> Option<u64>
-        ensures some { IfSome result (λ n. n ≡ length (state_at self.now).control.shown) }
-        ensures none { IfNone result (2 ^ 64 ≤ length (state_at self.now).control.shown) }
-    {
-        self.machine.shown_count()
-    }
-
-    /// The outputs that were shown, one list for each task that showed some.
-    pub fn outputs(&self) -> &[List<Unit>]
-        ensures { joined result.now ≡ outputs_of (shown self.now.opening self.now.history) }
-    {
-        self.machine.outputs()
-    }
-
-    /// The history, and the outputs that were shown.
-    pub fn into_trace(self) -> (Vec<Entry>, Vec<List<Unit>>)
+    /// The history, and what each of its entries showed, with no memory.
+    pub fn into_trace(self) -> (Vec<Entry>, Vec<Showing>)
         ensures entries { result.0.items ≡ self.history }
         ensures legal { IsLegal self.opening self.history }
-        ensures outputs { joined result.1.items ≡ outputs_of (shown self.opening self.history) }
+        ensures shows { map shown_of result.1.items ≡ each_shown self.opening self.history }
     {
-        (self.entries, self.machine.into_outputs())
+        self.trace.into_parts()
     }
 
     /// What became of the promise of a flush, by its entry's place.
     pub fn end_of(&self, promise: u64) -> PromiseState
         ensures { result ≡ promise_state (ends_in (shown self.now.opening self.now.history)) promise }
     {
-        self.machine.end_of(promise)
+        self.trace.end_of(promise)
     }
 
     /// The number of entries, the state, and the number of coded messages in the queue.
@@ -156,20 +133,6 @@ impl<C: Coder> Core<C> {
             self.machine.phase(),
             self.machine.size(),
         )
-    }
-
-    /// The error with which this call would be refused now; a flush's promise is rejected with it.
-    pub fn error_of(&self, call: &Call) -> Option<DomError>
-        ensures { result ≡ call_error call.now (state_at self.now).control }
-    {
-        self.machine.error_of(call)
-    }
-
-    /// The error with which a reset or close would be refused now.
-    pub fn removal_error(&self) -> Option<DomError>
-        ensures { result ≡ removal_error (state_at self.now).control }
-    {
-        self.machine.removal_error()
     }
 
     /// The moment in microseconds when the last item of this epoch ended, of a configured codec.
@@ -195,34 +158,31 @@ impl<C: Coder> Core<C> {
         ensures slot { self.new.slot ≡ self.old.slot }
         ensures spare { self.new.spare ≡ self.old.spare }
     {
-        let shown = exception(&call, self.machine.error_of(&call));
         let promise = promise(&call, self.machine.place());
-        let Ok(place) = self.make(who, call) else {
-            return Err(CallFault::NoMemory);
-        };
-        match shown {
-            Some(error) => Err(CallFault::Dom { error, place }),
-            None => Ok(Reply { place, promise }),
+        match self.make(who, call) {
+            Ok((place, None)) => Ok(Reply { place, promise }),
+            Ok((place, Some(error))) => Err(CallFault::Dom { error, place }),
+            Err(NoMemory) => Err(CallFault::NoMemory),
         }
     }
 
-    /// Makes a call's entry, with all places that its later steps take.
-    fn make(&mut self, who: Who, call: Call) -> Result<u64, NoMemory>
+    /// Makes a call's entry, with all places that its later steps take. The answer is the entry's place, and the call's
+    /// exception.
+    fn make(&mut self, who: Who, call: Call) -> Result<(u64, Option<DomError>), NoMemory>
         ensures made { OnOk result (Makes self.old self.new (entry_of who call)) }
-        ensures place { IfOk result (λ place. place ≡ length self.old.history) }
+        ensures place { IfOk result (λ a. a.0 ≡ length self.old.history) }
+        ensures exception { IfOk result (λ a. a.1 ≡ exception_of call (call_error call (state_at self.old).control)) }
         ensures err { OnErr result (self.new ≡ self.old) }
         ensures running { KeepsRunning (state_at self.old) (state_at self.new) }
         ensures slot { self.new.slot ≡ self.old.slot }
         ensures spare { self.new.spare ≡ self.old.spare }
     {
-        let error = self.machine.error_of(&call);
         let entry = entry_of_call(who, &call)?;
         let places = more_places(self.machine.room(), self.spare)?;
-        self.entries.reserve(places)?;
-        let place = self.machine.place();
-        self.machine.call(error, call)?;
-        self.entries.push_reserved(entry);
-        Ok(place)
+        self.trace.reserve(places)?;
+        let answer = self.machine.call(call)?;
+        self.trace.push(entry, answer.showing);
+        Ok((answer.place, answer.exception))
     }
 
     /// The front item of the work queue becomes running, and its job leaves with the box that the codec holds. None
@@ -245,10 +205,11 @@ impl<C: Coder> Core<C> {
         let item = self.machine.start()?;
         let coder = mem::replace(&mut self.slot, None);
         let number = item.number;
-        self.entries.push_reserved(Entry::Start {
+        let entry = Entry::Start {
             epoch,
             item: number,
-        });
+        };
+        self.trace.push(entry, Showing::Nothing);
         let work = item.work;
         Some(Job {
             epoch,
@@ -283,12 +244,13 @@ impl<C: Coder> Core<C> {
         self.machine.done(ended, moment);
         let back = hand_back(&mut coder, current);
         self.slot = coder;
-        self.entries.push_reserved(Entry::Done {
+        let entry = Entry::Done {
             epoch,
             item,
             moment,
             outcome,
-        });
+        };
+        self.trace.push(entry, Showing::Nothing);
         Back { place, coder: back }
     }
 
@@ -303,20 +265,21 @@ impl<C: Coder> Core<C> {
         ensures running { KeepsRunning (state_at self.old) (state_at self.new) }
         ensures spare { self.new.spare ≡ self.old.spare }
     {
-        let place = self.machine.place();
-        let closes = self.machine.turn()?;
+        let answer = self.machine.turn()?;
+        let place = answer.place;
+        let closes = answer.showing.closes();
         let coder = hand_back(&mut self.slot, !closes);
         let removed = removed_if(closes, place, coder);
-        self.entries.push_reserved(Entry::Turn);
+        self.trace.push(Entry::Turn, answer.showing);
         Some(Turned { place, removed })
     }
 
-    /// A caller's reset (W3C WebCodecs, AudioDecoder: `reset`): everything queued is removed, each pending promise is
-    /// rejected with `AbortError`, and the box that is at home is handed back. A closed codec refuses it with
-    /// `InvalidStateError`; the answer then has the entry's place beside the error.
-    pub fn reset(&mut self, who: Who) -> Result<Removed<C>, (DomError, u64)>
+    /// A caller's reset or close (W3C WebCodecs, AudioDecoder: `reset`, `close`): everything queued is removed, each pending
+    /// promise is rejected with `AbortError`, the box that is at home is handed back, and a close closes the codec. A closed
+    /// codec refuses it with `InvalidStateError`; the answer then has the entry's place beside the error.
+    pub fn remove(&mut self, who: Who, removal: Removal) -> Result<Removed<C>, (DomError, u64)>
         requires { 1 ≤ self.old.spare }
-        ensures made { Makes self.old self.new (entry.Reset who) }
+        ensures made { Makes self.old self.new (the_removal_entry who removal) }
         ensures ok { IfOk result (λ r. removal_error (state_at self.old).control ≡ None) }
         ensures removed { IfOk result (λ r. r ≡ record { place = length self.old.history; coder = stopped_box self.old.slot }) }
         ensures err { IfErr result (λ e. removal_error (state_at self.old).control ≡ Some e.0) }
@@ -325,71 +288,31 @@ impl<C: Coder> Core<C> {
         ensures running { KeepsRunning (state_at self.old) (state_at self.new) }
         ensures spare { self.new.spare + 1 ≡ self.old.spare }
     {
-        let error = self.machine.removal_error();
-        let removed = self.make_reset(who, error);
+        let (removed, error) = self.make_removal(who, removal);
         match error {
             None => Ok(removed),
             Some(error) => Err((error, removed.place)),
         }
     }
 
-    /// Makes a reset's entry.
-    fn make_reset(&mut self, who: Who, error: Option<DomError>) -> Removed<C>
-        requires spare { 1 ≤ self.old.spare }
-        requires error { removal_error (state_at self.old).control ≡ error }
-        ensures made { Makes self.old self.new (entry.Reset who) }
-        ensures place { result.place ≡ length self.old.history }
-        ensures coder { result.coder ≡ handed_back (is_some error) self.old.slot }
-        ensures slot { self.new.slot ≡ kept_box (is_some error) self.old.slot }
-        ensures running { KeepsRunning (state_at self.old) (state_at self.new) }
-        ensures spare { self.new.spare + 1 ≡ self.old.spare }
-    {
-        let place = self.machine.place();
-        self.machine.reset(error);
-        let coder = hand_back(&mut self.slot, error.is_some());
-        self.spare -= 1;
-        self.entries.push_reserved(Entry::Reset { who });
-        Removed { place, coder }
-    }
-
-    /// A caller's close (W3C WebCodecs, AudioDecoder: `close`): a reset, after which the codec is closed. A closed codec
-    /// refuses it with `InvalidStateError`; the answer then has the entry's place beside the error.
-    pub fn close(&mut self, who: Who) -> Result<Removed<C>, (DomError, u64)>
+    /// Makes the entry of a reset or close. The answer has its exception.
+    fn make_removal(&mut self, who: Who, removal: Removal) -> (Removed<C>, Option<DomError>)
         requires { 1 ≤ self.old.spare }
-        ensures made { Makes self.old self.new (entry.Close who) }
-        ensures ok { IfOk result (λ r. removal_error (state_at self.old).control ≡ None) }
-        ensures removed { IfOk result (λ r. r ≡ record { place = length self.old.history; coder = stopped_box self.old.slot }) }
-        ensures err { IfErr result (λ e. removal_error (state_at self.old).control ≡ Some e.0) }
-        ensures place { IfErr result (λ e. e.1 ≡ length self.old.history) }
-        ensures slot { self.new.slot ≡ kept_box (is_some (removal_error (state_at self.old).control)) self.old.slot }
+        ensures made { Makes self.old self.new (the_removal_entry who removal) }
+        ensures place { result.0.place ≡ length self.old.history }
+        ensures coder { result.0.coder ≡ handed_back (is_some result.1) self.old.slot }
+        ensures exception { removal_error (state_at self.old).control ≡ result.1 }
+        ensures slot { self.new.slot ≡ kept_box (is_some result.1) self.old.slot }
         ensures running { KeepsRunning (state_at self.old) (state_at self.new) }
         ensures spare { self.new.spare + 1 ≡ self.old.spare }
     {
-        let error = self.machine.removal_error();
-        let removed = self.make_close(who, error);
-        match error {
-            None => Ok(removed),
-            Some(error) => Err((error, removed.place)),
-        }
-    }
-
-    /// Makes a close's entry.
-    fn make_close(&mut self, who: Who, error: Option<DomError>) -> Removed<C>
-        requires spare { 1 ≤ self.old.spare }
-        requires error { removal_error (state_at self.old).control ≡ error }
-        ensures made { Makes self.old self.new (entry.Close who) }
-        ensures place { result.place ≡ length self.old.history }
-        ensures coder { result.coder ≡ handed_back (is_some error) self.old.slot }
-        ensures slot { self.new.slot ≡ kept_box (is_some error) self.old.slot }
-        ensures running { KeepsRunning (state_at self.old) (state_at self.new) }
-        ensures spare { self.new.spare + 1 ≡ self.old.spare }
-    {
-        let place = self.machine.place();
-        self.machine.close(error);
-        let coder = hand_back(&mut self.slot, error.is_some());
+        let answer = self.machine.remove(removal);
+        let coder = hand_back(&mut self.slot, answer.exception.is_some());
         self.spare -= 1;
-        self.entries.push_reserved(Entry::Close { who });
-        Removed { place, coder }
+        let entry = removal_entry(who, removal);
+        self.trace.push(entry, answer.showing);
+        let place = answer.place;
+        (Removed { place, coder }, answer.exception)
     }
 
     /// The codec is reclaimed at a moment in microseconds: closed with `QuotaExceededError`. None exactly where that may
@@ -404,12 +327,11 @@ impl<C: Coder> Core<C> {
         ensures running { KeepsRunning (state_at self.old) (state_at self.new) }
         ensures spare { self.new.spare ≡ self.old.spare }
     {
-        let place = self.machine.place();
-        if !self.machine.reclaim(now) {
-            return None;
-        }
+        let answer = self.machine.reclaim(now)?;
         let coder = hand_back(&mut self.slot, false);
-        self.entries.push_reserved(Entry::Reclaim { moment: now });
+        self.trace
+            .push(Entry::Reclaim { moment: now }, answer.showing);
+        let place = answer.place;
         Some(Removed { place, coder })
     }
 }

@@ -5,6 +5,7 @@ mod codec;
 mod job;
 mod parts;
 mod reply;
+mod trace;
 mod work;
 
 pub use codec::Core;

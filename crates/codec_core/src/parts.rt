@@ -1,12 +1,12 @@
 // Parts of a codec's steps.
 ghost use Rattle.std.specs.Prelude.{◌≡◌, ◌+◌, IfOk};
-ghost use Rattle.codec_model.specs.Replay.{entry_of};
-ghost use Rattle.codec_core.specs.Codec.{kept_box, handed_back, removed_if, exception_of, promise_of};
+ghost use Rattle.codec_model.specs.Replay.{entry_of, removal_entry};
+ghost use Rattle.codec_core.specs.Codec.{kept_box, handed_back, removed_if, promise_of};
 
 use crate::reply::Removed;
-use codec_model::{Call, Entry};
+use codec_model::{Call, Entry, Removal};
 use coder_api::{Coder, SlotBox};
-use wc_base::{DomError, NoMemory, Who};
+use wc_base::{NoMemory, Who};
 
 /// Leaves a box where it stays, and else takes it out, stopped.
 pub(crate) fn hand_back<C: Coder>(slot: &mut Option<SlotBox<C>>, stays: bool) -> Option<SlotBox<C>>
@@ -44,17 +44,6 @@ pub(crate) fn more_places(room: usize, spare: usize) -> Result<usize, NoMemory>
         .ok_or(NoMemory)
 }
 
-/// The exception that a call shows.
-pub(crate) fn exception(call: &Call, error: Option<DomError>) -> Option<DomError>
-    ensures { result ≡ exception_of call.now error }
-{
-    match call {
-        Call::Configure(_) => error,
-        Call::Decode(_) => error,
-        Call::Flush => None,
-    }
-}
-
 /// Whether a call gives a promise.
 pub(crate) fn promise(call: &Call, place: u64) -> Option<u64>
     ensures { result ≡ promise_of call.now place }
@@ -80,5 +69,15 @@ pub(crate) fn entry_of_call(who: Who, call: &Call) -> Result<Entry, NoMemory>
             chunk: chunk.copy()?,
         }),
         Call::Flush => Ok(Entry::Flush { who }),
+    }
+}
+
+/// The entry of a reset or close.
+pub(crate) fn removal_entry(who: Who, removal: Removal) -> Entry
+    ensures { result ≡ removal_entry who removal }
+{
+    match removal {
+        Removal::Reset => Entry::Reset { who },
+        Removal::Close => Entry::Close { who },
     }
 }

@@ -1,7 +1,7 @@
 // What the box of a job does.
 ghost use Rattle.std.specs.Prelude.{◌≡◌, None};
 ghost use Rattle.coder_api.specs.Meaning.{IsConfigured};
-ghost use Rattle.coder_api.specs.declared.coder.Command.TheVariants as command;
+ghost use Rattle.codec_definitions.specs.declared.command.Command.TheVariants as command;
 ghost use Rattle.codec_core.specs.Job.{EndsCommand, EndsWork, IsReady, IsReadyBox, end_by, holds, missing_for, outcome_of};
 ghost use Rattle.codec_model.specs.declared.entry.Work.TheVariants as work;
 ghost use Rattle.codec_model.specs.Control.{kind_of};

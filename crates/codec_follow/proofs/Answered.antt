@@ -9,13 +9,15 @@ use Rattle.wc_config.specs.declared.codec.CoderId.{CoderId}
 use Rattle.wc_config.specs.declared.config.Config.{Config}
 use Rattle.wc_config.specs.declared.config.Config.TheVariants as config
 use Rattle.wc_config.specs.Configs.{is_valid, is_within, is_supported, coder_id_of}
-use Rattle.coder_api.specs.declared.unit.Unit as media
-use Rattle.coder_api.specs.declared.coder.Command.{Command}
-use Rattle.coder_api.specs.declared.coder.Command.TheVariants as command
-use Rattle.coder_api.specs.Commands.{answer_after, answers_from, until_refused, last_answer}
+use Rattle.codec_definitions.specs.declared.unit.Unit as media
+use Rattle.codec_definitions.specs.declared.command.Command.{Command}
+use Rattle.codec_definitions.specs.declared.command.Command.TheVariants as command
+use Rattle.codec_definitions.specs.Answers.{answer_after, answers_from, until_refused, last_answer}
 use Rattle.codec_model.specs.declared.entry.CodecState.{CodecState}
 use Rattle.codec_model.specs.declared.entry.CodecState.TheVariants.{Unconfigured, Configured, Closed}
 use Rattle.codec_model.specs.declared.entry.Opening.{Opening}
+use Rattle.codec_model.specs.declared.entry.Removal.{Removal}
+use Rattle.codec_model.specs.declared.entry.Removal.TheVariants as removal
 use Rattle.codec_model.specs.declared.entry.Call.{Call}
 use Rattle.codec_model.specs.declared.entry.Call.TheVariants as call
 use Rattle.codec_model.specs.declared.entry.Entry.{Entry}
@@ -33,8 +35,8 @@ use Rattle.codec_model.specs.declared.entry.Ended.{Ended}
 use Rattle.codec_model.specs.declared.entry.Ended.TheVariants as ended
 use Rattle.codec_model.specs.declared.entry.Outcome.{Outcome}
 use Rattle.codec_model.specs.declared.entry.Outcome.TheVariants as outcome
-use Rattle.codec_model.specs.Control.{Control, kind_of, is_taken, after_message, process_queue, entered, run_task, done_running, settled, settled_ran, after_reset, after_close, may_reclaim, may_start}
-use Rattle.codec_model.specs.Replay.{State, Given, given_more, answer_to, answers_to, opening_state, step, replay, replay_from, done_ended, ended_of, ended_run, decode_error, flush_error, configure_error, removal_error, after_call, call_error, call_step, accepted, removal_step, removed, start_step, done_step, with_control, turn_step}
+use Rattle.codec_model.specs.Control.{Control, kind_of, is_taken, after_message, process_queue, at_next_place, run_task, done_running, after_end, after_reset, after_close, may_reclaim, may_start}
+use Rattle.codec_model.specs.Replay.{State, Given, given_more, answer_to, answers_to, opening_state, step, replay, replay_from, done_ended, ended_of, ended_run, decode_error, flush_error, configure_error, removal_error, after_call, call_error, call_step, accepted, remove_or_refuse, removed, start_step, done_step, with_control, turn_step}
 use Rattle.codec_model.proofs.FactLaws.{cond_is, some_same}
 use Rattle.codec_follow.specs.Follow.{answers_drain}
 
@@ -170,7 +172,7 @@ works_more is ms m =
 
 -- What keeps each flush item from being refused.
 pub record Parts (phase : CodecState) (epoch : ℕ) (halted : Bool) (ws : List Work) (running : Option Running) (given busy : Given) : Type 0 where
-  -- an item was started in this epoch
+  -- an item was start_front in this epoch
   begun : Bool
   first : begun ≡ false → starts ws ≡ true
   calls : phase ≡ Configured → begun ≡ false → leads ws ≡ true
@@ -270,9 +272,7 @@ accepted_at call.Flush c given busy e h = processed _ given busy (pushed_other c
 
 called_at : (o : Option DomError) (x : Call) (c : Control) (given busy : Given) → call_error x c ≡ o → At c given busy → At (after_call o x c) given busy
 called_at None x c given busy e h = accepted_at x c given busy e h
-called_at (Some error) (call.Configure config) c given busy e h = h
-called_at (Some error) (call.Decode chunk) c given busy e h = h
-called_at (Some error) call.Flush c given busy e h = h
+called_at (Some error) x c given busy e h = h
 
 -- a removal
 removed_at : (phase new : CodecState) (epoch : ℕ) (halted : Bool) (ws : List Work) (running : Option Running) (given busy none : Given) → (new ≡ Configured → ⊥) → Parts phase epoch halted ws running given busy → Parts new (epoch + 1) false [] running none busy
@@ -290,15 +290,16 @@ removed_at phase new epoch halted ws running given busy none shut h = record {
     late : (r : Running) → r.epoch ≤ epoch → r.epoch ≡ epoch + 1 → ⊥
     late r few e = omega (arith, few, e)
 
-removal_sound : (o : Option DomError) (made : Control) (s : State) → At made (removed made s).given s.running_given → Sound s → Sound (removal_step o made s)
-removal_sound None made s h old = h
-removal_sound (Some e) made s h old = old
+reset_sound : (s : State) → Sound s → Sound (removed (after_reset (at_next_place s.control)) s)
+reset_sound s h = removed_at s.control.phase Unconfigured s.control.epoch s.control.halted (works s.control) s.control.running s.given s.running_given _ (λ p. absurd cc) h
 
-reset_sound : (s : State) (x : DomError) → Sound s → Sound (removed (after_reset x (entered s.control)) s)
-reset_sound s x h = removed_at s.control.phase Unconfigured s.control.epoch s.control.halted (works s.control) s.control.running s.given s.running_given _ (λ p. absurd cc) h
+close_sound : (s : State) → Sound s → Sound (removed (after_close (at_next_place s.control)) s)
+close_sound s h = removed_at s.control.phase Closed s.control.epoch s.control.halted (works s.control) s.control.running s.given s.running_given _ (λ p. absurd cc) h
 
-close_sound : (s : State) (x : DomError) → Sound s → Sound (removed (after_close x (entered s.control)) s)
-close_sound s x h = removed_at s.control.phase Closed s.control.epoch s.control.halted (works s.control) s.control.running s.given s.running_given _ (λ p. absurd cc) h
+removal_sound : (o : Option DomError) (r : Removal) (s : State) → Sound s → Sound (remove_or_refuse o r s)
+removal_sound None removal.Reset s h = reset_sound s h
+removal_sound None removal.Close s h = close_sound s h
+removal_sound (Some e) r s h = h
 
 -- a start
 starts_one : (phase : CodecState) (epoch number place : ℕ) (w : Work) (ws : List Work) (given busy : Given) → Parts phase epoch false (w ∷ ws) None given busy → Parts phase epoch false ws (Some (record { epoch = epoch; number = number; place = place; kind = kind_of w })) (given_more w given) (given_more w given)
@@ -359,7 +360,7 @@ started_sound (i ∷ is) epoch item s t e step h =
     let idle = idle_is s.control.halted s.control.running (both (may_start s.control) (eqb epoch s.control.epoch) (both (may_start s.control && eqb epoch s.control.epoch) (eqb item i.number) k.0).0).0 in
     let there : Parts s.control.phase s.control.epoch false (i.work ∷ works_on is s.control.messages) None s.given s.running_given = rw (← idle.0, ← idle.1) (subst (λ (l : List Item). Parts s.control.phase s.control.epoch s.control.halted (works_on l s.control.messages) s.control.running s.given s.running_given) e h) in
     let begun = starts_one s.control.phase s.control.epoch i.number i.place i.work (works_on is s.control.messages) s.given s.running_given there in
-    subst (λ (u : State). Sound u) (some_same _ t k.1) (subst (λ (l : List Item). At (Rattle.codec_model.specs.Control.started_on l (entered s.control)) (given_more i.work s.given) (given_more i.work s.given)) (sym e) (rw idle.0 begun))
+    subst (λ (u : State). Sound u) (some_same _ t k.1) (subst (λ (l : List Item). At (Rattle.codec_model.specs.Control.start_first l (at_next_place s.control)) (given_more i.work s.given) (given_more i.work s.given)) (sym e) (rw idle.0 begun))
 
 -- the end of an item
 pub ran_answer : (k : WorkKind) (g : Given) (x : Outcome) (us : List media.Unit) → ended_of k g x ≡ Some (ended.Ran us) → answer_to k g ≡ Some us
@@ -404,30 +405,30 @@ ended_at phase epoch halted now ws r given busy stays h = record {
   before = λ q is. absurd cc;
 }
 
-ran_same : (epoch number place : ℕ) (k : WorkKind) (units : List media.Unit) (c : Control) → Same c (settled_ran (record { epoch = epoch; number = number; place = place; kind = k }) units c)
+ran_same : (epoch number place : ℕ) (k : WorkKind) (units : List media.Unit) (c : Control) → Same c (after_end (record { epoch = epoch; number = number; place = place; kind = k }) (ended.Ran units) c)
 ran_same epoch number place kind.Configure units c = record { phase = refl; epoch = refl; halted = refl; queued = refl; running = refl }
 ran_same epoch number place kind.Coded units c = record { phase = refl; epoch = refl; halted = refl; queued = refl; running = refl }
 ran_same epoch number place kind.Flush units c = record { phase = refl; epoch = refl; halted = refl; queued = refl; running = refl }
 
-settled_at : (r : Running) (e : Ended) (x : Outcome) (c : Control) (given busy : Given) → c.running ≡ None → r.epoch ≡ c.epoch → ended_of r.kind busy x ≡ Some e → Parts c.phase c.epoch c.halted (works c) (Some r) given busy → At (settled r e c) given busy
+settled_at : (r : Running) (e : Ended) (x : Outcome) (c : Control) (given busy : Given) → c.running ≡ None → r.epoch ≡ c.epoch → ended_of r.kind busy x ≡ Some e → Parts c.phase c.epoch c.halted (works c) (Some r) given busy → At (after_end r e c) given busy
 settled_at r (ended.Ran us) x c given busy idle now is h =
-    at_same c (settled_ran r us c) given busy (ran_same r.epoch r.number r.place r.kind us c)
+    at_same c (after_end r (ended.Ran us) c) given busy (ran_same r.epoch r.number r.place r.kind us c)
     (rw idle (ended_at c.phase c.epoch c.halted c.halted (works c) r given busy (λ fine. h.open_then r refl now us (subst (λ (g : Given). answer_to r.kind g ≡ Some us) (h.same r refl now) (ran_answer r.kind busy x us is))) h))
 settled_at r ended.Refused x c given busy idle now is h = rw idle (ended_at c.phase c.epoch c.halted true (works c) r given busy (λ fine. absurd cc) h)
 settled_at r (ended.NoSlot n) x c given busy idle now is h = rw idle (ended_at c.phase c.epoch c.halted true (works c) r given busy (λ fine. absurd cc) h)
 settled_at r ended.NoMemory x c given busy idle now is h = rw idle (ended_at c.phase c.epoch c.halted true (works c) r given busy (λ fine. absurd cc) h)
 
-done_at : (r : Running) (e : Ended) (x : Outcome) (moment : ℕ) (c : Control) (given busy : Given) → ended_of r.kind busy x ≡ Some e → Parts c.phase c.epoch c.halted (works c) (Some r) given busy → At (done_running r e moment (entered c)) given busy
+done_at : (r : Running) (e : Ended) (x : Outcome) (moment : ℕ) (c : Control) (given busy : Given) → ended_of r.kind busy x ≡ Some e → Parts c.phase c.epoch c.halted (works c) (Some r) given busy → At (done_running r e moment (at_next_place c)) given busy
 done_at r e x moment c given busy is h = by (eqb r.epoch c.epoch) refl
   where
-    by : (b : Bool) → eqb r.epoch c.epoch ≡ b → At (cond b (settled r e (record (entered c) { running = None; progress = Some (max moment (unwrap_or c.progress moment)) })) (record (entered c) { running = None })) given busy
-    by true k = settled_at r e x (record (entered c) { running = None; progress = Some (max moment (unwrap_or c.progress moment)) }) given busy refl (eqb-true r.epoch c.epoch k) is h
+    by : (b : Bool) → eqb r.epoch c.epoch ≡ b → At (cond b (after_end r e (record (at_next_place c) { running = None; progress = Some (max moment (unwrap_or c.progress moment)) })) (record (at_next_place c) { running = None })) given busy
+    by true k = settled_at r e x (record (at_next_place c) { running = None; progress = Some (max moment (unwrap_or c.progress moment)) }) given busy refl (eqb-true r.epoch c.epoch k) is h
     by false k = stale_at c.phase c.epoch c.halted (works c) r given busy (λ same. let no : true ≡ false = sym (eq-eqb r.epoch c.epoch same) ∙ k in absurd cc) h
 
 ended_sound : (r : Running) (x : Outcome) (o : Option Ended) (moment : ℕ) (s t : State) → s.control.running ≡ Some r → ended_of r.kind s.running_given x ≡ o → done_ended r o moment s ≡ Some t → Sound s → Sound t
 ended_sound r x None moment s t out is step h = absurd cc
 ended_sound r x (Some e) moment s t out is step h =
-    subst (λ (u : State). Sound u) (some_same (with_control (done_running r e moment (entered s.control)) s) t step)
+    subst (λ (u : State). Sound u) (some_same (with_control (done_running r e moment (at_next_place s.control)) s) t step)
     (done_at r e x moment s.control s.given s.running_given is (subst (λ (o : Option Running). Parts s.control.phase s.control.epoch s.control.halted (works s.control) o s.given s.running_given) out h))
 
 done_sound : (o : Option Running) (epoch item moment : ℕ) (x : Outcome) (s t : State) → s.control.running ≡ o → done_step o epoch item moment x s ≡ Some t → Sound s → Sound t
@@ -437,12 +438,12 @@ done_sound (Some r) epoch item moment x s t out step h = ended_sound r x (ended_
 -- a turn
 task_sound : (task : Task) (ts : List Task) (s t : State) → s.control.tasks ≡ task ∷ ts → turn_step (task ∷ ts) s ≡ Some t → Sound s → Sound t
 task_sound task.Unblock ts s t e step h = subst (λ (u : State). Sound u) (some_same _ t step) (rw e h)
-task_sound task.Process ts s t e step h = subst (λ (u : State). Sound u) (some_same _ t step) (rw e (processed (record (entered s.control) { tasks = ts }) s.given s.running_given h))
-task_sound task.Desaturate ts s t e step h = subst (λ (u : State). Sound u) (some_same _ t step) (rw e (processed (record (entered s.control) { tasks = ts; saturated = false }) s.given s.running_given h))
+task_sound task.Process ts s t e step h = subst (λ (u : State). Sound u) (some_same _ t step) (rw e (processed (record (at_next_place s.control) { tasks = ts }) s.given s.running_given h))
+task_sound task.Desaturate ts s t e step h = subst (λ (u : State). Sound u) (some_same _ t step) (rw e (processed (record (at_next_place s.control) { tasks = ts; saturated = false }) s.given s.running_given h))
 task_sound (task.Output units) ts s t e step h = subst (λ (u : State). Sound u) (some_same _ t step) (rw e h)
 task_sound (task.Flushed promise units) ts s t e step h = subst (λ (u : State). Sound u) (some_same _ t step) (rw e h)
 task_sound task.Dequeue ts s t e step h = subst (λ (u : State). Sound u) (some_same _ t step) (rw e h)
-task_sound (task.Close x) ts s t e step h = subst (λ (u : State). Sound u) (some_same _ t step) (rw e (close_sound (record s { control = record s.control { tasks = ts } }) x h))
+task_sound (task.Close x) ts s t e step h = subst (λ (u : State). Sound u) (some_same _ t step) (rw e (close_sound (record s { control = record s.control { tasks = ts } }) h))
 
 turned_sound : (ts : List Task) (s t : State) → s.control.tasks ≡ ts → turn_step ts s ≡ Some t → Sound s → Sound t
 turned_sound [] s t e step h = absurd cc
@@ -452,12 +453,12 @@ pub step_sound : (e : Entry) (s t : State) → step e s ≡ Some t → Sound s �
 step_sound (entry.Configure who config) s t is h = subst (λ (u : State). Sound u) (some_same _ t is) (called_at (call_error (call.Configure config) s.control) (call.Configure config) s.control s.given s.running_given refl h)
 step_sound (entry.Decode who chunk) s t is h = subst (λ (u : State). Sound u) (some_same _ t is) (called_at (call_error (call.Decode chunk) s.control) (call.Decode chunk) s.control s.given s.running_given refl h)
 step_sound (entry.Flush who) s t is h = subst (λ (u : State). Sound u) (some_same _ t is) (called_at (call_error call.Flush s.control) call.Flush s.control s.given s.running_given refl h)
-step_sound (entry.Reset who) s t is h = subst (λ (u : State). Sound u) (some_same _ t is) (removal_sound (removal_error s.control) (after_reset dom.Abort (entered s.control)) s (reset_sound s dom.Abort h) h)
-step_sound (entry.Close who) s t is h = subst (λ (u : State). Sound u) (some_same _ t is) (removal_sound (removal_error s.control) (after_close dom.Abort (entered s.control)) s (close_sound s dom.Abort h) h)
+step_sound (entry.Reset who) s t is h = subst (λ (u : State). Sound u) (some_same _ t is) (removal_sound (removal_error s.control) removal.Reset s h)
+step_sound (entry.Close who) s t is h = subst (λ (u : State). Sound u) (some_same _ t is) (removal_sound (removal_error s.control) removal.Close s h)
 step_sound (entry.Start epoch item) s t is h = started_sound s.control.work epoch item s t refl is h
 step_sound (entry.Done epoch item moment x) s t is h = done_sound s.control.running epoch item moment x s t refl is h
 step_sound entry.Turn s t is h = turned_sound s.control.tasks s t refl is h
-step_sound (entry.Reclaim moment) s t is h = subst (λ (u : State). Sound u) (some_same _ t (cond_is (may_reclaim moment s.control) _ t is).1) (close_sound s dom.QuotaExceeded h)
+step_sound (entry.Reclaim moment) s t is h = subst (λ (u : State). Sound u) (some_same _ t (cond_is (may_reclaim moment s.control) _ t is).1) (close_sound s h)
 
 pub opened : (o : Opening) → Sound (opening_state o)
 opened o = record {

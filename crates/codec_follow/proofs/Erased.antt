@@ -1,14 +1,16 @@
 -- A codec with blanks for its outputs takes the same steps.
-use Rattle.std.proofs.Common.{ℕ, ◌≡◌, ◌+◌, ◌&&◌, ◌||◌, not, Bool, true, false, eqb, cond, List, [], ◌∷◌, ◌++◌, length, length-append, map, filter, count_by, Option, Some, None, is_some, refl, ap, sym, subst, ◌∙◌, arith}
+use Rattle.std.proofs.Common.{ℕ, ◌≡◌, ◌+◌, ◌&&◌, ◌||◌, not, Bool, true, false, eqb, cond, List, [], ◌∷◌, ◌++◌, length, map, filter, count_by, Option, Some, None, is_some, refl, ap, sym, subst, ◌∙◌, arith}
 use Rattle.std.specs.Prelude.{option_map, max, unwrap_or}
 use Rattle.std.proofs.lemmas.Bool.{eqb-true}
 use Rattle.std.proofs.lemmas.List.Sums.{sum_by-cons}
-use Rattle.std.proofs.lemmas.List.{map-append, length-replicate, replicate-append-replicate}
+use Rattle.std.proofs.lemmas.List.{map-append, length-replicate}
 use Rattle.wc_base.specs.declared.error.DomError.{DomError}
 use Rattle.wc_base.specs.declared.error.DomError.TheVariants as dom
 use Rattle.wc_config.specs.Configs.{is_supported}
-use Rattle.coder_api.specs.declared.unit.Unit as media
+use Rattle.codec_definitions.specs.declared.unit.Unit as media
 use Rattle.codec_model.specs.declared.entry.CodecState.TheVariants.{Configured, Closed}
+use Rattle.codec_model.specs.declared.entry.Removal.{Removal}
+use Rattle.codec_model.specs.declared.entry.Removal.TheVariants as removal
 use Rattle.codec_model.specs.declared.entry.Call.{Call}
 use Rattle.codec_model.specs.declared.entry.Call.TheVariants as call
 use Rattle.codec_model.specs.declared.entry.Entry.{Entry}
@@ -26,8 +28,8 @@ use Rattle.codec_model.specs.declared.entry.Ended.{Ended}
 use Rattle.codec_model.specs.declared.entry.Ended.TheVariants as ended
 use Rattle.codec_model.specs.declared.entry.Outcome.{Outcome}
 use Rattle.codec_model.specs.declared.entry.Outcome.TheVariants as outcome
-use Rattle.codec_model.specs.Control.{Control, is_decoder, is_dequeue, is_desaturate, is_taken, after_message, process_queue, entered, run_task, done_running, settled, settled_ran, after_reset, after_close, after_reclaim, may_reclaim, may_start}
-use Rattle.codec_model.specs.Replay.{State, Given, step, done_ended, ended_of, ended_run, ended_refused, answer_to, start_step, done_step, turn_step, removed, accepted, after_call, call_error, call_step, removal_error, removal_step, with_control}
+use Rattle.codec_model.specs.Control.{Control, is_decoder, is_dequeue, is_desaturate, is_taken, after_message, process_queue, at_next_place, run_task, done_running, after_end, after_reset, after_close, after_removal, may_reclaim, may_start}
+use Rattle.codec_model.specs.Replay.{State, Given, step, done_ended, ended_of, ended_run, ended_refused, answer_to, start_step, done_step, turn_step, removed, accepted, after_call, call_error, call_step, removal_error, remove_or_refuse, with_control}
 use Rattle.codec_model.proofs.FactLaws.{cond_is, some_same, with_event}
 use Rattle.codec_follow.specs.Follow.{blank, blanks, answers_drain, known_of, ran_as, refused_as, ended_as, follow_done, follow_step}
 use Rattle.codec_follow.proofs.Answered.{Sound}
@@ -42,7 +44,7 @@ erased_task task.Dequeue = task.Dequeue
 erased_task (task.Close x) = task.Close x
 
 abbrev pub erased : Control → Control
-erased c = record c { tasks = map erased_task c.tasks; shown = blanks (length c.shown) }
+erased c = record c { tasks = map erased_task c.tasks }
 
 abbrev pub erased_state : State → State
 erased_state s = record s { control = erased s.control }
@@ -77,15 +79,13 @@ process_erased (m ∷ ms) c =
     cond_erased (is_taken m c) _ _ c (ap (λ (d : Control). process_queue ms d) (taken_erased m.work m.place ms c) ∙ process_erased ms (record (after_message m c) { messages = ms }))
 
 accepted_erased : (x : Call) (c : Control) → accepted x (erased c) ≡ erased (accepted x c)
-accepted_erased (call.Configure config) c = process_erased _ (record (entered c) { phase = Configured; key_required = is_decoder c.opening.kind || c.key_required; messages = c.messages ++ record { place = c.place; work = work.Configure config } ∷ [] })
-accepted_erased (call.Decode chunk) c = process_erased _ (record (entered c) { key_required = false; size = c.size + 1; messages = c.messages ++ record { place = c.place; work = work.Coded chunk } ∷ [] })
-accepted_erased call.Flush c = process_erased _ (record (entered c) { key_required = is_decoder c.opening.kind || c.key_required; pending = c.pending ++ c.place ∷ []; messages = c.messages ++ record { place = c.place; work = work.Flush } ∷ [] })
+accepted_erased (call.Configure config) c = process_erased _ (record (at_next_place c) { phase = Configured; key_required = is_decoder c.opening.kind || c.key_required; messages = c.messages ++ record { place = c.place; work = work.Configure config } ∷ [] })
+accepted_erased (call.Decode chunk) c = process_erased _ (record (at_next_place c) { key_required = false; size = c.size + 1; messages = c.messages ++ record { place = c.place; work = work.Coded chunk } ∷ [] })
+accepted_erased call.Flush c = process_erased _ (record (at_next_place c) { key_required = is_decoder c.opening.kind || c.key_required; pending = c.pending ++ c.place ∷ []; messages = c.messages ++ record { place = c.place; work = work.Flush } ∷ [] })
 
 call_erased : (e : Option DomError) (x : Call) (c : Control) → after_call e x (erased c) ≡ erased (after_call e x c)
 call_erased None x c = accepted_erased x c
-call_erased (Some e) (call.Configure config) c = refl
-call_erased (Some e) (call.Decode chunk) c = refl
-call_erased (Some e) call.Flush c = refl
+call_erased (Some e) x c = refl
 
 kept_erased : (ts : List Task) → filter is_dequeue (map erased_task ts) ≡ map erased_task (filter is_dequeue ts)
 kept_erased [] = refl
@@ -97,39 +97,40 @@ kept_erased (task.Flushed promise units ∷ ts) = kept_erased ts
 kept_erased (task.Dequeue ∷ ts) = ap (λ (us : List Task). task.Dequeue ∷ us) (kept_erased ts)
 kept_erased (task.Close x ∷ ts) = kept_erased ts
 
-reset_erased : (x : DomError) (c : Control) → after_reset x (erased c) ≡ erased (after_reset x c)
-reset_erased x c =
-    ap (λ (ts : List Task). record (after_reset x (erased c)) { tasks = ts })
+reset_erased : (c : Control) → after_reset (erased c) ≡ erased (after_reset c)
+reset_erased c =
+    ap (λ (ts : List Task). record (after_reset (erased c)) { tasks = ts })
     (ap (λ (ts : List Task). with_event (not (eqb c.size 0)) c.scheduled ts) (kept_erased c.tasks) ∙ event_erased (not (eqb c.size 0)) c.scheduled (filter is_dequeue c.tasks))
 
-close_erased : (x : DomError) (c : Control) → after_close x (erased c) ≡ erased (after_close x c)
-close_erased x c = ap (λ (d : Control). record d { phase = Closed }) (reset_erased x c)
+close_erased : (c : Control) → after_close (erased c) ≡ erased (after_close c)
+close_erased c = ap (λ (d : Control). record d { phase = Closed }) (reset_erased c)
 
-removal_erased : (e : Option DomError) (made : Control) (s : State) → removal_step e (erased made) (erased_state s) ≡ erased_state (removal_step e made s)
-removal_erased None made s = refl
-removal_erased (Some e) made s = refl
+ended_erased_by : (r : Removal) (c : Control) → after_removal r (erased c) ≡ erased (after_removal r c)
+ended_erased_by removal.Reset c = reset_erased c
+ended_erased_by removal.Close c = close_erased c
 
-pub blanks_more : (shown units : List media.Unit) → blanks (length shown) ++ blanks (length units) ≡ blanks (length (shown ++ units))
-blanks_more shown units = replicate-append-replicate (length shown) (length units) blank ∙ ap blanks (sym (length-append shown units))
+removal_erased : (e : Option DomError) (r : Removal) (s : State) → remove_or_refuse e r (erased_state s) ≡ erased_state (remove_or_refuse e r s)
+removal_erased None r s = ap (λ (d : Control). removed d (erased_state s)) (ended_erased_by r (at_next_place s.control))
+removal_erased (Some e) r s = refl
 
 task_erased : (t : Task) (c : Control) → run_task (erased_task t) (erased c) ≡ erased (run_task t c)
 task_erased task.Unblock c = ap (λ (ts : List Task). record (erased c) { blocked = false; tasks = ts }) (sym (pushed c.tasks task.Process))
 task_erased task.Process c = process_erased c.messages c
 task_erased task.Desaturate c = process_erased c.messages (record c { saturated = false })
-task_erased (task.Output units) c = ap (λ (us : List media.Unit). record (erased c) { shown = us }) (blanks_more c.shown units)
-task_erased (task.Flushed promise units) c = ap (λ (us : List media.Unit). record (run_task (task.Flushed promise units) (erased c)) { shown = us }) (blanks_more c.shown units)
+task_erased (task.Output units) c = ap (λ (n : ℕ). record (erased c) { shown = c.shown + n }) (length-replicate (length units) blank)
+task_erased (task.Flushed promise units) c = ap (λ (n : ℕ). record (run_task (task.Flushed promise units) (erased c)) { shown = c.shown + n }) (length-replicate (length units) blank)
 task_erased task.Dequeue c = refl
-task_erased (task.Close x) c = close_erased x c
+task_erased (task.Close x) c = close_erased c
 
 turn_erased : (ts : List Task) (c : Control) (given running : Given) → turn_step (map erased_task ts) (erased_state (record { control = record c { tasks = ts }; given = given; running_given = running })) ≡ option_map erased_state (turn_step ts (record { control = record c { tasks = ts }; given = given; running_given = running }))
 turn_erased [] c given running = refl
-turn_erased (task.Unblock ∷ ts) c given running = ap (λ (d : Control). Some (with_control d (record { control = c; given = given; running_given = running }))) (task_erased task.Unblock (record (entered c) { tasks = ts }))
-turn_erased (task.Process ∷ ts) c given running = ap (λ (d : Control). Some (with_control d (record { control = c; given = given; running_given = running }))) (task_erased task.Process (record (entered c) { tasks = ts }))
-turn_erased (task.Desaturate ∷ ts) c given running = ap (λ (d : Control). Some (with_control d (record { control = c; given = given; running_given = running }))) (task_erased task.Desaturate (record (entered c) { tasks = ts }))
-turn_erased (task.Output units ∷ ts) c given running = ap (λ (d : Control). Some (with_control d (record { control = c; given = given; running_given = running }))) (task_erased (task.Output units) (record (entered c) { tasks = ts }))
-turn_erased (task.Flushed promise units ∷ ts) c given running = ap (λ (d : Control). Some (with_control d (record { control = c; given = given; running_given = running }))) (task_erased (task.Flushed promise units) (record (entered c) { tasks = ts }))
+turn_erased (task.Unblock ∷ ts) c given running = ap (λ (d : Control). Some (with_control d (record { control = c; given = given; running_given = running }))) (task_erased task.Unblock (record (at_next_place c) { tasks = ts }))
+turn_erased (task.Process ∷ ts) c given running = ap (λ (d : Control). Some (with_control d (record { control = c; given = given; running_given = running }))) (task_erased task.Process (record (at_next_place c) { tasks = ts }))
+turn_erased (task.Desaturate ∷ ts) c given running = ap (λ (d : Control). Some (with_control d (record { control = c; given = given; running_given = running }))) (task_erased task.Desaturate (record (at_next_place c) { tasks = ts }))
+turn_erased (task.Output units ∷ ts) c given running = ap (λ (d : Control). Some (with_control d (record { control = c; given = given; running_given = running }))) (task_erased (task.Output units) (record (at_next_place c) { tasks = ts }))
+turn_erased (task.Flushed promise units ∷ ts) c given running = ap (λ (d : Control). Some (with_control d (record { control = c; given = given; running_given = running }))) (task_erased (task.Flushed promise units) (record (at_next_place c) { tasks = ts }))
 turn_erased (task.Dequeue ∷ ts) c given running = refl
-turn_erased (task.Close x ∷ ts) c given running = ap (λ (d : Control). Some (removed d (record { control = c; given = given; running_given = running }))) (task_erased (task.Close x) (record (entered c) { tasks = ts }))
+turn_erased (task.Close x ∷ ts) c given running = ap (λ (d : Control). Some (removed d (record { control = c; given = given; running_given = running }))) (task_erased (task.Close x) (record (at_next_place c) { tasks = ts }))
 
 start_by : (b : Bool) (s t : State) → cond b (Some (erased_state t)) None ≡ option_map erased_state (cond b (Some t) None)
 start_by true s t = refl
@@ -169,7 +170,7 @@ given_erased units ts = rw (length-replicate (length units) blank) (unless (eqb 
 coded_erased : (units : List media.Unit) (saturated : Bool) (ts us : List Task) → us ≡ map erased_task (cond (saturated && eqb (count_by is_desaturate ts) 0) (ts ++ task.Desaturate ∷ []) ts) → cond (eqb (length (blanks (length units))) 0) us (us ++ task.Output (blanks (length units)) ∷ []) ≡ map erased_task (cond (eqb (length units) 0) (cond (saturated && eqb (count_by is_desaturate ts) 0) (ts ++ task.Desaturate ∷ []) ts) (cond (saturated && eqb (count_by is_desaturate ts) 0) (ts ++ task.Desaturate ∷ []) ts ++ task.Output units ∷ []))
 coded_erased units saturated ts us h = rw h (given_erased units (cond (saturated && eqb (count_by is_desaturate ts) 0) (ts ++ task.Desaturate ∷ []) ts))
 
-ran_erased : (epoch number place : ℕ) (k : WorkKind) (units : List media.Unit) (c : Control) → settled_ran (record { epoch = epoch; number = number; place = place; kind = k }) (blanks (length units)) (erased c) ≡ erased (settled_ran (record { epoch = epoch; number = number; place = place; kind = k }) units c)
+ran_erased : (epoch number place : ℕ) (k : WorkKind) (units : List media.Unit) (c : Control) → after_end (record { epoch = epoch; number = number; place = place; kind = k }) (ended.Ran (blanks (length units))) (erased c) ≡ erased (after_end (record { epoch = epoch; number = number; place = place; kind = k }) (ended.Ran units) c)
 ran_erased epoch number place kind.Configure units c = ap (λ (ts : List Task). record (erased c) { tasks = ts }) (sym (pushed c.tasks task.Unblock))
 ran_erased epoch number place kind.Coded units c = ap (λ (ts : List Task). record (erased c) { tasks = ts }) (coded_erased units c.saturated c.tasks _ (freed_erased c.saturated c.tasks))
 ran_erased epoch number place kind.Flush units c = ap (λ (ts : List Task). record (erased c) { tasks = ts }) (sym (pushed c.tasks (task.Flushed place units)))
@@ -177,7 +178,7 @@ ran_erased epoch number place kind.Flush units c = ap (λ (ts : List Task). reco
 closing_erased : (x : DomError) (c : Control) → record (erased c) { halted = true; tasks = map erased_task c.tasks ++ task.Close x ∷ [] } ≡ erased (record c { halted = true; tasks = c.tasks ++ task.Close x ∷ [] })
 closing_erased x c = ap (λ (ts : List Task). record (erased c) { halted = true; tasks = ts }) (sym (pushed c.tasks (task.Close x)))
 
-settled_erased : (r : Running) (e : Ended) (c : Control) → settled r (erased_end e) (erased c) ≡ erased (settled r e c)
+settled_erased : (r : Running) (e : Ended) (c : Control) → after_end r (erased_end e) (erased c) ≡ erased (after_end r e c)
 settled_erased r (ended.Ran units) c = ran_erased r.epoch r.number r.place r.kind units c
 settled_erased r ended.Refused c = closing_erased _ c
 settled_erased r (ended.NoSlot n) c = closing_erased dom.QuotaExceeded c
@@ -248,7 +249,7 @@ ended_erased : (r : Running) (x : Outcome) (a : Option Ended) (moment : ℕ) (s 
 ended_erased r x None moment s t fine is h = absurd cc
 ended_erased r x (Some e) moment s t fine is h =
     rw (ends_erased r.kind s.running_given x e fine is)
-    (ap (λ (d : Control). Some (with_control d s)) (done_erased r e moment (entered s.control)) ∙ ap (λ (u : State). Some (erased_state u)) (some_same (with_control (done_running r e moment (entered s.control)) s) t h))
+    (ap (λ (d : Control). Some (with_control d s)) (done_erased r e moment (at_next_place s.control)) ∙ ap (λ (u : State). Some (erased_state u)) (some_same (with_control (done_running r e moment (at_next_place s.control)) s) t h))
 
 done_step_erased : (o : Option Running) (epoch item moment : ℕ) (x : Outcome) (s t : State) → s.control.running ≡ o → Sound s → done_step o epoch item moment x s ≡ Some t → follow_done o epoch item moment x (erased_state s) ≡ Some (erased_state t)
 done_step_erased None epoch item moment x s t out fine h = absurd cc
@@ -269,13 +270,11 @@ step_erased (entry.Configure who config) s t fine h = ap (λ (u : State). Some u
 step_erased (entry.Decode who chunk) s t fine h = ap (λ (u : State). Some u) (call_step_erased (call.Decode chunk) s refl) ∙ ap (option_map erased_state) h
 step_erased (entry.Flush who) s t fine h = ap (λ (u : State). Some u) (call_step_erased call.Flush s refl) ∙ ap (option_map erased_state) h
 step_erased (entry.Reset who) s t fine h =
-    ap (λ (d : Control). Some (removal_step (removal_error s.control) d (erased_state s))) (reset_erased dom.Abort (entered s.control))
-    ∙ (ap (λ (u : State). Some u) (removal_erased (removal_error s.control) (after_reset dom.Abort (entered s.control)) s) ∙ ap (option_map erased_state) h)
+    ap (λ (u : State). Some u) (removal_erased (removal_error s.control) removal.Reset s) ∙ ap (option_map erased_state) h
 step_erased (entry.Close who) s t fine h =
-    ap (λ (d : Control). Some (removal_step (removal_error s.control) d (erased_state s))) (close_erased dom.Abort (entered s.control))
-    ∙ (ap (λ (u : State). Some u) (removal_erased (removal_error s.control) (after_close dom.Abort (entered s.control)) s) ∙ ap (option_map erased_state) h)
+    ap (λ (u : State). Some u) (removal_erased (removal_error s.control) removal.Close s) ∙ ap (option_map erased_state) h
 step_erased (entry.Start epoch item) s t fine h = start_erased s.control.work epoch item s.control s.given s.running_given ∙ ap (option_map erased_state) h
 step_erased (entry.Done epoch item moment x) s t fine h = done_step_erased s.control.running epoch item moment x s t refl fine h
 step_erased entry.Turn s t fine h = turn_erased s.control.tasks s.control s.given s.running_given ∙ ap (option_map erased_state) h
 step_erased (entry.Reclaim moment) s t fine h =
-    reclaim_by (may_reclaim moment s.control) _ (removed (after_reclaim (entered s.control)) s) (ap (λ (d : Control). removed d s) (close_erased dom.QuotaExceeded (entered s.control))) ∙ ap (option_map erased_state) h
+    reclaim_by (may_reclaim moment s.control) _ (removed (after_close (at_next_place s.control)) s) (ap (λ (d : Control). removed d s) (close_erased (at_next_place s.control))) ∙ ap (option_map erased_state) h

@@ -1,12 +1,12 @@
 -- What is shown with blanks, and filled.
 use Rattle.std.proofs.Common.{ℕ, ◌≡◌, ◌+◌, ◌≤◌, true, List, [], ◌∷◌, ◌++◌, append_assoc, length, length-append, map, take, Option, Some, None, is_some, refl, ap, sym, ◌∙◌, arith}
 use Rattle.std.specs.Prelude.{option_map, option_and_then, unwrap_or}
-use Rattle.std.proofs.lemmas.List.{map-append, length-replicate}
+use Rattle.std.proofs.lemmas.List.{map-append}
 use Rattle.std.proofs.Math.Seq.{take-append_seam}
 use Rattle.wc_base.specs.declared.error.DomError.{DomError}
 use Rattle.wc_base.specs.declared.error.DomError.TheVariants as dom
-use Rattle.coder_api.specs.declared.unit.Unit as media
-use Rattle.codec_model.specs.declared.entry.Kind.{Kind}
+use Rattle.codec_definitions.specs.declared.unit.Unit as media
+use Rattle.wc_config.specs.declared.kind.Kind.{Kind}
 use Rattle.codec_model.specs.declared.entry.Entry.{Entry}
 use Rattle.codec_model.specs.declared.entry.Entry.TheVariants as entry
 use Rattle.codec_model.specs.declared.entry.Event.{Event}
@@ -16,7 +16,7 @@ use Rattle.codec_model.specs.declared.entry.Task.{Task}
 use Rattle.codec_model.specs.declared.entry.Task.TheVariants as task
 use Rattle.codec_model.specs.Control.{Control}
 use Rattle.codec_model.specs.Replay.{State, opening_state, step, replay_from, removal_error, configure_error, decode_error, flush_error}
-use Rattle.codec_model.specs.Shown.{shows, refusal, rejection, rejections, outputs_from, task_shows, removal_shows, shown_from, shown_at, each_shown_from, turn_word, word_at, event_units, units_in, outputs_of}
+use Rattle.codec_model.specs.Shown.{shows, refusal, rejection, rejections, outputs_from, turn_shows, removal_shows, shown_from, shown_at, each_shown_from, turn_word, word_at, event_units, units_in, outputs_of}
 use Rattle.codec_follow.specs.Follow.{blank, blanks, follow_step, follow_from, filled, filled_at, each_filled_from, units_shown}
 use Rattle.codec_follow.specs.Laws.{LegalFollows, LegalFills, UnitsInOrder}
 use Rattle.codec_follow.proofs.Answered.{Sound, step_sound, opened}
@@ -53,17 +53,14 @@ outputs_erased : (n : ℕ) (us : List media.Unit) → outputs_from n (blanks (le
 outputs_erased n [] = refl
 outputs_erased n (u ∷ us) = ap (λ (xs : List Event). event.Output n blank ∷ xs) (outputs_erased (n + 1) us)
 
-outputs_after : (shown us : List media.Unit) → outputs_from (length (blanks (length shown))) (blanks (length us)) ≡ map erased_event (outputs_from (length shown) us)
-outputs_after shown us = rw (length-replicate (length shown) blank) (outputs_erased (length shown) us)
-
-task_shown : (ts : List Task) (c : Control) → task_shows (map erased_task ts) (erased c) ≡ map erased_event (task_shows ts c)
+task_shown : (ts : List Task) (c : Control) → turn_shows (map erased_task ts) (erased c) ≡ map erased_event (turn_shows ts c)
 task_shown [] c = refl
 task_shown (task.Unblock ∷ ts) c = refl
 task_shown (task.Process ∷ ts) c = refl
 task_shown (task.Desaturate ∷ ts) c = refl
-task_shown (task.Output units ∷ ts) c = outputs_after c.shown units
+task_shown (task.Output units ∷ ts) c = outputs_erased c.shown units
 task_shown (task.Flushed promise units ∷ ts) c =
-    ap (λ (xs : List Event). xs ++ event.Resolve promise ∷ []) (outputs_after c.shown units) ∙ sym (map-append erased_event (outputs_from (length c.shown) units) (event.Resolve promise ∷ []))
+    ap (λ (xs : List Event). xs ++ event.Resolve promise ∷ []) (outputs_erased c.shown units) ∙ sym (map-append erased_event (outputs_from c.shown units) (event.Resolve promise ∷ []))
 task_shown (task.Dequeue ∷ ts) c = refl
 task_shown (task.Close x ∷ ts) c = closes_erased x c.pending
 

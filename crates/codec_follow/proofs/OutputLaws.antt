@@ -15,16 +15,18 @@ use Rattle.wc_config.specs.declared.config.AudioEncoderConfig.{AudioEncoderConfi
 use Rattle.wc_config.specs.declared.config.Config.{Config}
 use Rattle.wc_config.specs.declared.config.Config.TheVariants as config
 use Rattle.wc_config.specs.Configs.{is_valid, is_supported, is_blank, coder_id_of}
-use Rattle.wc_config.specs.G711.{alaw_value, ulaw_value, alaw_code, ulaw_code}
+use Rattle.codec_definitions.specs.SampleCodecs.{SampleCodec, sample_codec, sample_decoder, sample_encoder}
 use Rattle.wc_chunk.specs.declared.chunk.Chunk.{Chunk}
-use Rattle.coder_api.specs.declared.unit.Unit as media
-use Rattle.coder_api.specs.declared.unit.Unit.TheVariants as unit
-use Rattle.coder_api.specs.declared.coder.Command.{Command}
-use Rattle.coder_api.specs.declared.coder.Command.TheVariants as command
-use Rattle.coder_api.specs.Commands.{pcm_decoder_answer, pcm_encoder_answer, g711_decoder_answer, g711_encoder_answer, audio_decoder_answer, audio_encoder_answer, answer_after, until_refused, answers_from, last_answer}
-use Rattle.codec_model.specs.declared.entry.Kind.{Kind}
-use Rattle.codec_model.specs.declared.entry.Kind.TheVariants as kind
+use Rattle.codec_definitions.specs.declared.unit.Unit as media
+use Rattle.codec_definitions.specs.declared.unit.Unit.TheVariants as unit
+use Rattle.codec_definitions.specs.declared.command.Command.{Command}
+use Rattle.codec_definitions.specs.declared.command.Command.TheVariants as command
+use Rattle.codec_definitions.specs.Answers.{sample_decoder_by, sample_encoder_by, audio_decoder_answer, audio_encoder_answer, answer_after, until_refused, answers_from, last_answer}
+use Rattle.wc_config.specs.declared.kind.Kind.{Kind}
+use Rattle.wc_config.specs.declared.kind.Kind.TheVariants as kind
 use Rattle.codec_model.specs.declared.entry.Opening.{Opening}
+use Rattle.codec_model.specs.declared.entry.Removal.{Removal}
+use Rattle.codec_model.specs.declared.entry.Removal.TheVariants as removal
 use Rattle.codec_model.specs.declared.entry.Call.{Call}
 use Rattle.codec_model.specs.declared.entry.Call.TheVariants as call
 use Rattle.codec_model.specs.declared.entry.Entry.{Entry}
@@ -43,9 +45,9 @@ use Rattle.codec_model.specs.declared.entry.Task.TheVariants as task
 use Rattle.codec_model.specs.declared.entry.Ended.{Ended}
 use Rattle.codec_model.specs.declared.entry.Ended.TheVariants as ended
 use Rattle.codec_model.specs.declared.entry.Outcome.{Outcome}
-use Rattle.codec_model.specs.Control.{Control, is_taken, after_message, process_queue, entered, run_task, done_running, settled, settled_ran, started_on, is_dequeue, is_desaturate, with_desaturate, after_reset, after_close, may_reclaim, may_start}
-use Rattle.codec_model.specs.Replay.{State, Given, given_more, answer_to, answers_by, opening_state, step, done_ended, ended_of, configure_error, decode_error, flush_error, removal_error, after_call, call_error, accepted, removal_step, removed, start_step, done_step, with_control, turn_step}
-use Rattle.codec_model.specs.Shown.{refusal, rejection, rejections, outputs_from, task_shows, removal_shows, shows, event_units, units_in, each_shown_from}
+use Rattle.codec_model.specs.Control.{Control, is_taken, after_message, process_queue, at_next_place, run_task, done_running, after_end, start_first, is_dequeue, is_desaturate, with_desaturate, after_reset, after_close, may_reclaim, may_start}
+use Rattle.codec_model.specs.Replay.{State, Given, given_more, answer_to, answers_by, opening_state, step, done_ended, ended_of, configure_error, decode_error, flush_error, removal_error, after_call, call_error, accepted, remove_or_refuse, removed, start_step, done_step, with_control, turn_step}
+use Rattle.codec_model.specs.Shown.{refusal, rejection, rejections, outputs_from, turn_shows, removal_shows, shows, event_units, units_in, each_shown_from}
 use Rattle.codec_model.proofs.FactLaws.{cond_is, some_same}
 use Rattle.codec_follow.specs.Follow.{units_shown}
 use Rattle.codec_follow.specs.Outputs.{IsOutputOf, IsConfigOf, ConfiguresAs}
@@ -92,55 +94,31 @@ chunk_or : (b : Bool) (chunk : Chunk) (us : List media.Unit) → cond b (Some (u
 chunk_or true chunk us h = one_of kind.AudioEncoder (unit.Coded chunk None) us tt h
 chunk_or false chunk us h = absurd cc
 
-pcm_decoded : (size : ℕ) (out : SampleFormat) (c : AudioDecoderConfig) (x : Command) (us : List media.Unit) → 0 < c.rate → pcm_decoder_answer size out c x ≡ Some us → AllOf kind.AudioDecoder us
-pcm_decoded size out c (command.Chunk chunk) us own h = sound_or _ _ _ us own h
-pcm_decoded size out c (command.Sound samples) us own h = absurd cc
-pcm_decoded size out c (command.Image picture) us own h = absurd cc
-pcm_decoded size out c command.Drain us own h = none_of kind.AudioDecoder us h
+sample_decoded : (s : SampleCodec) (c : AudioDecoderConfig) (x : Command) (us : List media.Unit) → 0 < c.rate → sample_decoder s c x ≡ Some us → AllOf kind.AudioDecoder us
+sample_decoded s c (command.Chunk chunk) us own h = sound_or _ _ _ us own h
+sample_decoded s c (command.Sound samples) us own h = absurd cc
+sample_decoded s c (command.Image picture) us own h = absurd cc
+sample_decoded s c command.Drain us own h = none_of kind.AudioDecoder us h
 
-g711_decoded : (value_of : ℕ → ℤ) (c : AudioDecoderConfig) (x : Command) (us : List media.Unit) → 0 < c.rate → g711_decoder_answer value_of c x ≡ Some us → AllOf kind.AudioDecoder us
-g711_decoded value_of c (command.Chunk chunk) us own h = sound_or _ _ _ us own h
-g711_decoded value_of c (command.Sound samples) us own h = absurd cc
-g711_decoded value_of c (command.Image picture) us own h = absurd cc
-g711_decoded value_of c command.Drain us own h = none_of kind.AudioDecoder us h
+sample_encoded : (s : SampleCodec) (c : AudioEncoderConfig) (x : Command) (us : List media.Unit) → sample_encoder s c x ≡ Some us → AllOf kind.AudioEncoder us
+sample_encoded s c (command.Chunk chunk) us h = absurd cc
+sample_encoded s c (command.Sound samples) us h = chunk_or _ _ us h
+sample_encoded s c (command.Image picture) us h = absurd cc
+sample_encoded s c command.Drain us h = none_of kind.AudioEncoder us h
 
-pcm_encoded : (size : ℕ) (c : AudioEncoderConfig) (x : Command) (us : List media.Unit) → pcm_encoder_answer size c x ≡ Some us → AllOf kind.AudioEncoder us
-pcm_encoded size c (command.Chunk chunk) us h = absurd cc
-pcm_encoded size c (command.Sound samples) us h = chunk_or _ _ us h
-pcm_encoded size c (command.Image picture) us h = absurd cc
-pcm_encoded size c command.Drain us h = none_of kind.AudioEncoder us h
+decoded_by : (o : Option SampleCodec) (c : AudioDecoderConfig) (x : Command) (us : List media.Unit) → 0 < c.rate → sample_decoder_by o c x ≡ Some us → AllOf kind.AudioDecoder us
+decoded_by None c x us own h = absurd cc
+decoded_by (Some s) c x us own h = sample_decoded s c x us own h
 
-g711_encoded : (code_of : ℤ → ℕ) (c : AudioEncoderConfig) (x : Command) (us : List media.Unit) → g711_encoder_answer code_of c x ≡ Some us → AllOf kind.AudioEncoder us
-g711_encoded code_of c (command.Chunk chunk) us h = absurd cc
-g711_encoded code_of c (command.Sound samples) us h = chunk_or _ _ us h
-g711_encoded code_of c (command.Image picture) us h = absurd cc
-g711_encoded code_of c command.Drain us h = none_of kind.AudioEncoder us h
+encoded_by : (o : Option SampleCodec) (c : AudioEncoderConfig) (x : Command) (us : List media.Unit) → sample_encoder_by o c x ≡ Some us → AllOf kind.AudioEncoder us
+encoded_by None c x us h = absurd cc
+encoded_by (Some s) c x us h = sample_encoded s c x us h
 
 decoded : (id : CodecId) (c : AudioDecoderConfig) (x : Command) (us : List media.Unit) → 0 < c.rate → audio_decoder_answer id c x ≡ Some us → AllOf kind.AudioDecoder us
-decoded codec.PcmU8 c x us own h = pcm_decoded 1 format.U8 c x us own h
-decoded codec.PcmS16 c x us own h = pcm_decoded 2 format.S16 c x us own h
-decoded codec.PcmS24 c x us own h = pcm_decoded 3 format.S32 c x us own h
-decoded codec.PcmS32 c x us own h = pcm_decoded 4 format.S32 c x us own h
-decoded codec.Alaw c x us own h = g711_decoded alaw_value c x us own h
-decoded codec.Ulaw c x us own h = g711_decoded ulaw_value c x us own h
-decoded codec.Flac c x us own h = absurd cc
-decoded codec.RawI420 c x us own h = absurd cc
-decoded codec.RawI422 c x us own h = absurd cc
-decoded codec.RawI444 c x us own h = absurd cc
-decoded codec.RawNv12 c x us own h = absurd cc
+decoded id c x us own h = decoded_by (sample_codec id) c x us own h
 
 encoded : (id : CodecId) (c : AudioEncoderConfig) (x : Command) (us : List media.Unit) → audio_encoder_answer id c x ≡ Some us → AllOf kind.AudioEncoder us
-encoded codec.PcmU8 c x us h = pcm_encoded 1 c x us h
-encoded codec.PcmS16 c x us h = pcm_encoded 2 c x us h
-encoded codec.PcmS24 c x us h = pcm_encoded 3 c x us h
-encoded codec.PcmS32 c x us h = pcm_encoded 4 c x us h
-encoded codec.Alaw c x us h = g711_encoded alaw_code c x us h
-encoded codec.Ulaw c x us h = g711_encoded ulaw_code c x us h
-encoded codec.Flac c x us h = absurd cc
-encoded codec.RawI420 c x us h = absurd cc
-encoded codec.RawI422 c x us h = absurd cc
-encoded codec.RawI444 c x us h = absurd cc
-encoded codec.RawNv12 c x us h = absurd cc
+encoded id c x us h = encoded_by (sample_codec id) c x us h
 
 answered : (k : Kind) (id : CoderId) (c : Config) (before : List Command) (x : Command) (us : List media.Unit) → IsOwn k c → answer_after id c before x ≡ Some us → AllOf k us
 answered kind.AudioDecoder id (config.AudioDecoder c) before x us own h = decoded id.codec c x us own h
@@ -263,9 +241,7 @@ accepted_own k call.Flush c own h = processed_own k _ (same_own k _ _ refl refl 
 
 called_own : (k : Kind) (o : Option DomError) (x : Call) (c : Control) → (o ≡ None → IsOwnCall k x) → OwnControl k c → OwnControl k (after_call o x c)
 called_own k None x c own h = accepted_own k x c (own refl) h
-called_own k (Some error) (call.Configure given) c own h = same_own k c _ refl refl refl h
-called_own k (Some error) (call.Decode chunk) c own h = same_own k c _ refl refl refl h
-called_own k (Some error) call.Flush c own h = same_own k c _ refl refl refl h
+called_own k (Some error) x c own h = same_own k c _ refl refl refl h
 
 accepted_valid : (b : Bool) (o : Option DomError) → cond b o (Some dom.TypeErr) ≡ None → b ≡ true
 accepted_valid true o h = refl
@@ -300,8 +276,8 @@ filtered_own k (task.Flushed promise units ∷ ts) h = filtered_own k ts h.1
 filtered_own k (task.Dequeue ∷ ts) h = (tt, filtered_own k ts h.1)
 filtered_own k (task.Close error ∷ ts) h = filtered_own k ts h.1
 
-reset_own : (k : Kind) (x : DomError) (c : Control) → OwnControl k c → OwnControl k (after_reset x c)
-reset_own k x c h = record {
+reset_own : (k : Kind) (c : Control) → OwnControl k c → OwnControl k (after_reset c)
+reset_own k c h = record {
   messages = tt;
   items = tt;
   tasks = dequeue_own k (not (eqb c.size 0) && not c.scheduled) (filter is_dequeue c.tasks) (filtered_own k c.tasks h.tasks);
@@ -313,15 +289,16 @@ removed_own k c s h own = record { control = h; given = bad_own k; busy = own.bu
 with_own : (k : Kind) (c : Control) (s : State) → OwnControl k c → Own k s → Own k (with_control c s)
 with_own k c s h own = record { control = h; given = own.given; busy = own.busy }
 
-entered_own : (k : Kind) (c : Control) → OwnControl k c → OwnControl k (entered c)
-entered_own k c h = same_own k c (entered c) refl refl refl h
+entered_own : (k : Kind) (c : Control) → OwnControl k c → OwnControl k (at_next_place c)
+entered_own k c h = same_own k c (at_next_place c) refl refl refl h
 
-closed_own : (k : Kind) (x : DomError) (c : Control) → OwnControl k c → OwnControl k (after_close x c)
-closed_own k x c h = same_own k (after_reset x c) (after_close x c) refl refl refl (reset_own k x c h)
+closed_own : (k : Kind) (c : Control) → OwnControl k c → OwnControl k (after_close c)
+closed_own k c h = same_own k (after_reset c) (after_close c) refl refl refl (reset_own k c h)
 
-removal_own : (k : Kind) (o : Option DomError) (made : Control) (s : State) → OwnControl k made → Own k s → Own k (removal_step o made s)
-removal_own k None made s h own = removed_own k made s h own
-removal_own k (Some error) made s h own = with_own k (entered s.control) s (entered_own k s.control own.control) own
+removal_own : (k : Kind) (o : Option DomError) (r : Removal) (s : State) → Own k s → Own k (remove_or_refuse o r s)
+removal_own k None removal.Reset s own = removed_own k _ s (reset_own k (at_next_place s.control) (entered_own k s.control own.control)) own
+removal_own k None removal.Close s own = removed_own k _ s (closed_own k (at_next_place s.control) (entered_own k s.control own.control)) own
+removal_own k (Some error) r s own = with_own k (at_next_place s.control) s (entered_own k s.control own.control) own
 
 -- ---- starts
 
@@ -338,7 +315,7 @@ started_own k (i ∷ is) epoch number s t e step h =
     let own = more_own k i.work s.given items.0 h.given in
     subst (λ (u : State). Own k u) (some_same _ t given.1)
     (record {
-      control = subst (λ (l : List Item). OwnControl k (started_on l (entered s.control))) (sym e) (record { messages = h.control.messages; items = items.1; tasks = h.control.tasks });
+      control = subst (λ (l : List Item). OwnControl k (start_first l (at_next_place s.control))) (sym e) (record { messages = h.control.messages; items = items.1; tasks = h.control.tasks });
       given = own;
       busy = own;
     })
@@ -356,33 +333,33 @@ output_own : (k : Kind) (b : Bool) (ts : List Task) (us : List media.Unit) → A
 output_own k true ts us h own = h
 output_own k false ts us h own = all_more (IsOwnTask k) ts (task.Output us) h own
 
-ran_own : (k : Kind) (epoch number place : ℕ) (w : WorkKind) (us : List media.Unit) (c : Control) → OwnControl k c → AllOf k us → OwnControl k (settled_ran (record { epoch = epoch; number = number; place = place; kind = w }) us c)
+ran_own : (k : Kind) (epoch number place : ℕ) (w : WorkKind) (us : List media.Unit) (c : Control) → OwnControl k c → AllOf k us → OwnControl k (after_end (record { epoch = epoch; number = number; place = place; kind = w }) (ended.Ran us) c)
 ran_own k epoch number place item.Configure us c h own = task_own k c task.Unblock h tt
 ran_own k epoch number place item.Coded us c h own = record {
   messages = h.messages;
   items = h.items;
-  tasks = output_own k (eqb (length us) 0) (with_desaturate c).tasks us (desaturated_own k (c.saturated && eqb (count_by is_desaturate c.tasks) 0) c.tasks h.tasks) own;
+  tasks = output_own k (eqb (length us) 0) (with_desaturate c.saturated c.tasks) us (desaturated_own k (c.saturated && eqb (count_by is_desaturate c.tasks) 0) c.tasks h.tasks) own;
 }
 ran_own k epoch number place item.Flush us c h own = task_own k c (task.Flushed place us) h own
 
-settled_own : (k : Kind) (r : Running) (e : Ended) (c : Control) → OwnControl k c → ((us : List media.Unit) → e ≡ ended.Ran us → AllOf k us) → OwnControl k (settled r e c)
+settled_own : (k : Kind) (r : Running) (e : Ended) (c : Control) → OwnControl k c → ((us : List media.Unit) → e ≡ ended.Ran us → AllOf k us) → OwnControl k (after_end r e c)
 settled_own k r (ended.Ran us) c h own = ran_own k r.epoch r.number r.place r.kind us c h (own us refl)
 settled_own k r ended.Refused c h own = task_own k _ (task.Close _) (same_own k c (record c { halted = true }) refl refl refl h) tt
 settled_own k r (ended.NoSlot n) c h own = task_own k _ (task.Close _) (same_own k c (record c { halted = true }) refl refl refl h) tt
 settled_own k r ended.NoMemory c h own = task_own k _ (task.Close _) (same_own k c (record c { halted = true }) refl refl refl h) tt
 
-done_own : (k : Kind) (r : Running) (e : Ended) (moment : ℕ) (c : Control) → OwnControl k c → ((us : List media.Unit) → e ≡ ended.Ran us → AllOf k us) → OwnControl k (done_running r e moment (entered c))
+done_own : (k : Kind) (r : Running) (e : Ended) (moment : ℕ) (c : Control) → OwnControl k c → ((us : List media.Unit) → e ≡ ended.Ran us → AllOf k us) → OwnControl k (done_running r e moment (at_next_place c))
 done_own k r e moment c h own = by (eqb r.epoch c.epoch)
   where
-    by : (b : Bool) → OwnControl k (cond b (settled r e (record (entered c) { running = None; progress = Some (max moment (unwrap_or c.progress moment)) })) (record (entered c) { running = None }))
+    by : (b : Bool) → OwnControl k (cond b (after_end r e (record (at_next_place c) { running = None; progress = Some (max moment (unwrap_or c.progress moment)) })) (record (at_next_place c) { running = None }))
     by true = settled_own k r e _ (same_own k c _ refl refl refl h) own
     by false = same_own k c _ refl refl refl h
 
 ended_own : (k : Kind) (r : Running) (x : Outcome) (o : Option Ended) (moment : ℕ) (s t : State) → ended_of r.kind s.running_given x ≡ o → done_ended r o moment s ≡ Some t → Own k s → Own k t
 ended_own k r x None moment s t is step h = absurd cc
 ended_own k r x (Some e) moment s t is step h =
-    subst (λ (u : State). Own k u) (some_same (with_control (done_running r e moment (entered s.control)) s) t step)
-    (with_own k (done_running r e moment (entered s.control)) s (done_own k r e moment s.control h.control (λ us ran. given_of k r.kind s.running_given us h.busy (ran_answer r.kind s.running_given x us (is ∙ ap some_ended ran)))) h)
+    subst (λ (u : State). Own k u) (some_same (with_control (done_running r e moment (at_next_place s.control)) s) t step)
+    (with_own k (done_running r e moment (at_next_place s.control)) s (done_own k r e moment s.control h.control (λ us ran. given_of k r.kind s.running_given us h.busy (ran_answer r.kind s.running_given x us (is ∙ ap some_ended ran)))) h)
   where
     some_ended : Ended → Option Ended
     some_ended e = Some e
@@ -400,9 +377,9 @@ run_own k task.Desaturate c h = processed_own k (record c { saturated = false })
 run_own k (task.Output units) c h = same_own k c _ refl refl refl h
 run_own k (task.Flushed promise units) c h = same_own k c _ refl refl refl h
 run_own k task.Dequeue c h = same_own k c _ refl refl refl h
-run_own k (task.Close x) c h = closed_own k x c h
+run_own k (task.Close x) c h = closed_own k c h
 
-left_own : (k : Kind) (t : Task) (ts : List Task) (c : Control) → c.tasks ≡ t ∷ ts → OwnControl k c → OwnControl k (record (entered c) { tasks = ts })
+left_own : (k : Kind) (t : Task) (ts : List Task) (c : Control) → c.tasks ≡ t ∷ ts → OwnControl k c → OwnControl k (record (at_next_place c) { tasks = ts })
 left_own k t ts c e h =
     let tasks : AreOwnTasks k (t ∷ ts) = subst (λ (l : List Task). AreOwnTasks k l) e h.tasks in
     record { messages = h.messages; items = h.items; tasks = tasks.1 }
@@ -430,16 +407,16 @@ step_own k (entry.Decode who chunk) s t is own h = subst (λ (u : State). Own k 
 step_own k (entry.Flush who) s t is own h = subst (λ (u : State). Own k u) (some_same _ t is) (call_own k call.Flush s (λ taken. tt) h)
 step_own k (entry.Reset who) s t is own h =
     subst (λ (u : State). Own k u) (some_same _ t is)
-    (removal_own k (removal_error s.control) (after_reset dom.Abort (entered s.control)) s (reset_own k dom.Abort (entered s.control) (entered_own k s.control h.control)) h)
+    (removal_own k (removal_error s.control) removal.Reset s h)
 step_own k (entry.Close who) s t is own h =
     subst (λ (u : State). Own k u) (some_same _ t is)
-    (removal_own k (removal_error s.control) (after_close dom.Abort (entered s.control)) s (closed_own k dom.Abort (entered s.control) (entered_own k s.control h.control)) h)
+    (removal_own k (removal_error s.control) removal.Close s h)
 step_own k (entry.Start epoch number) s t is own h = started_own k s.control.work epoch number s t refl is h
 step_own k (entry.Done epoch number moment x) s t is own h = done_step_own k s.control.running epoch number moment x s t is h
 step_own k entry.Turn s t is own h = turned_own k s.control.tasks s t refl is h
 step_own k (entry.Reclaim moment) s t is own h =
     subst (λ (u : State). Own k u) (some_same _ t (cond_is (may_reclaim moment s.control) _ t is).1)
-    (removed_own k _ s (closed_own k dom.QuotaExceeded (entered s.control) (entered_own k s.control h.control)) h)
+    (removed_own k _ s (closed_own k (at_next_place s.control) (entered_own k s.control h.control)) h)
 
 opening_own : (k : Kind) (o : Opening) → Own k (opening_state o)
 opening_own k o = record { control = record { messages = tt; items = tt; tasks = tt }; given = bad_own k; busy = bad_own k }
@@ -480,7 +457,7 @@ flushed_own : (k : Kind) (n promise : ℕ) (us : List media.Unit) → AllOf k us
 flushed_own k n promise [] h = tt
 flushed_own k n promise (u ∷ us) h = (h.0, flushed_own k (n + 1) promise us h.1)
 
-task_shown_own : (k : Kind) (ts : List Task) (c : Control) → AreOwnTasks k ts → AllOf k (units_in (task_shows ts c))
+task_shown_own : (k : Kind) (ts : List Task) (c : Control) → AreOwnTasks k ts → AllOf k (units_in (turn_shows ts c))
 task_shown_own k [] c h = tt
 task_shown_own k (task.Unblock ∷ ts) c h = tt
 task_shown_own k (task.Process ∷ ts) c h = tt

@@ -3,11 +3,11 @@
 use Rattle.std.specs.Prelude.{ℕ, ◌≡◌, ◌==◌, ◌&&◌, Bool, true, false, pos, List, [], ◌∷◌, ◌++◌, replicate, Option, Some, None, is_some, option_map, option_and_then, unwrap_or, if◌then◌else◌}
 use Rattle.wc_config.specs.declared.config.Config.{Config}
 use Rattle.wc_config.specs.Configs.{is_supported, coder_id_of}
-use Rattle.coder_api.specs.declared.coder.Command.TheVariants as command
-use Rattle.coder_api.specs.Commands.{answer_after}
-use Rattle.coder_api.specs.declared.unit.Unit as media
-use Rattle.coder_api.specs.declared.unit.Unit.TheVariants as unit
-use Rattle.codec_model.specs.declared.entry.Kind.{Kind}
+use Rattle.codec_definitions.specs.declared.command.Command.TheVariants as command
+use Rattle.codec_definitions.specs.Answers.{answer_after}
+use Rattle.codec_definitions.specs.declared.unit.Unit as media
+use Rattle.codec_definitions.specs.declared.unit.Unit.TheVariants as unit
+use Rattle.wc_config.specs.declared.kind.Kind.{Kind}
 use Rattle.codec_model.specs.declared.entry.Opening.{Opening}
 use Rattle.codec_model.specs.declared.entry.WorkKind.{WorkKind}
 use Rattle.codec_model.specs.declared.entry.WorkKind.TheVariants as kind

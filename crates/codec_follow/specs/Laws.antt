@@ -1,7 +1,7 @@
 -- What holds between legal histories and histories that follow.
 use Rattle.std.specs.Prelude.{◌≡◌, ◌≤◌, List, length, take}
 use Rattle.std.specs.List.{AllByRecursion}
-use Rattle.coder_api.specs.declared.unit.Unit as media
+use Rattle.codec_definitions.specs.declared.unit.Unit as media
 use Rattle.codec_model.specs.declared.entry.Opening.{Opening}
 use Rattle.codec_model.specs.declared.entry.Entry.{Entry}
 use Rattle.codec_model.specs.Replay.{IsLegal}

@@ -1,6 +1,5 @@
 pub mod Follow
 pub mod Outputs
 pub mod Laws
-pub mod Events
 pub mod Followed
 pub mod Rows

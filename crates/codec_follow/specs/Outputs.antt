@@ -7,10 +7,10 @@ use Rattle.wc_config.specs.declared.config.AudioDecoderConfig.{AudioDecoderConfi
 use Rattle.wc_config.specs.declared.config.Config.{Config}
 use Rattle.wc_config.specs.declared.config.Config.TheVariants as config
 use Rattle.wc_config.specs.Configs.{audio_codec, video_codec}
-use Rattle.coder_api.specs.declared.unit.Unit as media
-use Rattle.coder_api.specs.declared.unit.Unit.TheVariants as unit
-use Rattle.codec_model.specs.declared.entry.Kind.{Kind}
-use Rattle.codec_model.specs.declared.entry.Kind.TheVariants as kind
+use Rattle.codec_definitions.specs.declared.unit.Unit as media
+use Rattle.codec_definitions.specs.declared.unit.Unit.TheVariants as unit
+use Rattle.wc_config.specs.declared.kind.Kind.{Kind}
+use Rattle.wc_config.specs.declared.kind.Kind.TheVariants as kind
 use Rattle.codec_model.specs.declared.entry.Entry.{Entry}
 use Rattle.codec_model.specs.declared.entry.Entry.TheVariants as entry
 

@@ -9,13 +9,13 @@ use Rattle.codec_model.specs.declared.entry.Event.TheVariants.{Output, Dequeue}
 use Rattle.codec_model.specs.Shown.{each_shown}
 use Rattle.codec_model.specs.Rows.{four, step_of, pcm, chunk, unit, ordinary, quiet_after}
 use Rattle.codec_model.specs.Replay.{IsLegal}
-use Rattle.codec_model.specs.declared.entry.Kind.TheVariants as kind
-use Rattle.codec_follow.specs.Follow.{blank, follows, IsFollowed, each_filled}
+use Rattle.wc_config.specs.declared.kind.Kind.TheVariants as kind
+use Rattle.codec_follow.specs.Follow.{follows, IsFollowed, each_filled}
 use Rattle.codec_follow.specs.Outputs.{empty_output}
 
--- the ordinary run follows, and its output is blank
+-- the ordinary run follows
 abbrev pub OrdinaryFollows : Type 0
-OrdinaryFollows = option_map (λ s. s.control) (follows four ordinary) ≡ Some (record quiet_after { shown = blank ∷ [] })
+OrdinaryFollows = option_map (λ s. s.control) (follows four ordinary) ≡ Some quiet_after
 
 -- with its own output it shows what it shows
 abbrev pub OrdinaryFills : Type 0

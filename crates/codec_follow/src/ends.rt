@@ -2,18 +2,17 @@
 ghost use Rattle.std.specs.Prelude.{◌≡◌, IfOk, is_some};
 ghost use Rattle.wc_config.specs.declared.config.AudioDecoderConfig.{AudioDecoderConfig};
 ghost use Rattle.wc_config.specs.declared.config.AudioEncoderConfig.{AudioEncoderConfig};
-ghost use Rattle.coder_api.specs.declared.coder.Command.TheVariants as Command;
-ghost use Rattle.coder_api.specs.Commands.{audio_decoder_answer, audio_encoder_answer};
+ghost use Rattle.codec_definitions.specs.declared.command.Command.TheVariants as Command;
+ghost use Rattle.codec_definitions.specs.Answers.{audio_decoder_answer, audio_encoder_answer};
 ghost use Rattle.codec_follow.specs.Follow.{blank as the_blank, blanks as the_blanks, ran_as, ended_by, answers_drain};
 ghost use Rattle.codec_follow.specs.Followed.{known_with, known_after, nothing_known as the_nothing};
 
-use crate::events::append;
 use crate::known::Known;
 use bytes::Bytes;
 use codec_model::{Ended, Outcome, Work, WorkKind};
 use coder_api::Unit;
 use std::alloc::Global;
-use wc_base::{DomError, List, NoMemory};
+use wc_base::{DomError, List, NoMemory, try_push};
 use wc_chunk::Chunk;
 use wc_config::{CodecId, Config};
 
@@ -38,7 +37,7 @@ fn blanks(alloc: Global, units: u64) -> Result<List<Unit>, NoMemory>
 {
     let mut list = Vec::with_capacity(alloc, units as usize)?;
     for n in 0..units {
-        append(&mut list, blank())?;
+        try_push(&mut list, blank())?;
     }
     Ok(List::of(list))
 }

@@ -1,20 +1,18 @@
 // A codec whose history is followed.
-ghost use Rattle.std.specs.Prelude.{◌≡◌, ◌<◌, ◌+◌, ◌^◌, IfOk, IfNone};
+ghost use Rattle.std.specs.Prelude.{◌≡◌, ◌<◌, ◌+◌, ◌^◌, IfOk, IfNone, Some};
 ghost use Rattle.wc_base.specs.declared.who.Who.{Who};
 ghost use Rattle.codec_model.specs.declared.entry.Entry.TheVariants as entry;
-ghost use Rattle.codec_model.specs.Replay.{entry_of, opening_state};
+ghost use Rattle.codec_model.specs.Replay.{entry_of, removal_entry, opening_state};
+ghost use Rattle.codec_model.specs.Shown.{shown_of};
 ghost use Rattle.codec_follow.specs.Followed.{follower_of, Follows};
 
 use crate::ends::{ended_as, known_after_item, known_after_removal, nothing_known};
-use crate::events::{
-    events_of_call, events_of_reclaim, events_of_removal, events_of_task, note, word_of,
-};
 use crate::known::Known;
-use codec_model::{Call, Entry, Opening, Outcome, Shown};
+use codec_model::{Answer, Call, Entry, Opening, Outcome, Removal, Showing, Shown};
 use codec_queues::Machine;
 use std::alloc::Global;
 use std::marker::Model;
-use wc_base::{List, NoMemory};
+use wc_base::NoMemory;
 
 /// A codec whose history is told entry by entry, and is followed: each end of an item is taken as it stands, and each
 /// output is blank. A contract sees it as what it keeps of the state of the codec's definition.
@@ -64,8 +62,8 @@ impl Follower {
             Entry::Configure { who: _, config } => self.call(Call::Configure(config.copy()?)),
             Entry::Decode { who: _, chunk } => self.call(Call::Decode(chunk.copy()?)),
             Entry::Flush { who: _ } => self.call(Call::Flush),
-            Entry::Reset { who: _ } => self.reset(),
-            Entry::Close { who: _ } => self.close(),
+            Entry::Reset { who: _ } => self.remove(Removal::Reset),
+            Entry::Close { who: _ } => self.remove(Removal::Close),
             Entry::Start { epoch, item } => self.start(*epoch, *item),
             Entry::Done {
                 epoch,
@@ -84,36 +82,20 @@ impl Follower {
         ensures follows { IfOk result (λ shown. (who : Who) → Follows (entry_of who call) self.old shown self.new) }
         ensures same { IfOk result (λ shown. IfNone shown (self.new ≡ self.old)) }
     {
-        let error = self.machine.error_of(&call);
-        let events = events_of_call(self.alloc, &call, self.machine.place(), error)?;
-        self.machine.call(error, call)?;
-        Ok(Some(note(events)))
+        let answer = self.machine.call(call)?;
+        let shown = answer.showing.into_shown(self.alloc)?;
+        Ok(Some(shown))
     }
 
-    // A reset, refused or made.
-    fn reset(&mut self) -> Result<Option<Shown>, NoMemory>
+    // A reset or close, refused or made.
+    fn remove(&mut self, removal: Removal) -> Result<Option<Shown>, NoMemory>
         requires { self.old.control.place + 1 < 2 ^ 64 }
-        ensures follows { IfOk result (λ shown. (who : Who) → Follows (entry.Reset who) self.old shown self.new) }
+        ensures follows { IfOk result (λ shown. (who : Who) → Follows (removal_entry who removal) self.old shown self.new) }
         ensures same { IfOk result (λ shown. IfNone shown (self.new ≡ self.old)) }
     {
-        let error = self.machine.removal_error();
-        let events = events_of_removal(self.alloc, error, self.machine.pending())?;
-        self.machine.reset(error);
-        self.known = known_after_removal(error, self.known);
-        Ok(Some(note(events)))
-    }
-
-    // A close, refused or made.
-    fn close(&mut self) -> Result<Option<Shown>, NoMemory>
-        requires { self.old.control.place + 1 < 2 ^ 64 }
-        ensures follows { IfOk result (λ shown. (who : Who) → Follows (entry.Close who) self.old shown self.new) }
-        ensures same { IfOk result (λ shown. IfNone shown (self.new ≡ self.old)) }
-    {
-        let error = self.machine.removal_error();
-        let events = events_of_removal(self.alloc, error, self.machine.pending())?;
-        self.machine.close(error);
-        self.known = known_after_removal(error, self.known);
-        Ok(Some(note(events)))
+        let answer = self.machine.remove(removal);
+        self.known = known_after_removal(answer.exception, self.known);
+        self.show(answer)
     }
 
     // A start of the item with this number, in this epoch.
@@ -132,7 +114,7 @@ impl Follower {
         self.machine.start();
         self.known = known;
         self.running_known = known;
-        Ok(Some(note(List::empty(self.alloc))))
+        Ok(Some(Showing::Nothing.into_shown(self.alloc)?))
     }
 
     // The end of the item with this number, in this epoch.
@@ -158,7 +140,7 @@ impl Follower {
             return Ok(None);
         };
         self.machine.done(ended, moment);
-        Ok(Some(note(List::empty(self.alloc))))
+        Ok(Some(Showing::Nothing.into_shown(self.alloc)?))
     }
 
     // A turn.
@@ -167,17 +149,13 @@ impl Follower {
         ensures follows { IfOk result (λ shown. Follows entry.Turn self.old shown self.new) }
         ensures same { IfOk result (λ shown. IfNone shown (self.new ≡ self.old)) }
     {
-        let Some(task) = self.machine.front_task() else {
+        let Some(answer) = self.machine.turn() else {
             return Ok(None);
         };
-        let turn = Some(word_of(task));
-        // No memory holds more outputs than a u64 counts.
-        let first = self.machine.shown_count().ok_or(NoMemory)?;
-        let events = events_of_task(self.alloc, task, first, self.machine.pending())?;
-        if self.machine.turn() == Some(true) {
+        if answer.showing.closes() {
             self.known = nothing_known();
         }
-        Ok(Some(Shown { turn, events }))
+        self.show(answer)
     }
 
     // A reclaim at a moment in microseconds.
@@ -186,12 +164,17 @@ impl Follower {
         ensures follows { IfOk result (λ shown. Follows (entry.Reclaim moment) self.old shown self.new) }
         ensures same { IfOk result (λ shown. IfNone shown (self.new ≡ self.old)) }
     {
-        if !self.machine.may_reclaim(moment) {
+        let Some(answer) = self.machine.reclaim(moment) else {
             return Ok(None);
-        }
-        let events = events_of_reclaim(self.alloc, self.machine.pending())?;
-        self.machine.reclaim(moment);
+        };
         self.known = nothing_known();
-        Ok(Some(note(events)))
+        self.show(answer)
+    }
+
+    // What a step showed.
+    fn show(&self, answer: Answer) -> Result<Option<Shown>, NoMemory>
+        ensures { IfOk result (λ shown. shown ≡ Some (shown_of answer.showing)) }
+    {
+        Ok(Some(answer.showing.into_shown(self.alloc)?))
     }
 }

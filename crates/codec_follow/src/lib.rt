@@ -4,16 +4,12 @@
 #![tactic(auto)]
 
 mod ends;
-mod events;
 mod follower;
 mod known;
 mod laws;
 mod outputs;
 mod rows;
 
-pub use events::{
-    append, events_of_call, events_of_reclaim, events_of_removal, events_of_task, note, word_of,
-};
 pub use follower::Follower;
 pub use laws::{legal_histories_follow, outputs_are_of_their_kind};
 pub use outputs::empty_output;

@@ -1,7 +1,7 @@
 // Outputs by their codec's kind.
 ghost use Rattle.std.specs.Prelude.{◌≡◌, None};
-ghost use Rattle.coder_api.specs.declared.unit.Unit.TheVariants as unit;
-ghost use Rattle.codec_model.specs.declared.entry.Kind.TheVariants as kinds;
+ghost use Rattle.codec_definitions.specs.declared.unit.Unit.TheVariants as unit;
+ghost use Rattle.wc_config.specs.declared.kind.Kind.TheVariants as kinds;
 ghost use Rattle.codec_follow.specs.Outputs.{empty_output as the_empty};
 
 use bytes::Bytes;

@@ -1,14 +1,17 @@
 -- The facts hold at the opening, and each step keeps them.
-use Rattle.std.proofs.Common.{ℕ, ◌≡◌, ◌+◌, ◌≤◌, ◌<◌, ◌&&◌, ◌||◌, not, Bool, true, false, eqb, cond, List, [], ◌∷◌, ◌++◌, length, filter, count_by, Option, Some, None, is_some, is_none, refl, ap, sym, subst, eq-eqb, ◌∙◌, arith}
+use Rattle.std.proofs.Common.{ℕ, inl, inr, ◌≡◌, ◌+◌, ◌≤◌, ◌<◌, ◌&&◌, ◌||◌, not, Bool, true, false, eqb, cond, List, [], ◌∷◌, ◌++◌, length, filter, count_by, Option, Some, None, is_some, is_none, refl, ap, sym, subst, eq-eqb, ◌∙◌, arith}
 use Rattle.std.specs.Prelude.{option_and_then, unwrap_or, max, IfSome}
-use Rattle.std.proofs.lemmas.Bool.{eqb-true}
+use Rattle.std.proofs.lemmas.Bool.{cases_lt, eqb-true}
 use Rattle.std.proofs.lemmas.Bool.Decides.{nat_tests}
+use Rattle.std.specs.List.{AllByRecursion}
 use Rattle.std.proofs.lemmas.List.Sums.{sum_by-cons, sum_by-append}
 use Rattle.wc_base.specs.declared.error.DomError.{DomError}
 use Rattle.wc_base.specs.declared.error.DomError.TheVariants as dom
-use Rattle.coder_api.specs.declared.unit.Unit as media
+use Rattle.codec_definitions.specs.declared.unit.Unit as media
 use Rattle.codec_model.specs.declared.entry.CodecState.TheVariants.{Configured}
 use Rattle.codec_model.specs.declared.entry.Opening.{Opening}
+use Rattle.codec_model.specs.declared.entry.Removal.{Removal}
+use Rattle.codec_model.specs.declared.entry.Removal.TheVariants as removal
 use Rattle.codec_model.specs.declared.entry.Call.{Call}
 use Rattle.codec_model.specs.declared.entry.Call.TheVariants as call
 use Rattle.codec_model.specs.declared.entry.Entry.{Entry}
@@ -25,9 +28,9 @@ use Rattle.codec_model.specs.declared.entry.Task.TheVariants as task
 use Rattle.codec_model.specs.declared.entry.Ended.{Ended}
 use Rattle.codec_model.specs.declared.entry.Ended.TheVariants as ended
 use Rattle.codec_model.specs.declared.entry.Outcome.{Outcome}
-use Rattle.codec_model.specs.Control.{Control, is_coded, kind_of, is_decoder, is_close, is_dequeue, is_desaturate, coded_running, coded_out, is_taken, after_message, takes_front, process_queue, entered, turned, run_task, done_running, settled, settled_ran, refusal_of, after_reset, after_close, may_reclaim, may_start, started}
-use Rattle.codec_model.specs.Replay.{State, opening_state, step, replay, replay_from, done_ended, ended_of, removal_error, after_call, call_error, call_step, accepted, removal_step, start_step, done_step, with_control, turn_step}
-use Rattle.codec_model.specs.Facts.{bit, is_unblock, is_process, resolves, is_configure, flushes, configures_now, flushes_now, CountsMessages, HaltsForClose, IsNumbered, IsBefore, NumbersItems, BlocksForConfigure, SaturatesForCoded, KeepsSaturation, ProcessesSoon, OwesPromises, IsNeverStuck, IsQuiet, OwesNothing, EndsQuiet}
+use Rattle.codec_model.specs.Control.{Control, is_coded, kind_of, is_decoder, is_close, is_dequeue, is_desaturate, coded_running, coded_out, is_taken, after_message, takes_front, process_queue, at_next_place, run_front, run_task, done_running, after_end, refusal_of, after_reset, after_close, after_removal, may_reclaim, may_start, start_front}
+use Rattle.codec_model.specs.Replay.{State, opening_state, step, replay, replay_from, done_ended, ended_of, removal_error, after_call, call_error, call_step, accepted, removal_step, remove_or_refuse, start_step, done_step, with_control, turn_step}
+use Rattle.codec_model.specs.Facts.{bit, is_unblock, is_process, resolves, is_configure, flushes, configures_now, flushes_now, CountsMessages, HaltsForClose, IsNumbered, IsBefore, NumbersItems, BlocksForConfigure, SaturatesForCoded, KeepsSaturation, ProcessesSoon, OwesPromises, NamesEarlier, IsNeverStuck, IsQuiet, OwesNothing, EndsQuiet}
 
 -- counts of one more at the end and at the front
 push : {X : Type 0} (p : X → Bool) (xs : List X) (x : X) → count_by p (xs ++ x ∷ []) ≡ count_by p xs + bit (p x)
@@ -56,6 +59,7 @@ record Parts (place top epoch next size : ℕ) (blocked saturated halted schedul
   most : count_by (λ i. is_coded i.work) is + coded_running epoch running + 1 + count_by is_desaturate ts ≤ top + bit saturated
   owes : (p : ℕ) → 1 ≤ count_by (λ q. eqb q p) pending → halted ≡ false → count_by (λ m. flushes p m.place m.work) ms + count_by (λ i. flushes p i.place i.work) is + flushes_now p epoch running + count_by (resolves p) ts ≡ 1
   fresh : (p : ℕ) → place ≤ p → count_by (λ m. flushes p m.place m.work) ms + count_by (λ i. flushes p i.place i.work) is + flushes_now p epoch running + count_by (resolves p) ts ≡ 0
+  named : (p : ℕ) → place ≤ p → count_by (λ q. eqb q p) pending ≡ 0
 
 abbrev Mostly : List Message → Control → Type 0
 Mostly ms c = Parts c.place c.opening.saturation c.epoch c.next_item c.size c.blocked c.saturated c.halted c.scheduled ms c.work c.running c.tasks c.pending
@@ -157,6 +161,7 @@ front_configure config at ms s h =
       most = omega (arith, h.most, few);
       owes = λ p due fine. omega (arith, h.owes p due fine, first_of_all (λ (x : Message). flushes p x.place x.work) m ms, push (λ (x : Item). flushes p x.place x.work) s.work i);
       fresh = λ p new. omega (arith, h.fresh p new, first_of_all (λ (x : Message). flushes p x.place x.work) m ms, push (λ (x : Item). flushes p x.place x.work) s.work i);
+      named = h.named;
     }
 
 front_flush : (at : ℕ) (ms : List Message) (s : Control) → Mostly (record { place = at; work = work.Flush } ∷ ms) s → Mostly ms (record (after_message (record { place = at; work = work.Flush }) s) { messages = ms })
@@ -179,6 +184,7 @@ front_flush at ms s h =
       most = omega (arith, h.most, few);
       owes = λ p due fine. omega (arith, h.owes p due fine, first_of_all (λ (x : Message). flushes p x.place x.work) m ms, push (λ (x : Item). flushes p x.place x.work) s.work i);
       fresh = λ p new. omega (arith, h.fresh p new, first_of_all (λ (x : Message). flushes p x.place x.work) m ms, push (λ (x : Item). flushes p x.place x.work) s.work i);
+      named = h.named;
     }
 
 -- one more coded item saturates the codec exactly where no more has room
@@ -215,6 +221,7 @@ front_coded chunk at ms s unfilled h =
       most = omega (arith, free, event_others is_desaturate refl true s.scheduled s.tasks, more, fills (coded_out s) s.opening.saturation room);
       owes = λ p due fine. omega (arith, h.owes p due fine, first_of_all (λ (x : Message). flushes p x.place x.work) m ms, push (λ (x : Item). flushes p x.place x.work) s.work i, event_others (resolves p) refl true s.scheduled s.tasks);
       fresh = λ p new. omega (arith, h.fresh p new, first_of_all (λ (x : Message). flushes p x.place x.work) m ms, push (λ (x : Item). flushes p x.place x.work) s.work i, event_others (resolves p) refl true s.scheduled s.tasks);
+      named = h.named;
     }
 
 open_for : (blocked saturated coded : Bool) → (not blocked && not (saturated && coded)) ≡ true → coded ≡ true → saturated ≡ false
@@ -274,6 +281,7 @@ start_kept number at w is c fine h =
       most = omega (arith, h.most, first_of_all (λ (x : Item). is_coded x.work) i is, coded_same w c.epoch number at);
       owes = λ p due _. omega (arith, h.owes p due fine, first_of_all (λ (x : Item). flushes p x.place x.work) i is, flushes_same p w c.epoch number at);
       fresh = λ p new. let earlier : c.place ≤ p = omega (arith, new) in omega (arith, h.fresh p earlier, first_of_all (λ (x : Item). flushes p x.place x.work) i is, flushes_same p w c.epoch number at);
+      named = λ p new. h.named p (omega (arith, new));
     }
 
 not_none : (o : Option Running) → is_none o ≡ true → o ≡ None
@@ -285,7 +293,7 @@ both_true true b h = absurd cc
 both_true false true h = absurd cc
 both_true false false h = (refl, refl)
 
-start_sound : (i : Item) (is : List Item) (c : Control) → c.work ≡ i ∷ is → may_start c ≡ true → Sound c → Sound (started (entered c))
+start_sound : (i : Item) (is : List Item) (c : Control) → c.work ≡ i ∷ is → may_start c ≡ true → Sound c → Sound (start_front (at_next_place c))
 start_sound i is c e may h =
     let free = both_true (is_some c.running) c.halted may in
     let idle : c.running ≡ None = not_none c.running free.0 in
@@ -309,6 +317,7 @@ stale_kept r c old h = record {
   most = omega (arith, h.most, none_coded r.epoch r.place r.number r.kind c.epoch old);
   owes = λ p due fine. omega (arith, h.owes p due fine, none_flushes p r.epoch r.place r.number r.kind c.epoch old);
   fresh = λ p new. let earlier : c.place ≤ p = omega (arith, new) in omega (arith, h.fresh p earlier);
+  named = λ p new. h.named p (omega (arith, new));
 }
 
 -- the codec of an item at work is not halted
@@ -335,6 +344,7 @@ closing_kept r x c h =
       most = omega (arith, h.most, push is_desaturate c.tasks (task.Close x));
       owes = λ p due halted. absurd cc;
       fresh = λ p new. let earlier : c.place ≤ p = omega (arith, new) in omega (arith, h.fresh p earlier, push (resolves p) c.tasks (task.Close x));
+      named = λ p new. h.named p (omega (arith, new));
     }
 
 -- a configure item that ran
@@ -354,6 +364,7 @@ configured_kept number at c h = record {
   most = omega (arith, h.most, push is_desaturate c.tasks task.Unblock);
   owes = λ p due fine. omega (arith, h.owes p due fine, push (resolves p) c.tasks task.Unblock);
   fresh = λ p new. let earlier : c.place ≤ p = omega (arith, new) in omega (arith, h.fresh p earlier, push (resolves p) c.tasks task.Unblock);
+  named = λ p new. h.named p (omega (arith, new));
 }
 
 -- a flush item that ran
@@ -376,6 +387,7 @@ flushed_kept number at units c h =
       most = omega (arith, h.most, push is_desaturate c.tasks t);
       owes = λ p due fine. omega (arith, h.owes p due fine, push (resolves p) c.tasks t, now p);
       fresh = λ p new. let earlier : c.place ≤ p = omega (arith, new) in omega (arith, h.fresh p earlier, push (resolves p) c.tasks t, now p);
+      named = λ p new. h.named p (omega (arith, new));
     }
 
 -- the tasks of a coded item that ran: one Desaturate of a saturated codec, and outputs
@@ -430,25 +442,26 @@ coded_kept number at units c h =
       most = omega (arith, h.most, desaturate, out, at_most_one c.saturated);
       owes = λ p due fine. omega (arith, h.owes p due fine, ran_tasks (resolves p) units refl refl c.saturated c.tasks);
       fresh = λ p new. let earlier : c.place ≤ p = omega (arith, new) in omega (arith, h.fresh p earlier, ran_tasks (resolves p) units refl refl c.saturated c.tasks);
+      named = λ p new. h.named p (omega (arith, new));
     }
 
-ran_sound : (number at : ℕ) (k : WorkKind) (units : List media.Unit) (moment : ℕ) (c : Control) → Mostly c.messages (record c { running = Some (record { epoch = c.epoch; number = number; place = at; kind = k }) }) → Soon c → Sound (settled_ran (record { epoch = c.epoch; number = number; place = at; kind = k }) units (record (entered c) { running = None; progress = Some (max moment (unwrap_or c.progress moment)) }))
+ran_sound : (number at : ℕ) (k : WorkKind) (units : List media.Unit) (moment : ℕ) (c : Control) → Mostly c.messages (record c { running = Some (record { epoch = c.epoch; number = number; place = at; kind = k }) }) → Soon c → Sound (after_end (record { epoch = c.epoch; number = number; place = at; kind = k }) (ended.Ran units) (record (at_next_place c) { running = None; progress = Some (max moment (unwrap_or c.progress moment)) }))
 ran_sound number at kind.Configure units moment c h soon = (configured_kept number at c h, λ takes. omega (arith, soon takes, push is_process c.tasks task.Unblock))
 ran_sound number at kind.Coded units moment c h soon = (coded_kept number at units c h, λ takes. omega (arith, soon takes, ran_tasks is_process units refl refl c.saturated c.tasks))
 ran_sound number at kind.Flush units moment c h soon = (flushed_kept number at units c h, λ takes. omega (arith, soon takes, push is_process c.tasks (task.Flushed at units)))
 
-settled_sound : (r : Running) (e : Ended) (moment : ℕ) (c : Control) → r.epoch ≡ c.epoch → Mostly c.messages (record c { running = Some r }) → Soon c → Sound (settled r e (record (entered c) { running = None; progress = Some (max moment (unwrap_or c.progress moment)) }))
+settled_sound : (r : Running) (e : Ended) (moment : ℕ) (c : Control) → r.epoch ≡ c.epoch → Mostly c.messages (record c { running = Some r }) → Soon c → Sound (after_end r e (record (at_next_place c) { running = None; progress = Some (max moment (unwrap_or c.progress moment)) }))
 settled_sound r (ended.Ran units) moment c same h soon =
-    subst (λ (n : ℕ). Sound (settled_ran (record { epoch = n; number = r.number; place = r.place; kind = r.kind }) units (record (entered c) { running = None; progress = Some (max moment (unwrap_or c.progress moment)) }))) (sym same)
+    subst (λ (n : ℕ). Sound (after_end (record { epoch = n; number = r.number; place = r.place; kind = r.kind }) (ended.Ran units) (record (at_next_place c) { running = None; progress = Some (max moment (unwrap_or c.progress moment)) }))) (sym same)
     (ran_sound r.number r.place r.kind units moment c (subst (λ (n : ℕ). Mostly c.messages (record c { running = Some (record { epoch = n; number = r.number; place = r.place; kind = r.kind }) })) same h) soon)
 settled_sound r ended.Refused moment c same h soon = (closing_kept r (refusal_of r.kind) c h, λ takes. omega arith)
 settled_sound r (ended.NoSlot n) moment c same h soon = (closing_kept r dom.QuotaExceeded c h, λ takes. omega arith)
 settled_sound r ended.NoMemory moment c same h soon = (closing_kept r dom.OutOfMemory c h, λ takes. omega arith)
 
-done_sound : (r : Running) (e : Ended) (moment : ℕ) (c : Control) → c.running ≡ Some r → Sound c → Sound (done_running r e moment (entered c))
+done_sound : (r : Running) (e : Ended) (moment : ℕ) (c : Control) → c.running ≡ Some r → Sound c → Sound (done_running r e moment (at_next_place c))
 done_sound r e moment c out h = by (eqb r.epoch c.epoch) refl
   where
-    by : (b : Bool) → eqb r.epoch c.epoch ≡ b → Sound (cond b (settled r e (record (entered c) { running = None; progress = Some (max moment (unwrap_or c.progress moment)) })) (record (entered c) { running = None }))
+    by : (b : Bool) → eqb r.epoch c.epoch ≡ b → Sound (cond b (after_end r e (record (at_next_place c) { running = None; progress = Some (max moment (unwrap_or c.progress moment)) })) (record (at_next_place c) { running = None }))
     by true same = settled_sound r e moment c (eqb-true r.epoch c.epoch same) (subst (λ (o : Option Running). Mostly c.messages (record c { running = o })) out h.0) h.1
     by false old = (stale_kept r c old (subst (λ (o : Option Running). Mostly c.messages (record c { running = o })) out h.0), h.1)
 
@@ -479,8 +492,8 @@ record Removable (c : Control) : Type 0 where
 none_left : (p : Task → Bool) → p task.Dequeue ≡ false → (wanted later : Bool) (ts : List Task) → count_by p (with_event wanted later (filter is_dequeue ts)) ≡ 0
 none_left p none wanted later ts = event_others p none wanted later (filter is_dequeue ts) ∙ kept_others p none ts
 
-reset_sound : (x : DomError) (c : Control) → Removable c → Sound (after_reset x c)
-reset_sound x c h =
+reset_sound : (c : Control) → Removable c → Sound (after_reset c)
+reset_sound c h =
     let wanted : Bool = not (eqb c.size 0) in
     let kept : count_by is_dequeue (filter is_dequeue c.tasks) ≡ bit c.scheduled = kept_dequeues c.tasks ∙ h.dequeues in
     let desaturates = none_left is_desaturate refl wanted c.scheduled c.tasks in (
@@ -499,14 +512,19 @@ reset_sound x c h =
         most = omega (arith, desaturates, old_coded c.epoch c.running h.first h.before, h.positive);
         owes = λ p due fine. absurd (omega (arith, due));
         fresh = λ p new. omega (arith, old_flushes p c.epoch c.running h.first h.before, none_left (resolves p) refl wanted c.scheduled c.tasks);
+        named = λ p new. refl;
       },
       λ takes. absurd cc,
     )
 
-close_sound : (x : DomError) (c : Control) → Removable c → Sound (after_close x c)
-close_sound x c h = let k = reset_sound x c h in (k.0, k.1)
+close_sound : (c : Control) → Removable c → Sound (after_close c)
+close_sound c h = let k = reset_sound c h in (k.0, k.1)
 
-removable : (c : Control) → Sound c → Removable (entered c)
+removal_sound : (r : Removal) (c : Control) → Removable c → Sound (after_removal r c)
+removal_sound removal.Reset c h = reset_sound c h
+removal_sound removal.Close c h = close_sound c h
+
+removable : (c : Control) → Sound c → Removable (at_next_place c)
 removable c h = record { positive = h.0.positive; dequeues = h.0.dequeues; first = h.0.first; before = h.0.before }
 
 -- a promise that was resolved is not pending
@@ -545,6 +563,7 @@ popped t ts c d x u s r h = record {
   most = omega (arith, h.most, first_of_all is_desaturate t ts, ap bit s);
   owes = λ p due fine. omega (arith, h.owes p due fine, first_of_all (resolves p) t ts, ap bit (r p));
   fresh = λ p new. let earlier : c.place ≤ p = omega (arith, new) in omega (arith, h.fresh p earlier, first_of_all (resolves p) t ts, ap bit (r p));
+  named = λ p new. h.named p (omega (arith, new));
 }
 
 unblock_kept : (ts : List Task) (c : Control) → Mostly c.messages (record c { tasks = task.Unblock ∷ ts }) → Mostly c.messages (record c { place = c.place + 1; blocked = false; tasks = ts ++ task.Process ∷ [] })
@@ -563,6 +582,7 @@ unblock_kept ts c h = record {
   most = omega (arith, h.most, first_of_all is_desaturate task.Unblock ts, push is_desaturate ts task.Process);
   owes = λ p due fine. omega (arith, h.owes p due fine, first_of_all (resolves p) task.Unblock ts, push (resolves p) ts task.Process);
   fresh = λ p new. let earlier : c.place ≤ p = omega (arith, new) in omega (arith, h.fresh p earlier, first_of_all (resolves p) task.Unblock ts, push (resolves p) ts task.Process);
+  named = λ p new. h.named p (omega (arith, new));
 }
 
 desaturate_kept : (ts : List Task) (c : Control) → Mostly c.messages (record c { tasks = task.Desaturate ∷ ts }) → Mostly c.messages (record c { place = c.place + 1; saturated = false; tasks = ts })
@@ -584,6 +604,7 @@ desaturate_kept ts c h =
       most = omega (arith, h.most, front, most);
       owes = λ p due fine. omega (arith, h.owes p due fine, first_of_all (resolves p) task.Desaturate ts);
       fresh = λ p new. let earlier : c.place ≤ p = omega (arith, new) in omega (arith, h.fresh p earlier, first_of_all (resolves p) task.Desaturate ts);
+      named = λ p new. h.named p (omega (arith, new));
     }
 
 dequeue_kept : (ts : List Task) (c : Control) → Mostly c.messages (record c { tasks = task.Dequeue ∷ ts }) → Mostly c.messages (record c { place = c.place + 1; scheduled = false; tasks = ts })
@@ -602,6 +623,7 @@ dequeue_kept ts c h = record {
   most = omega (arith, h.most, first_of_all is_desaturate task.Dequeue ts);
   owes = λ p due fine. omega (arith, h.owes p due fine, first_of_all (resolves p) task.Dequeue ts);
   fresh = λ p new. let earlier : c.place ≤ p = omega (arith, new) in omega (arith, h.fresh p earlier, first_of_all (resolves p) task.Dequeue ts);
+  named = λ p new. h.named p (omega (arith, new));
 }
 
 resolved_owes : (p : ℕ) (units : List media.Unit) (ts : List Task) (q n before : ℕ) → before + count_by (resolves q) (task.Flushed p units ∷ ts) ≡ 1 → (b : Bool) → eqb p q ≡ b → 1 ≤ n → (eqb p q ≡ true → n ≡ 0) → before + count_by (resolves q) ts ≡ 1
@@ -630,27 +652,28 @@ resolve_kept p units ts c h =
           (count_by (λ m. flushes q m.place m.work) c.messages + count_by (λ i. flushes q i.place i.work) c.work + flushes_now q c.epoch c.running)
           (h.owes q were fine) (eqb p q) refl due (dropped p q c.pending);
       fresh = λ q new. let earlier : c.place ≤ q = omega (arith, new) in omega (arith, h.fresh q earlier, first_of_all (resolves q) t ts);
+      named = λ q new. let earlier : c.place ≤ q = omega (arith, new) in omega (arith, h.named q earlier, fewer p q c.pending);
     }
 
-task_sound : (t : Task) (ts : List Task) (c : Control) → Sound (record c { tasks = t ∷ ts }) → Sound (run_task t (record (entered c) { tasks = ts }))
+task_sound : (t : Task) (ts : List Task) (c : Control) → Sound (record c { tasks = t ∷ ts }) → Sound (run_task t (record (at_next_place c) { tasks = ts }))
 task_sound task.Unblock ts c h = (unblock_kept ts c h.0, λ takes. omega (arith, push is_process ts task.Process))
-task_sound task.Process ts c h = process_sound c.messages (record (entered c) { tasks = ts }) refl (popped task.Process ts c refl refl refl refl (λ p. refl) h.0)
-task_sound task.Desaturate ts c h = process_sound c.messages (record (entered c) { tasks = ts; saturated = false }) refl (desaturate_kept ts c h.0)
+task_sound task.Process ts c h = process_sound c.messages (record (at_next_place c) { tasks = ts }) refl (popped task.Process ts c refl refl refl refl (λ p. refl) h.0)
+task_sound task.Desaturate ts c h = process_sound c.messages (record (at_next_place c) { tasks = ts; saturated = false }) refl (desaturate_kept ts c h.0)
 task_sound (task.Output units) ts c h = (popped (task.Output units) ts c refl refl refl refl (λ p. refl) h.0, λ takes. omega (arith, h.1 takes, first_of_all is_process (task.Output units) ts))
 task_sound (task.Flushed p units) ts c h = (resolve_kept p units ts c h.0, λ takes. omega (arith, h.1 takes, first_of_all is_process (task.Flushed p units) ts))
 task_sound task.Dequeue ts c h = (dequeue_kept ts c h.0, λ takes. omega (arith, h.1 takes, first_of_all is_process task.Dequeue ts))
-task_sound (task.Close x) ts c h = close_sound x (record (entered c) { tasks = ts }) (record {
+task_sound (task.Close x) ts c h = close_sound (record (at_next_place c) { tasks = ts }) (record {
   positive = h.0.positive;
   dequeues = omega (arith, h.0.dequeues, first_of_all is_dequeue (task.Close x) ts);
   first = h.0.first;
   before = h.0.before;
 })
 
-turn_sound : (t : Task) (ts : List Task) (c : Control) → c.tasks ≡ t ∷ ts → Sound c → Sound (turned (entered c))
+turn_sound : (t : Task) (ts : List Task) (c : Control) → c.tasks ≡ t ∷ ts → Sound c → Sound (run_front (at_next_place c))
 turn_sound t ts c e h = rw e (task_sound t ts c (subst (λ (xs : List Task). Sound (record c { tasks = xs })) e h))
 
 -- calls
-entered_kept : (ms : List Message) (c : Control) → Mostly ms c → Mostly ms (entered c)
+entered_kept : (ms : List Message) (c : Control) → Mostly ms c → Mostly ms (at_next_place c)
 entered_kept ms c h = record {
   positive = h.positive;
   sizes = h.sizes;
@@ -666,9 +689,10 @@ entered_kept ms c h = record {
   most = h.most;
   owes = h.owes;
   fresh = λ p new. let earlier : c.place ≤ p = omega (arith, new) in h.fresh p earlier;
+  named = λ p new. h.named p (omega (arith, new));
 }
 
-configure_kept : (config : _) (c : Control) → Mostly c.messages c → Mostly (c.messages ++ record { place = c.place; work = work.Configure config } ∷ []) (entered c)
+configure_kept : (config : _) (c : Control) → Mostly c.messages c → Mostly (c.messages ++ record { place = c.place; work = work.Configure config } ∷ []) (at_next_place c)
 configure_kept config c h =
     let m : Message = record { place = c.place; work = work.Configure config } in
     record {
@@ -686,9 +710,10 @@ configure_kept config c h =
       most = h.most;
       owes = λ p due fine. omega (arith, h.owes p due fine, push (λ (x : Message). flushes p x.place x.work) c.messages m);
       fresh = λ p new. let earlier : c.place ≤ p = omega (arith, new) in omega (arith, h.fresh p earlier, push (λ (x : Message). flushes p x.place x.work) c.messages m);
+      named = λ p new. h.named p (omega (arith, new));
     }
 
-decode_kept : (chunk : _) (c : Control) → Mostly c.messages c → Mostly (c.messages ++ record { place = c.place; work = work.Coded chunk } ∷ []) (record (entered c) { size = c.size + 1 })
+decode_kept : (chunk : _) (c : Control) → Mostly c.messages c → Mostly (c.messages ++ record { place = c.place; work = work.Coded chunk } ∷ []) (record (at_next_place c) { size = c.size + 1 })
 decode_kept chunk c h =
     let m : Message = record { place = c.place; work = work.Coded chunk } in
     record {
@@ -706,6 +731,7 @@ decode_kept chunk c h =
       most = h.most;
       owes = λ p due fine. omega (arith, h.owes p due fine, push (λ (x : Message). flushes p x.place x.work) c.messages m);
       fresh = λ p new. let earlier : c.place ≤ p = omega (arith, new) in omega (arith, h.fresh p earlier, push (λ (x : Message). flushes p x.place x.work) c.messages m);
+      named = λ p new. h.named p (omega (arith, new));
     }
 
 -- the flush of a new promise is its one part
@@ -713,7 +739,7 @@ flush_owes : (place p pending parts more : ℕ) → (1 ≤ pending → parts ≡
 flush_owes place p pending parts more owes fresh true e due is = let here : place ≤ p = omega (arith, eqb-true place p e) in omega (arith, is, fresh here)
 flush_owes place p pending parts more owes fresh false e due is = let were : 1 ≤ pending = omega (arith, due) in omega (arith, is, owes were)
 
-flush_kept : (c : Control) → Mostly c.messages c → Mostly (c.messages ++ record { place = c.place; work = work.Flush } ∷ []) (record (entered c) { pending = c.pending ++ c.place ∷ [] })
+flush_kept : (c : Control) → Mostly c.messages c → Mostly (c.messages ++ record { place = c.place; work = work.Flush } ∷ []) (record (at_next_place c) { pending = c.pending ++ c.place ∷ [] })
 flush_kept c h =
     let m : Message = record { place = c.place; work = work.Flush } in
     record {
@@ -738,24 +764,26 @@ flush_kept c h =
           let earlier : c.place ≤ p = omega (arith, new) in
           let apart : eqb c.place p ≡ false = grind (arith, nat_tests, new) in
           omega (arith, h.fresh p earlier, push (λ (x : Message). flushes p x.place x.work) c.messages m, ap bit apart);
+      named = λ p new.
+          let earlier : c.place ≤ p = omega (arith, new) in
+          let apart : eqb c.place p ≡ false = grind (arith, nat_tests, new) in
+          omega (arith, h.named p earlier, push (λ (q : ℕ). eqb q p) c.pending c.place, ap bit apart);
     }
 
 accepted_sound : (x : Call) (c : Control) → Sound c → Sound (accepted x c)
 accepted_sound (call.Configure config) c h =
-    let s : Control = record (entered c) { phase = Configured; key_required = is_decoder c.opening.kind || c.key_required; messages = c.messages ++ record { place = c.place; work = work.Configure config } ∷ [] } in
+    let s : Control = record (at_next_place c) { phase = Configured; key_required = is_decoder c.opening.kind || c.key_required; messages = c.messages ++ record { place = c.place; work = work.Configure config } ∷ [] } in
     process_sound s.messages s refl (configure_kept config c h.0)
 accepted_sound (call.Decode chunk) c h =
-    let s : Control = record (entered c) { key_required = false; size = c.size + 1; messages = c.messages ++ record { place = c.place; work = work.Coded chunk } ∷ [] } in
+    let s : Control = record (at_next_place c) { key_required = false; size = c.size + 1; messages = c.messages ++ record { place = c.place; work = work.Coded chunk } ∷ [] } in
     process_sound s.messages s refl (decode_kept chunk c h.0)
 accepted_sound call.Flush c h =
-    let s : Control = record (entered c) { key_required = is_decoder c.opening.kind || c.key_required; pending = c.pending ++ c.place ∷ []; messages = c.messages ++ record { place = c.place; work = work.Flush } ∷ [] } in
+    let s : Control = record (at_next_place c) { key_required = is_decoder c.opening.kind || c.key_required; pending = c.pending ++ c.place ∷ []; messages = c.messages ++ record { place = c.place; work = work.Flush } ∷ [] } in
     process_sound s.messages s refl (flush_kept c h.0)
 
 call_sound : (o : Option DomError) (x : Call) (c : Control) → Sound c → Sound (after_call o x c)
 call_sound None x c h = accepted_sound x c h
-call_sound (Some error) (call.Configure config) c h = (entered_kept c.messages c h.0, h.1)
-call_sound (Some error) (call.Decode chunk) c h = (entered_kept c.messages c h.0, h.1)
-call_sound (Some error) call.Flush c h = (entered_kept c.messages c h.0, h.1)
+call_sound (Some error) x c h = (entered_kept c.messages c h.0, h.1)
 
 -- one step
 sound_at : (s t : State) → s ≡ t → Sound s.control → Sound t.control
@@ -772,9 +800,9 @@ first_of : (a b d : Bool) → (a && b && d) ≡ true → a ≡ true
 first_of true b d h = refl
 first_of false b d h = absurd cc
 
-removal_step_sound : (o : Option DomError) (made : Control) (s : State) → Sound made → Sound s.control → Sound (removal_step o made s).control
-removal_step_sound None made s m h = m
-removal_step_sound (Some x) made s m h = (entered_kept s.control.messages s.control h.0, h.1)
+refused_or_sound : (o : Option DomError) (r : Removal) (s : State) → Sound s.control → Sound (remove_or_refuse o r s).control
+refused_or_sound None r s h = removal_sound r (at_next_place s.control) (removable s.control h)
+refused_or_sound (Some x) r s h = (entered_kept s.control.messages s.control h.0, h.1)
 
 start_step_sound : (is : List Item) (epoch item : ℕ) (s t : State) → s.control.work ≡ is → start_step is epoch item s ≡ Some t → Sound s.control → Sound t.control
 start_step_sound [] epoch item s t e h sound = absurd cc
@@ -784,13 +812,13 @@ start_step_sound (i ∷ is) epoch item s t e h sound =
 
 ended_sound : (r : Running) (o : Option Ended) (moment : ℕ) (s t : State) → s.control.running ≡ Some r → done_ended r o moment s ≡ Some t → Sound s.control → Sound t.control
 ended_sound r None moment s t e h sound = absurd cc
-ended_sound r (Some x) moment s t e h sound = subst (λ (u : State). Sound u.control) (some_same (with_control (done_running r x moment (entered s.control)) s) t h) (done_sound r x moment s.control e sound)
+ended_sound r (Some x) moment s t e h sound = subst (λ (u : State). Sound u.control) (some_same (with_control (done_running r x moment (at_next_place s.control)) s) t h) (done_sound r x moment s.control e sound)
 
 done_step_sound : (o : Option Running) (epoch item moment : ℕ) (x : Outcome) (s t : State) → s.control.running ≡ o → done_step o epoch item moment x s ≡ Some t → Sound s.control → Sound t.control
 done_step_sound None epoch item moment x s t e h sound = absurd cc
 done_step_sound (Some r) epoch item moment x s t e h sound = ended_sound r (ended_of r.kind s.running_given x) moment s t e (cond_is (eqb r.epoch epoch && eqb r.number item) (done_ended r (ended_of r.kind s.running_given x) moment s) t h).1 sound
 
-pub turned_control : (x : Task) (ts : List Task) (s t : State) → turn_step (x ∷ ts) s ≡ Some t → t.control ≡ turned (entered s.control)
+pub turned_control : (x : Task) (ts : List Task) (s t : State) → turn_step (x ∷ ts) s ≡ Some t → t.control ≡ run_front (at_next_place s.control)
 turned_control (task.Close e) ts s t h = sym (ap (λ (u : State). u.control) (some_same _ _ h))
 turned_control x ts s t h = sym (ap (λ (u : State). u.control) (some_same _ _ h))
 
@@ -802,12 +830,12 @@ step_sound : (e : Entry) (s t : State) → step e s ≡ Some t → Sound s.contr
 step_sound (entry.Configure who config) s t h sound = sound_at (call_step (call.Configure config) s) t (some_same _ _ h) (call_sound (call_error (call.Configure config) s.control) (call.Configure config) s.control sound)
 step_sound (entry.Decode who chunk) s t h sound = sound_at (call_step (call.Decode chunk) s) t (some_same _ _ h) (call_sound (call_error (call.Decode chunk) s.control) (call.Decode chunk) s.control sound)
 step_sound (entry.Flush who) s t h sound = sound_at (call_step call.Flush s) t (some_same _ _ h) (call_sound (call_error call.Flush s.control) call.Flush s.control sound)
-step_sound (entry.Reset who) s t h sound = sound_at (removal_step (removal_error s.control) (after_reset dom.Abort (entered s.control)) s) t (some_same _ _ h) (removal_step_sound (removal_error s.control) (after_reset dom.Abort (entered s.control)) s (reset_sound dom.Abort (entered s.control) (removable s.control sound)) sound)
-step_sound (entry.Close who) s t h sound = sound_at (removal_step (removal_error s.control) (after_close dom.Abort (entered s.control)) s) t (some_same _ _ h) (removal_step_sound (removal_error s.control) (after_close dom.Abort (entered s.control)) s (close_sound dom.Abort (entered s.control) (removable s.control sound)) sound)
+step_sound (entry.Reset who) s t h sound = sound_at (removal_step removal.Reset s) t (some_same _ _ h) (refused_or_sound (removal_error s.control) removal.Reset s sound)
+step_sound (entry.Close who) s t h sound = sound_at (removal_step removal.Close s) t (some_same _ _ h) (refused_or_sound (removal_error s.control) removal.Close s sound)
 step_sound (entry.Start epoch item) s t h sound = start_step_sound s.control.work epoch item s t refl h sound
 step_sound (entry.Done epoch item moment x) s t h sound = done_step_sound s.control.running epoch item moment x s t refl h sound
 step_sound entry.Turn s t h sound = turn_step_sound s.control.tasks s t refl h sound
-step_sound (entry.Reclaim moment) s t h sound = subst (λ (u : State). Sound u.control) (some_same _ t (cond_is (may_reclaim moment s.control) _ t h).1) (close_sound dom.QuotaExceeded (entered s.control) (removable s.control sound))
+step_sound (entry.Reclaim moment) s t h sound = subst (λ (u : State). Sound u.control) (some_same _ t (cond_is (may_reclaim moment s.control) _ t h).1) (close_sound (at_next_place s.control) (removable s.control sound))
 
 then_sound : (es : List Entry) (t : State) (o : Option State) → option_and_then (replay_from es) o ≡ Some t → ((u : State) → o ≡ Some u → Sound u.control) → ((u : State) → replay_from es u ≡ Some t → Sound u.control → Sound t.control) → Sound t.control
 then_sound es t None h one rest = absurd cc
@@ -834,6 +862,7 @@ opening_sound o h = (
     most = omega (arith, h);
     owes = λ p due fine. absurd (omega (arith, due));
     fresh = λ p new. refl;
+    named = λ p new. refl;
   },
   λ takes. absurd cc,
 )
@@ -909,6 +938,14 @@ processes o h s some legal = λ takes. (always o h s some legal).1 (sym (takes_i
 pub promises : (o : Opening) (h : List Entry) (s : State) → 1 ≤ o.saturation → replay o h ≡ Some s → OwesPromises s.control
 promises o h s some legal = (always o h s some legal).0.owes
 
+pub names : (o : Opening) (h : List Entry) (s : State) → 1 ≤ o.saturation → replay o h ≡ Some s → NamesEarlier s.control
+names o h s some legal =
+    let k = always o h s some legal in
+    record {
+      pending = k.0.named;
+      resolving = λ p new. omega (arith, k.0.fresh p new);
+    }
+
 pub quiet : (o : Opening) (h : List Entry) (s : State) → 1 ≤ o.saturation → replay o h ≡ Some s → EndsQuiet s.control
 quiet o h s some legal = quiet_owes s.control (always o h s some legal)
 
@@ -922,4 +959,21 @@ all_facts o h s some legal = record {
   saturation = saturation o h s some legal;
   processes = processes o h s some legal;
   promises = promises o h s some legal;
+  names = names o h s some legal;
 }
+
+-- pending promises are named by earlier entries
+names_below : (n : ℕ) (ps : List ℕ) → ((p : ℕ) → n ≤ p → count_by (λ q. eqb q p) ps ≡ 0) → AllByRecursion (λ p. p < n) ps
+names_below n [] h = tt
+names_below n (q ∷ qs) h = (
+  elim (cases_lt q n) [ inl lt ↦ lt | inr le ↦ absurd (omega (arith, h q le, first_of_all (λ (x : ℕ). eqb x q) q qs, ap bit (same_epoch q))) ],
+  names_below n qs (λ p new. omega (arith, h p new, first_of_all (λ (x : ℕ). eqb x p) q qs)),
+)
+
+pub pending_below : (c : Control) → NamesEarlier c → AllByRecursion (λ p. p < c.place) c.pending
+pending_below c h = names_below c.place c.pending h.pending
+
+pub resolved_below : (c : Control) (p : ℕ) (units : List media.Unit) (ts : List Task) → NamesEarlier c → c.tasks ≡ task.Flushed p units ∷ ts → p < c.place
+resolved_below c p units ts h is =
+    let none : c.place ≤ p → count_by (resolves p) (task.Flushed p units ∷ ts) ≡ 0 = λ new. rw is at (h.resolving p new) in
+    elim (cases_lt p c.place) [ inl lt ↦ lt | inr le ↦ absurd (omega (arith, none le, first_of_all (resolves p) (task.Flushed p units) ts, ap bit (same_epoch p))) ]

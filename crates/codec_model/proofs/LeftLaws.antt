@@ -5,7 +5,7 @@ use Rattle.std.proofs.lemmas.List.Sums.{sum_by-cons, sum_by-append, count_by-le-
 use Rattle.std.proofs.lemmas.Bool.Decides.{nat_tests}
 use Rattle.wc_base.specs.declared.error.DomError.{DomError}
 use Rattle.wc_base.specs.declared.error.DomError.TheVariants as dom
-use Rattle.coder_api.specs.declared.unit.Unit as media
+use Rattle.codec_definitions.specs.declared.unit.Unit as media
 use Rattle.codec_model.specs.declared.entry.Entry.{Entry}
 use Rattle.codec_model.specs.declared.entry.Entry.TheVariants as entry
 use Rattle.codec_model.specs.declared.entry.Work.{Work}
@@ -20,7 +20,7 @@ use Rattle.codec_model.specs.declared.entry.Task.TheVariants as task
 use Rattle.codec_model.specs.declared.entry.Ended.{Ended}
 use Rattle.codec_model.specs.declared.entry.Ended.TheVariants as ended
 use Rattle.codec_model.specs.declared.entry.Outcome.{Outcome}
-use Rattle.codec_model.specs.Control.{Control, is_coded, is_dequeue, is_desaturate, is_taken, after_message, process_queue, entered, run_task, done_running, settled, settled_ran, after_close, refusal_of, started, task_weight, running_weight, left}
+use Rattle.codec_model.specs.Control.{Control, is_coded, is_dequeue, is_desaturate, is_taken, after_message, process_queue, at_next_place, run_task, done_running, after_end, after_close, refusal_of, start_front, task_weight, running_weight, left}
 use Rattle.codec_model.specs.Replay.{State, step, done_ended, ended_of, start_step, done_step, turn_step, with_control}
 use Rattle.codec_model.specs.Facts.{is_step, CountsMessages, LeavesFewer}
 use Rattle.codec_model.proofs.FactLaws.{counts, cond_is, some_same, turned_control, with_event}
@@ -77,17 +77,17 @@ event_after size later ms ts false e h =
     let some : 1 ≤ size = grind (arith, nat_tests, e) in
     omega (arith, some, h, count_by-le-length (λ m. is_coded m.work) ms, event_weight true later (filter is_dequeue ts), kept_weight ts)
 
-close_left : (x : DomError) (c : Control) → c.size ≡ count_by (λ m. is_coded m.work) c.messages → left (after_close x c) ≤ left c
-close_left x c h = omega (arith, event_after c.size c.scheduled c.messages c.tasks (eqb c.size 0) refl h)
+close_left : (c : Control) → c.size ≡ count_by (λ m. is_coded m.work) c.messages → left (after_close c) ≤ left c
+close_left c h = omega (arith, event_after c.size c.scheduled c.messages c.tasks (eqb c.size 0) refl h)
 
-task_left : (t : Task) (ts : List Task) (c : Control) → c.size ≡ count_by (λ m. is_coded m.work) c.messages → left (run_task t (record (entered c) { tasks = ts })) + 1 ≤ left_with c.messages (record c { tasks = t ∷ ts })
+task_left : (t : Task) (ts : List Task) (c : Control) → c.size ≡ count_by (λ m. is_coded m.work) c.messages → left (run_task t (record (at_next_place c) { tasks = ts })) + 1 ≤ left_with c.messages (record c { tasks = t ∷ ts })
 task_left task.Unblock ts c h = omega (arith, front_weight task.Unblock ts, heavier ts task.Process)
-task_left task.Process ts c h = omega (arith, front_weight task.Process ts, process_left c.messages (record (entered c) { tasks = ts }) refl)
-task_left task.Desaturate ts c h = omega (arith, front_weight task.Desaturate ts, process_left c.messages (record (entered c) { tasks = ts; saturated = false }) refl)
+task_left task.Process ts c h = omega (arith, front_weight task.Process ts, process_left c.messages (record (at_next_place c) { tasks = ts }) refl)
+task_left task.Desaturate ts c h = omega (arith, front_weight task.Desaturate ts, process_left c.messages (record (at_next_place c) { tasks = ts; saturated = false }) refl)
 task_left (task.Output units) ts c h = omega (arith, front_weight (task.Output units) ts)
 task_left (task.Flushed promise units) ts c h = omega (arith, front_weight (task.Flushed promise units) ts)
 task_left task.Dequeue ts c h = omega (arith, front_weight task.Dequeue ts)
-task_left (task.Close x) ts c h = omega (arith, front_weight (task.Close x) ts, close_left x (record (entered c) { tasks = ts }) h)
+task_left (task.Close x) ts c h = omega (arith, front_weight (task.Close x) ts, close_left (record (at_next_place c) { tasks = ts }) h)
 
 turned_left : (ts : List Task) (s t : State) → s.control.tasks ≡ ts → turn_step ts s ≡ Some t → CountsMessages s.control → left t.control + 1 ≤ left s.control
 turned_left [] s t e h k = absurd cc
@@ -97,7 +97,7 @@ started_left : (is : List Item) (epoch item : ℕ) (s t : State) → s.control.w
 started_left [] epoch item s t e h = absurd cc
 started_left (i ∷ is) epoch item s t e h =
     let k = cond_is _ _ t h in
-    let here : started (entered s.control) ≡ t.control = ap (λ (x : State). x.control) (some_same _ t k.1) in
+    let here : start_front (at_next_place s.control) ≡ t.control = ap (λ (x : State). x.control) (some_same _ t k.1) in
     rw (← here, e) (omega arith)
 
 freed_weight : (saturated : Bool) (ts : List Task) → weight (cond (saturated && eqb (count_by is_desaturate ts) 0) (ts ++ task.Desaturate ∷ []) ts) ≤ weight ts + 1
@@ -114,27 +114,27 @@ delivered_weight units ts = by (eqb (length units) 0)
     by true = omega arith
     by false = omega (arith, heavier ts (task.Output units))
 
-ran_left : (r : Running) (k : WorkKind) (units : List media.Unit) (s : Control) → r.kind ≡ k → left (settled_ran r units s) ≤ left s + 2
+ran_left : (r : Running) (k : WorkKind) (units : List media.Unit) (s : Control) → r.kind ≡ k → left (after_end r (ended.Ran units) s) ≤ left s + 2
 ran_left r kind.Configure units s e = rw e (omega (arith, heavier s.tasks task.Unblock))
 ran_left r kind.Coded units s e = rw e (omega (arith, freed_weight s.saturated s.tasks, delivered_weight units (cond (s.saturated && eqb (count_by is_desaturate s.tasks) 0) (s.tasks ++ task.Desaturate ∷ []) s.tasks)))
 ran_left r kind.Flush units s e = rw e (omega (arith, heavier s.tasks (task.Flushed r.place units)))
 
-settled_left : (r : Running) (e : Ended) (s : Control) → left (settled r e s) ≤ left s + 2
+settled_left : (r : Running) (e : Ended) (s : Control) → left (after_end r e s) ≤ left s + 2
 settled_left r (ended.Ran units) s = ran_left r r.kind units s refl
 settled_left r ended.Refused s = omega (arith, heavier s.tasks (task.Close (refusal_of r.kind)))
 settled_left r (ended.NoSlot n) s = omega (arith, heavier s.tasks (task.Close dom.QuotaExceeded))
 settled_left r ended.NoMemory s = omega (arith, heavier s.tasks (task.Close dom.OutOfMemory))
 
-done_left : (r : Running) (e : Ended) (moment : ℕ) (c : Control) → c.running ≡ Some r → left (done_running r e moment (entered c)) + 1 ≤ left c
+done_left : (r : Running) (e : Ended) (moment : ℕ) (c : Control) → c.running ≡ Some r → left (done_running r e moment (at_next_place c)) + 1 ≤ left c
 done_left r e moment c out = rw out (by (eqb r.epoch c.epoch))
   where
-    by : (b : Bool) → left (cond b (settled r e (record (entered c) { running = None; progress = Some (max moment (unwrap_or c.progress moment)) })) (record (entered c) { running = None })) + 1 ≤ 7 * length c.messages + 4 * length c.work + 3 + weight c.tasks
-    by true = omega (arith, settled_left r e (record (entered c) { running = None; progress = Some (max moment (unwrap_or c.progress moment)) }))
+    by : (b : Bool) → left (cond b (after_end r e (record (at_next_place c) { running = None; progress = Some (max moment (unwrap_or c.progress moment)) })) (record (at_next_place c) { running = None })) + 1 ≤ 7 * length c.messages + 4 * length c.work + 3 + weight c.tasks
+    by true = omega (arith, settled_left r e (record (at_next_place c) { running = None; progress = Some (max moment (unwrap_or c.progress moment)) }))
     by false = omega arith
 
 ended_left : (r : Running) (o : Option Ended) (moment : ℕ) (s t : State) → s.control.running ≡ Some r → done_ended r o moment s ≡ Some t → left t.control + 1 ≤ left s.control
 ended_left r None moment s t e h = absurd cc
-ended_left r (Some x) moment s t e h = subst (λ (u : State). left u.control + 1 ≤ left s.control) (some_same (with_control (done_running r x moment (entered s.control)) s) t h) (done_left r x moment s.control e)
+ended_left r (Some x) moment s t e h = subst (λ (u : State). left u.control + 1 ≤ left s.control) (some_same (with_control (done_running r x moment (at_next_place s.control)) s) t h) (done_left r x moment s.control e)
 
 done_step_left : (o : Option Running) (epoch item moment : ℕ) (x : Outcome) (s t : State) → s.control.running ≡ o → done_step o epoch item moment x s ≡ Some t → left t.control + 1 ≤ left s.control
 done_step_left None epoch item moment x s t e h = absurd cc

@@ -1,10 +1,11 @@
 -- What one more entry does and shows.
-use Rattle.std.proofs.Common.{suc, ◌≡◌, List, [], ◌∷◌, ◌++◌, length, Option, Some, None, refl, ap, ◌∙◌}
+use Rattle.std.proofs.Common.{ℕ, suc, ◌≡◌, map, List, [], ◌∷◌, ◌++◌, append_assoc, length, Option, Some, None, refl, ap, sym, ◌∙◌}
 use Rattle.std.specs.Prelude.{option_and_then, option_map, unwrap_or}
 use Rattle.codec_model.specs.declared.entry.Opening.{Opening}
 use Rattle.codec_model.specs.declared.entry.Entry.{Entry}
 use Rattle.codec_model.specs.Replay.{State, opening_state, step, replay, replay_from}
-use Rattle.codec_model.specs.Shown.{shown_at, each_shown, each_shown_from}
+use Rattle.codec_model.specs.declared.entry.Event.{Event}
+use Rattle.codec_model.specs.Shown.{shows, shown, shown_from, shown_at, each_shown, each_shown_from, event_ends, ends_in, ends_of, ends_shown}
 
 -- the replay goes on by one step
 pub replay_more : (h : List Entry) (s : State) (e : Entry) → replay_from (h ++ e ∷ []) s ≡ option_and_then (step e) (replay_from h s)
@@ -48,3 +49,19 @@ each_long (e ∷ es) s t r = ap suc (rest_long es t (step e s) r (λ u k. each_l
 -- each entry of a legal history shows something, be it nothing at all
 pub each_length : (o : Opening) (h : List Entry) (s : State) → replay o h ≡ Some s → length (each_shown o h) ≡ length h
 each_length o h s r = each_long h (opening_state o) s r
+
+-- the promise ends of a history are those that its entries show
+ends_placed : (place : ℕ) (xs : List Event) (rest : List (ℕ × Event)) → ends_in (map (λ x. (place, x)) xs ++ rest) ≡ ends_of xs ++ ends_in rest
+ends_placed place [] rest = refl
+ends_placed place (x ∷ xs) rest = ap (λ us. event_ends x ++ us) (ends_placed place xs rest) ∙ sym (append_assoc (event_ends x) (ends_of xs) (ends_in rest))
+
+ends_rest : (es : List Entry) (o : Option State) → ((t : State) → ends_in (shown_from es t) ≡ ends_shown (each_shown_from es t)) → ends_in (unwrap_or (option_map (shown_from es) o) []) ≡ ends_shown (unwrap_or (option_map (each_shown_from es) o) [])
+ends_rest es None more = refl
+ends_rest es (Some t) more = more t
+
+ends_from : (h : List Entry) (s : State) → ends_in (shown_from h s) ≡ ends_shown (each_shown_from h s)
+ends_from [] s = refl
+ends_from (e ∷ es) s = ends_placed s.control.place (shows e s) _ ∙ ap (λ us. ends_of (shows e s) ++ us) (ends_rest es (step e s) (ends_from es))
+
+pub ends_each : (o : Opening) (h : List Entry) → ends_in (shown o h) ≡ ends_shown (each_shown o h)
+ends_each o h = ends_from h (opening_state o)

@@ -6,12 +6,13 @@ use Rattle.wc_config.specs.declared.config.Config.{Config}
 use Rattle.wc_chunk.specs.declared.chunk.Chunk.{Chunk}
 use Rattle.wc_base.specs.declared.error.DomError.{DomError}
 use Rattle.wc_base.specs.declared.error.DomError.TheVariants as dom
-use Rattle.coder_api.specs.declared.unit.Unit as media
+use Rattle.codec_definitions.specs.declared.unit.Unit as media
 use Rattle.wc_config.specs.declared.config.AudioDecoderConfig.{AudioDecoderConfig}
-use Rattle.codec_model.specs.declared.entry.Kind.{Kind}
-use Rattle.codec_model.specs.declared.entry.Kind.TheVariants as kinds
+use Rattle.wc_config.specs.declared.kind.Kind.{Kind}
+use Rattle.wc_config.specs.declared.kind.Kind.TheVariants as kinds
 use Rattle.codec_model.specs.declared.entry.Opening.{Opening}
-use Rattle.codec_model.specs.declared.entry.PromiseEnd.{PromiseEnd}
+use Rattle.codec_model.specs.declared.entry.Removal.{Removal}
+use Rattle.codec_model.specs.declared.entry.Removal.TheVariants as removal
 use Rattle.codec_model.specs.declared.entry.CodecState.{CodecState}
 use Rattle.codec_model.specs.declared.entry.CodecState.TheVariants.{Unconfigured, Configured, Closed}
 use Rattle.codec_model.specs.declared.entry.Work.{Work}
@@ -42,8 +43,6 @@ pub record Control : Type 0 where
   pub size : ℕ
   -- the places of the flush calls whose promises are pending
   pub pending : List ℕ
-  -- the promises that ended, in order, each with its error or resolved
-  pub ends : List PromiseEnd
   -- the codec work queue
   pub work : List Item
   -- the number of the next item of this epoch
@@ -51,8 +50,8 @@ pub record Control : Type 0 where
   pub running : Option Running
   pub tasks : List Task
   pub scheduled : Bool
-  -- all outputs that were shown, in order
-  pub shown : List media.Unit
+  -- how many outputs were shown
+  pub shown : ℕ
   -- how many of them were taken
   pub taken : ℕ
   -- the decoder config of the last encoded output that was shown
@@ -60,13 +59,9 @@ pub record Control : Type 0 where
   -- the moment of the last item of this epoch that ended
   pub progress : Option ℕ
 
--- the outputs that were shown and not taken
-abbrev pub outbox : Control → List media.Unit
-outbox s = drop s.taken s.shown
-
--- An event's entry has taken its place.
-abbrev pub entered : Control → Control
-entered s = record s { place = s.place + 1 }
+-- An entry took its place.
+abbrev pub at_next_place : Control → Control
+at_next_place s = record s { place = s.place + 1 }
 
 abbrev pub is_coded : Work → Bool
 is_coded (work.Configure config) = false
@@ -145,12 +140,12 @@ abbrev pub after_flush : ℕ → Control → Control
 after_flush place s = with_message place work.Flush (record s { key_required = is_decoder s.opening.kind || s.key_required; pending = s.pending ++ place ∷ [] })
 
 -- The front item becomes running.
-abbrev pub started_on : List Item → Control → Control
-started_on [] s = s
-started_on (i ∷ is) s = record s { work = is; running = Some (record { epoch = s.epoch; number = i.number; place = i.place; kind = kind_of i.work }) }
+abbrev pub start_first : List Item → Control → Control
+start_first [] s = s
+start_first (i ∷ is) s = record s { work = is; running = Some (record { epoch = s.epoch; number = i.number; place = i.place; kind = kind_of i.work }) }
 
-abbrev pub started : Control → Control
-started s = started_on s.work s
+abbrev pub start_front : Control → Control
+start_front s = start_first s.work s
 
 abbrev pub may_start : Control → Bool
 may_start s = is_none s.running && not s.halted
@@ -165,7 +160,7 @@ start_item s = if may_start s then front s.work else None
 
 -- a start, where there is an item to take
 abbrev pub after_start : Control → Control
-after_start s = if is_some (start_item s) then started (entered s) else s
+after_start s = if is_some (start_item s) then start_front (at_next_place s) else s
 
 abbrev pub is_dequeue : Task → Bool
 is_dequeue task.Dequeue = true
@@ -175,25 +170,20 @@ abbrev pub is_desaturate : Task → Bool
 is_desaturate task.Desaturate = true
 is_desaturate _ = false
 
-abbrev pub with_task : Task → Control → Control
-with_task t s = record s { tasks = s.tasks ++ t ∷ [] }
+-- a codec that works on fewer items than it can says so, where it does not say so already
+abbrev pub with_desaturate : Bool → List Task → List Task
+with_desaturate saturated ts = if saturated && (count_by is_desaturate ts == 0) then ts ++ task.Desaturate ∷ [] else ts
 
--- The codec is halted, and its close is queued.
-abbrev pub with_close : DomError → Control → Control
-with_close x s = with_task (task.Close x) (record s { halted = true })
+-- outputs are delivered where there are some
+abbrev pub with_output : List media.Unit → List Task → List Task
+with_output units ts = if length units == 0 then ts else ts ++ task.Output units ∷ []
 
-abbrev pub with_desaturate : Control → Control
-with_desaturate s = record s { tasks = if s.saturated && (count_by is_desaturate s.tasks == 0) then s.tasks ++ task.Desaturate ∷ [] else s.tasks }
-
-abbrev pub with_output : List media.Unit → Control → Control
-with_output units s = record s { tasks = if length units == 0 then s.tasks else s.tasks ++ task.Output units ∷ [] }
-
--- what the end of an item of this epoch queues
-abbrev pub settled_ran : Running → List media.Unit → Control → Control
-settled_ran r units s = elim (r.kind) [
-  | kind.Configure ↦ with_task task.Unblock s
-  | kind.Coded ↦ with_output units (with_desaturate s)
-  | kind.Flush ↦ with_task (task.Flushed r.place units) s
+-- what an item of this epoch queues that ran
+abbrev pub with_ran : Running → List media.Unit → Bool → List Task → List Task
+with_ran r units saturated ts = elim (r.kind) [
+  | kind.Configure ↦ ts ++ task.Unblock ∷ []
+  | kind.Coded ↦ with_output units (with_desaturate saturated ts)
+  | kind.Flush ↦ ts ++ task.Flushed r.place units ∷ []
 ]
 
 abbrev pub refusal_of : WorkKind → DomError
@@ -201,17 +191,28 @@ refusal_of kind.Configure = dom.NotSupported
 refusal_of kind.Coded = dom.Encoding
 refusal_of kind.Flush = dom.Encoding
 
-abbrev pub settled : Running → Ended → Control → Control
-settled r (ended.Ran units) s = settled_ran r units s
-settled r ended.Refused s = with_close (refusal_of r.kind) s
-settled r (ended.NoSlot entry) s = with_close dom.QuotaExceeded s
-settled r ended.NoMemory s = with_close dom.OutOfMemory s
+-- what the end of an item of this epoch queues: an item that did not run closes the codec
+abbrev pub with_end : Running → Ended → Bool → List Task → List Task
+with_end r (ended.Ran units) saturated ts = with_ran r units saturated ts
+with_end r ended.Refused saturated ts = ts ++ task.Close (refusal_of r.kind) ∷ []
+with_end r (ended.NoSlot entry) saturated ts = ts ++ task.Close dom.QuotaExceeded ∷ []
+with_end r ended.NoMemory saturated ts = ts ++ task.Close dom.OutOfMemory ∷ []
+
+-- such an end halts the codec until it closes
+abbrev pub halts : Ended → Bool
+halts (ended.Ran units) = false
+halts ended.Refused = true
+halts (ended.NoSlot entry) = true
+halts ended.NoMemory = true
+
+abbrev pub after_end : Running → Ended → Control → Control
+after_end r e s = record s { tasks = with_end r e s.saturated s.tasks; halted = halts e || s.halted }
 
 -- The running item ends.
 abbrev pub done_running : Running → Ended → ℕ → Control → Control
 done_running r e moment s =
     let idle = record s { running = None } in
-    if r.epoch == s.epoch then settled r e (record idle { progress = Some (max moment (unwrap_or s.progress moment)) }) else idle
+    if r.epoch == s.epoch then after_end r e (record idle { progress = Some (max moment (unwrap_or s.progress moment)) }) else idle
 
 abbrev pub done_on : Option Running → Ended → ℕ → Control → Control
 done_on None e moment s = s
@@ -219,19 +220,11 @@ done_on (Some r) e moment s = done_running r e moment s
 
 -- the end of the running item
 abbrev pub after_done : Ended → ℕ → Control → Control
-after_done e moment s = done_on s.running e moment (entered s)
+after_done e moment s = done_on s.running e moment (at_next_place s)
 
--- each of the promises ends with this error, or is resolved
-abbrev pub ends_of : Option DomError → List ℕ → List PromiseEnd
-ends_of error promises = map (λ p. record { promise = p; error = error }) promises
-
-abbrev pub with_ends : Option DomError → List ℕ → Control → Control
-with_ends error promises s = record s { ends = s.ends ++ ends_of error promises }
-
--- Reset with an error: everything but the running item, the outputs that were shown and a scheduled dequeue event is
--- removed, a new epoch begins, and each pending promise is rejected with the error, in order.
-abbrev pub after_reset : DomError → Control → Control
-after_reset x s = with_dequeue_if (not (s.size == 0)) (record s {
+-- Reset: everything but the running item and a scheduled dequeue event is removed, and a new epoch begins.
+abbrev pub after_reset : Control → Control
+after_reset s = with_dequeue_if (not (s.size == 0)) (record s {
   phase = Unconfigured;
   epoch = s.epoch + 1;
   blocked = false;
@@ -244,13 +237,17 @@ after_reset x s = with_dequeue_if (not (s.size == 0)) (record s {
   next_item = 0;
   size = 0;
   pending = [];
-  ends = s.ends ++ ends_of (Some x) s.pending;
   tasks = filter is_dequeue s.tasks;
 })
 
--- Close with an error: reset with it, and then the codec is closed.
-abbrev pub after_close : DomError → Control → Control
-after_close x s = record (after_reset x s) { phase = Closed }
+-- Close: a reset, and then the codec is closed.
+abbrev pub after_close : Control → Control
+after_close s = record (after_reset s) { phase = Closed }
+
+-- a caller's reset or close
+abbrev pub after_removal : Removal → Control → Control
+after_removal removal.Reset s = after_reset s
+after_removal removal.Close s = after_close s
 
 -- how long a codec counts as active after its last item ended, in microseconds (our choice)
 abbrev pub activity : ℕ
@@ -263,10 +260,6 @@ is_inactive now (Some moment) = nat_le (moment + activity) now
 -- a configured codec may be reclaimed where it has not been active for long enough
 abbrev pub may_reclaim : ℕ → Control → Bool
 may_reclaim now s = elim (s.phase) [ Unconfigured ↦ false | Configured ↦ is_inactive now s.progress | Closed ↦ false ]
-
--- Reclaim: close with QuotaExceededError.
-abbrev pub after_reclaim : Control → Control
-after_reclaim s = after_close dom.QuotaExceeded s
 
 abbrev pub opening_control : Opening → Control
 opening_control o = record {
@@ -281,41 +274,40 @@ opening_control o = record {
   halted = false;
   size = 0;
   pending = [];
-  ends = [];
   work = [];
   next_item = 0;
   running = None;
   tasks = [];
   scheduled = false;
-  shown = [];
+  shown = 0;
   taken = 0;
   active = None;
   progress = None;
 }
 
 abbrev pub with_units : List media.Unit → Control → Control
-with_units units s = record s { shown = s.shown ++ units }
+with_units units s = record s { shown = s.shown + length units }
 
 -- Outputs are delivered, and then the promise is resolved.
 abbrev pub with_flushed : ℕ → List media.Unit → Control → Control
-with_flushed promise units s = with_ends None (promise ∷ []) (with_units units (record s { pending = filter (λ p. not (p == promise)) s.pending }))
+with_flushed promise units s = with_units units (record s { pending = filter (λ p. not (p == promise)) s.pending })
 
 -- The front task, which has left the queue, runs.
 abbrev pub run_task : Task → Control → Control
-run_task task.Unblock s = with_task task.Process (record s { blocked = false })
+run_task task.Unblock s = record s { blocked = false; tasks = s.tasks ++ task.Process ∷ [] }
 run_task task.Process s = process s
 run_task task.Desaturate s = process (record s { saturated = false })
 run_task (task.Output units) s = with_units units s
 run_task (task.Flushed promise units) s = with_flushed promise units s
 run_task task.Dequeue s = record s { scheduled = false }
-run_task (task.Close x) s = after_close x s
+run_task (task.Close x) s = after_close s
 
-abbrev pub turned_on : List Task → Control → Control
-turned_on [] s = s
-turned_on (t ∷ ts) s = run_task t (record s { tasks = ts })
+abbrev pub run_first : List Task → Control → Control
+run_first [] s = s
+run_first (t ∷ ts) s = run_task t (record s { tasks = ts })
 
-abbrev pub turned : Control → Control
-turned s = turned_on s.tasks s
+abbrev pub run_front : Control → Control
+run_front s = run_first s.tasks s
 
 -- a turn, where there is a task
 abbrev pub has_task : Control → Bool
@@ -332,7 +324,7 @@ turn_closes (t ∷ ts) = Some (is_close t)
 
 abbrev pub after_turn_on : List Task → Control → Control
 after_turn_on [] s = s
-after_turn_on (t ∷ ts) s = turned (entered s)
+after_turn_on (t ∷ ts) s = run_front (at_next_place s)
 
 abbrev pub after_turn : Control → Control
 after_turn s = after_turn_on s.tasks s

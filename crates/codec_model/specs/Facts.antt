@@ -112,6 +112,11 @@ ProcessesSoon c = takes_front c.messages c ≡ true → 1 ≤ count_by is_proces
 abbrev pub OwesPromises : Control → Type 0
 OwesPromises c = (p : ℕ) → 1 ≤ count_by (λ q. q == p) c.pending → c.halted ≡ false → flush_parts p c ≡ 1
 
+-- pending promises, and those that tasks resolve, are named by earlier entries
+pub record NamesEarlier (c : Control) : Type 0 where
+  pub pending : (p : ℕ) → c.place ≤ p → count_by (λ q. q == p) c.pending ≡ 0
+  pub resolving : (p : ℕ) → c.place ≤ p → count_by (resolves p) c.tasks ≡ 0
+
 -- all of these facts
 pub record IsNeverStuck (c : Control) : Type 0 where
   pub counts : CountsMessages c
@@ -122,6 +127,7 @@ pub record IsNeverStuck (c : Control) : Type 0 where
   pub saturation : KeepsSaturation c
   pub processes : ProcessesSoon c
   pub promises : OwesPromises c
+  pub names : NamesEarlier c
 
 -- nothing is left to start, to end or to run
 pub record IsQuiet (c : Control) : Type 0 where

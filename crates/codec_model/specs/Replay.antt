@@ -8,10 +8,10 @@ use Rattle.wc_config.specs.declared.config.Config.{Config}
 use Rattle.wc_config.specs.declared.config.Config.TheVariants.{Bad}
 use Rattle.wc_config.specs.Configs.{is_valid, is_supported, coder_id_of}
 use Rattle.wc_chunk.specs.declared.chunk.Chunk.{Chunk}
-use Rattle.coder_api.specs.declared.unit.Unit as media
-use Rattle.coder_api.specs.declared.coder.Command.{Command}
-use Rattle.coder_api.specs.declared.coder.Command.TheVariants as command
-use Rattle.coder_api.specs.Commands.{answers, last_answer}
+use Rattle.codec_definitions.specs.declared.unit.Unit as media
+use Rattle.codec_definitions.specs.declared.command.Command.{Command}
+use Rattle.codec_definitions.specs.declared.command.Command.TheVariants as command
+use Rattle.codec_definitions.specs.Answers.{answers, last_answer}
 use Rattle.coder_api.specs.Meaning.{serves}
 use Rattle.codec_model.specs.declared.entry.Opening.{Opening}
 use Rattle.codec_model.specs.declared.entry.CodecState.TheVariants.{Unconfigured, Configured, Closed}
@@ -27,11 +27,13 @@ use Rattle.codec_model.specs.declared.entry.Ended.{Ended}
 use Rattle.codec_model.specs.declared.entry.Ended.TheVariants as ended
 use Rattle.codec_model.specs.declared.entry.Outcome.{Outcome}
 use Rattle.codec_model.specs.declared.entry.Outcome.TheVariants as outcome
+use Rattle.codec_model.specs.declared.entry.Removal.{Removal}
+use Rattle.codec_model.specs.declared.entry.Removal.TheVariants as removal
 use Rattle.codec_model.specs.declared.entry.Call.{Call}
 use Rattle.codec_model.specs.declared.entry.Call.TheVariants as call
 use Rattle.codec_model.specs.declared.entry.Entry.{Entry}
 use Rattle.codec_model.specs.declared.entry.Entry.TheVariants as entry
-use Rattle.codec_model.specs.Control.{Control, opening_control, may_start, after_configure, after_decode, after_flush, started, done_running, entered, with_ends, after_reset, after_close, after_reclaim, may_reclaim, turned}
+use Rattle.codec_model.specs.Control.{Control, opening_control, may_start, after_configure, after_decode, after_flush, start_front, done_running, at_next_place, after_removal, after_close, may_reclaim, run_front}
 
 -- what the coder was given in one epoch: its last configuration, and the commands since
 pub record Given : Type 0 where
@@ -60,7 +62,7 @@ missing_coder g work.Flush = None
 
 pub record State : Type 0 where
   pub control : Control
-  -- what was given in this epoch by the items that started
+  -- what was given in this epoch by the items that start_front
   pub given : Given
   -- what the running item's epoch was given, up to it
   pub running_given : Given
@@ -126,19 +128,14 @@ call_error call.Flush c = flush_error c
 
 -- a call that is not refused
 abbrev pub accepted : Call → Control → Control
-accepted (call.Configure config) c = after_configure c.place config (entered c)
-accepted (call.Decode chunk) c = after_decode c.place chunk (entered c)
-accepted call.Flush c = after_flush c.place (entered c)
+accepted (call.Configure config) c = after_configure c.place config (at_next_place c)
+accepted (call.Decode chunk) c = after_decode c.place chunk (at_next_place c)
+accepted call.Flush c = after_flush c.place (at_next_place c)
 
--- a call that is refused has its entry; the promise of a flush is rejected at once
-abbrev pub refused : Call → DomError → Control → Control
-refused (call.Configure config) error c = entered c
-refused (call.Decode chunk) error c = entered c
-refused call.Flush error c = with_ends (Some error) (c.place ∷ []) (entered c)
-
+-- a call at its place: refused with this error it has its entry and does nothing else
 abbrev pub after_call : Option DomError → Call → Control → Control
 after_call None x c = accepted x c
-after_call (Some error) x c = refused x error c
+after_call (Some error) x c = at_next_place c
 
 abbrev pub call_step : Call → State → State
 call_step x s = with_control (after_call (call_error x s.control) x s.control) s
@@ -147,21 +144,24 @@ call_step x s = with_control (after_call (call_error x s.control) x s.control) s
 abbrev pub removed : Control → State → State
 removed c s = record s { control = c; given = nothing_given }
 
--- a reset or close, refused or made
-abbrev pub removal_step : Option DomError → Control → State → State
-removal_step None c s = removed c s
-removal_step (Some error) c s = with_control (entered s.control) s
+-- a reset or close at its place, refused with this error or made
+abbrev pub remove_or_refuse : Option DomError → Removal → State → State
+remove_or_refuse None r s = removed (after_removal r (at_next_place s.control)) s
+remove_or_refuse (Some error) r s = with_control (at_next_place s.control) s
+
+abbrev pub removal_step : Removal → State → State
+removal_step r s = remove_or_refuse (removal_error s.control) r s
 
 abbrev pub start_step : List Item → ℕ → ℕ → State → Option State
 start_step [] epoch item s = None
 start_step (i ∷ is) epoch item s =
     if may_start s.control && (epoch == s.control.epoch) && (item == i.number)
-    then (let g = given_more i.work s.given in Some (record { control = started (entered s.control); given = g; running_given = g }))
+    then (let g = given_more i.work s.given in Some (record { control = start_front (at_next_place s.control); given = g; running_given = g }))
     else None
 
 abbrev pub done_ended : Running → Option Ended → ℕ → State → Option State
 done_ended r None moment s = None
-done_ended r (Some e) moment s = Some (with_control (done_running r e moment (entered s.control)) s)
+done_ended r (Some e) moment s = Some (with_control (done_running r e moment (at_next_place s.control)) s)
 
 abbrev pub done_step : Option Running → ℕ → ℕ → ℕ → Outcome → State → Option State
 done_step None epoch item moment o s = None
@@ -170,26 +170,31 @@ done_step (Some r) epoch item moment o s =
 
 abbrev pub turn_step : List Task → State → Option State
 turn_step [] s = None
-turn_step (task.Close x ∷ ts) s = Some (removed (turned (entered s.control)) s)
-turn_step (t ∷ ts) s = Some (with_control (turned (entered s.control)) s)
+turn_step (task.Close x ∷ ts) s = Some (removed (run_front (at_next_place s.control)) s)
+turn_step (t ∷ ts) s = Some (with_control (run_front (at_next_place s.control)) s)
 
 -- One entry after a state; none where it is not legal there.
 abbrev pub step : Entry → State → Option State
 step (entry.Configure who config) s = Some (call_step (call.Configure config) s)
 step (entry.Decode who chunk) s = Some (call_step (call.Decode chunk) s)
 step (entry.Flush who) s = Some (call_step call.Flush s)
-step (entry.Reset who) s = Some (removal_step (removal_error s.control) (after_reset dom.Abort (entered s.control)) s)
-step (entry.Close who) s = Some (removal_step (removal_error s.control) (after_close dom.Abort (entered s.control)) s)
+step (entry.Reset who) s = Some (removal_step removal.Reset s)
+step (entry.Close who) s = Some (removal_step removal.Close s)
 step (entry.Start epoch item) s = start_step s.control.work epoch item s
 step (entry.Done epoch item moment o) s = done_step s.control.running epoch item moment o s
 step entry.Turn s = turn_step s.control.tasks s
-step (entry.Reclaim moment) s = if may_reclaim moment s.control then Some (removed (after_reclaim (entered s.control)) s) else None
+step (entry.Reclaim moment) s = if may_reclaim moment s.control then Some (removed (after_close (at_next_place s.control)) s) else None
 
 -- the entry that a call makes
 abbrev pub entry_of : Who → Call → Entry
 entry_of who (call.Configure config) = entry.Configure who config
 entry_of who (call.Decode chunk) = entry.Decode who chunk
 entry_of who call.Flush = entry.Flush who
+
+-- the entry that a reset or close makes
+abbrev pub removal_entry : Who → Removal → Entry
+removal_entry who removal.Reset = entry.Reset who
+removal_entry who removal.Close = entry.Close who
 
 abbrev pub replay_from : List Entry → State → Option State
 replay_from [] s = Some s

@@ -6,14 +6,14 @@ use Rattle.wc_chunk.specs.declared.chunk.Chunk.{Chunk}
 use Rattle.wc_base.specs.declared.media.SampleFormat.TheVariants.{S16}
 use Rattle.wc_base.specs.declared.who.Who.{Who}
 use Rattle.wc_base.specs.declared.error.DomError.TheVariants as dom
-use Rattle.coder_api.specs.declared.unit.Unit as media
-use Rattle.coder_api.specs.declared.unit.Unit.TheVariants.{Sound}
+use Rattle.codec_definitions.specs.declared.unit.Unit as media
+use Rattle.codec_definitions.specs.declared.unit.Unit.TheVariants.{Sound}
 use Rattle.codec_model.specs.declared.entry.CodecState.TheVariants.{Configured}
 use Rattle.codec_model.specs.declared.entry.Outcome.TheVariants as outcome
 use Rattle.codec_model.specs.declared.entry.Entry.{Entry}
 use Rattle.codec_model.specs.declared.entry.Entry.TheVariants as entry
 use Rattle.codec_model.specs.declared.entry.Opening.{Opening}
-use Rattle.codec_model.specs.declared.entry.Kind.TheVariants.{AudioDecoder}
+use Rattle.wc_config.specs.declared.kind.Kind.TheVariants.{AudioDecoder}
 use Rattle.codec_model.specs.Control.{Control}
 use Rattle.codec_model.specs.Replay.{replay}
 use Rattle.codec_model.specs.declared.entry.Event.TheVariants.{Output, Dequeue, Resolve, Reject, Refusal}
@@ -58,13 +58,12 @@ quiet_after = record {
   halted = false;
   size = 0;
   pending = [];
-  ends = record { promise = 2; error = None } ∷ [];
   work = [];
   next_item = 3;
   running = None;
   tasks = [];
   scheduled = false;
-  shown = unit ∷ [];
+  shown = 1;
   taken = 0;
   active = None;
   progress = Some 3;

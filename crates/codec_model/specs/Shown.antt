@@ -1,8 +1,8 @@
 -- What the entries of a history show: exceptions, outputs, promise ends, dequeue events and error calls.
-use Rattle.std.specs.Prelude.{ℕ, ◌+◌, List, [], ◌∷◌, ◌++◌, length, Option, Some, None, map, option_map, unwrap_or, ◌==◌, if◌then◌else◌}
+use Rattle.std.specs.Prelude.{ℕ, ◌≡◌, ◌+◌, Bool, true, false, List, [], ◌∷◌, ◌++◌, length, Option, Some, None, map, option_map, unwrap_or, ◌==◌, if◌then◌else◌}
 use Rattle.wc_base.specs.declared.error.DomError.{DomError}
 use Rattle.wc_base.specs.declared.error.DomError.TheVariants as dom
-use Rattle.coder_api.specs.declared.unit.Unit as media
+use Rattle.codec_definitions.specs.declared.unit.Unit as media
 use Rattle.codec_model.specs.declared.entry.Opening.{Opening}
 use Rattle.codec_model.specs.declared.entry.PromiseEnd.{PromiseEnd}
 use Rattle.codec_model.specs.declared.entry.PromiseState.{PromiseState}
@@ -12,8 +12,13 @@ use Rattle.codec_model.specs.declared.entry.Event.TheVariants.{Refusal, Output, 
 use Rattle.codec_model.specs.declared.entry.TurnWord.{TurnWord}
 use Rattle.codec_model.specs.declared.entry.TurnWord.TheVariants as turn
 use Rattle.codec_model.specs.declared.entry.Shown.{Shown}
+use Rattle.codec_model.specs.declared.entry.Showing.{Showing}
+use Rattle.codec_model.specs.declared.entry.Showing.TheVariants as showing
+use Rattle.codec_model.specs.declared.entry.Answer.{Answer}
 use Rattle.codec_model.specs.declared.entry.Task.{Task}
 use Rattle.codec_model.specs.declared.entry.Task.TheVariants as task
+use Rattle.codec_model.specs.declared.entry.Call.{Call}
+use Rattle.codec_model.specs.declared.entry.Call.TheVariants as call
 use Rattle.codec_model.specs.declared.entry.Entry.{Entry}
 use Rattle.codec_model.specs.declared.entry.Entry.TheVariants as entry
 use Rattle.codec_model.specs.Control.{Control}
@@ -27,39 +32,65 @@ abbrev pub rejection : ℕ → Option DomError → List Event
 rejection place None = []
 rejection place (Some error) = Reject place error ∷ []
 
+-- The exception of a call with this error, if it has one. A flush has none: its promise is rejected.
+abbrev pub exception_of : Call → Option DomError → Option DomError
+exception_of (call.Configure config) error = error
+exception_of (call.Decode chunk) error = error
+exception_of call.Flush error = None
+
+-- what a call at this place shows, with its error, if it has one
+abbrev pub call_shows : Call → ℕ → Option DomError → List Event
+call_shows (call.Configure config) place error = refusal error
+call_shows (call.Decode chunk) place error = refusal error
+call_shows call.Flush place error = rejection place error
+
 -- the pending promises, each rejected
 abbrev pub rejections : DomError → List ℕ → List Event
 rejections error [] = []
 rejections error (p ∷ ps) = Reject p error ∷ rejections error ps
 
-abbrev pub outputs_from : ℕ → List media.Unit → List Event
-outputs_from number [] = []
-outputs_from number (u ∷ us) = Output number u ∷ outputs_from (number + 1) us
+-- a codec that closes with an error calls the error callback with it
+abbrev pub close_shows : DomError → List ℕ → List Event
+close_shows error pending = rejections error pending ++ ErrorCall error ∷ []
 
-abbrev pub task_shows : List Task → Control → List Event
-task_shows [] c = []
-task_shows (task.Unblock ∷ ts) c = []
-task_shows (task.Process ∷ ts) c = []
-task_shows (task.Desaturate ∷ ts) c = []
-task_shows (task.Output units ∷ ts) c = outputs_from (length c.shown) units
-task_shows (task.Flushed promise units ∷ ts) c = outputs_from (length c.shown) units ++ Resolve promise ∷ []
-task_shows (task.Dequeue ∷ ts) c = Dequeue ∷ []
-task_shows (task.Close error ∷ ts) c = rejections error c.pending ++ ErrorCall error ∷ []
-
+-- what a reset or close shows, refused with this error or made, with these promises pending
 abbrev pub removal_shows : Option DomError → List ℕ → List Event
 removal_shows None pending = rejections dom.Abort pending
 removal_shows (Some error) pending = Refusal error ∷ []
 
+-- what a reclaim shows
+abbrev pub reclaim_shows : List ℕ → List Event
+reclaim_shows pending = close_shows dom.QuotaExceeded pending
+
+abbrev pub outputs_from : ℕ → List media.Unit → List Event
+outputs_from number [] = []
+outputs_from number (u ∷ us) = Output number u ∷ outputs_from (number + 1) us
+
+-- what a task shows, after so many outputs and with these promises pending
+abbrev pub task_shows : Task → ℕ → List ℕ → List Event
+task_shows task.Unblock first pending = []
+task_shows task.Process first pending = []
+task_shows task.Desaturate first pending = []
+task_shows (task.Output units) first pending = outputs_from first units
+task_shows (task.Flushed promise units) first pending = outputs_from first units ++ Resolve promise ∷ []
+task_shows task.Dequeue first pending = Dequeue ∷ []
+task_shows (task.Close error) first pending = close_shows error pending
+
+-- what the turn of the front task shows
+abbrev pub turn_shows : List Task → Control → List Event
+turn_shows [] c = []
+turn_shows (t ∷ ts) c = task_shows t c.shown c.pending
+
 abbrev pub shows : Entry → State → List Event
-shows (entry.Configure who config) s = refusal (configure_error config s.control)
-shows (entry.Decode who chunk) s = refusal (decode_error chunk s.control)
-shows (entry.Flush who) s = rejection s.control.place (flush_error s.control)
+shows (entry.Configure who config) s = call_shows (call.Configure config) s.control.place (configure_error config s.control)
+shows (entry.Decode who chunk) s = call_shows (call.Decode chunk) s.control.place (decode_error chunk s.control)
+shows (entry.Flush who) s = call_shows call.Flush s.control.place (flush_error s.control)
 shows (entry.Reset who) s = removal_shows (removal_error s.control) s.control.pending
 shows (entry.Close who) s = removal_shows (removal_error s.control) s.control.pending
 shows (entry.Start epoch item) s = []
 shows (entry.Done epoch item moment o) s = []
-shows entry.Turn s = task_shows s.control.tasks s.control
-shows (entry.Reclaim moment) s = rejections dom.QuotaExceeded s.control.pending ++ ErrorCall dom.QuotaExceeded ∷ []
+shows entry.Turn s = turn_shows s.control.tasks s.control
+shows (entry.Reclaim moment) s = reclaim_shows s.control.pending
 
 -- what entries show after a state, each event with its entry's place
 abbrev pub shown_from : List Entry → State → List (ℕ × Event)
@@ -98,6 +129,16 @@ abbrev pub promise_ended : Option DomError → PromiseState
 promise_ended None = promise.Resolved
 promise_ended (Some error) = promise.Rejected error
 
+-- the promise ends among these events, in order
+abbrev pub ends_of : List Event → List PromiseEnd
+ends_of [] = []
+ends_of (x ∷ xs) = event_ends x ++ ends_of xs
+
+-- the promise ends of what entries showed, in order
+abbrev pub ends_shown : List Shown → List PromiseEnd
+ends_shown [] = []
+ends_shown (x ∷ xs) = ends_of x.events ++ ends_shown xs
+
 -- how a promise stands after these ends: by the first end that is its own
 abbrev pub promise_state : List PromiseEnd → ℕ → PromiseState
 promise_state [] p = promise.Pending
@@ -132,3 +173,24 @@ each_shown_from (e ∷ es) s = shown_at e s ∷ unwrap_or (option_map (each_show
 
 abbrev pub each_shown : Opening → List Entry → List Shown
 each_shown o history = each_shown_from history (opening_state o)
+
+-- what is kept of an entry's showing stands for all that it shows
+abbrev pub shown_of : Showing → Shown
+shown_of showing.Nothing = record { turn = None; events = [] }
+shown_of (showing.Refusal error) = record { turn = None; events = removal_shows (Some error) [] }
+shown_of (showing.Rejection promise error) = record { turn = None; events = rejection promise (Some error) }
+shown_of (showing.Removal promises) = record { turn = None; events = removal_shows None promises }
+shown_of (showing.Reclaim promises) = record { turn = None; events = reclaim_shows promises }
+shown_of (showing.Turn t outputs) = record { turn = Some (word_of_task t); events = task_shows t outputs [] }
+shown_of (showing.Close error promises) = record { turn = Some (turn.Close error); events = close_shows error promises }
+
+-- the turn that closed the codec
+abbrev pub closes : Showing → Bool
+closes (showing.Close error promises) = true
+closes _ = false
+
+-- The answer of a step: its entry's place, its exception, if it has one, and what it shows.
+pub record IsAnswer (place : ℕ) (exception : Option DomError) (shown : Shown) (a : Answer) : Type 0 where
+  pub is_place : a.place ≡ place
+  pub is_exception : a.exception ≡ exception
+  pub is_shown : shown_of a.showing ≡ shown

@@ -2,15 +2,7 @@
 use coder_api::Unit;
 use wc_base::{DomError, List, Who};
 use wc_chunk::Chunk;
-use wc_config::Config;
-
-/// What a codec is.
-#[derive(Clone, Copy, Debug, PartialEq, Eq)]
-pub enum Kind {
-    AudioDecoder,
-    AudioEncoder,
-    VideoDecoder,
-}
+use wc_config::{Config, Kind};
 
 /// How a codec is opened: what it is, and how many coded items may be at work before it is saturated (1 to 64).
 #[derive(Clone, Copy, Debug, PartialEq, Eq)]
@@ -167,6 +159,13 @@ pub enum Call {
     Flush,
 }
 
+/// What a caller asks of a codec to end all that it does.
+#[derive(Clone, Copy, Debug, PartialEq, Eq)]
+pub enum Removal {
+    Reset,
+    Close,
+}
+
 /// How a flush promise stands.
 #[derive(Clone, Copy, Debug, PartialEq, Eq)]
 pub enum PromiseState {
@@ -209,4 +208,42 @@ pub enum Event {
 pub struct Shown {
     pub turn: Option<TurnWord>,
     pub events: List<Event>,
+}
+
+/// What an entry shows, as it is kept: it takes no memory, since what a task delivered and the promises that were pending
+/// move into it. `Showing::into_shown` gives the events.
+#[derive(Debug, Drop)]
+pub enum Showing {
+    /// Nothing, and no turn.
+    Nothing,
+    /// The exception with which a call was refused.
+    Refusal(DomError),
+    /// The promise of a flush that was refused, rejected at once.
+    Rejection {
+        promise: u64,
+        error: DomError,
+    },
+    /// A reset or close, with the promises that it rejected.
+    Removal(List<u64>),
+    /// A reclaim, with the promises that it rejected.
+    Reclaim(List<u64>),
+    /// The turn of a task that does not close the codec, after so many outputs.
+    Turn {
+        task: Task,
+        outputs: u128,
+    },
+    /// The turn that closed the codec with an error, with the promises that it rejected.
+    Close {
+        error: DomError,
+        promises: List<u64>,
+    },
+}
+
+/// What a step of a codec came to: the place of its entry, the exception with which it was refused, if it was, and what it
+/// shows.
+#[derive(Debug, Drop)]
+pub struct Answer {
+    pub place: u64,
+    pub exception: Option<DomError>,
+    pub showing: Showing,
 }

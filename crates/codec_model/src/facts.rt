@@ -1,5 +1,5 @@
 // What holds of a codec after every legal history.
-ghost use Rattle.codec_model.specs.Facts.{Always, CountsMessages, HaltsForClose, NumbersItems, BlocksForConfigure, SaturatesForCoded, KeepsSaturation, ProcessesSoon, OwesPromises, EndsQuiet, LeavesFewer};
+ghost use Rattle.codec_model.specs.Facts.{Always, CountsMessages, HaltsForClose, NumbersItems, BlocksForConfigure, SaturatesForCoded, KeepsSaturation, ProcessesSoon, OwesPromises, NamesEarlier, EndsQuiet, LeavesFewer};
 
 /// The facts that keep a codec from being stuck, after every legal history of a codec that some coded items saturate.
 pub fn never_stuck()
@@ -11,6 +11,7 @@ pub fn never_stuck()
     ensures saturation { Always KeepsSaturation }
     ensures processes { Always ProcessesSoon }
     ensures promises { Always OwesPromises }
+    ensures names { Always NamesEarlier }
     ensures quiet { Always EndsQuiet }
 {}
 

@@ -5,10 +5,13 @@
 mod entry;
 mod facts;
 mod rows;
+mod showing;
 
 pub use entry::{
-    Call, CodecState, Ended, Entry, Event, Item, Kind, Message, Opening, Outcome, PromiseEnd,
-    PromiseState, Running, Shown, Task, TurnWord, Work, WorkKind,
+    Answer, Call, CodecState, Ended, Entry, Event, Item, Message, Opening, Outcome, PromiseEnd,
+    PromiseState, Removal, Running, Showing, Shown, Task, TurnWord, Work, WorkKind,
 };
 pub use facts::{never_stuck, steps_leave_fewer};
 pub use rows::{closing_run, ordinary_run, resetting_run, saturating_run};
+pub use showing::{exception_of, shown_list};
+pub use wc_config::Kind;

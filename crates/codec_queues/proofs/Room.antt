@@ -10,8 +10,11 @@ use Rattle.codec_model.specs.declared.entry.WorkKind.{WorkKind}
 use Rattle.codec_model.specs.declared.entry.WorkKind.TheVariants as kind
 use Rattle.codec_model.specs.declared.entry.Task.{Task}
 use Rattle.codec_model.specs.declared.entry.Task.TheVariants as task
-use Rattle.codec_model.specs.Control.{is_coded, task_weight, running_weight, coded_running, is_dequeue}
-use Rattle.codec_queues.specs.Joined.{joined}
+use Rattle.codec_model.specs.declared.entry.Ended.{Ended}
+use Rattle.codec_model.specs.declared.entry.Ended.TheVariants as ended
+use Rattle.codec_definitions.specs.declared.unit.Unit as media
+use Rattle.wc_base.specs.declared.error.DomError.TheVariants as dom
+use Rattle.codec_model.specs.Control.{is_coded, task_weight, running_weight, coded_running, is_dequeue, is_desaturate, refusal_of, with_desaturate, with_output, with_ran, with_end}
 
 weighs : (t : Task) → 1 ≤ task_weight t
 weighs task.Unblock = omega arith
@@ -35,10 +38,6 @@ dequeues_fit (task.Output units ∷ ts) = omega (arith, dequeues_fit ts, sum_by-
 dequeues_fit (task.Flushed promise units ∷ ts) = omega (arith, dequeues_fit ts, sum_by-cons task_weight (task.Flushed promise units) ts)
 dequeues_fit (task.Dequeue ∷ ts) = omega (arith, dequeues_fit ts, sum_by-cons task_weight task.Dequeue ts, sum_by-cons task_weight task.Dequeue (filter is_dequeue ts))
 dequeues_fit (task.Close x ∷ ts) = omega (arith, dequeues_fit ts, sum_by-cons task_weight (task.Close x) ts)
-
-pub joined_push : {X : Type 0} (xss : List (List X)) (xs : List X) → joined (xss ++ xs ∷ []) ≡ joined xss ++ xs
-joined_push [] xs = simp append-nil
-joined_push (ys ∷ yss) xs = ap (λ zs. ys ++ zs) (joined_push yss xs) ∙ sym (append_assoc ys (joined yss) xs)
 
 weighs_at_most : (t : Task) → task_weight t ≤ 2
 weighs_at_most task.Unblock = omega arith
@@ -110,3 +109,30 @@ pub sizes_up : (size place : ℕ) (w : Work) (ms : List Message) → is_coded w 
 sizes_up size place w ms is h =
     let more = sizes_more place w ms in
     omega (arith, h, rw is at more)
+
+-- the end of an item queues two tasks of weight 1 at most, or one of weight 2
+heavier : (ts : List Task) (t : Task) → sum_by task_weight (ts ++ t ∷ []) ≡ sum_by task_weight ts + task_weight t
+heavier ts t = omega (arith, sum_by-append task_weight ts (t ∷ []), sum_by-cons task_weight t [])
+
+desaturate_weighs : (saturated : Bool) (ts : List Task) → sum_by task_weight (with_desaturate saturated ts) ≤ sum_by task_weight ts + 1
+desaturate_weighs saturated ts = elim (saturated && (count_by is_desaturate ts == 0)) as (λ b. sum_by task_weight (cond b (ts ++ task.Desaturate ∷ []) ts) ≤ sum_by task_weight ts + 1) [
+  | true ↦ omega (arith, heavier ts task.Desaturate)
+  | false ↦ omega arith
+]
+
+output_weighs : (units : List media.Unit) (ts : List Task) → sum_by task_weight (with_output units ts) ≤ sum_by task_weight ts + 1
+output_weighs units ts = elim (length units == 0) as (λ b. sum_by task_weight (cond b ts (ts ++ task.Output units ∷ [])) ≤ sum_by task_weight ts + 1) [
+  | true ↦ omega arith
+  | false ↦ omega (arith, heavier ts (task.Output units))
+]
+
+ran_weighs : (k : WorkKind) (r : Running) (units : List media.Unit) (saturated : Bool) (ts : List Task) → r.kind ≡ k → sum_by task_weight (with_ran r units saturated ts) ≤ sum_by task_weight ts + 2
+ran_weighs kind.Configure r units saturated ts is = rw is (omega (arith, heavier ts task.Unblock))
+ran_weighs kind.Coded r units saturated ts is = rw is (omega (arith, desaturate_weighs saturated ts, output_weighs units (with_desaturate saturated ts)))
+ran_weighs kind.Flush r units saturated ts is = rw is (omega (arith, heavier ts (task.Flushed r.place units)))
+
+pub end_weighs : (r : Running) (e : Ended) (saturated : Bool) (ts : List Task) → sum_by task_weight (with_end r e saturated ts) ≤ sum_by task_weight ts + 2
+end_weighs r (ended.Ran units) saturated ts = ran_weighs r.kind r units saturated ts refl
+end_weighs r ended.Refused saturated ts = omega (arith, heavier ts (task.Close (refusal_of r.kind)))
+end_weighs r (ended.NoSlot entry) saturated ts = omega (arith, heavier ts (task.Close dom.QuotaExceeded))
+end_weighs r ended.NoMemory saturated ts = omega (arith, heavier ts (task.Close dom.OutOfMemory))

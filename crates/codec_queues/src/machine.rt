@@ -1,23 +1,21 @@
 // The queues of a codec.
-ghost use Rattle.std.specs.Prelude.{◌≡◌, ◌<◌, ◌≤◌, ◌^◌, ◌+◌, ◌∷◌, [], true, false, IsTrue, IsSome, OnOk, OnErr, OnSome, IfOk, IfNone, IfSome, Option, length, option_map};
-ghost use Rattle.wc_base.specs.declared.error.DomError.TheVariants.{Abort};
+ghost use Rattle.std.specs.Prelude.{◌≡◌, ◌<◌, ◌≤◌, ◌^◌, ◌+◌, true, false, IsTrue, IsSome, OnOk, OnErr, OnSome, IfOk, IfNone, IfSome, None, option_map};
 ghost use Rattle.codec_model.specs.Replay.{call_error, after_call, removal_error, accepted};
-ghost use Rattle.codec_model.specs.Control.{entered, after_configure, after_decode, after_flush, with_ends, takes_front, process_front, process, start_item, after_start, after_done, after_turn, turn_closes, after_reset, after_close, after_reclaim, may_reclaim, opening_control, left, front};
-ghost use Rattle.codec_queues.specs.Joined.{joined};
-ghost use Rattle.codec_model.specs.Shown.{promise_state};
+ghost use Rattle.codec_model.specs.Control.{at_next_place, after_configure, after_decode, after_flush, takes_front, process_front, process, start_item, after_start, after_done, after_turn, turn_closes, after_reset, after_close, after_removal, may_reclaim, opening_control, left};
+ghost use Rattle.codec_model.specs.Shown.{IsAnswer, exception_of as the_exception, call_shows, removal_shows, reclaim_shows, turn_shows, turn_word, closes};
 
 use crate::queues::{
-    codes_work, decodes, desaturates, end_in, end_pending, keep_dequeues, kind_of_work,
-    refusal_error, remove_promise, reserve_places, room_for, schedule_dequeue, show,
+    close_answer, codes_work, decodes, halts, keep_dequeues, kind_of_work, later, queue_end,
+    remove_promise, reserve_places, room_for, schedule_dequeue, turn_answer,
 };
 use codec_model::{
-    Call, CodecState, Ended, Item, Message, Opening, PromiseEnd, PromiseState, Running, Task, Work,
-    WorkKind,
+    Answer, Call, CodecState, Ended, Item, Message, Opening, Removal, Running, Showing, Task, Work,
+    WorkKind, exception_of,
 };
-use coder_api::Unit;
 use std::alloc::Global;
 use std::collections::VecDeque;
 use std::marker::Model;
+use std::mem;
 use wc_base::{DomError, List, NoMemory};
 use wc_chunk::Chunk;
 use wc_config::Config;
@@ -25,10 +23,11 @@ use wc_config::Config;
 // How long a codec counts as active after its last item ended, in microseconds.
 const ACTIVITY: u64 = 10_000_000;
 
-/// What a codec keeps beside its history and its coder: its state, its queues, the promises that ended, and the outputs
-/// that were shown. A contract sees it as the control state of the codec's definition.
+/// What a codec keeps beside its history and its coder: its state, its queues, its pending promises, and how many outputs
+/// were shown. A contract sees it as the control state of the codec's definition.
 #[derive(Drop)]
 pub struct Machine {
+    alloc: Global,
     place: u64,
     opening: Opening,
     phase: CodecState,
@@ -39,8 +38,7 @@ pub struct Machine {
     saturated: bool,
     halted: bool,
     size: u64,
-    pending: Vec<u64>,
-    ends: Vec<PromiseEnd>,
+    pending: VecDeque<u64>,
     work: VecDeque<Item>,
     next_item: u64,
     running: Option<Running>,
@@ -48,9 +46,8 @@ pub struct Machine {
     coded: usize,
     tasks: VecDeque<Task>,
     scheduled: bool,
-    outputs: Vec<List<Unit>>,
-    // How many outputs there are; none where they are more than a u64 counts.
-    shown_count: Option<u64>,
+    // A task shows fewer outputs than 2^64, and there are fewer entries than that.
+    shown: u128,
     progress: Option<u64>,
     // At most so many starts, ends and turns are left.
     room: usize,
@@ -74,6 +71,7 @@ impl Machine {
     {
         let tasks = VecDeque::with_capacity(alloc, 1)?;
         Ok(Machine {
+            alloc,
             place: 0,
             opening,
             phase: CodecState::Unconfigured,
@@ -84,16 +82,14 @@ impl Machine {
             saturated: false,
             halted: false,
             size: 0,
-            pending: Vec::new(alloc),
-            ends: Vec::new(alloc),
+            pending: VecDeque::new(alloc),
             work: VecDeque::new(alloc),
             next_item: 0,
             running: None,
             coded: 0,
             tasks,
             scheduled: false,
-            outputs: Vec::new(alloc),
-            shown_count: Some(0),
+            shown: 0,
             progress: None,
             room: 0,
         })
@@ -155,13 +151,6 @@ impl Machine {
         self.progress
     }
 
-    /// The task that the next turn runs.
-    pub fn front_task(&self) -> Option<&Task>
-        ensures { option_map (λ t. t.now) result ≡ front self.now.tasks }
-    {
-        self.tasks.front()
-    }
-
     /// The item that a start would take: the front one, where none is at work and the codec is not halted.
     pub fn start_item(&self) -> Option<&Item>
         ensures { option_map (λ i. i.now) result ≡ start_item self.now }
@@ -170,42 +159,6 @@ impl Machine {
             return None;
         }
         self.work.front()
-    }
-
-    /// The promises that are pending, in the order of their flushes.
-    pub fn pending(&self) -> &[u64]
-        ensures { result.now ≡ self.now.pending }
-    {
-        self.pending.as_slice()
-    }
-
-    /// How many outputs were shown; none where they are more than a u64 counts.
-    pub fn shown_count(&self) -> Option<u64>
-        ensures some { IfSome result (λ n. n ≡ length self.now.shown) }
-        ensures none { IfNone result (2 ^ 64 ≤ length self.now.shown) }
-    {
-        self.shown_count
-    }
-
-    /// The state of the promise of the flush with this place.
-    pub fn end_of(&self, promise: u64) -> PromiseState
-        ensures { result ≡ promise_state self.now.ends promise }
-    {
-        end_in(&self.ends, promise)
-    }
-
-    /// The lists of outputs that were shown, in order.
-    pub fn outputs(&self) -> &[List<Unit>]
-        ensures { joined result.now ≡ self.now.shown }
-    {
-        self.outputs.as_slice()
-    }
-
-    /// The lists of outputs that were shown, in order, with no memory.
-    pub fn into_outputs(self) -> Vec<List<Unit>>
-        ensures { joined result.items ≡ self.shown }
-    {
-        self.outputs
     }
 
     /// The error with which a reset or close is refused: `InvalidState` of a closed codec.
@@ -323,7 +276,7 @@ impl Machine {
     /// Queues a configure message, and processes.
     fn configure(&mut self, config: Config) -> Result<(), NoMemory>
         requires { self.old.place + 1 < 2 ^ 64 }
-        ensures ok { OnOk result (self.new ≡ after_configure self.old.place config (entered self.old)) }
+        ensures ok { OnOk result (self.new ≡ after_configure self.old.place config (at_next_place self.old)) }
         ensures left { left self.new ≤ left self.old + 7 }
         ensures err { OnErr result (self.new ≡ self.old) }
     {
@@ -331,10 +284,8 @@ impl Machine {
         reserve_places(
             &mut self.messages,
             &mut self.pending,
-            &mut self.ends,
             &mut self.work,
             &mut self.tasks,
-            &mut self.outputs,
             room,
         )?;
         self.room = room;
@@ -353,7 +304,7 @@ impl Machine {
     /// Queues a coded message, and processes.
     fn decode(&mut self, chunk: Chunk) -> Result<(), NoMemory>
         requires { self.old.place + 1 < 2 ^ 64 }
-        ensures ok { OnOk result (self.new ≡ after_decode self.old.place chunk (entered self.old)) }
+        ensures ok { OnOk result (self.new ≡ after_decode self.old.place chunk (at_next_place self.old)) }
         ensures left { left self.new ≤ left self.old + 7 }
         ensures err { OnErr result (self.new ≡ self.old) }
     {
@@ -361,10 +312,8 @@ impl Machine {
         reserve_places(
             &mut self.messages,
             &mut self.pending,
-            &mut self.ends,
             &mut self.work,
             &mut self.tasks,
-            &mut self.outputs,
             room,
         )?;
         self.room = room;
@@ -383,7 +332,7 @@ impl Machine {
     /// Queues a flush message, and processes.
     fn flush(&mut self) -> Result<(), NoMemory>
         requires { self.old.place + 1 < 2 ^ 64 }
-        ensures ok { OnOk result (self.new ≡ after_flush self.old.place (entered self.old)) }
+        ensures ok { OnOk result (self.new ≡ after_flush self.old.place (at_next_place self.old)) }
         ensures left { left self.new ≤ left self.old + 7 }
         ensures err { OnErr result (self.new ≡ self.old) }
     {
@@ -391,17 +340,15 @@ impl Machine {
         reserve_places(
             &mut self.messages,
             &mut self.pending,
-            &mut self.ends,
             &mut self.work,
             &mut self.tasks,
-            &mut self.outputs,
             room,
         )?;
         self.room = room;
         let place = self.place;
         self.place += 1;
         self.key_required = decodes(self.opening.kind) || self.key_required;
-        self.pending.push_reserved(place);
+        self.pending.push_back_reserved(place);
         self.messages.push_back_reserved(Message {
             place,
             work: Work::Flush,
@@ -411,33 +358,8 @@ impl Machine {
     }
 }
 
+#[tactic(auto, using(crate::proofs::Rising::rising_next))]
 impl Machine {
-    /// The promise of a flush that is refused is rejected at once.
-    fn reject(&mut self, error: DomError) -> Result<(), NoMemory>
-        requires { self.old.place + 1 < 2 ^ 64 }
-        ensures ok { OnOk result (self.new ≡ with_ends (Option.Some error) (self.old.place ∷ []) (entered self.old)) }
-        ensures left { left self.new ≡ left self.old }
-        ensures err { OnErr result (self.new ≡ self.old) }
-    {
-        self.ends.reserve(self.pending.len() + self.room + 1)?;
-        let promise = self.place;
-        self.place += 1;
-        self.ends.push_reserved(PromiseEnd {
-            promise,
-            error: Some(error),
-        });
-        Ok(())
-    }
-
-    /// A call that was refused, and gave no promise, has an entry.
-    fn enter(&mut self)
-        requires { self.old.place + 1 < 2 ^ 64 }
-        ensures after { self.new ≡ entered self.old }
-        ensures left { left self.new ≡ left self.old }
-    {
-        self.place += 1;
-    }
-
     /// A call that is not refused: its message is queued, and messages are processed.
     fn accept(&mut self, call: Call) -> Result<(), NoMemory>
         requires { self.old.place + 1 < 2 ^ 64 }
@@ -452,32 +374,42 @@ impl Machine {
         }
     }
 
-    /// A call, refused with this error or else queued, with a place for each later step that comes of it. Want of memory
-    /// leaves all as it was.
-    pub fn call(&mut self, error: Option<DomError>, call: Call) -> Result<(), NoMemory>
+    /// A call that is refused has its entry, and does nothing else.
+    fn refuse(&mut self)
         requires { self.old.place + 1 < 2 ^ 64 }
-        ensures ok { OnOk result (self.new ≡ after_call error call self.old) }
+        ensures after { self.new ≡ at_next_place self.old }
+        ensures left { left self.new ≡ left self.old }
+    {
+        self.place += 1;
+    }
+
+    /// A call, refused or else queued, with a place for each later step that comes of it. Want of memory leaves all as it
+    /// was.
+    pub fn call(&mut self, call: Call) -> Result<Answer, NoMemory>
+        requires { self.old.place + 1 < 2 ^ 64 }
+        ensures ok { OnOk result (self.new ≡ after_call (call_error call self.old) call self.old) }
+        ensures answer { IfOk result (IsAnswer self.old.place (the_exception call (call_error call self.old))
+            (record { turn = None; events = call_shows call self.old.place (call_error call self.old) })) }
         ensures left { left self.new ≤ left self.old + 7 }
         ensures err { OnErr result (self.new ≡ self.old) }
     {
+        let place = self.place;
+        let error = self.error_of(&call);
+        let exception = exception_of(&call, error);
+        let showing = Showing::of_call(&call, place, error);
         match error {
-            None => self.accept(call),
-            Some(error) => match call {
-                Call::Flush => self.reject(error),
-                Call::Configure(_) => {
-                    self.enter();
-                    Ok(())
-                }
-                Call::Decode(_) => {
-                    self.enter();
-                    Ok(())
-                }
-            },
+            None => self.accept(call)?,
+            Some(_) => self.refuse(),
         }
+        Ok(Answer {
+            place,
+            exception,
+            showing,
+        })
     }
 }
 
-#[tactic(auto, using(crate::proofs::Room::tasks_fit, crate::proofs::Room::dequeues_fit, crate::proofs::Room::joined_push))]
+#[tactic(auto, using(crate::proofs::Room::tasks_fit, crate::proofs::Room::dequeues_fit, crate::proofs::Rising::rising_next, crate::proofs::Rising::none_rise, crate::proofs::Rising::rising_filter, crate::proofs::Room::end_weighs))]
 impl Machine {
     /// The front item becomes running, where there is one, none is running and the codec is not halted.
     pub fn start(&mut self) -> Option<Item>
@@ -514,53 +446,18 @@ impl Machine {
                 if r.kind == WorkKind::Coded {
                     self.coded -= 1;
                 }
-                self.progress = Some(match self.progress {
-                    Some(p) => moment.max(p),
-                    None => moment,
-                });
-                match ended {
-                    Ended::Ran(units) => match r.kind {
-                        WorkKind::Configure => {
-                            self.tasks.push_back_reserved(Task::Unblock);
-                        }
-                        WorkKind::Coded => {
-                            if self.saturated && desaturates(&self.tasks) == 0 {
-                                self.tasks.push_back_reserved(Task::Desaturate);
-                            }
-                            if !units.is_empty() {
-                                self.tasks.push_back_reserved(Task::Output(units));
-                            }
-                        }
-                        WorkKind::Flush => {
-                            let promise = r.place;
-                            self.tasks
-                                .push_back_reserved(Task::Flushed { promise, units });
-                        }
-                    },
-                    Ended::Refused => {
-                        self.halted = true;
-                        self.tasks
-                            .push_back_reserved(Task::Close(refusal_error(r.kind)));
-                    }
-                    Ended::NoSlot(_) => {
-                        self.halted = true;
-                        self.tasks
-                            .push_back_reserved(Task::Close(DomError::QuotaExceeded));
-                    }
-                    Ended::NoMemory => {
-                        self.halted = true;
-                        self.tasks
-                            .push_back_reserved(Task::Close(DomError::OutOfMemory));
-                    }
-                }
+                self.progress = Some(later(self.progress, moment));
+                self.halted = halts(&ended) || self.halted;
+                queue_end(&mut self.tasks, self.saturated, r, ended);
             }
         }
     }
 
-    /// Removes all but the running item, the outputs and a scheduled dequeue event, and rejects each pending promise.
-    fn clear(&mut self, error: DomError)
+    /// Removes all but the running item and a scheduled dequeue event. The answer is the promises that were pending.
+    fn clear(&mut self) -> List<u64>
         requires { self.old.epoch < self.old.place }
-        ensures after { self.new ≡ after_reset error self.old }
+        ensures promises { result ≡ self.old.pending }
+        ensures after { self.new ≡ after_reset self.old }
         ensures left { left self.new ≤ left self.old }
     {
         self.phase = CodecState::Unconfigured;
@@ -573,110 +470,127 @@ impl Machine {
         self.work.clear();
         self.next_item = 0;
         self.coded = 0;
-        end_pending(&mut self.ends, &mut self.pending, error);
         keep_dequeues(&mut self.tasks);
         let sized = self.size != 0;
         self.size = 0;
         schedule_dequeue(&mut self.tasks, &mut self.scheduled, sized);
+        let pending = mem::replace(&mut self.pending, VecDeque::new(self.alloc));
+        List::of(pending.into_vec())
     }
 
-    /// Clears the codec and closes it.
-    fn shut(&mut self, error: DomError)
+    /// Clears the codec and closes it. The answer is the promises that were pending.
+    fn shut(&mut self) -> List<u64>
         requires { self.old.epoch < self.old.place }
-        ensures after { self.new ≡ after_close error self.old }
+        ensures promises { result ≡ self.old.pending }
+        ensures after { self.new ≡ after_close self.old }
         ensures left { left self.new ≤ left self.old }
     {
-        self.clear(error);
+        let promises = self.clear();
         self.phase = CodecState::Closed;
+        promises
     }
 
-    /// A reset, refused with this error or else made.
-    pub fn reset(&mut self, error: Option<DomError>)
-        requires { self.old.place + 1 < 2 ^ 64 }
-        ensures made { IfNone error (self.new ≡ after_reset Abort (entered self.old)) }
-        ensures refused { OnSome error (self.new ≡ entered self.old) }
+    /// A reset or close that is not refused. The answer is the promises that were pending.
+    fn end_all(&mut self, removal: Removal) -> List<u64>
+        requires { self.old.epoch < self.old.place }
+        ensures promises { result ≡ self.old.pending }
+        ensures after { self.new ≡ after_removal removal self.old }
         ensures left { left self.new ≤ left self.old }
     {
-        self.place += 1;
-        if error.is_none() {
-            self.clear(DomError::Abort);
+        match removal {
+            Removal::Reset => self.clear(),
+            Removal::Close => self.shut(),
         }
     }
 
-    /// A close, refused with this error or else made.
-    pub fn close(&mut self, error: Option<DomError>)
+    /// A reset or close, refused or made.
+    pub fn remove(&mut self, removal: Removal) -> Answer
         requires { self.old.place + 1 < 2 ^ 64 }
-        ensures made { IfNone error (self.new ≡ after_close Abort (entered self.old)) }
-        ensures refused { OnSome error (self.new ≡ entered self.old) }
+        ensures made { IfNone (removal_error self.old) (self.new ≡ after_removal removal (at_next_place self.old)) }
+        ensures refused { OnSome (removal_error self.old) (self.new ≡ at_next_place self.old) }
+        ensures answer { IsAnswer self.old.place (removal_error self.old)
+            (record { turn = None; events = removal_shows (removal_error self.old) self.old.pending }) result }
         ensures left { left self.new ≤ left self.old }
     {
+        let place = self.place;
+        let exception = self.removal_error();
         self.place += 1;
-        if error.is_none() {
-            self.shut(DomError::Abort);
+        let showing = match exception {
+            None => Showing::Removal(self.end_all(removal)),
+            Some(error) => Showing::Refusal(error),
+        };
+        Answer {
+            place,
+            exception,
+            showing,
         }
     }
 
     /// Reclaims the codec where that may be at a moment in microseconds, and else leaves it as it was.
-    pub fn reclaim(&mut self, now: u64) -> bool
+    pub fn reclaim(&mut self, now: u64) -> Option<Answer>
         requires { self.old.place + 1 < 2 ^ 64 }
-        ensures answer { result ≡ may_reclaim now self.old }
-        ensures made { result ≡ true → self.new ≡ after_reclaim (entered self.old) }
-        ensures kept { result ≡ false → self.new ≡ self.old }
+        ensures none { IfNone result (may_reclaim now self.old ≡ false) }
+        ensures kept { IfNone result (self.new ≡ self.old) }
+        ensures may { OnSome result (may_reclaim now self.old ≡ true) }
+        ensures made { OnSome result (self.new ≡ after_close (at_next_place self.old)) }
+        ensures answer { IfSome result (IsAnswer self.old.place None (record { turn = None; events = reclaim_shows self.old.pending })) }
         ensures left { left self.new ≤ left self.old }
     {
         if !self.may_reclaim(now) {
-            return false;
+            return None;
         }
+        let place = self.place;
         self.place += 1;
-        self.shut(DomError::QuotaExceeded);
-        true
+        let showing = Showing::Reclaim(self.shut());
+        Some(Answer {
+            place,
+            exception: None,
+            showing,
+        })
     }
 
-    /// The front task runs, where there is one. The answer is whether it closed the codec.
-    pub fn turn(&mut self) -> Option<bool>
+    /// The front task runs, where there is one.
+    pub fn turn(&mut self) -> Option<Answer>
         requires { self.old.place + 1 < 2 ^ 64 }
-        ensures closes { result ≡ turn_closes self.old.tasks }
+        ensures closes { option_map (λ a. closes a.showing) result ≡ turn_closes self.old.tasks }
         ensures after { self.new ≡ after_turn self.old }
+        ensures answer { IfSome result (IsAnswer self.old.place None (record { turn = turn_word self.old.tasks; events = turn_shows self.old.tasks self.old })) }
         ensures left { OnSome result (left self.new + 1 ≤ left self.old) }
     {
-        match self.tasks.pop_front() {
-            None => None,
-            Some(task) => {
-                self.place += 1;
-                let closes = matches!(&task, Task::Close(_));
-                match task {
-                    Task::Unblock => {
-                        self.blocked = false;
-                        self.tasks.push_back_reserved(Task::Process);
-                    }
-                    Task::Process => {
-                        self.process();
-                    }
-                    Task::Desaturate => {
-                        self.saturated = false;
-                        self.process();
-                    }
-                    Task::Output(units) => {
-                        self.room -= 1;
-                        show(&mut self.outputs, &mut self.shown_count, units);
-                    }
-                    Task::Flushed { promise, units } => {
-                        self.room -= 1;
-                        remove_promise(&mut self.pending, promise);
-                        show(&mut self.outputs, &mut self.shown_count, units);
-                        self.ends.push_reserved(PromiseEnd {
-                            promise,
-                            error: None,
-                        });
-                    }
-                    Task::Dequeue => {
-                        self.scheduled = false;
-                    }
-                    Task::Close(error) => {
-                        self.shut(error);
-                    }
-                }
-                Some(closes)
+        let task = self.tasks.pop_front()?;
+        let (place, outputs) = (self.place, self.shown);
+        self.place += 1;
+        match task {
+            Task::Unblock => {
+                self.blocked = false;
+                self.tasks.push_back_reserved(Task::Process);
+                Some(turn_answer(place, Task::Unblock, outputs))
+            }
+            Task::Process => {
+                self.process();
+                Some(turn_answer(place, Task::Process, outputs))
+            }
+            Task::Desaturate => {
+                self.saturated = false;
+                self.process();
+                Some(turn_answer(place, Task::Desaturate, outputs))
+            }
+            Task::Output(units) => {
+                self.shown += units.len() as u128;
+                Some(turn_answer(place, Task::Output(units), outputs))
+            }
+            Task::Flushed { promise, units } => {
+                remove_promise(&mut self.pending, promise);
+                self.shown += units.len() as u128;
+                Some(turn_answer(place, Task::Flushed { promise, units }, outputs))
+            }
+            Task::Dequeue => {
+                self.scheduled = false;
+                Some(turn_answer(place, Task::Dequeue, outputs))
+            }
+            Task::Close(error) => {
+                let promises = self.shut();
+                Some(close_answer(place, error, promises))
             }
         }
     }

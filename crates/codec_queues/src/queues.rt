@@ -1,12 +1,13 @@
 // Plain work on the queues, apart from the codec that has them.
-ghost use Rattle.std.specs.Prelude.{ℕ, ◌≡◌, ◌<◌, ◌≤◌, ◌*◌, ◌+◌, ◌^◌, ◌++◌, ◌∷◌, [], length, count_by, filter, not, ◌==◌, ◌&&◌, ◌||◌, if◌then◌else◌, OnOk, IfOk, IfNone, IfSome, Option, vec_len, vec_capacity};
+ghost use Rattle.std.specs.Prelude.{ℕ, ◌≡◌, ◌<◌, ◌≤◌, ◌*◌, ◌+◌, ◌^◌, ◌++◌, ◌∷◌, [], max, length, count_by, filter, not, ◌==◌, ◌&&◌, ◌||◌, if◌then◌else◌, unwrap_or, OnOk, IfOk, None, Some, true, false};
 ghost use Rattle.std.specs.VecDeque.{deque_len, deque_capacity};
-ghost use Rattle.codec_model.specs.Control.{is_coded, kind_of, is_decoder, is_dequeue, is_desaturate, refusal_of, ends_of};
-ghost use Rattle.codec_queues.specs.Places.{HasPlaces};
-ghost use Rattle.codec_model.specs.Shown.{promise_ended, promise_state};
-ghost use Rattle.codec_queues.specs.Joined.{joined, Counts};
+ghost use Rattle.codec_model.specs.Control.{is_coded, kind_of, is_decoder, is_dequeue, is_desaturate, refusal_of, with_ran, with_desaturate, with_output, with_end, halts};
+ghost use Rattle.codec_model.specs.Shown.{IsAnswer, word_of_task, task_shows, close_shows, closes};
+ghost use Rattle.codec_queues.specs.Rising.{IsRising};
 
-use codec_model::{Item, Kind, Message, PromiseEnd, PromiseState, Task, Work, WorkKind};
+use codec_model::{
+    Answer, Ended, Item, Kind, Message, Running, Showing, Task, TurnWord, Work, WorkKind,
+};
 use coder_api::Unit;
 use std::collections::VecDeque;
 use wc_base::{DomError, List, NoMemory};
@@ -92,70 +93,119 @@ pub fn keep_dequeues(tasks: &mut VecDeque<Task>)
     tasks.retain(|t| is_dequeue_task(t));
 }
 
-pub fn remove_promise(pending: &mut Vec<u64>, promise: u64)
+/// Takes out a promise. Flushes end in the order of their calls, so it is the first one.
+pub fn remove_promise(pending: &mut VecDeque<u64>, promise: u64)
+    requires { (high : ℕ) × IsRising pending.old.items high }
     ensures items { pending.new.items ≡ filter (λ p. not (p == promise)) pending.old.items }
-    ensures fewer { vec_len pending.new ≤ vec_len pending.old }
 {
-    pending.retain(|p| *p != promise);
-}
-
-/// Ends each pending promise with an error, in order, with no memory.
-pub fn end_pending(ends: &mut Vec<PromiseEnd>, pending: &mut Vec<u64>, error: DomError)
-    requires { vec_len ends.old + vec_len pending.old ≤ vec_capacity ends.old }
-    ensures ends { ends.new.items ≡ ends.old.items ++ ends_of (Option.Some error) pending.old.items }
-    ensures pending { pending.new.items ≡ [] }
-    ensures len { vec_len ends.new ≡ vec_len ends.old + vec_len pending.old }
-    ensures none { vec_len pending.new ≡ 0 }
-    ensures capacity { vec_capacity ends.new ≡ vec_capacity ends.old }
-{
-    for promise in pending.iter() {
-        ends.push_reserved(PromiseEnd {
-            promise: *promise,
-            error: Some(error),
-        });
-    }
-    pending.clear();
-}
-
-fn state_of(error: Option<DomError>) -> PromiseState
-    ensures { result ≡ promise_ended error }
-{
-    match error {
-        None => PromiseState::Resolved,
-        Some(error) => PromiseState::Rejected(error),
-    }
-}
-
-/// A count of outputs with those of a list too; none where they are more than a u64 counts.
-fn with_more(count: Option<u64>, units: &List<Unit>) -> Option<u64>
-    ensures { (n : ℕ) → Counts count n → Counts result (n + length units.now) }
-{
-    count?.checked_add(units.len() as u64)
-}
-
-/// One more list of outputs, whose place was taken before, and their count.
-#[tactic(auto, using(crate::proofs::Counted::counts_more))]
-pub fn show(outputs: &mut Vec<List<Unit>>, count: &mut Option<u64>, units: List<Unit>)
-    requires { vec_len outputs.old < vec_capacity outputs.old }
-    ensures items { outputs.new.items ≡ outputs.old.items ++ units ∷ [] }
-    ensures len { vec_len outputs.new ≡ vec_len outputs.old + 1 }
-    ensures capacity { vec_capacity outputs.new ≡ vec_capacity outputs.old }
-    ensures counts { Counts count.old (length (joined outputs.old.items)) → Counts count.new (length (joined outputs.new.items)) }
-{
-    *count = with_more(*count, &units);
-    outputs.push_reserved(units);
-}
-
-/// The state of a promise, by the promises that ended.
-pub fn end_in(ends: &[PromiseEnd], promise: u64) -> PromiseState
-    ensures { result ≡ promise_state ends.now promise }
-{
-    for end in ends {
-        if end.promise == promise {
-            return state_of(end.error);
+    if let Some(first) = pending.pop_front() {
+        if first != promise {
+            pending.push_front_reserved(first);
+            pending.retain(|p| *p != promise);
         }
     }
-    PromiseState::Pending
+}
+
+/// The end of an item that ran is queued.
+fn queue_ran(tasks: &mut VecDeque<Task>, saturated: bool, running: Running, units: List<Unit>)
+    requires { deque_len tasks.old + 2 ≤ deque_capacity tasks.old }
+    ensures items { tasks.new.items ≡ with_ran running units saturated tasks.old.items }
+    ensures capacity { deque_capacity tasks.new ≡ deque_capacity tasks.old }
+{
+    match running.kind {
+        WorkKind::Configure => {
+            tasks.push_back_reserved(Task::Unblock);
+        }
+        WorkKind::Coded => {
+            queue_desaturate(tasks, saturated);
+            queue_output(tasks, units);
+        }
+        WorkKind::Flush => {
+            let promise = running.place;
+            tasks.push_back_reserved(Task::Flushed { promise, units });
+        }
+    }
+}
+
+fn queue_desaturate(tasks: &mut VecDeque<Task>, saturated: bool)
+    requires { deque_len tasks.old < deque_capacity tasks.old }
+    ensures items { tasks.new.items ≡ with_desaturate saturated tasks.old.items }
+    ensures len { deque_len tasks.new ≤ deque_len tasks.old + 1 }
+    ensures capacity { deque_capacity tasks.new ≡ deque_capacity tasks.old }
+{
+    if saturated && desaturates(tasks) == 0 {
+        tasks.push_back_reserved(Task::Desaturate);
+    }
+}
+
+fn queue_output(tasks: &mut VecDeque<Task>, units: List<Unit>)
+    requires { deque_len tasks.old < deque_capacity tasks.old }
+    ensures items { tasks.new.items ≡ with_output units tasks.old.items }
+    ensures capacity { deque_capacity tasks.new ≡ deque_capacity tasks.old }
+{
+    if !units.is_empty() {
+        tasks.push_back_reserved(Task::Output(units));
+    }
+}
+
+/// The end of an item of this epoch is queued.
+pub fn queue_end(tasks: &mut VecDeque<Task>, saturated: bool, running: Running, ended: Ended)
+    requires { deque_len tasks.old + 2 ≤ deque_capacity tasks.old }
+    ensures items { tasks.new.items ≡ with_end running ended saturated tasks.old.items }
+    ensures capacity { deque_capacity tasks.new ≡ deque_capacity tasks.old }
+{
+    match ended {
+        Ended::Ran(units) => queue_ran(tasks, saturated, running, units),
+        Ended::Refused => tasks.push_back_reserved(Task::Close(refusal_error(running.kind))),
+        Ended::NoSlot(_) => tasks.push_back_reserved(Task::Close(DomError::QuotaExceeded)),
+        Ended::NoMemory => tasks.push_back_reserved(Task::Close(DomError::OutOfMemory)),
+    }
+}
+
+/// Whether such an end halts the codec.
+pub fn halts(ended: &Ended) -> bool
+    ensures { result ≡ halts ended.now }
+{
+    match ended {
+        Ended::Ran(_) => false,
+        Ended::Refused => true,
+        Ended::NoSlot(_) => true,
+        Ended::NoMemory => true,
+    }
+}
+
+/// The later one of two moments.
+pub fn later(progress: Option<u64>, moment: u64) -> u64
+    ensures { result ≡ max moment (unwrap_or progress moment) }
+{
+    match progress {
+        Some(p) => moment.max(p),
+        None => moment,
+    }
+}
+
+/// The answer of the turn of a task that does not close the codec, after so many outputs.
+pub fn turn_answer(place: u64, task: Task, outputs: u128) -> Answer
+    ensures answer { IsAnswer place None (record { turn = Some (word_of_task task); events = task_shows task outputs [] }) result }
+    ensures closes { closes result.showing ≡ false }
+{
+    Answer {
+        place,
+        exception: None,
+        showing: Showing::Turn { task, outputs },
+    }
+}
+
+/// The answer of the turn that closed the codec with an error.
+pub fn close_answer(place: u64, error: DomError, promises: List<u64>) -> Answer
+    ensures answer { IsAnswer place None (record { turn = Some (TurnWord.Close error); events = close_shows error promises }) result }
+    ensures closes { closes result.showing ≡ true }
+{
+    Answer {
+        place,
+        exception: None,
+        showing: Showing::Close { error, promises },
+    }
 }
 
 const MOST_QUEUED: usize = 0x0200_0000_0000_0000;
@@ -176,33 +226,26 @@ pub fn room_for(messages: usize, work: usize, tasks: usize) -> Result<usize, NoM
 /// Takes a place in each queue for a message and for all that comes of it.
 pub fn reserve_places(
     messages: &mut VecDeque<Message>,
-    pending: &mut Vec<u64>,
-    ends: &mut Vec<PromiseEnd>,
+    pending: &mut VecDeque<u64>,
     work: &mut VecDeque<Item>,
     tasks: &mut VecDeque<Task>,
-    outputs: &mut Vec<List<Unit>>,
     room: usize,
 ) -> Result<(), NoMemory>
     requires { room + 1 < 2 ^ 62 }
     ensures messages { messages.new.items ≡ messages.old.items }
     ensures pending { pending.new.items ≡ pending.old.items }
-    ensures ends { ends.new.items ≡ ends.old.items }
     ensures work { work.new.items ≡ work.old.items }
     ensures tasks { tasks.new.items ≡ tasks.old.items }
-    ensures outputs { outputs.new.items ≡ outputs.old.items }
-    ensures places { OnOk result (HasPlaces room (deque_capacity work.new) (deque_capacity tasks.new) (vec_len outputs.new) (vec_capacity outputs.new) (vec_len ends.new) (vec_len pending.new + 1) (vec_capacity ends.new)) }
+    ensures for_work { OnOk result (room ≤ deque_capacity work.new) }
+    ensures for_tasks { OnOk result (room + 1 ≤ deque_capacity tasks.new) }
     ensures for_message { OnOk result (deque_len messages.new < deque_capacity messages.new) }
-    ensures for_pending { OnOk result (vec_len pending.new < vec_capacity pending.new) }
+    ensures for_pending { OnOk result (deque_len pending.new < deque_capacity pending.new) }
     ensures work_grows { deque_capacity work.old ≤ deque_capacity work.new }
     ensures tasks_grow { deque_capacity tasks.old ≤ deque_capacity tasks.new }
-    ensures outputs_grow { vec_capacity outputs.old ≤ vec_capacity outputs.new }
-    ensures ends_grow { vec_capacity ends.old ≤ vec_capacity ends.new }
 {
     messages.reserve(1)?;
     pending.reserve(1)?;
-    ends.reserve(pending.len() + room + 1)?;
     work.reserve(room)?;
     tasks.reserve(room + 1)?;
-    outputs.reserve(room)?;
     Ok(())
 }

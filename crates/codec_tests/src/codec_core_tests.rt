@@ -7,7 +7,7 @@ ghost use Rattle.codec_model.specs.Replay.{State};
 ghost use Rattle.codec_core.specs.Job.{IsJobOf};
 
 use codec_core::{Core, Job, Reply};
-use codec_model::{Call, CodecState, Kind, PromiseState};
+use codec_model::{Call, CodecState, Event, Kind, PromiseState, Removal, TurnWord, shown_list};
 use coder_api::{Coder, CoderFault, Input, SlotBox, Unit};
 use std::alloc::{AllocError, Global};
 use std::process::Abort;
@@ -124,7 +124,6 @@ const WHO: Who = Who { caller: 0, step: 0 };
 
 // Configures and flushes.
 fn begins(rt: &impl Abort, alloc: Global, core: &mut Core<Quiet>) -> Result<(), Fail> {
-    assert_eq!(rt; core.error_of(&Call::Flush), Some(DomError::InvalidState));
     let configured = core.call(WHO, pcm(alloc)?).expect(rt, "configure");
     assert_eq!(rt; (configured.place, configured.promise), (0, None));
     let flushed = core.call(WHO, Call::Flush).expect(rt, "flush");
@@ -146,13 +145,10 @@ fn runs(rt: &impl Abort, alloc: Global, core: &mut Core<Quiet>) {
 
 fn closes(rt: &impl Abort, core: &mut Core<Quiet>) {
     assert!(rt; core.spare() >= 2);
-    assert_eq!(rt;
-        (core.error_of(&Call::Flush), core.removal_error()),
-        (None, None)
-    );
-    let closed = core.close(WHO);
+    let closed = core.remove(WHO, Removal::Close);
     assert!(rt; closed.is_ok_and(|removed| removed.coder.is_some()));
-    assert_eq!(rt; core.removal_error(), Some(DomError::InvalidState));
+    let again = core.remove(WHO, Removal::Reset);
+    assert!(rt; again.is_err_and(|refusal| refusal == (DomError::InvalidState, 10)));
 }
 
 #[test]
@@ -162,9 +158,15 @@ fn ordinary_run(rt: HostRuntime) -> Result<(), Fail> {
     begins(&rt, alloc, &mut core)?;
     runs(&rt, alloc, &mut core);
     closes(&rt, &mut core);
-    let (entries, outputs) = core.into_trace();
-    assert_eq!(rt; entries.len(), 10);
-    assert_eq!(rt; outputs.len(), 1);
-    assert!(rt; outputs[0].as_slice().is_empty());
+    let (entries, showings) = core.into_trace();
+    assert_eq!(rt; entries.len(), 11);
+    let shown = shown_list(alloc, showings)?;
+    assert_eq!(rt; shown.len(), 11);
+    assert_eq!(rt; shown[8].turn, Some(TurnWord::Flushed));
+    assert_eq!(rt; shown[8].events.as_slice(), [Event::Resolve(1)].as_slice());
+    assert_eq!(rt;
+        shown[10].events.as_slice(),
+        [Event::Refusal(DomError::InvalidState)].as_slice()
+    );
     Ok(())
 }

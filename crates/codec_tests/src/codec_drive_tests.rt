@@ -5,15 +5,16 @@ ghost use Rattle.codec_core.specs.Job.{IsJobOf};
 use bytes::Bytes;
 use codec_core::{Core, Job};
 use codec_drive::run;
-use codec_model::{Call, Kind};
+use codec_model::{Call, Kind, Showing, Task};
 use coder_api::{Coder, SlotBox, Unit};
-use pcm_coder::PcmCoder;
+use sample_coder::{Coding, SampleCoder};
+use sample_conversion::SampleSize;
 use std::alloc::Global;
 use std::process::Abort;
 use std::test::Fail;
 use wc_base::{By, Text, Who};
 use wc_chunk::Chunk;
-use wc_config::{AudioDecoderConfig, CodecId, CoderId, Config, Role};
+use wc_config::{AudioDecoderConfig, Config, Role};
 
 fn pcm(alloc: Global) -> Result<Call, Fail> {
     Ok(Call::Configure(Config::AudioDecoder(AudioDecoderConfig {
@@ -34,7 +35,7 @@ fn chunk(alloc: Global, content: &[u8]) -> Result<Call, Fail> {
 }
 
 // Gives a job the box that it lacks.
-fn with_box(mut job: Job<PcmCoder>) -> Job<PcmCoder>
+fn with_box(mut job: Job<SampleCoder>) -> Job<SampleCoder>
     ensures { (s : State) → IsJobOf s job → IsJobOf s result }
 {
     if job.lacks().is_some() {
@@ -44,10 +45,7 @@ fn with_box(mut job: Job<PcmCoder>) -> Job<PcmCoder>
             place: job.place(),
         };
         let coder = SlotBox::new(
-            PcmCoder::new(CoderId {
-                role: Role::Decode,
-                codec: CodecId::PcmS16,
-            }),
+            SampleCoder::new(Role::Decode, Coding::Pcm(SampleSize::Two)),
             0,
             by,
         );
@@ -59,7 +57,7 @@ fn with_box(mut job: Job<PcmCoder>) -> Job<PcmCoder>
 }
 
 // Starts the front item, does its job and ends it; whether there was an item, a box and memory.
-fn work(alloc: Global, core: &mut Core<PcmCoder>, moment: u64) -> bool {
+fn work(alloc: Global, core: &mut Core<SampleCoder>, moment: u64) -> bool {
     let Some(job) = core.start() else {
         return false;
     };
@@ -75,7 +73,7 @@ fn work(alloc: Global, core: &mut Core<PcmCoder>, moment: u64) -> bool {
 }
 
 // Configures and decodes, and does both jobs.
-fn decodes(rt: &impl Abort, alloc: Global, core: &mut Core<PcmCoder>) -> Result<(), Fail> {
+fn decodes(rt: &impl Abort, alloc: Global, core: &mut Core<SampleCoder>) -> Result<(), Fail> {
     let who = Who { caller: 0, step: 0 };
     core.call(who, pcm(alloc)?).expect(rt, "configure");
     core.call(who, chunk(alloc, b"\x01\x00\x02\x00")?)
@@ -87,10 +85,21 @@ fn decodes(rt: &impl Abort, alloc: Global, core: &mut Core<PcmCoder>) -> Result<
     Ok(())
 }
 
-fn shows(rt: &impl Abort, core: &Core<PcmCoder>) {
-    let outputs = core.outputs();
-    assert_eq!(rt; outputs.len(), 1);
-    match outputs[0].as_slice() {
+fn shows(rt: &impl Abort, core: &Core<SampleCoder>) {
+    match core.shown() {
+        [
+            ..,
+            Showing::Turn {
+                task: Task::Output(units),
+                outputs: 0,
+            },
+        ] => has_frames(rt, units.as_slice()),
+        _ => assert!(rt; false),
+    }
+}
+
+fn has_frames(rt: &impl Abort, units: &[Unit]) {
+    match units {
         [Unit::Sound(samples)] => {
             assert_eq!(rt; samples.shape.frames, 2);
             assert_eq!(rt; samples.bytes.as_slice(), b"\x01\x00\x02\x00".as_slice());

@@ -1,5 +1,5 @@
 use bytes::Bytes;
-use codec_model::{Call, CodecState, Ended, Kind, Opening, PromiseState};
+use codec_model::{Call, CodecState, Ended, Event, Kind, Opening};
 use codec_queues::Machine;
 use coder_api::Unit;
 use std::alloc::{AllocError, Global};
@@ -27,8 +27,8 @@ fn chunk(alloc: Global) -> Result<Call, AllocError> {
     }))
 }
 
-fn units(alloc: Global) -> Result<List<Unit>, AllocError> {
-    let unit = Unit::Sound(Samples {
+fn unit(alloc: Global) -> Result<Unit, AllocError> {
+    Ok(Unit::Sound(Samples {
         shape: SoundShape {
             format: SampleFormat::S16,
             rate: 8000,
@@ -37,29 +37,52 @@ fn units(alloc: Global) -> Result<List<Unit>, AllocError> {
             timestamp: 0,
         },
         bytes: Bytes::from_vec(vec![in alloc; 1, 0, 2, 0]?)?,
-    });
-    Ok(List::of(vec![in alloc; unit]?))
+    }))
+}
+
+fn units(alloc: Global) -> Result<List<Unit>, AllocError> {
+    Ok(List::of(vec![in alloc; unit(alloc)?]?))
 }
 
 // Makes a call, and tells whether it was queued.
 fn call(machine: &mut Machine, call: Call) -> bool {
-    let error = machine.error_of(&call);
-    machine.place() < 100 && machine.call(error, call).is_ok() && error.is_none()
+    machine.place() < 100
+        && machine
+            .call(call)
+            .is_ok_and(|answer| answer.exception.is_none())
 }
 
-// Runs one item from its start to its end and then two turns.
-fn work(machine: &mut Machine, ended: Ended, moment: u64) -> bool {
-    if machine.place() > 100 || machine.start().is_none() || machine.running().is_none() {
+fn start(machine: &mut Machine) -> bool {
+    machine.place() < 100 && machine.start().is_some()
+}
+
+fn ends(machine: &mut Machine, ended: Ended, moment: u64) -> bool {
+    if machine.place() >= 100 || machine.running().is_none() {
         return false;
     }
-    if machine.place() < 100 {
-        machine.done(ended, moment);
-    }
-    turn(machine)
+    machine.done(ended, moment);
+    true
+}
+
+// Runs one item from its start to its end and then a turn.
+fn work(machine: &mut Machine, ended: Ended, moment: u64) -> bool {
+    start(machine) && ends(machine, ended, moment) && turn(machine)
 }
 
 fn turn(machine: &mut Machine) -> bool {
-    machine.place() < 100 && machine.turn() == Some(false)
+    machine.place() < 100
+        && machine
+            .turn()
+            .is_some_and(|answer| !answer.showing.closes())
+}
+
+// The events that the front task shows.
+fn shown(alloc: Global, machine: &mut Machine) -> Option<List<Event>> {
+    if machine.place() >= 100 {
+        return None;
+    }
+    let shown = machine.turn()?.showing.into_shown(alloc).ok()?;
+    Some(shown.events)
 }
 
 fn ordinary(alloc: Global, machine: &mut Machine) -> Result<bool, AllocError> {
@@ -68,16 +91,26 @@ fn ordinary(alloc: Global, machine: &mut Machine) -> Result<bool, AllocError> {
         && call(machine, Call::Flush);
     let none = List::empty(alloc);
     let configured = work(machine, Ended::Ran(none), 1) && turn(machine);
-    let decoded = work(machine, Ended::Ran(units(alloc)?), 2) && turn(machine);
-    let pending = machine.end_of(2) == PromiseState::Pending;
-    let none = List::empty(alloc);
-    Ok(calls && configured && decoded && pending && work(machine, Ended::Ran(none), 3))
+    let decoded = work(machine, Ended::Ran(units(alloc)?), 2);
+    Ok(calls && configured && decoded)
+}
+
+// The output is delivered, and the flush ends.
+fn delivers(rt: &impl Abort, alloc: Global, machine: &mut Machine) -> Result<(), AllocError> {
+    let output = Event::Output {
+        number: 0,
+        unit: unit(alloc)?,
+    };
+    let events = shown(alloc, machine).expect(rt, "an output");
+    assert_eq!(rt; events.as_slice(), [output].as_slice());
+    assert!(rt; start(machine));
+    assert!(rt; ends(machine, Ended::Ran(List::empty(alloc)), 3));
+    let events = shown(alloc, machine).expect(rt, "a promise");
+    assert_eq!(rt; events.as_slice(), [Event::Resolve(2)].as_slice());
+    Ok(())
 }
 
 fn ended(rt: &impl Abort, machine: &Machine) {
-    assert_eq!(rt; machine.end_of(2), PromiseState::Resolved);
-    assert_eq!(rt; machine.end_of(1), PromiseState::Pending);
-    assert_eq!(rt; machine.shown_count(), Some(1));
     assert_eq!(rt; machine.phase(), CodecState::Configured);
     assert_eq!(rt;
         (machine.place(), machine.size(), machine.progress()),
@@ -94,9 +127,7 @@ fn ordinary_run(rt: HostRuntime) -> Result<(), Fail> {
     };
     let mut machine = Machine::open(alloc, opening).expect(&rt, "a machine");
     assert!(rt; ordinary(alloc, &mut machine)?);
+    delivers(&rt, alloc, &mut machine)?;
     ended(&rt, &machine);
-    let outputs = machine.into_outputs();
-    assert_eq!(rt; outputs.len(), 2);
-    assert!(rt; outputs[0] == units(alloc)? && outputs[1].as_slice().is_empty());
     Ok(())
 }

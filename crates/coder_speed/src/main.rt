@@ -4,15 +4,16 @@
 
 use bytes::Bytes;
 use coder_api::{Coder, Input, Unit};
-use g711_coder::G711Coder;
-use pcm_coder::PcmCoder;
+use g711::Law;
+use sample_coder::{Coding, SampleCoder};
+use sample_conversion::SampleSize;
 use std::alloc::Global;
 use std::process::ExitCode;
 use std::rt::Env;
 use std::{env, io};
 use wc_base::{NoMemory, SampleFormat, SoundShape, Text};
 use wc_chunk::Chunk;
-use wc_config::{AudioDecoderConfig, AudioEncoderConfig, CodecId, CoderId, Config, Role};
+use wc_config::{AudioDecoderConfig, AudioEncoderConfig, Config, Role};
 
 // The sample rate of all that is measured.
 const RATE: u32 = 8000;
@@ -102,41 +103,27 @@ fn encode<C: Coder>(
 }
 
 // The codec of a word, if it is measured.
-fn codec_of(word: &str) -> Option<CodecId> {
+fn coding_of(word: &str) -> Option<Coding> {
     match word {
-        "pcm-s16" => Some(CodecId::PcmS16),
-        "ulaw" => Some(CodecId::Ulaw),
-        "alaw" => Some(CodecId::Alaw),
+        "pcm-s16" => Some(Coding::Pcm(SampleSize::Two)),
+        "ulaw" => Some(Coding::G711(Law::Ulaw)),
+        "alaw" => Some(Coding::G711(Law::Alaw)),
         _ => None,
     }
 }
 
 // What the words ask for: how many units came out.
 fn measure(alloc: Global, name: &str, work: &str, size: usize) -> Result<Option<usize>, NoMemory> {
-    let Some(codec) = codec_of(name) else {
+    let Some(coding) = coding_of(name) else {
         return Ok(None);
     };
-    let decoder = CoderId {
-        role: Role::Decode,
-        codec,
-    };
-    let encoder = CoderId {
-        role: Role::Encode,
-        codec,
-    };
-    match (codec, work) {
-        (_, "make") => {
+    match work {
+        "make" => {
             let chunk = chunk_of(alloc, size)?;
             Ok(Some(chunk.bytes.len()))
         }
-        (CodecId::PcmS16, "decode") => decode(alloc, PcmCoder::new(decoder), name, size),
-        (CodecId::PcmS16, "encode") => encode(alloc, PcmCoder::new(encoder), name, size),
-        (CodecId::Ulaw | CodecId::Alaw, "decode") => {
-            decode(alloc, G711Coder::new(decoder), name, size)
-        }
-        (CodecId::Ulaw | CodecId::Alaw, "encode") => {
-            encode(alloc, G711Coder::new(encoder), name, size)
-        }
+        "decode" => decode(alloc, SampleCoder::new(Role::Decode, coding), name, size),
+        "encode" => encode(alloc, SampleCoder::new(Role::Encode, coding), name, size),
         _ => Ok(None),
     }
 }

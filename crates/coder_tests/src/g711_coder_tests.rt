@@ -1,11 +1,12 @@
 use bytes::Bytes;
 use coder_api::{Coder, CoderBox, Input, Unit};
-use g711_coder::{G711Coder, alaw_decode, alaw_encode, ulaw_decode, ulaw_encode};
+use g711::{Law, alaw_decode, alaw_encode, ulaw_decode, ulaw_encode};
+use sample_coder::{Coding, SampleCoder};
 use std::alloc::Global;
 use std::test::Fail;
 use wc_base::{NoMemory, SampleFormat, Samples, SoundShape, Text};
 use wc_chunk::Chunk;
-use wc_config::{AudioDecoderConfig, AudioEncoderConfig, CodecId, CoderId, Config, Role};
+use wc_config::{AudioDecoderConfig, AudioEncoderConfig, Config, Role};
 
 #[test]
 fn values_of_mu_law(rt: HostRuntime) {
@@ -274,16 +275,10 @@ const ULAW_SAMPLES: [u8; 8] = [0x84, 0x82, 0x7C, 0x7D, 0, 0, 0, 0];
 #[test]
 fn mu_law_coders(rt: HostRuntime) {
     let alloc = rt.alloc();
-    let mut decoder = G711Coder::new(CoderId {
-        role: Role::Decode,
-        codec: CodecId::Ulaw,
-    });
+    let mut decoder = SampleCoder::new(Role::Decode, Coding::G711(Law::Ulaw));
     let decoded = decodes(alloc, &mut decoder, "ulaw", &ULAW_CODES, &ULAW_SAMPLES);
     assert!(rt; matches!(decoded, Ok(true)));
-    let mut encoder = G711Coder::new(CoderId {
-        role: Role::Encode,
-        codec: CodecId::Ulaw,
-    });
+    let mut encoder = SampleCoder::new(Role::Encode, Coding::G711(Law::Ulaw));
     let samples = [3, 0, 4, 0, 0xFF, 0xFF, 0xFF, 0x7F];
     let encoded = encodes(
         alloc,
@@ -298,10 +293,7 @@ fn mu_law_coders(rt: HostRuntime) {
 #[test]
 fn a_law_coders(rt: HostRuntime) {
     let alloc = rt.alloc();
-    let mut decoder = G711Coder::new(CoderId {
-        role: Role::Decode,
-        codec: CodecId::Alaw,
-    });
+    let mut decoder = SampleCoder::new(Role::Decode, Coding::G711(Law::Alaw));
     let samples = [8, 0, 0xF8, 0xFF, 0x00, 0x7E, 0x00, 0x82];
     let decoded = decodes(
         alloc,
@@ -311,10 +303,7 @@ fn a_law_coders(rt: HostRuntime) {
         &samples,
     );
     assert!(rt; matches!(decoded, Ok(true)));
-    let mut encoder = G711Coder::new(CoderId {
-        role: Role::Encode,
-        codec: CodecId::Alaw,
-    });
+    let mut encoder = SampleCoder::new(Role::Encode, Coding::G711(Law::Alaw));
     let samples = [0, 0, 0xFF, 0xFF, 0xFF, 0x7F, 0x00, 0x80];
     let encoded = encodes(
         alloc,
@@ -331,10 +320,7 @@ fn a_boxed_coder(rt: HostRuntime) -> Result<(), Fail> {
     let alloc = rt.alloc();
     let mut decoder = CoderBox::of(Box::new(
         alloc,
-        G711Coder::new(CoderId {
-            role: Role::Decode,
-            codec: CodecId::Ulaw,
-        }),
+        SampleCoder::new(Role::Decode, Coding::G711(Law::Ulaw)),
     )?);
     let decoded = decodes(alloc, &mut decoder, "ulaw", &ULAW_CODES, &ULAW_SAMPLES);
     assert!(rt; matches!(decoded, Ok(true)));

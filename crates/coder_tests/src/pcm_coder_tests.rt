@@ -5,7 +5,8 @@ ghost use Rattle.coder_api.specs.Meaning.{Fits};
 
 use bytes::Bytes;
 use coder_api::{Coder, CoderBox, CoderFault, Command, Input, SlotBox, Unit, feed};
-use pcm_coder::PcmCoder;
+use sample_coder::{Coding, SampleCoder};
+use sample_conversion::SampleSize;
 use std::alloc::Global;
 use std::test::Fail;
 use wc_base::{By, SampleFormat, Samples, SoundShape, Text, Who};
@@ -69,14 +70,16 @@ fn sound(
 }
 
 /// The coder that a config asks for.
-fn coder_for(config: &Config) -> Option<PcmCoder> {
+fn coder_for(config: &Config) -> Option<SampleCoder> {
     let id = config.coder_id()?;
-    match id.codec {
-        CodecId::PcmU8 | CodecId::PcmS16 | CodecId::PcmS24 | CodecId::PcmS32 => {
-            Some(PcmCoder::new(id))
-        }
-        _ => None,
-    }
+    let size = match id.codec {
+        CodecId::PcmU8 => SampleSize::One,
+        CodecId::PcmS16 => SampleSize::Two,
+        CodecId::PcmS24 => SampleSize::Three,
+        CodecId::PcmS32 => SampleSize::Four,
+        _ => return None,
+    };
+    Some(SampleCoder::new(id.role, Coding::Pcm(size)))
 }
 
 /// What a coder gives for an input, freshly configured.
@@ -240,10 +243,7 @@ fn encoders_convert_samples(rt: HostRuntime) -> Result<(), Fail> {
 fn commands_are_fed_up_to_a_refusal(rt: HostRuntime) -> Result<(), Fail> {
     let alloc = rt.alloc();
     let config = decoder(alloc, "pcm-s16", 1)?;
-    let mut coder = PcmCoder::new(CoderId {
-        role: Role::Decode,
-        codec: CodecId::PcmS16,
-    });
+    let mut coder = SampleCoder::new(Role::Decode, Coding::Pcm(SampleSize::Two));
     let mut out = Vec::new(alloc);
     assert!(rt; coder.supports(&config));
     coder.configure(alloc, &config)?;
@@ -268,7 +268,8 @@ fn a_box_is_lent_with_its_number(rt: HostRuntime) -> Result<(), Fail> {
     };
     let by = By::Caller(Who { caller: 1, step: 2 });
     let config = decoder(alloc, "pcm-u8", 1)?;
-    let mut lent = SlotBox::new(PcmCoder::new(id), 3, by);
+    let coder = SampleCoder::new(Role::Decode, Coding::Pcm(SampleSize::One));
+    let mut lent = SlotBox::new(coder, 3, by);
     assert!(rt; lent.id() == id && lent.number() == 3 && lent.by() == by);
     assert!(rt; lent.supports(&config));
     lent.configure(alloc, &config)?;

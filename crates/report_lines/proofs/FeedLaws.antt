@@ -28,24 +28,24 @@ use Rattle.report_text.specs.declared.result.StepResult.{StepResult}
 use Rattle.report_text.specs.declared.result.StepResult.TheVariants as result
 use Rattle.report_text.specs.Words.{error_name, answer_text, kind_text, state_text, sample_format_text, picture_format_text, codec_text, role_text, chunk_type_text}
 use Rattle.report_text.specs.Names.{caller_name, codec_name, item_text, who_text, entry_name, look_name, coder_text, by_text}
-use Rattle.report_text.specs.Lines.{promise_text, outcome_text, turn_text, result_text, slot_text, numbered_line}
-use Rattle.report_text.specs.Outputs.{number_or_dash, hex_or_dash, content_line, sound_text, picture_text, sound_duration}
-use Rattle.report_fields.specs.Words.{is_word_byte}
-use Rattle.report_fields.specs.Laws.{FitsOrAbsent}
-use Rattle.report_fields.proofs.WordLaws.{cases_bool}
-use Rattle.report_fields.proofs.FieldLaws.{decimal_word}
-use Rattle.report_text.specs.declared.told.Told.{Told}
-use Rattle.report_text.specs.declared.told.Told.TheVariants as told
-use Rattle.report_lines.specs.declared.line.Seen.{Seen}
-use Rattle.report_lines.specs.declared.line.Seen.TheVariants as seen
-use Rattle.report_lines.specs.declared.line.Line.{Line}
-use Rattle.report_lines.specs.declared.line.Line.TheVariants as line
+use Rattle.report_text.specs.Text.{promise_text, outcome_text, turn_text, result_text, slot_text, numbered_line}
+use Rattle.report_text.specs.Text.{number_or_dash, hex_or_dash, content_line, sound_text, picture_text, sound_duration}
+use Rattle.report_lines.specs.Words.{is_word_byte}
+use Rattle.report_lines.specs.FieldLaws.{FitsOrAbsent}
+use Rattle.report_lines.proofs.WordLaws.{cases_bool}
+use Rattle.report_lines.proofs.FieldLaws.{decimal_word}
+use Rattle.report_text.specs.declared.line.EntryLine.{EntryLine}
+use Rattle.report_text.specs.declared.line.EntryLine.TheVariants as entry_line
+use Rattle.report_text.specs.declared.line.EventLine.{EventLine}
+use Rattle.report_text.specs.declared.line.EventLine.TheVariants as event_line
+use Rattle.report_text.specs.declared.line.Line.{Line}
+use Rattle.report_text.specs.declared.line.Line.TheVariants as line
 use Rattle.report_text.specs.Words.{call_word}
-use Rattle.report_text.specs.Lines.{told_text}
-use Rattle.report_lines.specs.Text.{seen_line, line_text}
-use Rattle.report_lines.specs.Fits.{is_no_feed, AreNames, IsCodec, FitsWho, FitsResult, FitsOutcome, FitsTold, FitsSound, FitsImage, FitsSeen, FitsBy, FitsOp, FitsLine}
+use Rattle.report_text.specs.Text.{entry_text}
+use Rattle.report_text.specs.Text.{event_text, line_text}
+use Rattle.report_lines.specs.Fits.{is_no_feed, AreNames, IsCodec, FitsWho, FitsResult, FitsOutcome, FitsEntryLine, FitsSound, FitsImage, FitsEventLine, FitsBy, FitsOp, FitsLine}
 use Rattle.report_lines.specs.Laws.{IsOneLine}
-use Rattle.report_lines.proofs.Vocabulary.{error_is_word, answer_is_word, kind_is_word, state_is_word, call_is_word, sample_format_is_word, picture_format_is_word, codec_id_is_word, role_is_word, key_is_word}
+use Rattle.report_lines.proofs.WordTables.{error_is_word, answer_is_word, kind_is_word, state_is_word, call_is_word, sample_format_is_word, picture_format_is_word, codec_id_is_word, role_is_word, key_is_word}
 use Rattle.report_lines.proofs.LineLaws.{duration_fits}
 
 record Plain (w : List ℕ) : Type 0 where
@@ -140,12 +140,12 @@ turn_plain (Some (turn.Close e)) = both (codes "close ") _ (sure refl) (word_pla
 item_plain : (epoch item : ℕ) → epoch < 2 ^ 64 → item < 2 ^ 64 → Plain (item_text epoch item)
 item_plain epoch item a b = both _ _ (number epoch a) (both (codes ".") _ (sure refl) (number item b))
 
-told_plain : (script : ScriptData) (e : Told) → AreNames script → FitsTold script e → Plain (told_text script.callers e)
-told_plain script (told.Call who call error) names fits = both _ _ (who_plain script who names fits) (both (codes " ") _ blank (both _ _ (word_plain (call_word call) (call_is_word call)) (both (codes " = ") _ (sure refl) (answer error))))
-told_plain script (told.Start epoch item) names fits = both (codes "start ") _ (sure refl) (item_plain epoch item fits.0 fits.1)
-told_plain script (told.Done epoch item moment outcome) names fits = both (codes "done ") _ (sure refl) (both _ _ (item_plain epoch item fits.0 fits.1) (both (codes " ") _ blank (both _ _ (number moment fits.2) (both (codes " ") _ blank (outcome_plain outcome fits.3)))))
-told_plain script (told.Turn word) names fits = both (codes "turn ") _ (sure refl) (turn_plain word)
-told_plain script (told.Reclaim moment) names fits = both (codes "reclaim ") _ (sure refl) (number moment fits)
+entry_line_plain : (script : ScriptData) (e : EntryLine) → AreNames script → FitsEntryLine script e → Plain (entry_text script.callers e)
+entry_line_plain script (entry_line.Call who call error) names fits = both _ _ (who_plain script who names fits) (both (codes " ") _ blank (both _ _ (word_plain (call_word call) (call_is_word call)) (both (codes " = ") _ (sure refl) (answer error))))
+entry_line_plain script (entry_line.Start epoch item) names fits = both (codes "start ") _ (sure refl) (item_plain epoch item fits.0 fits.1)
+entry_line_plain script (entry_line.Done epoch item moment outcome) names fits = both (codes "done ") _ (sure refl) (both _ _ (item_plain epoch item fits.0 fits.1) (both (codes " ") _ blank (both _ _ (number moment fits.2) (both (codes " ") _ blank (outcome_plain outcome fits.3)))))
+entry_line_plain script (entry_line.Turn word) names fits = both (codes "turn ") _ (sure refl) (turn_plain word)
+entry_line_plain script (entry_line.Reclaim moment) names fits = both (codes "reclaim ") _ (sure refl) (number moment fits)
 
 by_plain : (script : ScriptData) (who : By) → AreNames script → FitsBy script who → Plain (by_text script who)
 by_plain script (by.Caller who) names fits = who_plain script who names fits
@@ -185,24 +185,28 @@ sound_plain shape bytes fits = both _ _ (word_plain (sample_format_text shape.fo
 picture_plain : (shape : PictureShape) (bytes : List ℕ) → FitsImage shape bytes → Plain (picture_text shape)
 picture_plain shape bytes fits = both _ _ (word_plain (picture_format_text shape.format) (picture_format_is_word shape.format)) (both (codes " ") _ blank (both _ _ (short_number shape.width fits.width) (both (codes " ") _ blank (short_number shape.height fits.height))))
 
-seen_one : (s : Seen) → FitsSeen s → IsOneLine (seen_line s)
-seen_one (seen.Sound shape bytes) fits = content_one _ shape.timestamp (Some (sound_duration shape)) bytes (both (codes "  output audio ") _ (sure refl) (sound_plain shape bytes fits)) fits.timestamp (duration_fits shape fits.frames) fits.are_bytes
-seen_one (seen.Image shape bytes) fits = content_one _ shape.timestamp shape.duration bytes (both (codes "  output video ") _ (sure refl) (picture_plain shape bytes fits)) fits.timestamp fits.duration fits.are_bytes
-seen_one (seen.Chunk key timestamp duration bytes) fits = content_one _ timestamp duration bytes (both (codes "  output chunk ") _ (sure refl) (word_plain (chunk_type_text key) (key_is_word key))) fits.0 fits.1 fits.2
-seen_one (seen.Config codec rate channels description) fits =
+event_one : (s : EventLine) → FitsEventLine s → IsOneLine (event_text s)
+event_one (event_line.Sound samples) fits =
+    let shape = samples.shape in
+    content_one _ shape.timestamp (Some (sound_duration shape)) samples.bytes (both (codes "  output audio ") _ (sure refl) (sound_plain shape samples.bytes fits)) fits.timestamp (duration_fits shape fits.frames) fits.are_bytes
+event_one (event_line.Image picture) fits =
+    let shape = picture.shape in
+    content_one _ shape.timestamp shape.duration picture.bytes (both (codes "  output video ") _ (sure refl) (picture_plain shape picture.bytes fits)) fits.timestamp fits.duration fits.are_bytes
+event_one (event_line.Chunk chunk) fits = content_one _ chunk.timestamp chunk.duration chunk.bytes (both (codes "  output chunk ") _ (sure refl) (word_plain (chunk_type_text chunk.key) (key_is_word chunk.key))) fits.0 fits.1 fits.2
+event_one (event_line.Config codec rate channels description) fits =
     behind _ _ (both _ _ (both (codes "  config ") _ (sure refl) (both codec _ (sure fits.1) (both (codes " ") _ blank (both _ _ (short_number rate fits.2) (both (codes " ") _ blank (both _ _ (short_number channels fits.3) blank)))))) (hex description fits.4)) feed
-seen_one (seen.Resolve p) fits = behind (codes "  resolve ") _ (sure refl) (behind _ _ (number p fits) feed)
-seen_one (seen.Reject p e) fits = behind (codes "  reject ") _ (sure refl) (behind _ _ (number p fits) (behind (codes " ") _ blank (behind _ _ (word_plain (error_name e) (error_is_word e)) feed)))
-seen_one seen.Dequeue fits = behind (codes "  dequeue") _ (sure refl) feed
-seen_one (seen.Error e) fits = behind (codes "  error ") _ (sure refl) (behind _ _ (word_plain (error_name e) (error_is_word e)) feed)
+event_one (event_line.Resolve p) fits = behind (codes "  resolve ") _ (sure refl) (behind _ _ (number p fits) feed)
+event_one (event_line.Reject p e) fits = behind (codes "  reject ") _ (sure refl) (behind _ _ (number p fits) (behind (codes " ") _ blank (behind _ _ (word_plain (error_name e) (error_is_word e)) feed)))
+event_one event_line.Dequeue fits = behind (codes "  dequeue") _ (sure refl) feed
+event_one (event_line.Error e) fits = behind (codes "  error ") _ (sure refl) (behind _ _ (word_plain (error_name e) (error_is_word e)) feed)
 
 pub line_one : (script : ScriptData) (l : Line) → AreNames script → FitsLine script l → IsOneLine (line_text script l)
 line_one script line.Header names fits = behind (codes "wcrun report 1") _ (sure refl) feed
 line_one script (line.Caller n) names fits = behind (codes "caller ") _ (sure refl) (behind _ _ (word_plain (caller_name script.callers n) (names.callers_are_words n fits.0)) feed)
 line_one script (line.Result step found) names fits = numbered_one step _ fits.0 (result_plain script found names fits.1)
 line_one script (line.Codec n opening) names fits = behind (codes "codec ") _ (sure refl) (behind _ _ (word_plain (codec_name script.codecs n) (names.codecs_are_words n fits.0.0)) (behind (codes " ") _ blank (behind _ _ (word_plain (kind_text opening.kind) (kind_is_word opening.kind)) (behind (codes " ") _ blank (behind _ _ (short_number opening.saturation fits.1) feed)))))
-line_one script (line.Entry place entry) names fits = numbered_one place _ fits.0 (told_plain script entry names fits.1)
-line_one script (line.Seen s) names fits = seen_one s fits
+line_one script (line.Entry place entry) names fits = numbered_one place _ fits.0 (entry_line_plain script entry names fits.1)
+line_one script (line.Event s) names fits = event_one s fits
 line_one script line.Pool names fits = behind (codes "pool") _ (sure refl) feed
 line_one script line.Slots names fits = behind (codes "slots") _ (sure refl) feed
 line_one script (line.Slot place entry) names fits = numbered_one place _ fits.0 (both _ _ (by_plain script entry.by names fits.1) (both (codes " ") _ blank (slot_plain entry.op fits.2)))

@@ -1,6 +1,7 @@
-pub mod Vocabulary
-pub mod LineLaws
-pub mod FeedLaws
-pub mod Agreement
-pub mod Report
-pub mod ReadLaws
+mod WordLaws
+mod FieldLaws
+mod FieldFits
+mod WordTables
+mod LineLaws
+mod FeedLaws
+mod ReadLaws

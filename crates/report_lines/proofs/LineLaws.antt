@@ -26,36 +26,33 @@ use Rattle.codec_model.specs.declared.entry.Outcome.TheVariants as outcome
 use Rattle.codec_model.specs.declared.entry.TurnWord.{TurnWord}
 use Rattle.codec_model.specs.declared.entry.TurnWord.TheVariants as turn
 use Rattle.script_types.specs.declared.script.ScriptData.{ScriptData}
-use Rattle.script_types.specs.declared.script.KindWord.TheVariants as word
+use Rattle.wc_config.specs.declared.kind.Kind.TheVariants as word
 use Rattle.script_types.specs.declared.script.CodecItem.{CodecItem}
 use Rattle.script_types.specs.declared.script.CallerItem.{CallerItem}
 use Rattle.report_text.specs.declared.result.StepResult.{StepResult}
 use Rattle.report_text.specs.declared.result.StepResult.TheVariants as result
-use Rattle.report_text.specs.Outputs as text
 use Rattle.report_text.specs.Words.{error_name, answer_text, kind_text, state_text, sample_format_text, picture_format_text, codec_text, role_text, chunk_type_text}
 use Rattle.report_text.specs.Names.{caller_name, codec_name}
-use Rattle.report_text.specs.Lines.{promise_text, outcome_text, turn_text, slot_text, result_line, numbered_line, slot_line}
-use Rattle.report_text.specs.Outputs.{sound_duration, sound_line, picture_line, chunk_line, config_line}
-use Rattle.report_fields.specs.Words.{◌>>=◌, after, is_word_byte}
-use Rattle.report_fields.specs.Fields as fields
-use Rattle.report_fields.specs.Fields.{short, number_upto, short_upto, signed_upto, number_or_dash_upto, bytes_upto}
-use Rattle.report_fields.specs.Laws.{Lacks, FitsOrAbsent}
-use Rattle.report_fields.proofs.WordLaws.{upto_again, after_again, after_only, word_again, same_bytes, not_same}
-use Rattle.report_fields.proofs.FieldLaws.{number_again, short_again, signed_again, number_or_dash_again, bytes_again, decimal_digits, decimal_word, decimal_not_nil}
-use Rattle.report_text.specs.declared.told.CallWord.{CallWord}
-use Rattle.report_text.specs.declared.told.CallWord.TheVariants as call
-use Rattle.report_text.specs.declared.told.Told.{Told}
-use Rattle.report_text.specs.declared.told.Told.TheVariants as told
-use Rattle.report_lines.specs.declared.line.Seen.{Seen}
-use Rattle.report_lines.specs.declared.line.Seen.TheVariants as seen
-use Rattle.report_lines.specs.declared.line.Line.{Line}
-use Rattle.report_lines.specs.declared.line.Line.TheVariants as line
+use Rattle.report_text.specs.Text.{promise_text, outcome_text, turn_text, slot_text, numbered_line, number_or_dash, hex_or_dash, sound_duration}
+use Rattle.report_lines.specs.Words.{◌>>=◌, after, is_word_byte}
+use Rattle.report_lines.specs.Fields.{short, number_or_dash_upto, bytes_upto}
+use Rattle.report_lines.specs.FieldLaws.{Lacks, FitsOrAbsent}
+use Rattle.report_lines.proofs.WordLaws.{upto_again, after_again, after_only, word_again, same_bytes, not_same}
+use Rattle.report_lines.proofs.FieldLaws.{number_again, short_again, signed_again, number_or_dash_again, bytes_again, decimal_digits, decimal_word, decimal_not_nil}
+use Rattle.report_text.specs.declared.line.CallWord.{CallWord}
+use Rattle.report_text.specs.declared.line.CallWord.TheVariants as call
+use Rattle.report_text.specs.declared.line.EntryLine.{EntryLine}
+use Rattle.report_text.specs.declared.line.EntryLine.TheVariants as entry_line
+use Rattle.report_text.specs.declared.line.EventLine.{EventLine}
+use Rattle.report_text.specs.declared.line.EventLine.TheVariants as event_line
+use Rattle.report_text.specs.declared.line.Line.{Line}
+use Rattle.report_text.specs.declared.line.Line.TheVariants as line
 use Rattle.report_text.specs.Words.{call_word}
-use Rattle.report_text.specs.Lines.{told_text}
-use Rattle.report_lines.specs.Text.{seen_line, line_text}
-use Rattle.report_lines.specs.Reading.{caller_of, codec_of, error_at, answer_at, promise_at, look_at, looked, call_result, outcome_at, turn_at, start_at, done_at, call_at, by_of, coder_at, refused_at, acquired_at, given_at, op_at, slot_at, dotted, worded, numbered, sound_at, image_at, chunk_at, output_at, config_at, reject_at, seen_at, shown_at, codec_at, caller_at, headed, parsed, line_at}
-use Rattle.report_lines.specs.Fits.{is_no_feed, AreNames, IsCaller, IsCodec, FitsWho, FitsResult, FitsOutcome, FitsTold, FitsSound, FitsImage, FitsSeen, FitsBy, FitsOp, FitsLine}
-use Rattle.report_lines.proofs.Vocabulary.{error_is_word, error_again, answer_is_word, answer_again, kind_is_word, kind_again, state_is_word, state_again, call_is_word, call_again, sample_format_is_word, sample_format_again, picture_format_is_word, picture_format_again, codec_id_is_word, codec_id_again, role_is_word, role_again, key_is_word, key_again}
+use Rattle.report_text.specs.Text.{entry_text}
+use Rattle.report_text.specs.Text.{event_text, line_text}
+use Rattle.report_lines.specs.Reading.{caller_of, codec_of, error_at, answer_at, promise_at, look_at, look_line_at, call_result_at, outcome_at, turn_at, start_at, done_at, call_at, by_of, coder_at, refused_at, acquired_at, given_at, op_at, slot_at, dotted_line_at, worded_line_at, numbered_line_at, sound_at, image_at, chunk_at, output_at, config_at, reject_at, event_at, event_line_at, codec_at, caller_at, headed_line_at, only_line_at, line_at}
+use Rattle.report_lines.specs.Fits.{is_no_feed, AreNames, IsCaller, IsCodec, FitsWho, FitsResult, FitsOutcome, FitsEntryLine, FitsSound, FitsImage, FitsEventLine, FitsBy, FitsOp, FitsLine}
+use Rattle.report_lines.proofs.WordTables.{error_is_word, error_again, answer_is_word, answer_again, kind_is_word, kind_again, state_is_word, state_again, call_is_word, call_again, sample_format_is_word, sample_format_again, picture_format_is_word, picture_format_again, codec_id_is_word, codec_id_again, role_is_word, role_again, key_is_word, key_again}
 
 -- ---- names
 
@@ -166,24 +163,24 @@ turn_again (Some (turn.Close e)) rest = rw (error_at_again e rest) refl
 -- ---- lines with a number
 
 -- a number comes first, and what follows is read by the mark behind its word
-numbered_first : (script : ScriptData) (n : ℕ) (rest : List ℕ) → n < 2 ^ 64 → parsed script (decimal n ++ 32 ∷ rest) ≡ numbered script (decimal n ++ 32 ∷ rest)
-unfolding parsed
+numbered_first : (script : ScriptData) (n : ℕ) (rest : List ℕ) → n < 2 ^ 64 → only_line_at script (decimal n ++ 32 ∷ rest) ≡ numbered_line_at script (decimal n ++ 32 ∷ rest)
+unfolding only_line_at
 numbered_first script n rest lt = rw (word_again 32 (decimal n) rest (decimal_word n lt) refl, decimal_not_nil n lt, decimal_digits n lt) refl
 
 dotted_next : (script : ScriptData) (n : ℕ) (name rest : List ℕ) → n < 2 ^ 64 → list_all is_word_byte name ≡ true
-    → parsed script (decimal n ++ 32 ∷ (name ++ 46 ∷ rest)) ≡ dotted script n name rest
-unfolding numbered
+    → only_line_at script (decimal n ++ 32 ∷ (name ++ 46 ∷ rest)) ≡ dotted_line_at script n name rest
+unfolding numbered_line_at
 dotted_next script n name rest lt word =
     numbered_first script n (name ++ 46 ∷ rest) lt ∙ rw (number_again 32 n (name ++ 46 ∷ rest) lt refl, word_again 46 name rest word refl) refl
 
 looked_next : (script : ScriptData) (n : ℕ) (name rest : List ℕ) → n < 2 ^ 64 → list_all is_word_byte name ≡ true
-    → parsed script (decimal n ++ 32 ∷ (name ++ 58 ∷ rest)) ≡ looked script n name rest
-unfolding numbered
+    → only_line_at script (decimal n ++ 32 ∷ (name ++ 58 ∷ rest)) ≡ look_line_at script n name rest
+unfolding numbered_line_at
 looked_next script n name rest lt word =
     numbered_first script n (name ++ 58 ∷ rest) lt ∙ rw (number_again 32 n (name ++ 58 ∷ rest) lt refl, word_again 58 name rest word refl) refl
 
-worded_answer : (n : ℕ) (a : Option DomError) (rest : List ℕ) → worded n (answer_text a) rest ≡ Some (line.Result n (result.Local a))
-unfolding worded
+worded_answer : (n : ℕ) (a : Option DomError) (rest : List ℕ) → worded_line_at n (answer_text a) rest ≡ Some (line.Result n (result.Local a))
+unfolding worded_line_at
 worded_answer n None rest = refl
 worded_answer n (Some dom.Abort) rest = refl
 worded_answer n (Some dom.InvalidState) rest = refl
@@ -196,8 +193,8 @@ worded_answer n (Some dom.TypeErr) rest = refl
 worded_answer n (Some dom.RangeErr) rest = refl
 worded_answer n (Some dom.OutOfMemory) rest = refl
 
-result_again : (script : ScriptData) (step : ℕ) (r : StepResult) (rest : List ℕ) → AreNames script → step < 2 ^ 64 → FitsResult script r → parsed script (result_line script.codecs step r ++ rest) ≡ Some (line.Result step r)
-unfolding dotted looked numbered call_result worded
+result_again : (script : ScriptData) (step : ℕ) (r : StepResult) (rest : List ℕ) → AreNames script → step < 2 ^ 64 → FitsResult script r → only_line_at script (line_text script (line.Result step r) ++ rest) ≡ Some (line.Result step r)
+unfolding dotted_line_at look_line_at numbered_line_at call_result_at worded_line_at
 result_again script step (result.Call n place error) rest names lt fits = simp append_assoc (
     dotted_next script step (codec_name script.codecs n) (decimal place ++ 32 ∷ (answer_text error ++ 10 ∷ rest)) lt (names.codecs_are_words n fits.0.0)
     ∙ rw (number_again 32 place _ fits.1 refl, word_again 10 (answer_text error) rest (answer_is_word error) refl, codec_again script n names fits.0, answer_again error) refl)
@@ -222,24 +219,24 @@ call_no_slot call.Reset x y = refl
 call_no_slot call.Close x y = refl
 
 called_again : (script : ScriptData) (place : ℕ) (who : Who) (c : CallWord) (error : Option DomError) (rest : List ℕ) → AreNames script → FitsWho script who
-    → dotted script place (caller_name script.callers who.caller) (decimal who.step ++ 32 ∷ (call_word c ++ 32 ∷ 61 ∷ 32 ∷ (answer_text error ++ 10 ∷ rest))) ≡ Some (line.Entry place (told.Call who c error))
-unfolding dotted call_at
+    → dotted_line_at script place (caller_name script.callers who.caller) (decimal who.step ++ 32 ∷ (call_word c ++ 32 ∷ 61 ∷ 32 ∷ (answer_text error ++ 10 ∷ rest))) ≡ Some (line.Entry place (entry_line.Call who c error))
+unfolding dotted_line_at call_at
 called_again script place who c error rest names fits =
     rw (number_again 32 who.step _ (omega (arith, fits.1)) refl, word_again 32 (call_word c) _ (call_is_word c) refl)
     (call_no_slot c _ _ ∙ rw (caller_again script who.caller names fits.0, short_is who.step fits.1, call_again c, answer_at_again error rest) refl)
 
-entry_again : (script : ScriptData) (place : ℕ) (e : Told) (rest : List ℕ) → AreNames script → place < 2 ^ 64 → FitsTold script e → parsed script (numbered_line place (told_text script.callers e) ++ rest) ≡ Some (line.Entry place e)
-unfolding worded numbered start_at done_at
-entry_again script place (told.Call who call error) rest names lt fits = simp append_assoc (
+entry_again : (script : ScriptData) (place : ℕ) (e : EntryLine) (rest : List ℕ) → AreNames script → place < 2 ^ 64 → FitsEntryLine script e → only_line_at script (numbered_line place (entry_text script.callers e) ++ rest) ≡ Some (line.Entry place e)
+unfolding worded_line_at numbered_line_at start_at done_at
+entry_again script place (entry_line.Call who call error) rest names lt fits = simp append_assoc (
     dotted_next script place (caller_name script.callers who.caller) (decimal who.step ++ 32 ∷ (call_word call ++ 32 ∷ 61 ∷ 32 ∷ (answer_text error ++ 10 ∷ rest))) lt (names.callers_are_words who.caller fits.0.0)
     ∙ called_again script place who call error rest names fits)
-entry_again script place (told.Start epoch item) rest names lt fits = simp append_assoc (
+entry_again script place (entry_line.Start epoch item) rest names lt fits = simp append_assoc (
     numbered_first script place _ lt ∙ rw (number_again 32 place _ lt refl, number_again 46 epoch _ fits.0 refl, number_again 10 item _ fits.1 refl) refl)
-entry_again script place (told.Done epoch item moment outcome) rest names lt fits = simp append_assoc (
+entry_again script place (entry_line.Done epoch item moment outcome) rest names lt fits = simp append_assoc (
     numbered_first script place _ lt ∙ rw (number_again 32 place _ lt refl, number_again 46 epoch _ fits.0 refl, number_again 32 item _ fits.1 refl, number_again 32 moment _ fits.2 refl, outcome_again outcome rest fits.3) refl)
-entry_again script place (told.Turn word) rest names lt fits = simp append_assoc (
+entry_again script place (entry_line.Turn word) rest names lt fits = simp append_assoc (
     numbered_first script place _ lt ∙ rw (number_again 32 place _ lt refl, turn_again word rest) refl)
-entry_again script place (told.Reclaim moment) rest names lt fits = simp append_assoc (
+entry_again script place (entry_line.Reclaim moment) rest names lt fits = simp append_assoc (
     numbered_first script place _ lt ∙ rw (number_again 32 place _ lt refl, number_again 10 moment _ fits refl) refl)
 
 -- ---- entries of the registry
@@ -250,8 +247,8 @@ coder_again id rest = rw (word_again 58 (role_text id.role) _ (role_is_word id.r
 
 -- behind the name and the number of who caused it
 op_found : (script : ScriptData) (place : ℕ) (name : List ℕ) (m : ℕ) (op : SlotOp) (rest : List ℕ) (who : By) → m < 2 ^ 64 → FitsOp op → by_of script name m ≡ Some who
-    → dotted script place name (decimal m ++ 32 ∷ (slot_text op ++ 10 ∷ rest)) ≡ Some (line.Slot place (record { by = who; op = op }))
-unfolding dotted slot_at op_at acquired_at given_at refused_at
+    → dotted_line_at script place name (decimal m ++ 32 ∷ (slot_text op ++ 10 ∷ rest)) ≡ Some (line.Slot place (record { by = who; op = op }))
+unfolding dotted_line_at slot_at op_at acquired_at given_at refused_at
 op_found script place name m (slot.Acquire id number) rest who lt fits found = simp append_assoc (
     rw (number_again 32 m _ lt refl, found, coder_again id _, word_again 10 (decimal number) rest (decimal_word number fits) refl, decimal_digits number fits, number_again 10 number rest fits refl) refl)
 op_found script place name m (slot.Refused id out made) rest who lt fits found = simp append_assoc (
@@ -260,15 +257,15 @@ op_found script place name m (slot.Give id number) rest who lt fits found = simp
     rw (number_again 32 m _ lt refl, found, coder_again id _, number_again 10 number rest fits refl) refl)
 
 slot_again : (script : ScriptData) (place : ℕ) (who : By) (op : SlotOp) (rest : List ℕ) → AreNames script → place < 2 ^ 64 → FitsBy script who → FitsOp op
-    → parsed script (slot_line script place (record { by = who; op = op }) ++ rest) ≡ Some (line.Slot place (record { by = who; op = op }))
+    → only_line_at script (line_text script (line.Slot place (record { by = who; op = op })) ++ rest) ≡ Some (line.Slot place (record { by = who; op = op }))
 slot_again script place (by.Caller who) op rest names lt fits fits_op =
-    let regrouped : slot_line script place (record { by = by.Caller who; op = op }) ++ rest ≡ decimal place ++ 32 ∷ (caller_name script.callers who.caller ++ 46 ∷ (decimal who.step ++ 32 ∷ (slot_text op ++ 10 ∷ rest))) = simp append_assoc in
-    ap (parsed script) regrouped
+    let regrouped : line_text script (line.Slot place (record { by = by.Caller who; op = op })) ++ rest ≡ decimal place ++ 32 ∷ (caller_name script.callers who.caller ++ 46 ∷ (decimal who.step ++ 32 ∷ (slot_text op ++ 10 ∷ rest))) = simp append_assoc in
+    ap (only_line_at script) regrouped
     ∙ dotted_next script place (caller_name script.callers who.caller) (decimal who.step ++ 32 ∷ (slot_text op ++ 10 ∷ rest)) lt (names.callers_are_words who.caller fits.0.0)
     ∙ op_found script place (caller_name script.callers who.caller) who.step op rest (by.Caller who) (omega (arith, fits.1)) fits_op (by_again script who names fits)
 slot_again script place (by.Codec n m) op rest names lt fits fits_op =
-    let regrouped : slot_line script place (record { by = by.Codec n m; op = op }) ++ rest ≡ decimal place ++ 32 ∷ (codec_name script.codecs n ++ 46 ∷ (decimal m ++ 32 ∷ (slot_text op ++ 10 ∷ rest))) = simp append_assoc in
-    ap (parsed script) regrouped
+    let regrouped : line_text script (line.Slot place (record { by = by.Codec n m; op = op })) ++ rest ≡ decimal place ++ 32 ∷ (codec_name script.codecs n ++ 46 ∷ (decimal m ++ 32 ∷ (slot_text op ++ 10 ∷ rest))) = simp append_assoc in
+    ap (only_line_at script) regrouped
     ∙ dotted_next script place (codec_name script.codecs n) (decimal m ++ 32 ∷ (slot_text op ++ 10 ∷ rest)) lt (names.codecs_are_words n fits.0.0)
     ∙ op_found script place (codec_name script.codecs n) m op rest (by.Codec n m) fits.1 fits_op (by_codec_again script n m names fits.0)
 
@@ -280,23 +277,15 @@ dash_10 h = omega arith
 dash_32 : ◌≡◌ {A = ℕ} 45 32 → ⊥
 dash_32 h = omega arith
 
-same_hex : (bytes : List ℕ) → text.hex_or_dash bytes ≡ fields.hex_or_dash bytes
-same_hex [] = refl
-same_hex (b ∷ bytes) = refl
+hex_read : (bytes rest : List ℕ) → IsBytes bytes → bytes_upto 10 (hex_or_dash bytes ++ 10 ∷ rest) ≡ Some (bytes, rest)
+hex_read bytes rest fits = bytes_again 10 bytes rest fits dash_10 refl
 
-same_number : (n : Option ℕ) → text.number_or_dash n ≡ fields.number_or_dash n
-same_number None = refl
-same_number (Some n) = refl
-
-hex_read : (bytes rest : List ℕ) → IsBytes bytes → bytes_upto 10 (text.hex_or_dash bytes ++ 10 ∷ rest) ≡ Some (bytes, rest)
-hex_read bytes rest fits = rw (same_hex bytes) (bytes_again 10 bytes rest fits dash_10 refl)
-
-number_read : (n : Option ℕ) (rest : List ℕ) → FitsOrAbsent n → number_or_dash_upto 32 (text.number_or_dash n ++ 32 ∷ rest) ≡ Some (n, rest)
-number_read n rest fits = rw (same_number n) (number_or_dash_again 32 n rest fits dash_32 refl)
+number_read : (n : Option ℕ) (rest : List ℕ) → FitsOrAbsent n → number_or_dash_upto 32 (number_or_dash n ++ 32 ∷ rest) ≡ Some (n, rest)
+number_read n rest fits = number_or_dash_again 32 n rest fits dash_32 refl
 
 -- timestamp, duration and bytes
 abbrev content : ℤ → Option ℕ → List ℕ → List ℕ → List ℕ
-content timestamp duration bytes rest = signed_decimal timestamp ++ 32 ∷ (text.number_or_dash duration ++ 32 ∷ (text.hex_or_dash bytes ++ 10 ∷ rest))
+content timestamp duration bytes rest = signed_decimal timestamp ++ 32 ∷ (number_or_dash duration ++ 32 ∷ (hex_or_dash bytes ++ 10 ∷ rest))
 
 quotient_is_less : (a b : ℕ) → a / b ≤ a
 quotient_is_less a b = grind arith
@@ -305,7 +294,7 @@ pub duration_fits : (shape : SoundShape) → shape.frames < 2 ^ 32 → FitsOrAbs
 duration_fits shape lt k same = grind (arith, quotient_is_less (shape.frames * 1000000) shape.rate)
 
 sound_read : (shape : SoundShape) (bytes rest : List ℕ) → FitsSound shape bytes
-    → sound_at (sample_format_text shape.format ++ 32 ∷ (decimal shape.rate ++ 32 ∷ (decimal shape.channels ++ 32 ∷ (decimal shape.frames ++ 32 ∷ content shape.timestamp (Some (sound_duration shape)) bytes rest)))) ≡ Some (seen.Sound shape bytes)
+    → sound_at (sample_format_text shape.format ++ 32 ∷ (decimal shape.rate ++ 32 ∷ (decimal shape.channels ++ 32 ∷ (decimal shape.frames ++ 32 ∷ content shape.timestamp (Some (sound_duration shape)) bytes rest)))) ≡ Some (event_line.Sound (record { shape = shape; bytes = bytes }))
 unfolding sound_at
 sound_read shape bytes rest fits =
     rw (
@@ -320,7 +309,7 @@ sound_read shape bytes rest fits =
     ) refl
 
 image_read : (shape : PictureShape) (bytes rest : List ℕ) → FitsImage shape bytes
-    → image_at (picture_format_text shape.format ++ 32 ∷ (decimal shape.width ++ 32 ∷ (decimal shape.height ++ 32 ∷ content shape.timestamp shape.duration bytes rest))) ≡ Some (seen.Image shape bytes)
+    → image_at (picture_format_text shape.format ++ 32 ∷ (decimal shape.width ++ 32 ∷ (decimal shape.height ++ 32 ∷ content shape.timestamp shape.duration bytes rest))) ≡ Some (event_line.Image (record { shape = shape; bytes = bytes }))
 unfolding image_at
 image_read shape bytes rest fits =
     rw (
@@ -334,7 +323,7 @@ image_read shape bytes rest fits =
     ) refl
 
 chunk_read : (key : Bool) (timestamp : ℤ) (duration : Option ℕ) (bytes rest : List ℕ) → mag timestamp < 2 ^ 63 → FitsOrAbsent duration → IsBytes bytes
-    → chunk_at (chunk_type_text key ++ 32 ∷ content timestamp duration bytes rest) ≡ Some (seen.Chunk key timestamp duration bytes)
+    → chunk_at (chunk_type_text key ++ 32 ∷ content timestamp duration bytes rest) ≡ Some (event_line.Chunk (record { key = key; timestamp = timestamp; duration = duration; bytes = bytes }))
 unfolding chunk_at
 chunk_read key timestamp duration bytes rest lt fits are_bytes =
     rw (
@@ -346,7 +335,7 @@ chunk_read key timestamp duration bytes rest lt fits are_bytes =
     ) refl
 
 config_read : (codec : List ℕ) (rate channels : ℕ) (description rest : List ℕ) → Lacks 32 codec → list_all is_no_feed codec ≡ true → rate < 2 ^ 32 → channels < 2 ^ 32 → IsBytes description
-    → config_at (codec ++ 32 ∷ (decimal rate ++ 32 ∷ (decimal channels ++ 32 ∷ (text.hex_or_dash description ++ 10 ∷ rest)))) ≡ Some (seen.Config codec rate channels description)
+    → config_at (codec ++ 32 ∷ (decimal rate ++ 32 ∷ (decimal channels ++ 32 ∷ (hex_or_dash description ++ 10 ∷ rest)))) ≡ Some (event_line.Config codec rate channels description)
 unfolding config_at
 config_read codec rate channels description rest lacks one rate_fits channels_fit are_bytes =
     rw (
@@ -357,36 +346,38 @@ config_read codec rate channels description rest lacks one rate_fits channels_fi
       hex_read description rest are_bytes,
     ) refl
 
-seen_again : (script : ScriptData) (s : Seen) (rest : List ℕ) → FitsSeen s → parsed script (seen_line s ++ rest) ≡ Some (line.Seen s)
-unfolding parsed shown_at seen_at output_at reject_at
-seen_again script (seen.Sound shape bytes) rest fits =
-    let regrouped : sound_line shape bytes ++ rest ≡ codes "  output audio " ++ (sample_format_text shape.format ++ 32 ∷ (decimal shape.rate ++ 32 ∷ (decimal shape.channels ++ 32 ∷ (decimal shape.frames ++ 32 ∷ content shape.timestamp (Some (sound_duration shape)) bytes rest)))) = simp append_assoc in
-    ap (parsed script) regrouped ∙ rw (sound_read shape bytes rest fits) refl
-seen_again script (seen.Image shape bytes) rest fits =
-    let regrouped : picture_line shape bytes ++ rest ≡ codes "  output video " ++ (picture_format_text shape.format ++ 32 ∷ (decimal shape.width ++ 32 ∷ (decimal shape.height ++ 32 ∷ content shape.timestamp shape.duration bytes rest))) = simp append_assoc in
-    ap (parsed script) regrouped ∙ rw (image_read shape bytes rest fits) refl
-seen_again script (seen.Chunk key timestamp duration bytes) rest fits =
-    let regrouped : seen_line (seen.Chunk key timestamp duration bytes) ++ rest ≡ codes "  output chunk " ++ (chunk_type_text key ++ 32 ∷ content timestamp duration bytes rest) = simp append_assoc in
-    ap (parsed script) regrouped ∙ rw (chunk_read key timestamp duration bytes rest fits.0 fits.1 fits.2) refl
-seen_again script (seen.Config codec rate channels description) rest fits =
-    let regrouped : seen_line (seen.Config codec rate channels description) ++ rest ≡ codes "  config " ++ (codec ++ 32 ∷ (decimal rate ++ 32 ∷ (decimal channels ++ 32 ∷ (text.hex_or_dash description ++ 10 ∷ rest)))) = simp append_assoc in
-    ap (parsed script) regrouped ∙ rw (config_read codec rate channels description rest fits.0 fits.1 fits.2 fits.3 fits.4) refl
-seen_again script (seen.Resolve p) rest fits = simp append_assoc (rw (number_again 10 p rest fits refl) refl)
-seen_again script (seen.Reject p e) rest fits = simp append_assoc (rw (number_again 32 p _ fits refl, error_at_again e rest) refl)
-seen_again script seen.Dequeue rest fits = refl
-seen_again script (seen.Error e) rest fits = simp append_assoc (rw (error_at_again e rest) refl)
+event_again : (script : ScriptData) (s : EventLine) (rest : List ℕ) → FitsEventLine s → only_line_at script (event_text s ++ rest) ≡ Some (line.Event s)
+unfolding only_line_at event_line_at event_at output_at reject_at
+event_again script (event_line.Sound samples) rest fits =
+    let shape = samples.shape in
+    let regrouped : event_text (event_line.Sound samples) ++ rest ≡ codes "  output audio " ++ (sample_format_text shape.format ++ 32 ∷ (decimal shape.rate ++ 32 ∷ (decimal shape.channels ++ 32 ∷ (decimal shape.frames ++ 32 ∷ content shape.timestamp (Some (sound_duration shape)) samples.bytes rest)))) = simp append_assoc in
+    ap (only_line_at script) regrouped ∙ rw (sound_read shape samples.bytes rest fits) refl
+event_again script (event_line.Image picture) rest fits =
+    let shape = picture.shape in
+    let regrouped : event_text (event_line.Image picture) ++ rest ≡ codes "  output video " ++ (picture_format_text shape.format ++ 32 ∷ (decimal shape.width ++ 32 ∷ (decimal shape.height ++ 32 ∷ content shape.timestamp shape.duration picture.bytes rest))) = simp append_assoc in
+    ap (only_line_at script) regrouped ∙ rw (image_read shape picture.bytes rest fits) refl
+event_again script (event_line.Chunk chunk) rest fits =
+    let regrouped : event_text (event_line.Chunk chunk) ++ rest ≡ codes "  output chunk " ++ (chunk_type_text chunk.key ++ 32 ∷ content chunk.timestamp chunk.duration chunk.bytes rest) = simp append_assoc in
+    ap (only_line_at script) regrouped ∙ rw (chunk_read chunk.key chunk.timestamp chunk.duration chunk.bytes rest fits.0 fits.1 fits.2) refl
+event_again script (event_line.Config codec rate channels description) rest fits =
+    let regrouped : event_text (event_line.Config codec rate channels description) ++ rest ≡ codes "  config " ++ (codec ++ 32 ∷ (decimal rate ++ 32 ∷ (decimal channels ++ 32 ∷ (hex_or_dash description ++ 10 ∷ rest)))) = simp append_assoc in
+    ap (only_line_at script) regrouped ∙ rw (config_read codec rate channels description rest fits.0 fits.1 fits.2 fits.3 fits.4) refl
+event_again script (event_line.Resolve p) rest fits = simp append_assoc (rw (number_again 10 p rest fits refl) refl)
+event_again script (event_line.Reject p e) rest fits = simp append_assoc (rw (number_again 32 p _ fits refl, error_at_again e rest) refl)
+event_again script event_line.Dequeue rest fits = refl
+event_again script (event_line.Error e) rest fits = simp append_assoc (rw (error_at_again e rest) refl)
 
 -- ---- every line
 
-parsed_again : (script : ScriptData) (l : Line) (rest : List ℕ) → AreNames script → FitsLine script l → parsed script (line_text script l ++ rest) ≡ Some l
-unfolding parsed headed caller_at codec_at
+parsed_again : (script : ScriptData) (l : Line) (rest : List ℕ) → AreNames script → FitsLine script l → only_line_at script (line_text script l ++ rest) ≡ Some l
+unfolding only_line_at headed_line_at caller_at codec_at
 parsed_again script line.Header rest names fits = refl
 parsed_again script (line.Caller n) rest names fits = simp append_assoc (rw (word_again 10 (caller_name script.callers n) rest (names.callers_are_words n fits.0) refl, caller_again script n names fits) refl)
 parsed_again script (line.Result step found) rest names fits = result_again script step found rest names fits.0 fits.1
 parsed_again script (line.Codec n opening) rest names fits = simp append_assoc (
     rw (word_again 32 (codec_name script.codecs n) _ (names.codecs_are_words n fits.0.0) refl, codec_again script n names fits.0, word_again 32 (kind_text opening.kind) _ (kind_is_word opening.kind) refl, kind_again opening.kind, short_again 10 opening.saturation rest fits.1 refl) refl)
 parsed_again script (line.Entry place entry) rest names fits = entry_again script place entry rest names fits.0 fits.1
-parsed_again script (line.Seen s) rest names fits = seen_again script s rest fits
+parsed_again script (line.Event s) rest names fits = event_again script s rest fits
 parsed_again script line.Pool rest names fits = refl
 parsed_again script line.Slots rest names fits = refl
 parsed_again script (line.Slot place entry) rest names fits = slot_again script place entry.by entry.op rest names fits.0 fits.1 fits.2
@@ -410,7 +401,7 @@ some_is x y e = cc
 pub line_sound : (script : ScriptData) (bs : List ℕ) (read : Line × List ℕ) → line_at script bs ≡ Some read → bs ≡ line_text script read.0 ++ read.1
 unfolding line_at
 line_sound script bs read e =
-    let l = bind_some (parsed script bs) (λ x. after (line_text script x) bs >>= λ rest. Some (x, rest)) read e in
+    let l = bind_some (only_line_at script bs) (λ x. after (line_text script x) bs >>= λ rest. Some (x, rest)) read e in
     let r = bind_some (after (line_text script l.0) bs) (λ rest. Some (l.0, rest)) read l.2 in
     let made : Line × List ℕ = (l.0, r.0) in
     subst (λ (z : Line × List ℕ). bs ≡ line_text script z.0 ++ z.1) (some_is made read r.2) (after_only (line_text script l.0) bs r.0 r.1)

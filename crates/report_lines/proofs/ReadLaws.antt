@@ -10,13 +10,14 @@ use Rattle.hex.specs.Hex.{IsBytes}
 use Rattle.wc_config.specs.declared.codec.CoderId.{CoderId}
 use Rattle.codec_model.specs.declared.entry.CodecState.{CodecState}
 use Rattle.script_types.specs.declared.script.ScriptData.{ScriptData}
-use Rattle.report_fields.specs.Words.{◌>>=◌, upto, after, word_at}
-use Rattle.report_fields.specs.Fields.{short, number_upto, short_upto, signed_upto, number_or_dash_upto, bytes_upto}
-use Rattle.report_fields.specs.Laws.{Lacks, FitsOrAbsent}
-use Rattle.report_fields.proofs.FitLaws.{bind_fits, bind_any, if_fits, upto_fits, number_fits, short_of_fits, short_fits, signed_fits, number_or_dash_fits, bytes_fits}
-use Rattle.report_lines.specs.Text.{line_text}
-use Rattle.report_lines.specs.Reading.{error_of, answer_of, kind_of, state_of, call_of, sample_format_of, picture_format_of, key_of, caller_of, codec_of, error_at, answer_at, promise_at, look_as, look_at, looked, call_result, outcome_at, turn_at, start_at, done_at, call_at, by_as, by_of, coder_at, refused_at, acquired_at, given_at, op_at, slot_at, dotted, worded, numbered, sound_at, image_at, chunk_at, output_at, without_feed, config_at, reject_at, seen_at, shown_at, codec_at, caller_at, headed, parsed, line_at}
-use Rattle.report_lines.specs.Fits.{is_no_feed, IsCaller, IsCodec, FitsResult, FitsOutcome, FitsTold, FitsSeen, FitsBy, FitsOp, FitsLine}
+use Rattle.report_lines.specs.Words.{upto, after, word_at}
+use Rattle.report_lines.specs.Fields.{short, number_upto, short_upto, signed_upto, number_or_dash_upto, bytes_upto}
+use Rattle.report_lines.specs.FieldLaws.{Lacks, FitsOrAbsent}
+use Rattle.report_lines.proofs.FieldFits.{bind_fits, bind_any, if_fits, upto_fits, number_fits, short_of_fits, short_fits, signed_fits, number_or_dash_fits, bytes_fits}
+use Rattle.report_text.specs.Text.{line_text}
+use Rattle.report_lines.specs.Reading.{caller_of, codec_of, error_at, answer_at, promise_at, look_as, look_at, look_line_at, call_result_at, outcome_at, turn_at, start_at, done_at, call_at, by_as, by_of, coder_at, refused_at, acquired_at, given_at, op_at, slot_at, dotted_line_at, worded_line_at, numbered_line_at, sound_at, image_at, chunk_at, output_at, without_feed, config_at, reject_at, event_at, event_line_at, codec_at, caller_at, headed_line_at, only_line_at, line_at}
+use Rattle.report_lines.specs.Vocabulary.{answer_of, kind_of, state_of, call_of, sample_format_of, picture_format_of, key_of}
+use Rattle.report_lines.specs.Fits.{is_no_feed, IsCaller, IsCodec, FitsResult, FitsOutcome, FitsEntryLine, FitsEventLine, FitsBy, FitsOp, FitsLine}
 
 abbrev IsLong : {X : Type 0} → ℕ × X → Type 0
 IsLong x = x.0 < 2 ^ 64
@@ -49,15 +50,15 @@ look_fits : (script : ScriptData) (n len : ℕ) (bs : List ℕ) → IsCodec scri
 unfolding look_at
 look_fits script n len bs codec small = bind_any (FitsResult script) (word_at bs) _ (λ w. look_as_fits script (state_of w.0) n len bs w.2 codec small)
 
-looked_fits : (script : ScriptData) (step : ℕ) (name bs : List ℕ) → step < 2 ^ 64 → IfSome (looked script step name bs) (FitsLine script)
-unfolding looked
+looked_fits : (script : ScriptData) (step : ℕ) (name bs : List ℕ) → step < 2 ^ 64 → IfSome (look_line_at script step name bs) (FitsLine script)
+unfolding look_line_at
 looked_fits script step name bs lt =
     bind_fits (IsCodec script) (FitsLine script) (codec_of script.codecs name) _ (codec_fits script name)
     (λ n codec. bind_fits IsLong (FitsLine script) (number_upto 32 bs) _ (number_fits 32 bs)
     (λ len small. bind_fits (FitsResult script) (FitsLine script) (look_at n len.0 len.1) _ (look_fits script n len.0 len.1 codec small) (λ found fits. (lt, fits))))
 
-call_result_fits : (script : ScriptData) (step : ℕ) (name : List ℕ) (place : ℕ) (w : List ℕ) → step < 2 ^ 64 → place < 2 ^ 64 → IfSome (call_result script step name place w) (FitsLine script)
-unfolding call_result
+call_result_fits : (script : ScriptData) (step : ℕ) (name : List ℕ) (place : ℕ) (w : List ℕ) → step < 2 ^ 64 → place < 2 ^ 64 → IfSome (call_result_at script step name place w) (FitsLine script)
+unfolding call_result_at
 call_result_fits script step name place w lt small =
     bind_fits (IsCodec script) (FitsLine script) (codec_of script.codecs name) _ (codec_fits script name)
     (λ n codec. bind_any (FitsLine script) (answer_of w) _ (λ error. (lt, (codec, small))))
@@ -73,19 +74,19 @@ outcome_fits bs =
     (λ is. if_fits FitsOutcome (bytes_eq w.0 (codes "no-slot")) _ _ (λ is. bind_fits IsLong FitsOutcome (number_upto 10 w.2) _ (number_fits 10 w.2) (λ n lt. lt))
     (λ is. if_fits FitsOutcome (bytes_eq w.0 (codes "no-memory")) _ _ (λ is. tt) (λ is. tt)))))
 
-start_fits : (script : ScriptData) (bs : List ℕ) → IfSome (start_at bs) (FitsTold script)
+start_fits : (script : ScriptData) (bs : List ℕ) → IfSome (start_at bs) (FitsEntryLine script)
 unfolding start_at
 start_fits script bs =
-    bind_fits IsLong (FitsTold script) (number_upto 46 bs) _ (number_fits 46 bs)
-    (λ epoch e. bind_fits IsLong (FitsTold script) (number_upto 10 epoch.1) _ (number_fits 10 epoch.1) (λ item i. (e, i)))
+    bind_fits IsLong (FitsEntryLine script) (number_upto 46 bs) _ (number_fits 46 bs)
+    (λ epoch e. bind_fits IsLong (FitsEntryLine script) (number_upto 10 epoch.1) _ (number_fits 10 epoch.1) (λ item i. (e, i)))
 
-done_fits : (script : ScriptData) (bs : List ℕ) → IfSome (done_at bs) (FitsTold script)
+done_fits : (script : ScriptData) (bs : List ℕ) → IfSome (done_at bs) (FitsEntryLine script)
 unfolding done_at
 done_fits script bs =
-    bind_fits IsLong (FitsTold script) (number_upto 46 bs) _ (number_fits 46 bs)
-    (λ epoch e. bind_fits IsLong (FitsTold script) (number_upto 32 epoch.1) _ (number_fits 32 epoch.1)
-    (λ item i. bind_fits IsLong (FitsTold script) (number_upto 32 item.1) _ (number_fits 32 item.1)
-    (λ moment m. bind_fits FitsOutcome (FitsTold script) (outcome_at moment.1) _ (outcome_fits moment.1) (λ outcome o. (e, i, m, o)))))
+    bind_fits IsLong (FitsEntryLine script) (number_upto 46 bs) _ (number_fits 46 bs)
+    (λ epoch e. bind_fits IsLong (FitsEntryLine script) (number_upto 32 epoch.1) _ (number_fits 32 epoch.1)
+    (λ item i. bind_fits IsLong (FitsEntryLine script) (number_upto 32 item.1) _ (number_fits 32 item.1)
+    (λ moment m. bind_fits FitsOutcome (FitsEntryLine script) (outcome_at moment.1) _ (outcome_fits moment.1) (λ outcome o. (e, i, m, o)))))
 
 call_fits : (script : ScriptData) (place : ℕ) (name : List ℕ) (m : ℕ) (w bs : List ℕ) → place < 2 ^ 64 → IfSome (call_at script place name m w bs) (FitsLine script)
 unfolding call_at
@@ -134,25 +135,25 @@ slot_fits script place name m w bs lt small =
 
 -- ---- lines with a number
 
-dotted_fits : (script : ScriptData) (n : ℕ) (name bs : List ℕ) → n < 2 ^ 64 → IfSome (dotted script n name bs) (FitsLine script)
-unfolding dotted
+dotted_fits : (script : ScriptData) (n : ℕ) (name bs : List ℕ) → n < 2 ^ 64 → IfSome (dotted_line_at script n name bs) (FitsLine script)
+unfolding dotted_line_at
 dotted_fits script n name bs lt =
     bind_fits IsLong (FitsLine script) (number_upto 32 bs) _ (number_fits 32 bs)
     (λ m small. bind_any (FitsLine script) (word_at m.1) _
     (λ w. if_fits (FitsLine script) (eqb w.1 10) _ _ (λ is. call_result_fits script n name m.0 w.0 lt small)
     (λ is. if_fits (FitsLine script) (bytes_eq w.0 (codes "acquire") || bytes_eq w.0 (codes "give")) _ _ (λ is. slot_fits script n name m.0 w.0 w.2 lt small) (λ is. call_fits script n name m.0 w.0 w.2 lt))))
 
-worded_fits : (script : ScriptData) (n : ℕ) (w rest : List ℕ) → n < 2 ^ 64 → IfSome (worded n w rest) (FitsLine script)
-unfolding worded
+worded_fits : (script : ScriptData) (n : ℕ) (w rest : List ℕ) → n < 2 ^ 64 → IfSome (worded_line_at n w rest) (FitsLine script)
+unfolding worded_line_at
 worded_fits script n w rest lt =
-    if_fits (FitsLine script) (bytes_eq w (codes "start")) _ _ (λ is. bind_fits (FitsTold script) (FitsLine script) (start_at rest) _ (start_fits script rest) (λ e fits. (lt, fits)))
-    (λ is. if_fits (FitsLine script) (bytes_eq w (codes "done")) _ _ (λ is. bind_fits (FitsTold script) (FitsLine script) (done_at rest) _ (done_fits script rest) (λ e fits. (lt, fits)))
+    if_fits (FitsLine script) (bytes_eq w (codes "start")) _ _ (λ is. bind_fits (FitsEntryLine script) (FitsLine script) (start_at rest) _ (start_fits script rest) (λ e fits. (lt, fits)))
+    (λ is. if_fits (FitsLine script) (bytes_eq w (codes "done")) _ _ (λ is. bind_fits (FitsEntryLine script) (FitsLine script) (done_at rest) _ (done_fits script rest) (λ e fits. (lt, fits)))
     (λ is. if_fits (FitsLine script) (bytes_eq w (codes "turn")) _ _ (λ is. bind_any (FitsLine script) (turn_at rest) _ (λ t. (lt, tt)))
     (λ is. if_fits (FitsLine script) (bytes_eq w (codes "reclaim")) _ _ (λ is. bind_fits IsLong (FitsLine script) (number_upto 10 rest) _ (number_fits 10 rest) (λ m small. (lt, small)))
     (λ is. if_fits (FitsLine script) (bytes_eq w (codes "absent")) _ _ (λ is. (lt, tt)) (λ is. bind_any (FitsLine script) (answer_of w) _ (λ a. (lt, tt)))))))
 
-numbered_fits : (script : ScriptData) (bs : List ℕ) → IfSome (numbered script bs) (FitsLine script)
-unfolding numbered
+numbered_fits : (script : ScriptData) (bs : List ℕ) → IfSome (numbered_line_at script bs) (FitsLine script)
+unfolding numbered_line_at
 numbered_fits script bs =
     bind_fits IsLong (FitsLine script) (number_upto 32 bs) _ (number_fits 32 bs)
     (λ n lt. bind_any (FitsLine script) (word_at n.1) _
@@ -161,44 +162,44 @@ numbered_fits script bs =
 
 -- ---- what an entry showed
 
-sound_fits : (bs : List ℕ) → IfSome (sound_at bs) FitsSeen
+sound_fits : (bs : List ℕ) → IfSome (sound_at bs) FitsEventLine
 unfolding sound_at
 sound_fits bs =
-    bind_any FitsSeen (word_at bs) _
-    (λ w. bind_any FitsSeen (sample_format_of w.0) _
-    (λ format. bind_fits IsShort FitsSeen (short_upto 32 w.2) _ (short_fits 32 w.2)
-    (λ rate r. bind_fits IsShort FitsSeen (short_upto 32 rate.1) _ (short_fits 32 rate.1)
-    (λ channels c. bind_fits IsShort FitsSeen (short_upto 32 channels.1) _ (short_fits 32 channels.1)
-    (λ frames f. bind_fits (λ x. mag x.0 < 2 ^ 63) FitsSeen (signed_upto 32 frames.1) _ (signed_fits 32 frames.1)
-    (λ timestamp t. bind_any FitsSeen (number_or_dash_upto 32 timestamp.1) _
-    (λ duration. bind_fits (λ x. IsBytes x.0) FitsSeen (bytes_upto 10 duration.1) _ (bytes_fits 10 duration.1) (λ bytes b. record { rate = r; channels = c; frames = f; timestamp = t; are_bytes = b }))))))))
+    bind_any FitsEventLine (word_at bs) _
+    (λ w. bind_any FitsEventLine (sample_format_of w.0) _
+    (λ format. bind_fits IsShort FitsEventLine (short_upto 32 w.2) _ (short_fits 32 w.2)
+    (λ rate r. bind_fits IsShort FitsEventLine (short_upto 32 rate.1) _ (short_fits 32 rate.1)
+    (λ channels c. bind_fits IsShort FitsEventLine (short_upto 32 channels.1) _ (short_fits 32 channels.1)
+    (λ frames f. bind_fits (λ x. mag x.0 < 2 ^ 63) FitsEventLine (signed_upto 32 frames.1) _ (signed_fits 32 frames.1)
+    (λ timestamp t. bind_any FitsEventLine (number_or_dash_upto 32 timestamp.1) _
+    (λ duration. bind_fits (λ x. IsBytes x.0) FitsEventLine (bytes_upto 10 duration.1) _ (bytes_fits 10 duration.1) (λ bytes b. record { rate = r; channels = c; frames = f; timestamp = t; are_bytes = b }))))))))
 
-image_fits : (bs : List ℕ) → IfSome (image_at bs) FitsSeen
+image_fits : (bs : List ℕ) → IfSome (image_at bs) FitsEventLine
 unfolding image_at
 image_fits bs =
-    bind_any FitsSeen (word_at bs) _
-    (λ w. bind_any FitsSeen (picture_format_of w.0) _
-    (λ format. bind_fits IsShort FitsSeen (short_upto 32 w.2) _ (short_fits 32 w.2)
-    (λ width x. bind_fits IsShort FitsSeen (short_upto 32 width.1) _ (short_fits 32 width.1)
-    (λ height y. bind_fits (λ x. mag x.0 < 2 ^ 63) FitsSeen (signed_upto 32 height.1) _ (signed_fits 32 height.1)
-    (λ timestamp t. bind_fits (λ x. FitsOrAbsent x.0) FitsSeen (number_or_dash_upto 32 timestamp.1) _ (number_or_dash_fits 32 timestamp.1)
-    (λ duration d. bind_fits (λ x. IsBytes x.0) FitsSeen (bytes_upto 10 duration.1) _ (bytes_fits 10 duration.1) (λ bytes b. record { width = x; height = y; timestamp = t; duration = d; are_bytes = b })))))))
+    bind_any FitsEventLine (word_at bs) _
+    (λ w. bind_any FitsEventLine (picture_format_of w.0) _
+    (λ format. bind_fits IsShort FitsEventLine (short_upto 32 w.2) _ (short_fits 32 w.2)
+    (λ width x. bind_fits IsShort FitsEventLine (short_upto 32 width.1) _ (short_fits 32 width.1)
+    (λ height y. bind_fits (λ x. mag x.0 < 2 ^ 63) FitsEventLine (signed_upto 32 height.1) _ (signed_fits 32 height.1)
+    (λ timestamp t. bind_fits (λ x. FitsOrAbsent x.0) FitsEventLine (number_or_dash_upto 32 timestamp.1) _ (number_or_dash_fits 32 timestamp.1)
+    (λ duration d. bind_fits (λ x. IsBytes x.0) FitsEventLine (bytes_upto 10 duration.1) _ (bytes_fits 10 duration.1) (λ bytes b. record { width = x; height = y; timestamp = t; duration = d; are_bytes = b })))))))
 
-chunk_fits : (bs : List ℕ) → IfSome (chunk_at bs) FitsSeen
+chunk_fits : (bs : List ℕ) → IfSome (chunk_at bs) FitsEventLine
 unfolding chunk_at
 chunk_fits bs =
-    bind_any FitsSeen (word_at bs) _
-    (λ w. bind_any FitsSeen (key_of w.0) _
-    (λ key. bind_fits (λ x. mag x.0 < 2 ^ 63) FitsSeen (signed_upto 32 w.2) _ (signed_fits 32 w.2)
-    (λ timestamp t. bind_fits (λ x. FitsOrAbsent x.0) FitsSeen (number_or_dash_upto 32 timestamp.1) _ (number_or_dash_fits 32 timestamp.1)
-    (λ duration d. bind_fits (λ x. IsBytes x.0) FitsSeen (bytes_upto 10 duration.1) _ (bytes_fits 10 duration.1) (λ bytes b. (t, d, b))))))
+    bind_any FitsEventLine (word_at bs) _
+    (λ w. bind_any FitsEventLine (key_of w.0) _
+    (λ key. bind_fits (λ x. mag x.0 < 2 ^ 63) FitsEventLine (signed_upto 32 w.2) _ (signed_fits 32 w.2)
+    (λ timestamp t. bind_fits (λ x. FitsOrAbsent x.0) FitsEventLine (number_or_dash_upto 32 timestamp.1) _ (number_or_dash_fits 32 timestamp.1)
+    (λ duration d. bind_fits (λ x. IsBytes x.0) FitsEventLine (bytes_upto 10 duration.1) _ (bytes_fits 10 duration.1) (λ bytes b. (t, d, b))))))
 
-output_fits : (bs : List ℕ) → IfSome (output_at bs) FitsSeen
+output_fits : (bs : List ℕ) → IfSome (output_at bs) FitsEventLine
 unfolding output_at
 output_fits bs =
-    bind_any FitsSeen (word_at bs) _
-    (λ w. if_fits FitsSeen (bytes_eq w.0 (codes "audio")) _ _ (λ is. sound_fits w.2)
-    (λ is. if_fits FitsSeen (bytes_eq w.0 (codes "video")) _ _ (λ is. image_fits w.2) (λ is. chunk_fits w.2)))
+    bind_any FitsEventLine (word_at bs) _
+    (λ w. if_fits FitsEventLine (bytes_eq w.0 (codes "audio")) _ _ (λ is. sound_fits w.2)
+    (λ is. if_fits FitsEventLine (bytes_eq w.0 (codes "video")) _ _ (λ is. image_fits w.2) (λ is. chunk_fits w.2)))
 
 -- a text that lacks a mark, where it has no line feed
 abbrev IsCodecWord : List ℕ → Type 0
@@ -207,34 +208,34 @@ IsCodecWord text = Lacks 32 text × (list_all is_no_feed text ≡ true)
 without_feed_fits : (text : List ℕ) → Lacks 32 text → IfSome (without_feed text) IsCodecWord
 without_feed_fits text lacks = if_fits IsCodecWord (list_all is_no_feed text) _ _ (λ is. (lacks, is)) (λ is. tt)
 
-config_fits : (bs : List ℕ) → IfSome (config_at bs) FitsSeen
+config_fits : (bs : List ℕ) → IfSome (config_at bs) FitsEventLine
 unfolding config_at
 config_fits bs =
-    bind_fits (λ x. Lacks 32 x.0) FitsSeen (upto 32 bs) _ (upto_fits 32 bs)
-    (λ name lacks. bind_fits IsCodecWord FitsSeen (without_feed name.0) _ (without_feed_fits name.0 lacks)
-    (λ codec word. bind_fits IsShort FitsSeen (short_upto 32 name.1) _ (short_fits 32 name.1)
-    (λ rate r. bind_fits IsShort FitsSeen (short_upto 32 rate.1) _ (short_fits 32 rate.1)
-    (λ channels c. bind_fits (λ x. IsBytes x.0) FitsSeen (bytes_upto 10 channels.1) _ (bytes_fits 10 channels.1) (λ description b. (word.0, word.1, r, c, b))))))
+    bind_fits (λ x. Lacks 32 x.0) FitsEventLine (upto 32 bs) _ (upto_fits 32 bs)
+    (λ name lacks. bind_fits IsCodecWord FitsEventLine (without_feed name.0) _ (without_feed_fits name.0 lacks)
+    (λ codec word. bind_fits IsShort FitsEventLine (short_upto 32 name.1) _ (short_fits 32 name.1)
+    (λ rate r. bind_fits IsShort FitsEventLine (short_upto 32 rate.1) _ (short_fits 32 rate.1)
+    (λ channels c. bind_fits (λ x. IsBytes x.0) FitsEventLine (bytes_upto 10 channels.1) _ (bytes_fits 10 channels.1) (λ description b. (word.0, word.1, r, c, b))))))
 
-reject_fits : (bs : List ℕ) → IfSome (reject_at bs) FitsSeen
+reject_fits : (bs : List ℕ) → IfSome (reject_at bs) FitsEventLine
 unfolding reject_at
-reject_fits bs = bind_fits IsLong FitsSeen (number_upto 32 bs) _ (number_fits 32 bs) (λ p lt. bind_any FitsSeen (error_at p.1) _ (λ e. lt))
+reject_fits bs = bind_fits IsLong FitsEventLine (number_upto 32 bs) _ (number_fits 32 bs) (λ p lt. bind_any FitsEventLine (error_at p.1) _ (λ e. lt))
 
-seen_fits : (bs : List ℕ) → IfSome (seen_at bs) FitsSeen
-unfolding seen_at
-seen_fits bs =
-    bind_any FitsSeen (word_at bs) _
-    (λ w. if_fits FitsSeen (bytes_eq w.0 (codes "output")) _ _ (λ is. output_fits w.2)
-    (λ is. if_fits FitsSeen (bytes_eq w.0 (codes "config")) _ _ (λ is. config_fits w.2)
-    (λ is. if_fits FitsSeen (bytes_eq w.0 (codes "resolve")) _ _ (λ is. bind_fits IsLong FitsSeen (number_upto 10 w.2) _ (number_fits 10 w.2) (λ p lt. lt))
-    (λ is. if_fits FitsSeen (bytes_eq w.0 (codes "reject")) _ _ (λ is. reject_fits w.2)
-    (λ is. if_fits FitsSeen (bytes_eq w.0 (codes "dequeue")) _ _ (λ is. tt)
-    (λ is. if_fits FitsSeen (bytes_eq w.0 (codes "error")) _ _ (λ is. bind_any FitsSeen (error_at w.2) _ (λ e. tt)) (λ is. tt)))))))
+event_fits : (bs : List ℕ) → IfSome (event_at bs) FitsEventLine
+unfolding event_at
+event_fits bs =
+    bind_any FitsEventLine (word_at bs) _
+    (λ w. if_fits FitsEventLine (bytes_eq w.0 (codes "output")) _ _ (λ is. output_fits w.2)
+    (λ is. if_fits FitsEventLine (bytes_eq w.0 (codes "config")) _ _ (λ is. config_fits w.2)
+    (λ is. if_fits FitsEventLine (bytes_eq w.0 (codes "resolve")) _ _ (λ is. bind_fits IsLong FitsEventLine (number_upto 10 w.2) _ (number_fits 10 w.2) (λ p lt. lt))
+    (λ is. if_fits FitsEventLine (bytes_eq w.0 (codes "reject")) _ _ (λ is. reject_fits w.2)
+    (λ is. if_fits FitsEventLine (bytes_eq w.0 (codes "dequeue")) _ _ (λ is. tt)
+    (λ is. if_fits FitsEventLine (bytes_eq w.0 (codes "error")) _ _ (λ is. bind_any FitsEventLine (error_at w.2) _ (λ e. tt)) (λ is. tt)))))))
 
-shown_fits : (script : ScriptData) (bs : List ℕ) → IfSome (shown_at bs) (FitsLine script)
-unfolding shown_at
-shown_fits script bs =
-    bind_any (FitsLine script) (after (codes " ") bs) _ (λ rest. bind_fits FitsSeen (FitsLine script) (seen_at rest) _ (seen_fits rest) (λ s fits. fits))
+event_line_fits : (script : ScriptData) (bs : List ℕ) → IfSome (event_line_at bs) (FitsLine script)
+unfolding event_line_at
+event_line_fits script bs =
+    bind_any (FitsLine script) (after (codes " ") bs) _ (λ rest. bind_fits FitsEventLine (FitsLine script) (event_at rest) _ (event_fits rest) (λ s fits. fits))
 
 -- ---- every line
 
@@ -252,8 +253,8 @@ unfolding caller_at
 caller_line_fits script bs =
     bind_any (FitsLine script) (word_at bs) _ (λ name. bind_fits (IsCaller script) (FitsLine script) (caller_of script.callers name.0) _ (caller_fits script name.0) (λ n caller. caller))
 
-headed_fits : (script : ScriptData) (w rest : List ℕ) → IfSome (headed script w rest) (FitsLine script)
-unfolding headed
+headed_fits : (script : ScriptData) (w rest : List ℕ) → IfSome (headed_line_at script w rest) (FitsLine script)
+unfolding headed_line_at
 headed_fits script w rest =
     if_fits (FitsLine script) (bytes_eq w (codes "wcrun")) _ _ (λ is. tt)
     (λ is. if_fits (FitsLine script) (bytes_eq w (codes "caller")) _ _ (λ is. caller_line_fits script rest)
@@ -263,15 +264,15 @@ headed_fits script w rest =
     (λ is. if_fits (FitsLine script) (bytes_eq w (codes "held")) _ _ (λ is. bind_fits IsLong (FitsLine script) (number_upto 10 rest) _ (number_fits 10 rest) (λ n lt. lt))
     (λ is. if_fits (FitsLine script) (bytes_eq w (codes "end")) _ _ (λ is. tt) (λ is. tt)))))))
 
-parsed_fits : (script : ScriptData) (bs : List ℕ) → IfSome (parsed script bs) (FitsLine script)
-unfolding parsed
+parsed_fits : (script : ScriptData) (bs : List ℕ) → IfSome (only_line_at script bs) (FitsLine script)
+unfolding only_line_at
 parsed_fits script bs =
     bind_any (FitsLine script) (word_at bs) _
-    (λ w. if_fits (FitsLine script) (bytes_eq w.0 []) _ _ (λ is. shown_fits script w.2)
+    (λ w. if_fits (FitsLine script) (bytes_eq w.0 []) _ _ (λ is. event_line_fits script w.2)
     (λ is. if_fits (FitsLine script) (list_all is_ascii_digit w.0) _ _ (λ is. numbered_fits script bs) (λ is. headed_fits script w.0 w.2)))
 
 pub line_fits : (script : ScriptData) (bs : List ℕ) → IfSome (line_at script bs) (λ read. FitsLine script read.0)
 unfolding line_at
 line_fits script bs =
-    bind_fits (FitsLine script) (λ read. FitsLine script read.0) (parsed script bs) _ (parsed_fits script bs)
+    bind_fits (FitsLine script) (λ read. FitsLine script read.0) (only_line_at script bs) _ (parsed_fits script bs)
     (λ l fits. bind_any (λ read. FitsLine script read.0) (after (line_text script l) bs) _ (λ rest. fits))

@@ -16,14 +16,14 @@ use Rattle.script_types.specs.declared.script.ScriptData.{ScriptData}
 use Rattle.report_text.specs.declared.result.StepResult.{StepResult}
 use Rattle.report_text.specs.declared.result.StepResult.TheVariants as result
 use Rattle.report_text.specs.Names.{caller_name, codec_name}
-use Rattle.report_fields.specs.Words.{is_word_byte}
-use Rattle.report_fields.specs.Laws.{Lacks, FitsOrAbsent}
-use Rattle.report_text.specs.declared.told.Told.{Told}
-use Rattle.report_text.specs.declared.told.Told.TheVariants as told
-use Rattle.report_lines.specs.declared.line.Seen.{Seen}
-use Rattle.report_lines.specs.declared.line.Seen.TheVariants as seen
-use Rattle.report_lines.specs.declared.line.Line.{Line}
-use Rattle.report_lines.specs.declared.line.Line.TheVariants as line
+use Rattle.report_lines.specs.Words.{is_word_byte}
+use Rattle.report_lines.specs.FieldLaws.{Lacks, FitsOrAbsent}
+use Rattle.report_text.specs.declared.line.EntryLine.{EntryLine}
+use Rattle.report_text.specs.declared.line.EntryLine.TheVariants as entry_line
+use Rattle.report_text.specs.declared.line.EventLine.{EventLine}
+use Rattle.report_text.specs.declared.line.EventLine.TheVariants as event_line
+use Rattle.report_text.specs.declared.line.Line.{Line}
+use Rattle.report_text.specs.declared.line.Line.TheVariants as line
 
 -- the names of callers and codecs are words, and all differ
 pub record AreNames (script : ScriptData) : Type 0 where
@@ -55,12 +55,12 @@ FitsOutcome outcome.Refused = Unit {0}
 FitsOutcome (outcome.NoSlot entry) = entry < 2 ^ 64
 FitsOutcome outcome.NoMemory = Unit {0}
 
-abbrev pub FitsTold : ScriptData → Told → Type 0
-FitsTold script (told.Call who call error) = FitsWho script who
-FitsTold script (told.Start epoch item) = (epoch < 2 ^ 64) × (item < 2 ^ 64)
-FitsTold script (told.Done epoch item moment outcome) = (epoch < 2 ^ 64) × (item < 2 ^ 64) × (moment < 2 ^ 64) × FitsOutcome outcome
-FitsTold script (told.Turn word) = Unit {0}
-FitsTold script (told.Reclaim moment) = moment < 2 ^ 64
+abbrev pub FitsEntryLine : ScriptData → EntryLine → Type 0
+FitsEntryLine script (entry_line.Call who call error) = FitsWho script who
+FitsEntryLine script (entry_line.Start epoch item) = (epoch < 2 ^ 64) × (item < 2 ^ 64)
+FitsEntryLine script (entry_line.Done epoch item moment outcome) = (epoch < 2 ^ 64) × (item < 2 ^ 64) × (moment < 2 ^ 64) × FitsOutcome outcome
+FitsEntryLine script (entry_line.Turn word) = Unit {0}
+FitsEntryLine script (entry_line.Reclaim moment) = moment < 2 ^ 64
 
 pub record FitsSound (shape : SoundShape) (bytes : List ℕ) : Type 0 where
   pub rate : shape.rate < 2 ^ 32
@@ -80,15 +80,15 @@ abbrev pub is_no_feed : ℕ → Bool
 is_no_feed b = not (b == 10)
 
 -- a config's codec has no blank and no line feed
-abbrev pub FitsSeen : Seen → Type 0
-FitsSeen (seen.Sound shape bytes) = FitsSound shape bytes
-FitsSeen (seen.Image shape bytes) = FitsImage shape bytes
-FitsSeen (seen.Chunk key timestamp duration bytes) = (mag timestamp < 2 ^ 63) × FitsOrAbsent duration × IsBytes bytes
-FitsSeen (seen.Config codec rate channels description) = Lacks 32 codec × (list_all is_no_feed codec ≡ true) × (rate < 2 ^ 32) × (channels < 2 ^ 32) × IsBytes description
-FitsSeen (seen.Resolve promise) = promise < 2 ^ 64
-FitsSeen (seen.Reject promise error) = promise < 2 ^ 64
-FitsSeen seen.Dequeue = Unit {0}
-FitsSeen (seen.Error error) = Unit {0}
+abbrev pub FitsEventLine : EventLine → Type 0
+FitsEventLine (event_line.Sound samples) = FitsSound samples.shape samples.bytes
+FitsEventLine (event_line.Image picture) = FitsImage picture.shape picture.bytes
+FitsEventLine (event_line.Chunk chunk) = (mag chunk.timestamp < 2 ^ 63) × FitsOrAbsent chunk.duration × IsBytes chunk.bytes
+FitsEventLine (event_line.Config codec rate channels description) = Lacks 32 codec × (list_all is_no_feed codec ≡ true) × (rate < 2 ^ 32) × (channels < 2 ^ 32) × IsBytes description
+FitsEventLine (event_line.Resolve promise) = promise < 2 ^ 64
+FitsEventLine (event_line.Reject promise error) = promise < 2 ^ 64
+FitsEventLine event_line.Dequeue = Unit {0}
+FitsEventLine (event_line.Error error) = Unit {0}
 
 abbrev pub FitsBy : ScriptData → By → Type 0
 FitsBy script (by.Caller who) = FitsWho script who
@@ -104,8 +104,8 @@ FitsLine script line.Header = Unit {0}
 FitsLine script (line.Caller n) = IsCaller script n
 FitsLine script (line.Result step found) = (step < 2 ^ 64) × FitsResult script found
 FitsLine script (line.Codec n opening) = IsCodec script n × (opening.saturation < 2 ^ 32)
-FitsLine script (line.Entry place entry) = (place < 2 ^ 64) × FitsTold script entry
-FitsLine script (line.Seen shown) = FitsSeen shown
+FitsLine script (line.Entry place entry) = (place < 2 ^ 64) × FitsEntryLine script entry
+FitsLine script (line.Event shown) = FitsEventLine shown
 FitsLine script line.Pool = Unit {0}
 FitsLine script line.Slots = Unit {0}
 FitsLine script (line.Slot place entry) = (place < 2 ^ 64) × FitsBy script entry.by × FitsOp entry.op

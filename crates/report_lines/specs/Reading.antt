@@ -1,27 +1,15 @@
 -- How the line in front of some bytes is read: its kind is told by its first word, or by the mark behind the word that
 -- follows its number. A line is taken only where its text, written again, stands in front.
-use Rattle.std.specs.Prelude.{ℕ, Bool, true, false, List, [], codes, Option, Some, None, ◌==◌, if◌then◌else◌, ◌||◌, position, bytes_eq}
+use Rattle.std.specs.Prelude.{ℕ, List, [], codes, Option, Some, None, ◌==◌, if◌then◌else◌, ◌||◌, position, bytes_eq}
 use Rattle.std.specs.List.{list_all}
 use Rattle.std.specs.Char.{is_ascii_digit}
 use Rattle.wc_base.specs.declared.error.DomError.{DomError}
-use Rattle.wc_base.specs.declared.error.DomError.TheVariants as dom
 use Rattle.wc_base.specs.declared.who.By.{By}
 use Rattle.wc_base.specs.declared.who.By.TheVariants as by
-use Rattle.wc_base.specs.declared.media.SampleFormat.{SampleFormat}
-use Rattle.wc_base.specs.declared.media.SampleFormat.TheVariants as sample
-use Rattle.wc_base.specs.declared.media.PictureFormat.{PictureFormat}
-use Rattle.wc_base.specs.declared.media.PictureFormat.TheVariants as picture
 use Rattle.wc_config.specs.declared.codec.CoderId.{CoderId}
-use Rattle.wc_config.specs.declared.codec.CodecId.{CodecId}
-use Rattle.wc_config.specs.declared.codec.CodecId.TheVariants as codec
-use Rattle.wc_config.specs.declared.codec.Role.{Role}
-use Rattle.wc_config.specs.declared.codec.Role.TheVariants as role
 use Rattle.coder_api.specs.declared.slot.SlotOp.{SlotOp}
 use Rattle.coder_api.specs.declared.slot.SlotOp.TheVariants as slot
-use Rattle.codec_model.specs.declared.entry.Kind.{Kind}
-use Rattle.codec_model.specs.declared.entry.Kind.TheVariants as kind
 use Rattle.codec_model.specs.declared.entry.CodecState.{CodecState}
-use Rattle.codec_model.specs.declared.entry.CodecState.TheVariants as state
 use Rattle.codec_model.specs.declared.entry.PromiseState.{PromiseState}
 use Rattle.codec_model.specs.declared.entry.PromiseState.TheVariants as promise
 use Rattle.codec_model.specs.declared.entry.Outcome.{Outcome}
@@ -33,105 +21,19 @@ use Rattle.script_types.specs.declared.script.CodecItem.{CodecItem}
 use Rattle.script_types.specs.declared.script.CallerItem.{CallerItem}
 use Rattle.report_text.specs.declared.result.StepResult.{StepResult}
 use Rattle.report_text.specs.declared.result.StepResult.TheVariants as result
-use Rattle.report_fields.specs.Words.{◌>>=◌, upto, after, word_at}
-use Rattle.report_fields.specs.Fields.{short, number_upto, short_upto, signed_upto, number_or_dash_upto, bytes_upto}
-use Rattle.report_text.specs.declared.told.CallWord.{CallWord}
-use Rattle.report_text.specs.declared.told.CallWord.TheVariants as call
-use Rattle.report_text.specs.declared.told.Told.{Told}
-use Rattle.report_text.specs.declared.told.Told.TheVariants as told
-use Rattle.report_lines.specs.declared.line.Seen.{Seen}
-use Rattle.report_lines.specs.declared.line.Seen.TheVariants as seen
-use Rattle.report_lines.specs.declared.line.Line.{Line}
-use Rattle.report_lines.specs.declared.line.Line.TheVariants as line
-use Rattle.report_lines.specs.Text.{line_text}
+use Rattle.report_lines.specs.Words.{◌>>=◌, upto, after, word_at}
+use Rattle.report_lines.specs.Fields.{short, number_upto, short_upto, signed_upto, number_or_dash_upto, bytes_upto}
+use Rattle.report_text.specs.declared.line.EntryLine.{EntryLine}
+use Rattle.report_text.specs.declared.line.EntryLine.TheVariants as entry_line
+use Rattle.report_text.specs.declared.line.EventLine.{EventLine}
+use Rattle.report_text.specs.declared.line.EventLine.TheVariants as event_line
+use Rattle.report_text.specs.declared.line.Line.{Line}
+use Rattle.report_text.specs.declared.line.Line.TheVariants as line
+use Rattle.report_text.specs.Text.{line_text}
+use Rattle.report_lines.specs.Vocabulary.{error_of, answer_of, kind_of, state_of, call_of, sample_format_of, picture_format_of, codec_id_of, role_of, key_of}
 use Rattle.report_lines.specs.Fits.{is_no_feed}
 
--- Words.
-
-abbrev pub error_of : List ℕ → Option DomError
-error_of w =
-    if bytes_eq w (codes "AbortError") then Some dom.Abort
-    else if bytes_eq w (codes "InvalidStateError") then Some dom.InvalidState
-    else if bytes_eq w (codes "NotSupportedError") then Some dom.NotSupported
-    else if bytes_eq w (codes "EncodingError") then Some dom.Encoding
-    else if bytes_eq w (codes "DataError") then Some dom.Data
-    else if bytes_eq w (codes "DataCloneError") then Some dom.DataClone
-    else if bytes_eq w (codes "QuotaExceededError") then Some dom.QuotaExceeded
-    else if bytes_eq w (codes "TypeError") then Some dom.TypeErr
-    else if bytes_eq w (codes "RangeError") then Some dom.RangeErr
-    else if bytes_eq w (codes "OutOfMemory") then Some dom.OutOfMemory
-    else None
-
-abbrev pub answer_of : List ℕ → Option (Option DomError)
-answer_of w = if bytes_eq w (codes "ok") then Some None else (error_of w >>= λ e. Some (Some e))
-
-abbrev pub kind_of : List ℕ → Option Kind
-kind_of w =
-    if bytes_eq w (codes "audio-decoder") then Some kind.AudioDecoder
-    else if bytes_eq w (codes "audio-encoder") then Some kind.AudioEncoder
-    else if bytes_eq w (codes "video-decoder") then Some kind.VideoDecoder
-    else None
-
-abbrev pub state_of : List ℕ → Option CodecState
-state_of w =
-    if bytes_eq w (codes "unconfigured") then Some state.Unconfigured
-    else if bytes_eq w (codes "configured") then Some state.Configured
-    else if bytes_eq w (codes "closed") then Some state.Closed
-    else None
-
-abbrev pub call_of : List ℕ → Option CallWord
-call_of w =
-    if bytes_eq w (codes "configure") then Some call.Configure
-    else if bytes_eq w (codes "decode") then Some call.Decode
-    else if bytes_eq w (codes "flush") then Some call.Flush
-    else if bytes_eq w (codes "reset") then Some call.Reset
-    else if bytes_eq w (codes "close") then Some call.Close
-    else None
-
-abbrev pub sample_format_of : List ℕ → Option SampleFormat
-sample_format_of w =
-    if bytes_eq w (codes "u8") then Some sample.U8
-    else if bytes_eq w (codes "s16") then Some sample.S16
-    else if bytes_eq w (codes "s32") then Some sample.S32
-    else if bytes_eq w (codes "u8-planar") then Some sample.U8Planar
-    else if bytes_eq w (codes "s16-planar") then Some sample.S16Planar
-    else if bytes_eq w (codes "s32-planar") then Some sample.S32Planar
-    else None
-
-abbrev pub picture_format_of : List ℕ → Option PictureFormat
-picture_format_of w =
-    if bytes_eq w (codes "I420") then Some picture.I420
-    else if bytes_eq w (codes "I422") then Some picture.I422
-    else if bytes_eq w (codes "I444") then Some picture.I444
-    else if bytes_eq w (codes "NV12") then Some picture.Nv12
-    else None
-
-abbrev pub codec_id_of : List ℕ → Option CodecId
-codec_id_of w =
-    if bytes_eq w (codes "pcm-u8") then Some codec.PcmU8
-    else if bytes_eq w (codes "pcm-s16") then Some codec.PcmS16
-    else if bytes_eq w (codes "pcm-s24") then Some codec.PcmS24
-    else if bytes_eq w (codes "pcm-s32") then Some codec.PcmS32
-    else if bytes_eq w (codes "alaw") then Some codec.Alaw
-    else if bytes_eq w (codes "ulaw") then Some codec.Ulaw
-    else if bytes_eq w (codes "flac") then Some codec.Flac
-    else if bytes_eq w (codes "x-raw-i420") then Some codec.RawI420
-    else if bytes_eq w (codes "x-raw-i422") then Some codec.RawI422
-    else if bytes_eq w (codes "x-raw-i444") then Some codec.RawI444
-    else if bytes_eq w (codes "x-raw-nv12") then Some codec.RawNv12
-    else None
-
-abbrev pub role_of : List ℕ → Option Role
-role_of w =
-    if bytes_eq w (codes "decode") then Some role.Decode
-    else if bytes_eq w (codes "encode") then Some role.Encode
-    else None
-
-abbrev pub key_of : List ℕ → Option Bool
-key_of w =
-    if bytes_eq w (codes "key") then Some true
-    else if bytes_eq w (codes "delta") then Some false
-    else None
+-- ---- names
 
 -- the number of the first caller of a name
 abbrev pub caller_of : List CallerItem → List ℕ → Option ℕ
@@ -170,15 +72,15 @@ look_at n len bs = do
   w ← word_at bs
   look_as (state_of w.0) n len bs w.2
 
-unfoldable pub looked : ScriptData → ℕ → List ℕ → List ℕ → Option Line
-looked script step name bs = do
+unfoldable pub look_line_at : ScriptData → ℕ → List ℕ → List ℕ → Option Line
+look_line_at script step name bs = do
   n ← codec_of script.codecs name
   len ← number_upto 32 bs
   found ← look_at n len.0 len.1
   Some (line.Result step found)
 
-unfoldable pub call_result : ScriptData → ℕ → List ℕ → ℕ → List ℕ → Option Line
-call_result script step name place w = do
+unfoldable pub call_result_at : ScriptData → ℕ → List ℕ → ℕ → List ℕ → Option Line
+call_result_at script step name place w = do
   n ← codec_of script.codecs name
   error ← answer_of w
   Some (line.Result step (result.Call n place error))
@@ -207,19 +109,19 @@ turn_at bs = do
       else if bytes_eq w.0 (codes "close") then (error_at w.2 >>= λ e. Some (Some (turn.Close e)))
       else None
 
-unfoldable pub start_at : List ℕ → Option Told
+unfoldable pub start_at : List ℕ → Option EntryLine
 start_at bs = do
   epoch ← number_upto 46 bs
   item ← number_upto 10 epoch.1
-  Some (told.Start epoch.0 item.0)
+  Some (entry_line.Start epoch.0 item.0)
 
-unfoldable pub done_at : List ℕ → Option Told
+unfoldable pub done_at : List ℕ → Option EntryLine
 done_at bs = do
   epoch ← number_upto 46 bs
   item ← number_upto 32 epoch.1
   moment ← number_upto 32 item.1
   outcome ← outcome_at moment.1
-  Some (told.Done epoch.0 item.0 moment.0 outcome)
+  Some (entry_line.Done epoch.0 item.0 moment.0 outcome)
 
 unfoldable pub call_at : ScriptData → ℕ → List ℕ → ℕ → List ℕ → List ℕ → Option Line
 call_at script place name m w bs = do
@@ -228,7 +130,7 @@ call_at script place name m w bs = do
   word ← call_of w
   rest ← after (codes "= ") bs
   error ← answer_at rest
-  Some (line.Entry place (told.Call (record { caller = caller; step = step }) word error))
+  Some (line.Entry place (entry_line.Call (record { caller = caller; step = step }) word error))
 
 -- Entries of the registry.
 
@@ -277,36 +179,36 @@ slot_at script place name m w bs = do
 
 -- Lines with a number.
 
-unfoldable pub dotted : ScriptData → ℕ → List ℕ → List ℕ → Option Line
-dotted script n name bs = do
+unfoldable pub dotted_line_at : ScriptData → ℕ → List ℕ → List ℕ → Option Line
+dotted_line_at script n name bs = do
   m ← number_upto 32 bs
   w ← word_at m.1
-  if w.1 == 10 then call_result script n name m.0 w.0
+  if w.1 == 10 then call_result_at script n name m.0 w.0
       else if bytes_eq w.0 (codes "acquire") || bytes_eq w.0 (codes "give") then slot_at script n name m.0 w.0 w.2
       else call_at script n name m.0 w.0 w.2
 
-unfoldable pub worded : ℕ → List ℕ → List ℕ → Option Line
-worded n w rest =
+unfoldable pub worded_line_at : ℕ → List ℕ → List ℕ → Option Line
+worded_line_at n w rest =
     if bytes_eq w (codes "start") then (start_at rest >>= λ e. Some (line.Entry n e))
     else if bytes_eq w (codes "done") then (done_at rest >>= λ e. Some (line.Entry n e))
-    else if bytes_eq w (codes "turn") then (turn_at rest >>= λ t. Some (line.Entry n (told.Turn t)))
-    else if bytes_eq w (codes "reclaim") then (number_upto 10 rest >>= λ m. Some (line.Entry n (told.Reclaim m.0)))
+    else if bytes_eq w (codes "turn") then (turn_at rest >>= λ t. Some (line.Entry n (entry_line.Turn t)))
+    else if bytes_eq w (codes "reclaim") then (number_upto 10 rest >>= λ m. Some (line.Entry n (entry_line.Reclaim m.0)))
     else if bytes_eq w (codes "absent") then Some (line.Result n result.Absent)
     else (answer_of w >>= λ a. Some (line.Result n (result.Local a)))
 
 -- behind the number a name with a dot, a name with a colon, or another word
-unfoldable pub numbered : ScriptData → List ℕ → Option Line
-numbered script bs = do
+unfoldable pub numbered_line_at : ScriptData → List ℕ → Option Line
+numbered_line_at script bs = do
   n ← number_upto 32 bs
   w ← word_at n.1
-  if w.1 == 46 then dotted script n.0 w.0 w.2
-      else if w.1 == 58 then looked script n.0 w.0 w.2
-      else worded n.0 w.0 w.2
+  if w.1 == 46 then dotted_line_at script n.0 w.0 w.2
+      else if w.1 == 58 then look_line_at script n.0 w.0 w.2
+      else worded_line_at n.0 w.0 w.2
 
 -- What an entry showed.
 
 -- the duration of samples is told by their shape
-unfoldable pub sound_at : List ℕ → Option Seen
+unfoldable pub sound_at : List ℕ → Option EventLine
 sound_at bs = do
   w ← word_at bs
   format ← sample_format_of w.0
@@ -316,9 +218,9 @@ sound_at bs = do
   timestamp ← signed_upto 32 frames.1
   duration ← number_or_dash_upto 32 timestamp.1
   bytes ← bytes_upto 10 duration.1
-  Some (seen.Sound (record { format = format; rate = rate.0; channels = channels.0; frames = frames.0; timestamp = timestamp.0 }) bytes.0)
+  Some (event_line.Sound (record { shape = record { format = format; rate = rate.0; channels = channels.0; frames = frames.0; timestamp = timestamp.0 }; bytes = bytes.0 }))
 
-unfoldable pub image_at : List ℕ → Option Seen
+unfoldable pub image_at : List ℕ → Option EventLine
 image_at bs = do
   w ← word_at bs
   format ← picture_format_of w.0
@@ -327,18 +229,18 @@ image_at bs = do
   timestamp ← signed_upto 32 height.1
   duration ← number_or_dash_upto 32 timestamp.1
   bytes ← bytes_upto 10 duration.1
-  Some (seen.Image (record { format = format; width = width.0; height = height.0; timestamp = timestamp.0; duration = duration.0 }) bytes.0)
+  Some (event_line.Image (record { shape = record { format = format; width = width.0; height = height.0; timestamp = timestamp.0; duration = duration.0 }; bytes = bytes.0 }))
 
-unfoldable pub chunk_at : List ℕ → Option Seen
+unfoldable pub chunk_at : List ℕ → Option EventLine
 chunk_at bs = do
   w ← word_at bs
   key ← key_of w.0
   timestamp ← signed_upto 32 w.2
   duration ← number_or_dash_upto 32 timestamp.1
   bytes ← bytes_upto 10 duration.1
-  Some (seen.Chunk key timestamp.0 duration.0 bytes.0)
+  Some (event_line.Chunk (record { key = key; timestamp = timestamp.0; duration = duration.0; bytes = bytes.0 }))
 
-unfoldable pub output_at : List ℕ → Option Seen
+unfoldable pub output_at : List ℕ → Option EventLine
 output_at bs = do
   w ← word_at bs
   if bytes_eq w.0 (codes "audio") then sound_at w.2
@@ -349,37 +251,37 @@ output_at bs = do
 abbrev pub without_feed : List ℕ → Option (List ℕ)
 without_feed text = if list_all is_no_feed text then Some text else None
 
-unfoldable pub config_at : List ℕ → Option Seen
+unfoldable pub config_at : List ℕ → Option EventLine
 config_at bs = do
   name ← upto 32 bs
   codec ← without_feed name.0
   rate ← short_upto 32 name.1
   channels ← short_upto 32 rate.1
   description ← bytes_upto 10 channels.1
-  Some (seen.Config codec rate.0 channels.0 description.0)
+  Some (event_line.Config codec rate.0 channels.0 description.0)
 
-unfoldable pub reject_at : List ℕ → Option Seen
+unfoldable pub reject_at : List ℕ → Option EventLine
 reject_at bs = do
   p ← number_upto 32 bs
   e ← error_at p.1
-  Some (seen.Reject p.0 e)
+  Some (event_line.Reject p.0 e)
 
-unfoldable pub seen_at : List ℕ → Option Seen
-seen_at bs = do
+unfoldable pub event_at : List ℕ → Option EventLine
+event_at bs = do
   w ← word_at bs
   if bytes_eq w.0 (codes "output") then output_at w.2
       else if bytes_eq w.0 (codes "config") then config_at w.2
-      else if bytes_eq w.0 (codes "resolve") then (number_upto 10 w.2 >>= λ p. Some (seen.Resolve p.0))
+      else if bytes_eq w.0 (codes "resolve") then (number_upto 10 w.2 >>= λ p. Some (event_line.Resolve p.0))
       else if bytes_eq w.0 (codes "reject") then reject_at w.2
-      else if bytes_eq w.0 (codes "dequeue") then Some seen.Dequeue
-      else if bytes_eq w.0 (codes "error") then (error_at w.2 >>= λ e. Some (seen.Error e))
+      else if bytes_eq w.0 (codes "dequeue") then Some event_line.Dequeue
+      else if bytes_eq w.0 (codes "error") then (error_at w.2 >>= λ e. Some (event_line.Error e))
       else None
 
-unfoldable pub shown_at : List ℕ → Option Line
-shown_at bs = do
+unfoldable pub event_line_at : List ℕ → Option Line
+event_line_at bs = do
   rest ← after (codes " ") bs
-  s ← seen_at rest
-  Some (line.Seen s)
+  s ← event_at rest
+  Some (line.Event s)
 
 -- Lines that begin with a word.
 
@@ -398,8 +300,8 @@ caller_at script bs = do
   n ← caller_of script.callers name.0
   Some (line.Caller n)
 
-unfoldable pub headed : ScriptData → List ℕ → List ℕ → Option Line
-headed script w rest =
+unfoldable pub headed_line_at : ScriptData → List ℕ → List ℕ → Option Line
+headed_line_at script w rest =
     if bytes_eq w (codes "wcrun") then Some line.Header
     else if bytes_eq w (codes "caller") then caller_at script rest
     else if bytes_eq w (codes "codec") then codec_at script rest
@@ -410,16 +312,16 @@ headed script w rest =
     else None
 
 -- the only line that can stand in front
-unfoldable pub parsed : ScriptData → List ℕ → Option Line
-parsed script bs = do
+unfoldable pub only_line_at : ScriptData → List ℕ → Option Line
+only_line_at script bs = do
   w ← word_at bs
-  if bytes_eq w.0 [] then shown_at w.2
-      else if list_all is_ascii_digit w.0 then numbered script bs
-      else headed script w.0 w.2
+  if bytes_eq w.0 [] then event_line_at w.2
+      else if list_all is_ascii_digit w.0 then numbered_line_at script bs
+      else headed_line_at script w.0 w.2
 
 -- the line whose text stands in front, and the bytes behind it
 unfoldable pub line_at : ScriptData → List ℕ → Option (Line × List ℕ)
 line_at script bs = do
-  found ← parsed script bs
+  found ← only_line_at script bs
   rest ← after (line_text script found) bs
   Some (found, rest)

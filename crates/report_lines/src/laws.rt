@@ -1,6 +1,5 @@
 // What is written as a line is read again, and what is read fits the script.
-ghost use Rattle.report_lines.specs.Laws.{LineAgain, LineSound, LineFits, LineIsOne, EntryIsALine, EventIsLines};
-ghost use Rattle.report_lines.specs.Whole.{ReportIsLines};
+ghost use Rattle.report_lines.specs.Laws.{LineAgain, LineSound, LineFits, LineIsOne};
 
 /// Laws: a line that fits the script is read again, whatever stands behind it; what is read stands in front, as it is
 /// written; and the text of such a line ends with its only line feed.
@@ -14,12 +13,4 @@ pub fn lines_are_read_again()
 /// bytes are bytes, and a config's codec has no blank and no line feed.
 pub fn lines_that_are_read_fit()
     ensures { LineFits }
-{}
-
-/// Laws: the report's text of an entry is that of a line, its text of an event that of some lines, and the report of a run
-/// is the texts of the run's lines, in order.
-pub fn reports_are_lines()
-    ensures entry { EntryIsALine }
-    ensures event { EventIsLines }
-    ensures report { ReportIsLines }
 {}

@@ -2,26 +2,26 @@
 ghost use Rattle.std.specs.Prelude.{◌≡◌, ◌≢◌, IfOk, IfErr, Some, None, position, bytes_eq};
 ghost use Rattle.std.specs.List.{list_all};
 ghost use Rattle.std.specs.Option.{option_copied, option_map};
-ghost use Rattle.report_fields.specs.Fields.{short as short_of};
+ghost use Rattle.report_lines.specs.Fields.{short as short_of};
 ghost use Rattle.report_lines.specs.Fits.{is_no_feed};
 ghost use Rattle.report_lines.specs.Reading as spec;
 
-use crate::line::{Line, Seen};
-use crate::text::line_text;
-use crate::words::{
+use crate::fields::{
+    FieldFault, bytes_upto, number_or_dash_upto, number_upto, short_upto, signed_upto,
+};
+use crate::vocabulary::{
     answer_of, call_of, codec_id_of, error_of, is, key_of, kind_of, picture_format_of, role_of,
     sample_format_of, state_of,
 };
+use crate::words::{after, are_digits, upto, word_at};
+use bytes::Bytes;
 use codec_model::{CodecState, Opening, Outcome, PromiseState, TurnWord};
 use coder_api::{SlotEntry, SlotOp};
-use report_fields::{
-    FieldFault, after, are_digits, bytes_upto, number_or_dash_upto, number_upto, short_upto,
-    signed_upto, upto, word_at,
-};
-use report_text::{StepResult, Told};
+use report_text::{EntryLine, EventLine, Line, StepResult, line_text};
 use script_types::{CallerItem, CodecItem, ScriptData};
 use std::alloc::Global;
-use wc_base::{By, DomError, List, PictureShape, SoundShape, Who};
+use wc_base::{By, DomError, Picture, PictureShape, Samples, SoundShape, Who};
+use wc_chunk::Chunk;
 use wc_config::CoderId;
 
 fn short(n: u64) -> Option<u32>
@@ -127,28 +127,34 @@ fn look_at(codec: u32, length: u64, bytes: &[u8]) -> Option<StepResult>
     look_as(state_of(word), codec, length, bytes, rest)
 }
 
-#[tactic(auto, unfolding(crate::specs::Reading::looked))]
-fn looked(script: &ScriptData, step: u64, name: &[u8], bytes: &[u8]) -> Option<Line>
-    ensures { result ≡ spec.looked script.now step name.now bytes.now }
+#[tactic(auto, unfolding(crate::specs::Reading::look_line_at))]
+fn look_line_at(script: &ScriptData, step: u64, name: &[u8], bytes: &[u8]) -> Option<Line>
+    ensures { result ≡ spec.look_line_at script.now step name.now bytes.now }
 {
     let codec = codec_of(script.codecs.as_slice(), name)?;
     let (length, rest) = number_upto(b' ', bytes)?;
-    let found = look_at(codec, length, rest)?;
-    Some(Line::Result { step, found })
+    let answer = look_at(codec, length, rest)?;
+    Some(Line::Result { step, answer })
 }
 
-#[tactic(auto, unfolding(crate::specs::Reading::call_result))]
-fn call_result(script: &ScriptData, step: u64, name: &[u8], place: u64, word: &[u8]) -> Option<Line>
-    ensures { result ≡ spec.call_result script.now step name.now place word.now }
+#[tactic(auto, unfolding(crate::specs::Reading::call_result_at))]
+fn call_result_at(
+    script: &ScriptData,
+    step: u64,
+    name: &[u8],
+    place: u64,
+    word: &[u8],
+) -> Option<Line>
+    ensures { result ≡ spec.call_result_at script.now step name.now place word.now }
 {
     let codec = codec_of(script.codecs.as_slice(), name)?;
     let error = answer_of(word)?;
-    let found = StepResult::Call {
+    let answer = StepResult::Call {
         codec,
         place,
         error,
     };
-    Some(Line::Result { step, found })
+    Some(Line::Result { step, answer })
 }
 
 #[tactic(auto, unfolding(crate::specs::Reading::outcome_at))]
@@ -199,23 +205,23 @@ fn turn_at(bytes: &[u8]) -> Option<Option<TurnWord>>
 }
 
 #[tactic(auto, unfolding(crate::specs::Reading::start_at))]
-fn start_at(bytes: &[u8]) -> Option<Told>
+fn start_at(bytes: &[u8]) -> Option<EntryLine>
     ensures { result ≡ spec.start_at bytes.now }
 {
     let (epoch, rest) = number_upto(b'.', bytes)?;
     let (item, _) = number_upto(b'\n', rest)?;
-    Some(Told::Start { epoch, item })
+    Some(EntryLine::Start { epoch, item })
 }
 
 #[tactic(auto, unfolding(crate::specs::Reading::done_at))]
-fn done_at(bytes: &[u8]) -> Option<Told>
+fn done_at(bytes: &[u8]) -> Option<EntryLine>
     ensures { result ≡ spec.done_at bytes.now }
 {
     let (epoch, rest) = number_upto(b'.', bytes)?;
     let (item, rest) = number_upto(b' ', rest)?;
     let (moment, rest) = number_upto(b' ', rest)?;
     let outcome = outcome_at(rest)?;
-    Some(Told::Done {
+    Some(EntryLine::Done {
         epoch,
         item,
         moment,
@@ -240,8 +246,8 @@ fn call_at(
     let rest = after(b"= ", bytes)?;
     let error = answer_at(rest)?;
     let who = Who { caller, step };
-    let told = Told::Call { who, call, error };
-    Some(Line::Entry { place, told })
+    let entry = EntryLine::Call { who, call, error };
+    Some(Line::Entry { place, entry })
 }
 
 fn by_as(caller: Option<u32>, script: &ScriptData, name: &[u8], number: u64) -> Option<By>
@@ -345,14 +351,14 @@ fn slot_at(
     Some(Line::Slot { place, entry })
 }
 
-#[tactic(auto, unfolding(crate::specs::Reading::dotted))]
-fn dotted(script: &ScriptData, n: u64, name: &[u8], bytes: &[u8]) -> Option<Line>
-    ensures { result ≡ spec.dotted script.now n name.now bytes.now }
+#[tactic(auto, unfolding(crate::specs::Reading::dotted_line_at))]
+fn dotted_line_at(script: &ScriptData, n: u64, name: &[u8], bytes: &[u8]) -> Option<Line>
+    ensures { result ≡ spec.dotted_line_at script.now n name.now bytes.now }
 {
     let (m, rest) = number_upto(b' ', bytes)?;
     let (word, mark, rest) = word_at(rest)?;
     if mark == b'\n' {
-        call_result(script, n, name, m, word)
+        call_result_at(script, n, name, m, word)
     } else if is(word, "acquire") || is(word, "give") {
         slot_at(script, n, name, m, word, rest)
     } else {
@@ -360,59 +366,59 @@ fn dotted(script: &ScriptData, n: u64, name: &[u8], bytes: &[u8]) -> Option<Line
     }
 }
 
-#[tactic(auto, unfolding(crate::specs::Reading::worded))]
-fn worded(n: u64, word: &[u8], rest: &[u8]) -> Option<Line>
-    ensures { result ≡ spec.worded n word.now rest.now }
+#[tactic(auto, unfolding(crate::specs::Reading::worded_line_at))]
+fn worded_line_at(n: u64, word: &[u8], rest: &[u8]) -> Option<Line>
+    ensures { result ≡ spec.worded_line_at n word.now rest.now }
 {
     if is(word, "start") {
-        let told = start_at(rest)?;
-        Some(Line::Entry { place: n, told })
+        let entry = start_at(rest)?;
+        Some(Line::Entry { place: n, entry })
     } else if is(word, "done") {
-        let told = done_at(rest)?;
-        Some(Line::Entry { place: n, told })
+        let entry = done_at(rest)?;
+        Some(Line::Entry { place: n, entry })
     } else if is(word, "turn") {
         let turn = turn_at(rest)?;
         Some(Line::Entry {
             place: n,
-            told: Told::Turn(turn),
+            entry: EntryLine::Turn(turn),
         })
     } else if is(word, "reclaim") {
         let (moment, _) = number_upto(b'\n', rest)?;
         Some(Line::Entry {
             place: n,
-            told: Told::Reclaim { moment },
+            entry: EntryLine::Reclaim { moment },
         })
     } else if is(word, "absent") {
         Some(Line::Result {
             step: n,
-            found: StepResult::Absent,
+            answer: StepResult::Absent,
         })
     } else {
         let error = answer_of(word)?;
         Some(Line::Result {
             step: n,
-            found: StepResult::Local { error },
+            answer: StepResult::Local { error },
         })
     }
 }
 
-#[tactic(auto, unfolding(crate::specs::Reading::numbered))]
-fn numbered(script: &ScriptData, bytes: &[u8]) -> Option<Line>
-    ensures { result ≡ spec.numbered script.now bytes.now }
+#[tactic(auto, unfolding(crate::specs::Reading::numbered_line_at))]
+fn numbered_line_at(script: &ScriptData, bytes: &[u8]) -> Option<Line>
+    ensures { result ≡ spec.numbered_line_at script.now bytes.now }
 {
     let (n, rest) = number_upto(b' ', bytes)?;
     let (word, mark, rest) = word_at(rest)?;
     if mark == b'.' {
-        dotted(script, n, word, rest)
+        dotted_line_at(script, n, word, rest)
     } else if mark == b':' {
-        looked(script, n, word, rest)
+        look_line_at(script, n, word, rest)
     } else {
-        worded(n, word, rest)
+        worded_line_at(n, word, rest)
     }
 }
 
 #[tactic(auto, unfolding(crate::specs::Reading::sound_at))]
-fn sound_at(alloc: Global, bytes: &[u8]) -> Result<Seen, FieldFault>
+fn sound_at(alloc: Global, bytes: &[u8]) -> Result<EventLine, FieldFault>
     ensures ok { IfOk result (λ s. spec.sound_at bytes.now ≡ Some s) }
     ensures err { IfErr result (λ e. e ≢ FieldFault.NoMemory → spec.sound_at bytes.now ≡ None) }
 {
@@ -423,21 +429,19 @@ fn sound_at(alloc: Global, bytes: &[u8]) -> Result<Seen, FieldFault>
     let (frames, rest) = short_upto(b' ', rest).ok_or(FieldFault::NoField)?;
     let (timestamp, rest) = signed_upto(b' ', rest).ok_or(FieldFault::NoField)?;
     let (_, rest) = number_or_dash_upto(b' ', rest).ok_or(FieldFault::NoField)?;
-    let (found, _) = bytes_upto(alloc, b'\n', rest)?;
-    Ok(Seen::Sound {
-        shape: SoundShape {
-            format,
-            rate,
-            channels,
-            frames,
-            timestamp,
-        },
-        bytes: List::of(found),
-    })
+    let (bytes, _) = bytes_upto(alloc, b'\n', rest)?;
+    let shape = SoundShape {
+        format,
+        rate,
+        channels,
+        frames,
+        timestamp,
+    };
+    Ok(EventLine::Sound(Samples { shape, bytes }))
 }
 
 #[tactic(auto, unfolding(crate::specs::Reading::image_at))]
-fn image_at(alloc: Global, bytes: &[u8]) -> Result<Seen, FieldFault>
+fn image_at(alloc: Global, bytes: &[u8]) -> Result<EventLine, FieldFault>
     ensures ok { IfOk result (λ s. spec.image_at bytes.now ≡ Some s) }
     ensures err { IfErr result (λ e. e ≢ FieldFault.NoMemory → spec.image_at bytes.now ≡ None) }
 {
@@ -447,21 +451,19 @@ fn image_at(alloc: Global, bytes: &[u8]) -> Result<Seen, FieldFault>
     let (height, rest) = short_upto(b' ', rest).ok_or(FieldFault::NoField)?;
     let (timestamp, rest) = signed_upto(b' ', rest).ok_or(FieldFault::NoField)?;
     let (duration, rest) = number_or_dash_upto(b' ', rest).ok_or(FieldFault::NoField)?;
-    let (found, _) = bytes_upto(alloc, b'\n', rest)?;
-    Ok(Seen::Image {
-        shape: PictureShape {
-            format,
-            width,
-            height,
-            timestamp,
-            duration,
-        },
-        bytes: List::of(found),
-    })
+    let (bytes, _) = bytes_upto(alloc, b'\n', rest)?;
+    let shape = PictureShape {
+        format,
+        width,
+        height,
+        timestamp,
+        duration,
+    };
+    Ok(EventLine::Image(Picture { shape, bytes }))
 }
 
 #[tactic(auto, unfolding(crate::specs::Reading::chunk_at))]
-fn chunk_at(alloc: Global, bytes: &[u8]) -> Result<Seen, FieldFault>
+fn chunk_at(alloc: Global, bytes: &[u8]) -> Result<EventLine, FieldFault>
     ensures ok { IfOk result (λ s. spec.chunk_at bytes.now ≡ Some s) }
     ensures err { IfErr result (λ e. e ≢ FieldFault.NoMemory → spec.chunk_at bytes.now ≡ None) }
 {
@@ -469,17 +471,17 @@ fn chunk_at(alloc: Global, bytes: &[u8]) -> Result<Seen, FieldFault>
     let key = key_of(word).ok_or(FieldFault::NoField)?;
     let (timestamp, rest) = signed_upto(b' ', rest).ok_or(FieldFault::NoField)?;
     let (duration, rest) = number_or_dash_upto(b' ', rest).ok_or(FieldFault::NoField)?;
-    let (found, _) = bytes_upto(alloc, b'\n', rest)?;
-    Ok(Seen::Chunk {
+    let (bytes, _) = bytes_upto(alloc, b'\n', rest)?;
+    Ok(EventLine::Chunk(Chunk {
         key,
         timestamp,
         duration,
-        bytes: List::of(found),
-    })
+        bytes,
+    }))
 }
 
 #[tactic(auto, unfolding(crate::specs::Reading::output_at))]
-fn output_at(alloc: Global, bytes: &[u8]) -> Result<Seen, FieldFault>
+fn output_at(alloc: Global, bytes: &[u8]) -> Result<EventLine, FieldFault>
     ensures ok { IfOk result (λ s. spec.output_at bytes.now ≡ Some s) }
     ensures err { IfErr result (λ e. e ≢ FieldFault.NoMemory → spec.output_at bytes.now ≡ None) }
 {
@@ -493,13 +495,12 @@ fn output_at(alloc: Global, bytes: &[u8]) -> Result<Seen, FieldFault>
     }
 }
 
-fn copied(alloc: Global, bytes: &[u8]) -> Result<Vec<u8>, FieldFault>
-    ensures ok { IfOk result (λ v. v.items ≡ bytes.now) }
+fn copy_of(alloc: Global, bytes: &[u8]) -> Result<Bytes, FieldFault>
+    ensures ok { IfOk result (λ copy. copy ≡ bytes.now) }
     ensures err { IfErr result (λ e. e ≡ FieldFault.NoMemory) }
 {
-    let mut copy = Vec::new(alloc);
-    match copy.extend_from_slice(bytes) {
-        Ok(()) => Ok(copy),
+    match Bytes::copy_from_slice(alloc, bytes) {
+        Ok(copy) => Ok(copy),
         Err(_) => Err(FieldFault::NoMemory),
     }
 }
@@ -519,7 +520,7 @@ fn without_feed(text: &[u8]) -> Option<&[u8]>
 }
 
 #[tactic(auto, unfolding(crate::specs::Reading::config_at))]
-fn config_at(alloc: Global, bytes: &[u8]) -> Result<Seen, FieldFault>
+fn config_at(alloc: Global, bytes: &[u8]) -> Result<EventLine, FieldFault>
     ensures ok { IfOk result (λ s. spec.config_at bytes.now ≡ Some s) }
     ensures err { IfErr result (λ e. e ≢ FieldFault.NoMemory → spec.config_at bytes.now ≡ None) }
 {
@@ -528,28 +529,28 @@ fn config_at(alloc: Global, bytes: &[u8]) -> Result<Seen, FieldFault>
     let (rate, rest) = short_upto(b' ', rest).ok_or(FieldFault::NoField)?;
     let (channels, rest) = short_upto(b' ', rest).ok_or(FieldFault::NoField)?;
     let (description, _) = bytes_upto(alloc, b'\n', rest)?;
-    let codec = copied(alloc, name)?;
-    Ok(Seen::Config {
-        codec: List::of(codec),
+    let codec = copy_of(alloc, name)?;
+    Ok(EventLine::Config {
+        codec,
         rate,
         channels,
-        description: List::of(description),
+        description,
     })
 }
 
 #[tactic(auto, unfolding(crate::specs::Reading::reject_at))]
-fn reject_at(bytes: &[u8]) -> Option<Seen>
+fn reject_at(bytes: &[u8]) -> Option<EventLine>
     ensures { result ≡ spec.reject_at bytes.now }
 {
     let (promise, rest) = number_upto(b' ', bytes)?;
     let error = error_at(rest)?;
-    Some(Seen::Reject { promise, error })
+    Some(EventLine::Reject { promise, error })
 }
 
-#[tactic(auto, unfolding(crate::specs::Reading::seen_at))]
-fn seen_at(alloc: Global, bytes: &[u8]) -> Result<Seen, FieldFault>
-    ensures ok { IfOk result (λ s. spec.seen_at bytes.now ≡ Some s) }
-    ensures err { IfErr result (λ e. e ≢ FieldFault.NoMemory → spec.seen_at bytes.now ≡ None) }
+#[tactic(auto, unfolding(crate::specs::Reading::event_at))]
+fn event_at(alloc: Global, bytes: &[u8]) -> Result<EventLine, FieldFault>
+    ensures ok { IfOk result (λ s. spec.event_at bytes.now ≡ Some s) }
+    ensures err { IfErr result (λ e. e ≢ FieldFault.NoMemory → spec.event_at bytes.now ≡ None) }
 {
     let (word, _, rest) = word_at(bytes).ok_or(FieldFault::NoField)?;
     if is(word, "output") {
@@ -558,27 +559,28 @@ fn seen_at(alloc: Global, bytes: &[u8]) -> Result<Seen, FieldFault>
         config_at(alloc, rest)
     } else if is(word, "resolve") {
         let (promise, _) = number_upto(b'\n', rest).ok_or(FieldFault::NoField)?;
-        Ok(Seen::Resolve(promise))
+        Ok(EventLine::Resolve(promise))
     } else if is(word, "reject") {
         reject_at(rest).ok_or(FieldFault::NoField)
     } else if is(word, "dequeue") {
-        Ok(Seen::Dequeue)
+        Ok(EventLine::Dequeue)
     } else if is(word, "error") {
         let error = error_at(rest).ok_or(FieldFault::NoField)?;
-        Ok(Seen::Error(error))
+        Ok(EventLine::Error(error))
     } else {
         Err(FieldFault::NoField)
     }
 }
 
-#[tactic(auto, unfolding(crate::specs::Reading::shown_at))]
-fn shown_at(alloc: Global, bytes: &[u8]) -> Result<Line, FieldFault>
-    ensures ok { IfOk result (λ l. spec.shown_at bytes.now ≡ Some l) }
-    ensures err { IfErr result (λ e. e ≢ FieldFault.NoMemory → spec.shown_at bytes.now ≡ None) }
+#[tactic(auto, unfolding(crate::specs::Reading::event_line_at))]
+fn event_line_at(alloc: Global, bytes: &[u8]) -> Result<Line, FieldFault>
+    ensures ok { IfOk result (λ l. spec.event_line_at bytes.now ≡ Some l) }
+    ensures err { IfErr result
+        (λ e. e ≢ FieldFault.NoMemory → spec.event_line_at bytes.now ≡ None) }
 {
     let rest = after(b" ", bytes).ok_or(FieldFault::NoField)?;
-    let seen = seen_at(alloc, rest)?;
-    Ok(Line::Seen(seen))
+    let event = event_at(alloc, rest)?;
+    Ok(Line::Event(event))
 }
 
 #[tactic(auto, unfolding(crate::specs::Reading::codec_at))]
@@ -591,7 +593,10 @@ fn codec_at(script: &ScriptData, bytes: &[u8]) -> Option<Line>
     let kind = kind_of(word)?;
     let (saturation, _) = short_upto(b'\n', rest)?;
     let opening = Opening { kind, saturation };
-    Some(Line::Codec { codec, opening })
+    Some(Line::Codec {
+        codec: u64::from(codec),
+        opening,
+    })
 }
 
 #[tactic(auto, unfolding(crate::specs::Reading::caller_at))]
@@ -600,12 +605,12 @@ fn caller_at(script: &ScriptData, bytes: &[u8]) -> Option<Line>
 {
     let (name, _, _) = word_at(bytes)?;
     let caller = caller_of(script.callers.as_slice(), name)?;
-    Some(Line::Caller(caller))
+    Some(Line::Caller(u64::from(caller)))
 }
 
-#[tactic(auto, unfolding(crate::specs::Reading::headed))]
-fn headed(script: &ScriptData, word: &[u8], rest: &[u8]) -> Option<Line>
-    ensures { result ≡ spec.headed script.now word.now rest.now }
+#[tactic(auto, unfolding(crate::specs::Reading::headed_line_at))]
+fn headed_line_at(script: &ScriptData, word: &[u8], rest: &[u8]) -> Option<Line>
+    ensures { result ≡ spec.headed_line_at script.now word.now rest.now }
 {
     if is(word, "wcrun") {
         Some(Line::Header)
@@ -627,18 +632,19 @@ fn headed(script: &ScriptData, word: &[u8], rest: &[u8]) -> Option<Line>
     }
 }
 
-#[tactic(auto, unfolding(crate::specs::Reading::parsed))]
-fn parsed(alloc: Global, script: &ScriptData, bytes: &[u8]) -> Result<Line, FieldFault>
-    ensures ok { IfOk result (λ l. spec.parsed script.now bytes.now ≡ Some l) }
-    ensures err { IfErr result (λ e. e ≢ FieldFault.NoMemory → spec.parsed script.now bytes.now ≡ None) }
+#[tactic(auto, unfolding(crate::specs::Reading::only_line_at))]
+fn only_line_at(alloc: Global, script: &ScriptData, bytes: &[u8]) -> Result<Line, FieldFault>
+    ensures ok { IfOk result (λ l. spec.only_line_at script.now bytes.now ≡ Some l) }
+    ensures err { IfErr result
+        (λ e. e ≢ FieldFault.NoMemory → spec.only_line_at script.now bytes.now ≡ None) }
 {
     let (word, _, rest) = word_at(bytes).ok_or(FieldFault::NoField)?;
     if is(word, "") {
-        shown_at(alloc, rest)
+        event_line_at(alloc, rest)
     } else if are_digits(word) {
-        numbered(script, bytes).ok_or(FieldFault::NoField)
+        numbered_line_at(script, bytes).ok_or(FieldFault::NoField)
     } else {
-        headed(script, word, rest).ok_or(FieldFault::NoField)
+        headed_line_at(script, word, rest).ok_or(FieldFault::NoField)
     }
 }
 
@@ -651,9 +657,10 @@ pub fn line_at<'a>(
     bytes: &'a [u8],
 ) -> Result<(Line, &'a [u8]), FieldFault>
     ensures ok { IfOk result (λ x. spec.line_at script.now bytes.now ≡ Some (x.0, x.1.now)) }
-    ensures err { IfErr result (λ e. e ≢ FieldFault.NoMemory → spec.line_at script.now bytes.now ≡ None) }
+    ensures err { IfErr result
+        (λ e. e ≢ FieldFault.NoMemory → spec.line_at script.now bytes.now ≡ None) }
 {
-    let line = parsed(alloc, script, bytes)?;
+    let line = only_line_at(alloc, script, bytes)?;
     match line_text(alloc, script, &line) {
         Err(_) => Err(FieldFault::NoMemory),
         Ok(text) => match after(text.as_slice(), bytes) {

@@ -4,7 +4,7 @@ use Rattle.wc_chunk.specs.declared.chunk.Chunk.{Chunk}
 use Rattle.script_types.specs.declared.script.ScriptData.{ScriptData}
 use Rattle.trace_text.specs.declared.run.CallerTrace.{CallerTrace}
 use Rattle.trace_text.specs.declared.run.CodecTrace.{CodecTrace}
-use Rattle.report_lines.specs.declared.line.Line.{Line}
+use Rattle.report_text.specs.declared.line.Line.{Line}
 use Rattle.report_reader.specs.Read.{results_in, behind_results, callers_in, behind_entries, codec_in, codecs_in}
 
 pub caller_more : (total : List CallerTrace × List Line) (front : List CallerTrace) (count i : ℕ) (rest : List Line) → i < count

@@ -1,28 +1,30 @@
 -- Codec strings and the codecs that they name.
-use Rattle.std.proofs.Common.{◌≡◌, Bool, true, false, cond, ◌||◌, List, ℕ, codes, Option, Some, None, is_some, refl, ap, sym, subst, ◌∙◌}
+use Rattle.std.proofs.Common.{◌≡◌, Bool, true, false, cond, ◌||◌, List, [], ◌∷◌, ℕ, codes, Option, Some, None, is_some, refl, ap, sym, ◌∙◌}
 use Rattle.std.specs.Str.{bytes_eq}
+use Rattle.std.proofs.lemmas.Slice.Eq.{bytes_eq-Decides}
 use Rattle.wc_config.specs.declared.codec.CodecId.{CodecId}
 use Rattle.wc_config.specs.declared.codec.CodecId.TheVariants as codec
-use Rattle.codec_model.proofs.FactLaws.{some_same}
 use Rattle.codec_follow.specs.Outputs.{is_codec_string}
-use Rattle.report_fields.proofs.WordLaws.{bytes_eq-same}
 use Rattle.report_text.specs.Words.{codec_text}
-use Rattle.report_lines.specs.Reading.{codec_id_of}
+use Rattle.report_lines.specs.Vocabulary.{first_named, codec_id_of}
 
--- the first of several tests that holds, or none
-choice : (w text : List ℕ) (x id : CodecId) (rest : Option CodecId) → codec_text x ≡ text → (rest ≡ Some id → codec_text id ≡ w) → cond (bytes_eq w text) (Some x) rest ≡ Some id → codec_text id ≡ w
-choice w text x id rest is later h = by (bytes_eq w text) refl h
-  where
-    by : (q : Bool) → bytes_eq w text ≡ q → cond q (Some x) rest ≡ Some id → codec_text id ≡ w
-    by true e k = subst (λ y. codec_text y ≡ w) (some_same x id k) (subst (λ t. codec_text x ≡ t) (sym (bytes_eq-same w text e)) is)
-    by false e k = later k
+first_by : {X : Type 0} (text : X → List ℕ) (y : X) (w : List ℕ) (x : X) (rest : Option X) → (rest ≡ Some x → text x ≡ w)
+    → (q : Bool) → bytes_eq w (text y) ≡ q → cond q (Some y) rest ≡ Some x → text x ≡ w
+first_by text y w x rest later true e h = let same : y ≡ x = cc in ap text (sym same) ∙ sym ((bytes_eq-Decides w (text y)).0 e)
+first_by text y w x rest later false e h = later h
+
+-- what the first of some values with this word is written by
+first_is : {X : Type 0} (text : X → List ℕ) (xs : List X) (w : List ℕ) (x : X) → first_named text xs w ≡ Some x → text x ≡ w
+first_is text [] w x h = absurd cc
+first_is text (y ∷ ys) w x h = first_by text y w x (first_named text ys w) (first_is text ys w x) (bytes_eq w (text y)) refl h
+
+abbrev codecs : List CodecId
+codecs =
+    codec.PcmU8 ∷ codec.PcmS16 ∷ codec.PcmS24 ∷ codec.PcmS32 ∷ codec.Alaw ∷ codec.Ulaw ∷ codec.Flac
+    ∷ codec.RawI420 ∷ codec.RawI422 ∷ codec.RawI444 ∷ codec.RawNv12 ∷ []
 
 text_is : (w : List ℕ) (id : CodecId) → codec_id_of w ≡ Some id → codec_text id ≡ w
-text_is w id h =
-    choice w (codes "pcm-u8") codec.PcmU8 id _ refl (choice w (codes "pcm-s16") codec.PcmS16 id _ refl (choice w (codes "pcm-s24") codec.PcmS24 id _ refl
-    (choice w (codes "pcm-s32") codec.PcmS32 id _ refl (choice w (codes "alaw") codec.Alaw id _ refl (choice w (codes "ulaw") codec.Ulaw id _ refl
-    (choice w (codes "flac") codec.Flac id _ refl (choice w (codes "x-raw-i420") codec.RawI420 id _ refl (choice w (codes "x-raw-i422") codec.RawI422 id _ refl
-    (choice w (codes "x-raw-i444") codec.RawI444 id _ refl (choice w (codes "x-raw-nv12") codec.RawNv12 id None refl (λ e. absurd cc))))))))))) h
+text_is w id h = first_is codec_text codecs w id h
 
 -- a string names a codec where one of the tests of either list holds
 either : (a b c d e f g h i j k : Bool)

@@ -3,7 +3,7 @@ use Rattle.std.proofs.Common.{◌≡◌, ℕ, ◌+◌, List, [], ◌∷◌, leng
 use Rattle.wc_chunk.specs.declared.chunk.Chunk.{Chunk}
 use Rattle.script_types.specs.declared.script.ScriptData.{ScriptData}
 use Rattle.trace_text.specs.Report.{report_of}
-use Rattle.report_lines.specs.declared.line.Line.{Line}
+use Rattle.report_text.specs.declared.line.Line.{Line}
 use Rattle.report_reader.specs.declared.forms.Section.{Section}
 use Rattle.report_reader.specs.declared.forms.Section.TheVariants as section
 use Rattle.report_reader.specs.declared.fault.ReportFault.TheVariants as fault

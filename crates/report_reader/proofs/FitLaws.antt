@@ -3,14 +3,14 @@ use Rattle.std.proofs.Common.{◌≡◌, ℕ, zero, suc, ◌+◌, ◌^◌, ◌<�
 use Rattle.std.specs.Prelude.{nat_lt, IfSome, flat_map, unwrap_or, option_map, option_to_list}
 use Rattle.std.specs.List.{AllByRecursion, zip, slice_get}
 use Rattle.std.proofs.lemmas.Bool.{and_parts, leb-true, ltb-true}
-use Rattle.wc_base.specs.declared.media.SoundShape.{SoundShape}
+use Rattle.wc_base.specs.declared.media.Samples.{Samples}
 use Rattle.wc_config.specs.declared.config.AudioDecoderConfig.{AudioDecoderConfig}
 use Rattle.wc_chunk.specs.declared.chunk.Chunk.{Chunk}
-use Rattle.coder_api.specs.declared.unit.Unit as media
-use Rattle.coder_api.specs.declared.unit.Unit.TheVariants as unit
+use Rattle.codec_definitions.specs.declared.unit.Unit as media
+use Rattle.codec_definitions.specs.declared.unit.Unit.TheVariants as unit
 use Rattle.coder_api.specs.declared.slot.SlotEntry.{SlotEntry}
-use Rattle.codec_model.specs.declared.entry.Kind.{Kind}
-use Rattle.codec_model.specs.declared.entry.Kind.TheVariants as kind
+use Rattle.wc_config.specs.declared.kind.Kind.{Kind}
+use Rattle.wc_config.specs.declared.kind.Kind.TheVariants as kind
 use Rattle.codec_model.specs.declared.entry.Entry.{Entry}
 use Rattle.codec_model.specs.declared.entry.Entry.TheVariants as entry
 use Rattle.codec_model.specs.declared.entry.Event.{Event}
@@ -23,34 +23,32 @@ use Rattle.script_types.specs.declared.script.ScriptData.{ScriptData}
 use Rattle.script_types.specs.declared.script.CallerItem.{CallerItem}
 use Rattle.script_types.specs.declared.script.CodecItem.{CodecItem}
 use Rattle.script_types.specs.Sound.{is_sound, most_codecs, most_callers}
-use Rattle.script_types.proofs.SoundLaws.{parts_of}
+use Rattle.script_types.specs.SoundLaws.{parts_of}
 use Rattle.report_text.specs.declared.result.StepResult.{StepResult}
 use Rattle.trace_text.specs.declared.run.CallerTrace.{CallerTrace}
 use Rattle.trace_text.specs.declared.run.CodecTrace.{CodecTrace}
 use Rattle.trace_text.specs.declared.run.Run.{Run}
 use Rattle.trace_text.specs.Follow.{steps_of}
-use Rattle.report_text.specs.declared.told.Told.{Told}
-use Rattle.report_text.specs.declared.told.Told.TheVariants as told
-use Rattle.report_lines.specs.declared.line.Seen.{Seen}
-use Rattle.report_lines.specs.declared.line.Seen.TheVariants as seen
-use Rattle.report_lines.specs.declared.line.Line.{Line}
-use Rattle.report_lines.specs.declared.line.Line.TheVariants as line
-use Rattle.report_text.specs.Told.{told_of}
-use Rattle.report_lines.specs.Laws.{config_seen, output_seen, event_seen}
-use Rattle.report_lines.specs.Whole.{lines_from, result_seen, caller_seen, entry_seen, codec_seen, slot_seen, end_seen}
-use Rattle.report_lines.specs.Fits.{FitsResult, FitsTold, FitsSeen, FitsBy, FitsOp, FitsLine}
-use Rattle.report_lines.proofs.ReadLaws.{line_fits}
+use Rattle.report_text.specs.declared.line.EntryLine.{EntryLine}
+use Rattle.report_text.specs.declared.line.EntryLine.TheVariants as entry_line
+use Rattle.report_text.specs.declared.line.EventLine.{EventLine}
+use Rattle.report_text.specs.declared.line.EventLine.TheVariants as event_line
+use Rattle.report_text.specs.declared.line.Line.{Line}
+use Rattle.report_text.specs.declared.line.Line.TheVariants as line
+use Rattle.trace_text.specs.Report.{entry_line_of, config_lines, output_lines, event_lines, lines_from, result_lines, caller_lines, entry_lines, codec_lines, slot_lines, end_lines}
+use Rattle.report_lines.specs.Fits.{FitsResult, FitsEntryLine, FitsEventLine, FitsBy, FitsOp, FitsLine}
+use Rattle.report_lines.specs.Laws.{LineFits}
 use Rattle.report_reader.specs.declared.forms.Section.{Section}
 use Rattle.report_reader.specs.declared.forms.Section.TheVariants as section
 use Rattle.report_reader.specs.Form.{Reads, AreForms}
-use Rattle.report_reader.specs.Read.{results_in, behind_results, callers_in, entry_of, next_of, entry_then, entries_from, told_in, behind_entries, description_of, config_in, unit_of, outputs_in, opening_of, codec_in, codecs_in, slots_in, held_in, run_of}
+use Rattle.report_reader.specs.Read.{results_in, behind_results, callers_in, entry_of, next_of, entry_then, entries_from, entry_lines_in, behind_entries, description_of, config_in, unit_of, outputs_in, opening_of, codec_in, codecs_in, slots_in, held_in, run_of}
 use Rattle.report_reader.specs.Told.{IsPlainTrace, IsWithoutLoss, IsTold}
 use Rattle.codec_follow.specs.Outputs.{is_codec_string, IsPlainDescription, IsPlainConfig, IsOutputOf, empty_output}
 use Rattle.report_reader.specs.Fits.{FitsEvent, FitsShown, FitsTrace}
 use Rattle.report_reader.proofs.RunLaws.{all_left, all_right}
 use Rattle.report_reader.proofs.FormLaws.{form_parts}
 use Rattle.report_reader.proofs.TraceLaws.{next_entry_is}
-use Rattle.report_reader.proofs.ToldLaws.{entry_is, step_told, run_told}
+use Rattle.report_reader.proofs.ToldLaws.{entry_is, step_told, run_told, callers_count, codecs_count}
 
 -- ---- lists
 
@@ -79,11 +77,11 @@ record IsLeft (script : ScriptData) (ls left : List Line) : Type 0 where
 
 -- ---- lines that are read
 
-pub reads_fit : (script : ScriptData) (s : Section) (bs : List ℕ) (ls : List Line) (end : Section) (left : List ℕ) → Reads script s bs ls end left → AllByRecursion (FitsLine script) ls
-reads_fit script s bs [] end left r = tt
-reads_fit script s bs (l ∷ ls) end left r =
+pub reads_fit : LineFits → (script : ScriptData) (s : Section) (bs : List ℕ) (ls : List Line) (end : Section) (left : List ℕ) → Reads script s bs ls end left → AllByRecursion (FitsLine script) ls
+reads_fit fits script s bs [] end left r = tt
+reads_fit fits script s bs (l ∷ ls) end left r =
     let read = (form_parts script s bs l r.0 r.1 r.2).line in
-    (subst (λ (o : Option (Line × List ℕ)). IfSome o (λ x. FitsLine script x.0)) read (line_fits script bs), reads_fit script r.1 r.0 ls end left r.3)
+    (subst (λ (o : Option (Line × List ℕ)). IfSome o (λ x. FitsLine script x.0)) read (fits script bs), reads_fit fits script r.1 r.0 ls end left r.3)
 
 -- ---- callers
 
@@ -129,28 +127,27 @@ callers_left script (suc n) ls fits =
     let more = callers_left script n (behind_results (drop 1 ls)) left.fits in
     record { fits = more.fits; few = omega (arith, more.few, left.few) }
 
-result_lines_fit : (script : ScriptData) (n : ℕ) (rs : List StepResult) → n + length rs < 2 ^ 64 → AllByRecursion (FitsResult script) rs → AreFit script (lines_from result_seen n rs)
+result_lines_fit : (script : ScriptData) (n : ℕ) (rs : List StepResult) → n + length rs < 2 ^ 64 → AllByRecursion (FitsResult script) rs → AreFit script (lines_from result_lines n rs)
 result_lines_fit script n [] few fits = tt
 result_lines_fit script n (r ∷ rs) few fits = ((omega arith, fits.0), result_lines_fit script (n + 1) rs (omega arith) fits.1)
 
-caller_lines_fit : (script : ScriptData) (k : ℕ) (items : List CallerItem) (cs : List CallerTrace) → k + length items ≤ length script.callers → length script.callers < 2 ^ 32 → AllByRecursion (FitsCaller script) cs → AreFit script (lines_from caller_seen k (zip items cs))
-caller_lines_fit script k [] cs le small fits = tt
-caller_lines_fit script k (x ∷ items) [] le small fits = tt
-caller_lines_fit script k (x ∷ items) (c ∷ cs) le small fits = (
+caller_lines_fit : (script : ScriptData) (k : ℕ) (cs : List CallerTrace) → k + length cs ≤ length script.callers → length script.callers < 2 ^ 32 → AllByRecursion (FitsCaller script) cs → AreFit script (lines_from caller_lines k cs)
+caller_lines_fit script k [] le small fits = tt
+caller_lines_fit script k (c ∷ cs) le small fits = (
   (omega arith, omega arith),
-  all_both (FitsLine script) (lines_from result_seen 0 c.results) (lines_from caller_seen (k + 1) (zip items cs))
-      (result_lines_fit script 0 c.results (omega (arith, fits.0.few)) fits.0.fits) (caller_lines_fit script (k + 1) items cs (omega arith) small fits.1),
+  all_both (FitsLine script) (lines_from result_lines 0 c.results) (lines_from caller_lines (k + 1) cs)
+      (result_lines_fit script 0 c.results (omega (arith, fits.0.few)) fits.0.fits) (caller_lines_fit script (k + 1) cs (omega arith) small fits.1),
 )
 
 -- ---- outputs
 
 record FitsUnit (script : ScriptData) (k : Kind) (u : media.Unit) : Type 0 where
   plain : IsOutputOf k u
-  fits : AreFit script (output_seen u)
+  fits : AreFit script (output_lines u)
 
 record FitsConfig (script : ScriptData) (c : Option AudioDecoderConfig) : Type 0 where
   plain : IsPlainConfig c
-  fits : AreFit script (config_seen c)
+  fits : AreFit script (config_lines c)
 
 description_plain : (d : List ℕ) → IsPlainDescription (description_of d)
 description_plain [] = tt
@@ -160,26 +157,26 @@ description_same : (d : List ℕ) → unwrap_or (description_of d) [] ≡ d
 description_same [] = refl
 description_same (b ∷ bs) = refl
 
-config_of_fits : (script : ScriptData) (codec : List ℕ) (rate channels : ℕ) (description : List ℕ) (q : Bool) → is_codec_string codec ≡ q → FitsSeen (seen.Config codec rate channels description)
+config_of_fits : (script : ScriptData) (codec : List ℕ) (rate channels : ℕ) (description : List ℕ) (q : Bool) → is_codec_string codec ≡ q → FitsEventLine (event_line.Config codec rate channels description)
     → FitsConfig script (cond q (Some (record { codec = codec; rate = rate; channels = channels; description = description_of description })) None)
 config_of_fits script codec rate channels description true is fits = record { plain = (is, description_plain description); fits = (rw (description_same description) fits, tt) }
 config_of_fits script codec rate channels description false is fits = record { plain = tt; fits = tt }
 
 config_fits : (script : ScriptData) (ls : List Line) → AreFit script ls → FitsConfig script (config_in ls)
-config_fits script (line.Seen (seen.Config codec rate channels description) ∷ ls) fits = config_of_fits script codec rate channels description (is_codec_string codec) refl fits.0
+config_fits script (line.Event (event_line.Config codec rate channels description) ∷ ls) fits = config_of_fits script codec rate channels description (is_codec_string codec) refl fits.0
 config_fits script ls fits = record { plain = tt; fits = tt }
 
-sound_fits : (script : ScriptData) (shape : SoundShape) (bytes : List ℕ) (q : Bool) → nat_lt 0 shape.rate ≡ q → FitsSeen (seen.Sound shape bytes)
-    → AllByRecursion (FitsUnit script kind.AudioDecoder) (option_to_list (cond q (Some (unit.Sound (record { shape = shape; bytes = bytes }))) None))
-sound_fits script shape bytes true is own = (record { plain = ltb-true 0 shape.rate is; fits = (own, tt) }, tt)
-sound_fits script shape bytes false is own = tt
+sound_fits : (script : ScriptData) (samples : Samples) (q : Bool) → nat_lt 0 samples.shape.rate ≡ q → FitsEventLine (event_line.Sound samples)
+    → AllByRecursion (FitsUnit script kind.AudioDecoder) (option_to_list (cond q (Some (unit.Sound samples)) None))
+sound_fits script samples true is own = (record { plain = ltb-true 0 samples.shape.rate is; fits = (own, tt) }, tt)
+sound_fits script samples false is own = tt
 
-unit_fits : (script : ScriptData) (k : Kind) (s : Seen) (ls : List Line) → FitsSeen s → AreFit script ls → AllByRecursion (FitsUnit script k) (option_to_list (unit_of k s (config_in ls)))
-unit_fits script kind.AudioDecoder (seen.Sound shape bytes) ls own fits = sound_fits script shape bytes (nat_lt 0 shape.rate) refl own
+unit_fits : (script : ScriptData) (k : Kind) (s : EventLine) (ls : List Line) → FitsEventLine s → AreFit script ls → AllByRecursion (FitsUnit script k) (option_to_list (unit_of k s (config_in ls)))
+unit_fits script kind.AudioDecoder (event_line.Sound samples) ls own fits = sound_fits script samples (nat_lt 0 samples.shape.rate) refl own
 unit_fits script kind.AudioDecoder s ls own fits = tt
-unit_fits script kind.VideoDecoder (seen.Image shape bytes) ls own fits = (record { plain = tt; fits = (own, tt) }, tt)
+unit_fits script kind.VideoDecoder (event_line.Image picture) ls own fits = (record { plain = tt; fits = (own, tt) }, tt)
 unit_fits script kind.VideoDecoder s ls own fits = tt
-unit_fits script kind.AudioEncoder (seen.Chunk key timestamp duration bytes) ls own fits =
+unit_fits script kind.AudioEncoder (event_line.Chunk chunk) ls own fits =
     let config = config_fits script ls fits in
     (record { plain = config.plain; fits = (own, config.fits) }, tt)
 unit_fits script kind.AudioEncoder s ls own fits = tt
@@ -187,7 +184,7 @@ unit_fits script kind.AudioEncoder s ls own fits = tt
 outputs_fit : (script : ScriptData) (k : Kind) (ls : List Line) → AreFit script ls → AllByRecursion (FitsUnit script k) (outputs_in k ls)
 outputs_fit script k [] fits = tt
 outputs_fit script k (line.Entry place t ∷ ls) fits = outputs_fit script k ls fits.1
-outputs_fit script k (line.Seen s ∷ ls) fits =
+outputs_fit script k (line.Event s ∷ ls) fits =
     all_both (FitsUnit script k) (option_to_list (unit_of k s (config_in ls))) (outputs_in k ls) (unit_fits script k s ls fits.0 fits.1) (outputs_fit script k ls fits.1)
 outputs_fit script k (l ∷ ls) fits = tt
 
@@ -228,47 +225,47 @@ each_fits k P none (e ∷ es) s us all = each_then k P none es e s us (follow_st
 
 -- ---- entries
 
-told_fit : (script : ScriptData) (ls : List Line) → AreFit script ls → AllByRecursion (FitsTold script) (told_in ls)
-told_fit script [] fits = tt
-told_fit script (line.Entry place t ∷ ls) fits = (fits.0.1, told_fit script ls fits.1)
-told_fit script (line.Seen s ∷ ls) fits = told_fit script ls fits.1
-told_fit script (l ∷ ls) fits = tt
+entry_lines_fit_in : (script : ScriptData) (ls : List Line) → AreFit script ls → AllByRecursion (FitsEntryLine script) (entry_lines_in ls)
+entry_lines_fit_in script [] fits = tt
+entry_lines_fit_in script (line.Entry place t ∷ ls) fits = (fits.0.1, entry_lines_fit_in script ls fits.1)
+entry_lines_fit_in script (line.Event s ∷ ls) fits = entry_lines_fit_in script ls fits.1
+entry_lines_fit_in script (l ∷ ls) fits = tt
 
-told_few : (ls : List Line) → length (told_in ls) ≤ length ls
-told_few [] = omega arith
-told_few (line.Entry place t ∷ ls) = omega (arith, told_few ls)
-told_few (line.Seen s ∷ ls) = omega (arith, told_few ls)
-told_few (l ∷ ls) = omega arith
+entry_lines_few : (ls : List Line) → length (entry_lines_in ls) ≤ length ls
+entry_lines_few [] = omega arith
+entry_lines_few (line.Entry place t ∷ ls) = omega (arith, entry_lines_few ls)
+entry_lines_few (line.Event s ∷ ls) = omega (arith, entry_lines_few ls)
+entry_lines_few (l ∷ ls) = omega arith
 
 behind_entries_left : (script : ScriptData) (ls : List Line) → AreFit script ls → IsLeft script ls (behind_entries ls)
 behind_entries_left script [] fits = record { fits = tt; few = omega arith }
 behind_entries_left script (line.Entry place t ∷ ls) fits =
     let more = behind_entries_left script ls fits.1 in
     record { fits = more.fits; few = omega (arith, more.few) }
-behind_entries_left script (line.Seen s ∷ ls) fits =
+behind_entries_left script (line.Event s ∷ ls) fits =
     let more = behind_entries_left script ls fits.1 in
     record { fits = more.fits; few = omega (arith, more.few) }
 behind_entries_left script (l ∷ ls) fits = record { fits = fits; few = omega arith }
 
 -- whatever the entry shows, its line fits
 abbrev FitsEntry : ScriptData → Entry → Type 0
-FitsEntry script e = (x : Shown) → FitsTold script (told_of e x)
+FitsEntry script e = (x : Shown) → FitsEntryLine script (entry_line_of e x)
 
-entry_fits : (script : ScriptData) (files : List (List Chunk)) (t : Told) (e : Entry) → FitsTold script t → entry_of script files t ≡ Some e → FitsEntry script e
-entry_fits script files (told.Call who word error) e fits is x =
+entry_fits : (script : ScriptData) (files : List (List Chunk)) (t : EntryLine) (e : Entry) → FitsEntryLine script t → entry_of script files t ≡ Some e → FitsEntry script e
+entry_fits script files (entry_line.Call who word error) e fits is x =
     let steps = steps_of script who.caller in
-    subst (FitsTold script) (sym (step_told files steps who word (slice_get steps who.step) e x is)) fits
-entry_fits script files (told.Start epoch item) e fits is x = subst (λ (z : Entry). FitsTold script (told_of z x)) (entry_is (entry.Start epoch item) e is) fits
-entry_fits script files (told.Done epoch item moment outcome) e fits is x = subst (λ (z : Entry). FitsTold script (told_of z x)) (entry_is (entry.Done epoch item moment outcome) e is) fits
-entry_fits script files (told.Turn word) e fits is x = subst (λ (z : Entry). FitsTold script (told_of z x)) (entry_is entry.Turn e is) tt
-entry_fits script files (told.Reclaim moment) e fits is x = subst (λ (z : Entry). FitsTold script (told_of z x)) (entry_is (entry.Reclaim moment) e is) fits
+    subst (FitsEntryLine script) (sym (step_told files steps who word (slice_get steps who.step) e x is)) fits
+entry_fits script files (entry_line.Start epoch item) e fits is x = subst (λ (z : Entry). FitsEntryLine script (entry_line_of z x)) (entry_is (entry.Start epoch item) e is) fits
+entry_fits script files (entry_line.Done epoch item moment outcome) e fits is x = subst (λ (z : Entry). FitsEntryLine script (entry_line_of z x)) (entry_is (entry.Done epoch item moment outcome) e is) fits
+entry_fits script files (entry_line.Turn word) e fits is x = subst (λ (z : Entry). FitsEntryLine script (entry_line_of z x)) (entry_is entry.Turn e is) tt
+entry_fits script files (entry_line.Reclaim moment) e fits is x = subst (λ (z : Entry). FitsEntryLine script (entry_line_of z x)) (entry_is (entry.Reclaim moment) e is) fits
 
 -- entries that fit, and are no more than those that are told
-record AreEntries (script : ScriptData) (ts : List Told) (es : List Entry) : Type 0 where
+record AreEntries (script : ScriptData) (ts : List EntryLine) (es : List Entry) : Type 0 where
   fits : AllByRecursion (FitsEntry script) es
   few : length es ≤ length ts
 
-entries_then : (script : ScriptData) (files : List (List Chunk)) (t : Told) (ts : List Told) (s : State) → FitsTold script t
+entries_then : (script : ScriptData) (files : List (List Chunk)) (t : EntryLine) (ts : List EntryLine) (s : State) → FitsEntryLine script t
     → ((u : State) → AreEntries script ts (entries_from script files u ts))
     → (o : Option (Entry × State)) → next_of script files s t ≡ o → AreEntries script (t ∷ ts) (entry_then (λ u. entries_from script files u ts) o)
 entries_then script files t ts s fits later None is = record { fits = tt; few = omega arith }
@@ -276,11 +273,11 @@ entries_then script files t ts s fits later (Some (e, u)) is =
     let more = later u in
     record { fits = (entry_fits script files t e fits (next_entry_is script files t s e u is), more.fits); few = omega (arith, more.few) }
 
-entries_fit : (script : ScriptData) (files : List (List Chunk)) (ts : List Told) (s : State) → AllByRecursion (FitsTold script) ts → AreEntries script ts (entries_from script files s ts)
+entries_fit : (script : ScriptData) (files : List (List Chunk)) (ts : List EntryLine) (s : State) → AllByRecursion (FitsEntryLine script) ts → AreEntries script ts (entries_from script files s ts)
 entries_fit script files [] s fits = record { fits = tt; few = omega arith }
 entries_fit script files (t ∷ ts) s fits = entries_then script files t ts s fits.0 (λ u. entries_fit script files ts u fits.1) (next_of script files s t) refl
 
-event_fits : (script : ScriptData) (k : Kind) (e : Event) → FitsEvent e → AllByRecursion (FitsUnit script k) (event_units e) → AreFit script (event_seen e)
+event_fits : (script : ScriptData) (k : Kind) (e : Event) → FitsEvent e → AllByRecursion (FitsUnit script k) (event_units e) → AreFit script (event_lines e)
 event_fits script k (event.Refusal x) fits units = tt
 event_fits script k (event.Output n u) fits units = units.0.fits
 event_fits script k (event.Resolve p) fits units = (fits, tt)
@@ -288,19 +285,19 @@ event_fits script k (event.Reject p x) fits units = (fits, tt)
 event_fits script k event.Dequeue fits units = (tt, tt)
 event_fits script k (event.ErrorCall x) fits units = (tt, tt)
 
-events_fit : (script : ScriptData) (k : Kind) (es : List Event) → AllByRecursion FitsEvent es → AllByRecursion (FitsUnit script k) (units_in es) → AreFit script (flat_map event_seen es)
+events_fit : (script : ScriptData) (k : Kind) (es : List Event) → AllByRecursion FitsEvent es → AllByRecursion (FitsUnit script k) (units_in es) → AreFit script (flat_map event_lines es)
 events_fit script k [] fits units = tt
 events_fit script k (e ∷ es) fits units =
-    all_both (FitsLine script) (event_seen e) (flat_map event_seen es) (event_fits script k e fits.0 (all_left (FitsUnit script k) (event_units e) (units_in es) units))
+    all_both (FitsLine script) (event_lines e) (flat_map event_lines es) (event_fits script k e fits.0 (all_left (FitsUnit script k) (event_units e) (units_in es) units))
     (events_fit script k es fits.1 (all_right (FitsUnit script k) (event_units e) (units_in es) units))
 
 entry_lines_fit : (script : ScriptData) (k : Kind) (n : ℕ) (es : List Entry) (xs : List Shown) → n + length es < 2 ^ 64 → AllByRecursion (FitsEntry script) es → AllByRecursion FitsShown xs → AllByRecursion (FitsUnit script k) (units_shown xs)
-    → AreFit script (lines_from entry_seen n (zip es xs))
+    → AreFit script (lines_from entry_lines n (zip es xs))
 entry_lines_fit script k n [] xs few fits promises units = tt
 entry_lines_fit script k n (e ∷ es) [] few fits promises units = tt
 entry_lines_fit script k n (e ∷ es) (x ∷ xs) few fits promises units = (
   (omega arith, fits.0 x),
-  all_both (FitsLine script) (flat_map event_seen x.events) (lines_from entry_seen (n + 1) (zip es xs))
+  all_both (FitsLine script) (flat_map event_lines x.events) (lines_from entry_lines (n + 1) (zip es xs))
       (events_fit script k x.events promises.0 (all_left (FitsUnit script k) (units_in x.events) (units_shown xs) units))
       (entry_lines_fit script k (n + 1) es xs (omega arith) fits.1 promises.1 (all_right (FitsUnit script k) (units_in x.events) (units_shown xs) units)),
 )
@@ -327,12 +324,12 @@ codec_fits script files ls few fits =
     let own = all_behind (FitsLine script) ls fits in
     let k = (opening_of ls).kind in
     let start = opening_state (opening_of ls) in
-    let made = entries_fit script files (told_in (drop 1 ls)) start (told_fit script (drop 1 ls) own) in
+    let made = entries_fit script files (entry_lines_in (drop 1 ls)) start (entry_lines_fit_in script (drop 1 ls) own) in
     record {
       opening = opening_fits script ls fits;
-      few = omega (arith, made.few, told_few (drop 1 ls), few_behind ls);
+      few = omega (arith, made.few, entry_lines_few (drop 1 ls), few_behind ls);
       entries = made.fits;
-      units = each_fits k (FitsUnit script k) (empty_fits script k) (entries_from script files start (told_in (drop 1 ls))) start (outputs_in k (drop 1 ls)) (outputs_fit script k (drop 1 ls) own);
+      units = each_fits k (FitsUnit script k) (empty_fits script k) (entries_from script files start (entry_lines_in (drop 1 ls))) start (outputs_in k (drop 1 ls)) (outputs_fit script k (drop 1 ls) own);
     }
 
 codecs_fit : (script : ScriptData) (files : List (List Chunk)) (n : ℕ) (ls : List Line) → length ls < 2 ^ 64 → AreFit script ls → AllByRecursion (FitsCodec script) (codecs_in script files n ls).0
@@ -348,14 +345,13 @@ codecs_left script files (suc n) ls fits =
     let more = codecs_left script files n (behind_entries (drop 1 ls)) left.fits in
     record { fits = more.fits; few = omega (arith, more.few, left.few) }
 
-codec_lines_fit : (script : ScriptData) (k : ℕ) (items : List CodecItem) (cs : List CodecTrace) → k + length items ≤ length script.codecs → length script.codecs < 2 ^ 32 → AllByRecursion (FitsCodec script) cs → AllByRecursion FitsTrace cs
-    → AreFit script (lines_from codec_seen k (zip items cs))
-codec_lines_fit script k [] cs le small fits promises = tt
-codec_lines_fit script k (x ∷ items) [] le small fits promises = tt
-codec_lines_fit script k (x ∷ items) (c ∷ cs) le small fits promises = (
+codec_lines_fit : (script : ScriptData) (k : ℕ) (cs : List CodecTrace) → k + length cs ≤ length script.codecs → length script.codecs < 2 ^ 32 → AllByRecursion (FitsCodec script) cs → AllByRecursion FitsTrace cs
+    → AreFit script (lines_from codec_lines k cs)
+codec_lines_fit script k [] le small fits promises = tt
+codec_lines_fit script k (c ∷ cs) le small fits promises = (
   ((omega arith, omega arith), fits.0.opening),
-  all_both (FitsLine script) (lines_from entry_seen 0 (zip c.entries c.shown)) (lines_from codec_seen (k + 1) (zip items cs))
-      (entry_lines_fit script c.opening.kind 0 c.entries c.shown (omega (arith, fits.0.few)) fits.0.entries promises.0 fits.0.units) (codec_lines_fit script (k + 1) items cs (omega arith) small fits.1 promises.1),
+  all_both (FitsLine script) (lines_from entry_lines 0 (zip c.entries c.shown)) (lines_from codec_lines (k + 1) cs)
+      (entry_lines_fit script c.opening.kind 0 c.entries c.shown (omega (arith, fits.0.few)) fits.0.entries promises.0 fits.0.units) (codec_lines_fit script (k + 1) cs (omega arith) small fits.1 promises.1),
 )
 
 units_plain : (script : ScriptData) (k : Kind) (us : List media.Unit) → AllByRecursion (FitsUnit script k) us → AllByRecursion (IsOutputOf k) us
@@ -388,7 +384,7 @@ held_fits script (line.Slot place e ∷ ls) fits = held_fits script ls fits.1
 held_fits script (line.Held n ∷ ls) fits = fits.0
 held_fits script (l ∷ ls) fits = omega arith
 
-slot_lines_fit : (script : ScriptData) (n : ℕ) (es : List SlotEntry) → n + length es < 2 ^ 64 → AllByRecursion (FitsSlot script) es → AreFit script (lines_from slot_seen n es)
+slot_lines_fit : (script : ScriptData) (n : ℕ) (es : List SlotEntry) → n + length es < 2 ^ 64 → AllByRecursion (FitsSlot script) es → AreFit script (lines_from slot_lines n es)
 slot_lines_fit script n [] few fits = tt
 slot_lines_fit script n (e ∷ es) few fits = ((omega arith, fits.0.by, fits.0.op), slot_lines_fit script (n + 1) es (omega arith) fits.1)
 
@@ -419,23 +415,23 @@ run_fits script files ls sound few fits promises =
     let slots = drop 1 (drop 1 codecs.1) in
     let end = all_behind (FitsLine script) (drop 1 codecs.1) (all_behind (FitsLine script) codecs.1 last.fits) in
     let count : length slots < 2 ^ 64 = omega (arith, middle.few, last.few, few_behind ls, few_behind codecs.1, few_behind (drop 1 codecs.1)) in
-    let slot_lines = slot_lines_fit script 0 (slots_in slots) (omega (arith, slots_few slots)) (slots_fit script slots end) in
-    let back = all_both (FitsLine script) (lines_from slot_seen 0 (slots_in slots)) (end_seen (held_in slots)) slot_lines (held_fits script slots end, (tt, tt)) in
-    let codec_lines = codec_lines_fit script 0 script.codecs codecs.0 (omega arith) small.codecs made promises in
-    let caller_lines = caller_lines_fit script 0 script.callers callers.0 (omega arith) small.callers (callers_fit script (length script.callers) (drop 1 ls) (omega (arith, few_behind ls)) own) in
+    let entries = slot_lines_fit script 0 (slots_in slots) (omega (arith, slots_few slots)) (slots_fit script slots end) in
+    let back = all_both (FitsLine script) (lines_from slot_lines 0 (slots_in slots)) (end_lines (held_in slots)) entries (held_fits script slots end, (tt, tt)) in
+    let back_codecs = codec_lines_fit script 0 codecs.0 (omega (arith, codecs_count script files (length script.codecs) callers.1)) small.codecs made promises in
+    let front = caller_lines_fit script 0 callers.0 (omega (arith, callers_count (length script.callers) (drop 1 ls))) small.callers (callers_fit script (length script.callers) (drop 1 ls) (omega (arith, few_behind ls)) own) in
     record {
       plain = codecs_plain script codecs.0 made;
       fits = (
         tt,
-        all_both (FitsLine script) (lines_from caller_seen 0 (zip script.callers callers.0)) _ caller_lines
-            (all_both (FitsLine script) (lines_from codec_seen 0 (zip script.codecs codecs.0)) _ codec_lines (tt, (tt, back))),
+        all_both (FitsLine script) (lines_from caller_lines 0 callers.0) _ front
+            (all_both (FitsLine script) (lines_from codec_lines 0 codecs.0) _ back_codecs (tt, (tt, back))),
       );
     }
 
 -- what lines in their forms show is told
-pub forms_told : (script : ScriptData) (files : List (List Chunk)) (bs : List ℕ) (ls : List Line) (run : Run) → is_sound script ≡ true → AreForms script bs ls → length ls < 2 ^ 64
+pub forms_told : LineFits → (script : ScriptData) (files : List (List Chunk)) (bs : List ℕ) (ls : List Line) (run : Run) → is_sound script ≡ true → AreForms script bs ls → length ls < 2 ^ 64
     → run ≡ run_of script files ls → AllByRecursion FitsTrace run.codecs → IsTold script files run
-forms_told script files bs ls run sound forms few is promises =
+forms_told fits script files bs ls run sound forms few is promises =
     let own : AllByRecursion FitsTrace (run_of script files ls).codecs = subst (λ (x : Run). AllByRecursion FitsTrace x.codecs) is promises in
-    let told : IsTold script files (run_of script files ls) = record { told = run_told script files ls; whole = run_fits script files ls sound few (reads_fit script section.Start bs ls section.Ended [] forms) own } in
+    let told : IsTold script files (run_of script files ls) = record { told = run_told script files ls; whole = run_fits script files ls sound few (reads_fit fits script section.Start bs ls section.Ended [] forms) own } in
     subst (λ (x : Run). IsTold script files x) (sym is) told

@@ -7,18 +7,16 @@ use Rattle.script_types.specs.declared.script.ScriptData.{ScriptData}
 use Rattle.report_text.specs.declared.result.StepResult.{StepResult}
 use Rattle.report_text.specs.declared.result.StepResult.TheVariants as result
 use Rattle.trace_text.specs.declared.run.Run.{Run}
-use Rattle.trace_text.specs.Report.{report_of}
-use Rattle.report_fields.specs.Words.{◌>>=◌}
-use Rattle.report_lines.specs.declared.line.Seen.{Seen}
-use Rattle.report_lines.specs.declared.line.Seen.TheVariants as seen
-use Rattle.report_lines.specs.declared.line.Line.{Line}
-use Rattle.report_lines.specs.declared.line.Line.TheVariants as line
-use Rattle.report_lines.specs.Text.{line_text}
+use Rattle.trace_text.specs.Report.{report_of, lines_of}
+use Rattle.report_lines.specs.Words.{◌>>=◌}
+use Rattle.report_text.specs.declared.line.EventLine.{EventLine}
+use Rattle.report_text.specs.declared.line.EventLine.TheVariants as event_line
+use Rattle.report_text.specs.declared.line.Line.{Line}
+use Rattle.report_text.specs.declared.line.Line.TheVariants as line
+use Rattle.report_text.specs.Text.{line_text}
 use Rattle.report_lines.specs.Reading.{line_at}
 use Rattle.report_lines.specs.Fits.{AreNames, FitsLine}
-use Rattle.report_lines.specs.Whole.{lines_of}
-use Rattle.report_lines.proofs.LineLaws.{line_again, line_sound}
-use Rattle.report_lines.proofs.Report.{report_is}
+use Rattle.report_lines.specs.Laws.{LineAgain, LineSound}
 use Rattle.report_reader.specs.declared.forms.Section.{Section}
 use Rattle.report_reader.specs.declared.forms.Section.TheVariants as section
 use Rattle.report_reader.specs.Form.{next_in, form_at, Reads, AreForms, Passes}
@@ -52,15 +50,15 @@ result_long script step (result.Look codec count end) = simp length-append (omeg
 result_long script step (result.State codec count state size) = simp length-append (omega arith)
 result_long script step result.Absent = simp length-append (omega arith)
 
-seen_long : (script : ScriptData) (s : Seen) → 0 < length (line_text script (line.Seen s))
-seen_long script (seen.Sound shape bytes) = omega arith
-seen_long script (seen.Image shape bytes) = omega arith
-seen_long script (seen.Chunk key timestamp duration bytes) = omega arith
-seen_long script (seen.Config codec rate channels description) = omega arith
-seen_long script (seen.Resolve p) = omega arith
-seen_long script (seen.Reject p e) = omega arith
-seen_long script seen.Dequeue = omega arith
-seen_long script (seen.Error e) = omega arith
+event_long : (script : ScriptData) (e : EventLine) → 0 < length (line_text script (line.Event e))
+event_long script (event_line.Sound samples) = omega arith
+event_long script (event_line.Image picture) = omega arith
+event_long script (event_line.Chunk chunk) = omega arith
+event_long script (event_line.Config codec rate channels description) = omega arith
+event_long script (event_line.Resolve p) = omega arith
+event_long script (event_line.Reject p e) = omega arith
+event_long script event_line.Dequeue = omega arith
+event_long script (event_line.Error e) = omega arith
 
 pub line_long : (script : ScriptData) (l : Line) → 0 < length (line_text script l)
 line_long script line.Header = omega arith
@@ -68,16 +66,16 @@ line_long script (line.Caller n) = omega arith
 line_long script (line.Result step r) = result_long script step r
 line_long script (line.Codec n opening) = omega arith
 line_long script (line.Entry place told) = simp length-append (omega arith)
-line_long script (line.Seen s) = seen_long script s
+line_long script (line.Event s) = event_long script s
 line_long script line.Pool = omega arith
 line_long script line.Slots = omega arith
 line_long script (line.Slot place entry) = simp length-append (omega arith)
 line_long script (line.Held n) = omega arith
 line_long script line.End = omega arith
 
-line_shorter : (script : ScriptData) (bs : List ℕ) (y : Line × List ℕ) → line_at script bs ≡ Some y → length y.1 < length bs
-line_shorter script bs y e =
-    omega (arith, line_long script y.0, ap (λ (x : List ℕ). length x) (line_sound script bs y e), length-append (line_text script y.0) y.1)
+line_shorter : LineSound → (script : ScriptData) (bs : List ℕ) (y : Line × List ℕ) → line_at script bs ≡ Some y → length y.1 < length bs
+line_shorter sound script bs y e =
+    omega (arith, line_long script y.0, ap (λ (x : List ℕ). length x) (sound script bs y e), length-append (line_text script y.0) y.1)
 
 pub record IsForm (script : ScriptData) (s : Section) (bs : List ℕ) (l : Line) (rest : List ℕ) (end : Section) : Type 0 where
   pub line : line_at script bs ≡ Some (l, rest)
@@ -95,15 +93,15 @@ form_parts script s bs l rest end e =
       next = ap (λ (z : Line × List ℕ × Section). next_in script s z.0) (sym same) ∙ y.1 ∙ ap (λ (z : Line × List ℕ × Section). some z.2) same;
     }
 
-pub form_shorter : (script : ScriptData) (s : Section) (bs : List ℕ) (l : Line) (rest : List ℕ) (end : Section) → form_at script s bs ≡ Some (l, rest, end) → length rest < length bs
-form_shorter script s bs l rest end e = line_shorter script bs (l, rest) (form_parts script s bs l rest end e).line
+pub form_shorter : LineSound → (script : ScriptData) (s : Section) (bs : List ℕ) (l : Line) (rest : List ℕ) (end : Section) → form_at script s bs ≡ Some (l, rest, end) → length rest < length bs
+form_shorter sound script s bs l rest end e = line_shorter sound script bs (l, rest) (form_parts script s bs l rest end e).line
 
 -- ---- a text of lines in their forms
 
-pub form_again : (script : ScriptData) → AreNames script → (s : Section) (l : Line) (rest : List ℕ) (mid : Section) → FitsLine script l → next_in script s l ≡ Some mid
+pub form_again : LineAgain → (script : ScriptData) → AreNames script → (s : Section) (l : Line) (rest : List ℕ) (mid : Section) → FitsLine script l → next_in script s l ≡ Some mid
     → form_at script s (line_text script l ++ rest) ≡ Some (l, rest, mid)
 unfolding form_at
-form_again script names s l rest mid fits e = rw (line_again script l rest names fits, e) refl
+form_again again script names s l rest mid fits e = rw (again script l rest names fits, e) refl
 
 abbrev none_of : {A : Type 0} → Option A
 none_of = None
@@ -130,25 +128,25 @@ pub record IsFront (script : ScriptData) (ls all : List Line) (at : Section) (le
   pub passes : Passes script at more section.Ended
   pub fits : AllByRecursion (FitsLine script) more
 
-pub reads_front : (script : ScriptData) → AreNames script → (s : Section) (bs : List ℕ) (ls : List Line) (at : Section) (left : List ℕ) (all : List Line)
+pub reads_front : LineAgain → (script : ScriptData) → AreNames script → (s : Section) (bs : List ℕ) (ls : List Line) (at : Section) (left : List ℕ) (all : List Line)
     → Reads script s bs ls at left → Passes script s all section.Ended → AllByRecursion (FitsLine script) all → bs ≡ text_of script all → IsFront script ls all at left
-reads_front script names s bs [] at left all r passes fits e = record {
+reads_front again script names s bs [] at left all r passes fits e = record {
   more = all;
   parts = refl;
   text = sym r.1 ∙ e;
   passes = subst (λ (x : Section). Passes script x all section.Ended) r.0 passes;
   fits = fits;
 }
-reads_front script names s bs (l ∷ ls) at left [] r passes fits e =
+reads_front again script names s bs (l ∷ ls) at left [] r passes fits e =
     absurd (not_some (sym (ap (λ (x : Section). form_at script x bs) passes ∙ none_at_end script bs) ∙ r.2))
-reads_front script names s bs (l ∷ ls) at left (x ∷ all) r passes fits e =
-    let here : form_at script s bs ≡ Some (x, text_of script all, passes.0) = ap (form_at script s) e ∙ form_again script names s x (text_of script all) passes.0 fits.0 passes.1 in
+reads_front again script names s bs (l ∷ ls) at left (x ∷ all) r passes fits e =
+    let here : form_at script s bs ≡ Some (x, text_of script all, passes.0) = ap (form_at script s) e ∙ form_again again script names s x (text_of script all) passes.0 fits.0 passes.1 in
     let read : Line × List ℕ × Section = (l, r.0, r.1) in
     let same = some_is read (x, text_of script all, passes.0) (sym r.2 ∙ here) in
     let rest_is : r.0 ≡ text_of script all = ap (λ (z : Line × List ℕ × Section). z.1) same in
     let mid_is : passes.0 ≡ r.1 = sym (ap (λ (z : Line × List ℕ × Section). z.2) same) in
     let line_is : x ≡ l = sym (ap (λ (z : Line × List ℕ × Section). z.0) same) in
-    let on = reads_front script names r.1 r.0 ls at left all r.3 (subst (λ (m : Section). Passes script m all section.Ended) mid_is passes.2) fits.1 rest_is in
+    let on = reads_front again script names r.1 r.0 ls at left all r.3 (subst (λ (m : Section). Passes script m all section.Ended) mid_is passes.2) fits.1 rest_is in
     record { more = on.more; parts = cc (on.parts, line_is); text = on.text; passes = on.passes; fits = on.fits }
 
 none_more : (script : ScriptData) (ls : List Line) → Passes script section.Ended ls section.Ended → ls ≡ []
@@ -156,40 +154,40 @@ none_more script [] passes = refl
 none_more script (l ∷ ls) passes = absurd (not_some passes.1)
 
 -- the lines that are read of a report's text are the report's
-pub forms_again : (script : ScriptData) → AreNames script → (bs : List ℕ) (ls all : List Line) → AreForms script bs ls
+pub forms_again : LineAgain → (script : ScriptData) → AreNames script → (bs : List ℕ) (ls all : List Line) → AreForms script bs ls
     → Passes script section.Start all section.Ended → AllByRecursion (FitsLine script) all → bs ≡ text_of script all → ls ≡ all
-forms_again script names bs ls all r passes fits e =
-    let f = reads_front script names section.Start bs ls section.Ended [] all r passes fits e in
+forms_again again script names bs ls all r passes fits e =
+    let f = reads_front again script names section.Start bs ls section.Ended [] all r passes fits e in
     sym (f.parts ∙ ap (λ (x : List Line). ls ++ x) (none_more script f.more f.passes) ∙ append-nil ls)
 
-stuck : (script : ScriptData) → AreNames script → (at : Section) (left : List ℕ) (more : List Line) → (at ≡ section.Ended → left ≡ [] → ⊥) → form_at script at left ≡ None
+stuck : LineAgain → (script : ScriptData) → AreNames script → (at : Section) (left : List ℕ) (more : List Line) → (at ≡ section.Ended → left ≡ [] → ⊥) → form_at script at left ≡ None
     → left ≡ text_of script more → Passes script at more section.Ended → AllByRecursion (FitsLine script) more → ⊥
-stuck script names at left [] not_all none e passes fits = not_all passes e
-stuck script names at left (l ∷ more) not_all none e passes fits =
-    not_some (sym none ∙ ap (form_at script at) e ∙ form_again script names at l (text_of script more) passes.0 fits.0 passes.1)
+stuck again script names at left [] not_all none e passes fits = not_all passes e
+stuck again script names at left (l ∷ more) not_all none e passes fits =
+    not_some (sym none ∙ ap (form_at script at) e ∙ form_again again script names at l (text_of script more) passes.0 fits.0 passes.1)
 
 -- a text of lines in their forms has no place without a form
-pub never_stuck : (script : ScriptData) → AreNames script → (bs : List ℕ) (before : List Line) (at : Section) (left : List ℕ) (all : List Line) → Reads script section.Start bs before at left
+pub never_stuck : LineAgain → (script : ScriptData) → AreNames script → (bs : List ℕ) (before : List Line) (at : Section) (left : List ℕ) (all : List Line) → Reads script section.Start bs before at left
     → (at ≡ section.Ended → left ≡ [] → ⊥) → form_at script at left ≡ None → Passes script section.Start all section.Ended → AllByRecursion (FitsLine script) all → bs ≡ text_of script all → ⊥
-never_stuck script names bs before at left all r not_all none passes fits e =
-    let f = reads_front script names section.Start bs before at left all r passes fits e in
-    stuck script names at left f.more not_all none f.text f.passes f.fits
+never_stuck again script names bs before at left all r not_all none passes fits e =
+    let f = reads_front again script names section.Start bs before at left all r passes fits e in
+    stuck again script names at left f.more not_all none f.text f.passes f.fits
 
 -- ---- the text determines the run
 
-text_tells : (script : ScriptData) → AreNames script → (a b : List Line) → AllByRecursion (FitsLine script) a → AllByRecursion (FitsLine script) b → text_of script a ≡ text_of script b → a ≡ b
-text_tells script names [] [] fa fb e = refl
-text_tells script names [] (y ∷ b) fa fb e = absurd (omega (arith, line_long script y, ap (λ (x : List ℕ). length x) e, length-append (line_text script y) (text_of script b)))
-text_tells script names (x ∷ a) [] fa fb e = absurd (omega (arith, line_long script x, ap (λ (t : List ℕ). length t) e, length-append (line_text script x) (text_of script a)))
-text_tells script names (x ∷ a) (y ∷ b) fa fb e =
+text_tells : LineAgain → (script : ScriptData) → AreNames script → (a b : List Line) → AllByRecursion (FitsLine script) a → AllByRecursion (FitsLine script) b → text_of script a ≡ text_of script b → a ≡ b
+text_tells again script names [] [] fa fb e = refl
+text_tells again script names [] (y ∷ b) fa fb e = absurd (omega (arith, line_long script y, ap (λ (x : List ℕ). length x) e, length-append (line_text script y) (text_of script b)))
+text_tells again script names (x ∷ a) [] fa fb e = absurd (omega (arith, line_long script x, ap (λ (t : List ℕ). length t) e, length-append (line_text script x) (text_of script a)))
+text_tells again script names (x ∷ a) (y ∷ b) fa fb e =
     let left : Line × List ℕ = (x, text_of script a) in
-    let same = some_is left (y, text_of script b) (sym (line_again script x (text_of script a) names fa.0) ∙ ap (line_at script) e ∙ line_again script y (text_of script b) names fb.0) in
+    let same = some_is left (y, text_of script b) (sym (again script x (text_of script a) names fa.0) ∙ ap (line_at script) e ∙ again script y (text_of script b) names fb.0) in
     let line_is : x ≡ y = ap (λ (z : Line × List ℕ). z.0) same in
-    let rest_is : a ≡ b = text_tells script names a b fa.1 fb.1 (ap (λ (z : Line × List ℕ). z.1) same) in
+    let rest_is : a ≡ b = text_tells again script names a b fa.1 fb.1 (ap (λ (z : Line × List ℕ). z.1) same) in
     cc (line_is, rest_is)
 
 -- Of one script, two runs that are told are equal where their reports are.
-pub report_tells : (script : ScriptData) (media_of : List (List Chunk)) (a b : Run) → AreNames script → IsTold script media_of a → IsTold script media_of b → report_of script a ≡ report_of script b → a ≡ b
-report_tells script media_of a b names ta tb e =
-    let same = text_tells script names (lines_of script a) (lines_of script b) ta.whole.fits tb.whole.fits (sym (report_is script a) ∙ e ∙ report_is script b) in
+pub report_tells : LineAgain → (script : ScriptData) (media_of : List (List Chunk)) (a b : Run) → AreNames script → IsTold script media_of a → IsTold script media_of b → report_of script a ≡ report_of script b → a ≡ b
+report_tells again script media_of a b names ta tb e =
+    let same = text_tells again script names (lines_of a) (lines_of b) ta.whole.fits tb.whole.fits e in
     sym (run_again script media_of a ta.told ta.whole.plain) ∙ ap (run_of script media_of) same ∙ run_again script media_of b tb.told tb.whole.plain

@@ -9,25 +9,32 @@ use Rattle.wc_chunk.specs.declared.chunk.Chunk.{Chunk}
 use Rattle.codec_model.specs.declared.entry.Entry.{Entry}
 use Rattle.codec_model.specs.declared.entry.Entry.TheVariants as entry
 use Rattle.codec_model.specs.declared.entry.Shown.{Shown}
-use Rattle.codec_model.proofs.FactLaws.{some_same}
 use Rattle.codec_follow.specs.Follow.{units_shown}
 use Rattle.codec_follow.specs.Outputs.{IsOutputOf, IsConfigOf, ConfiguresAs}
-use Rattle.codec_follow.proofs.OutputLaws.{outputs_of_kind}
-use Rattle.script_types.specs.declared.script.KindWord.{KindWord}
-use Rattle.script_types.specs.declared.script.KindWord.TheVariants as word
+use Rattle.codec_follow.specs.Laws.{OutputsAreOfKind}
+use Rattle.wc_config.specs.declared.kind.Kind.{Kind}
+use Rattle.wc_config.specs.declared.kind.Kind.TheVariants as word
 use Rattle.script_types.specs.declared.script.ScriptData.{ScriptData}
 use Rattle.script_types.specs.declared.script.CodecItem.{CodecItem}
 use Rattle.script_types.specs.declared.script.CallerItem.{CallerItem}
 use Rattle.script_types.specs.declared.steps.Step.{Step}
 use Rattle.script_types.specs.declared.steps.Step.TheVariants as step
 use Rattle.script_types.specs.Sound.{is_sound, suits}
-use Rattle.script_types.proofs.SoundLaws.{step_at, codec_there}
+use Rattle.script_types.specs.SoundLaws.{step_at, codec_there}
 use Rattle.report_text.specs.declared.result.StepResult.TheVariants as result
 use Rattle.trace_text.specs.declared.run.CodecTrace.{CodecTrace}
 use Rattle.trace_text.specs.declared.run.Run.{Run}
-use Rattle.trace_text.specs.Follow.{Recorded, at, steps_in, kind_of_word}
+use Rattle.codec_accounts.specs.Owed.{at}
+use Rattle.trace_text.specs.Follow.{Recorded, steps_in}
+use Rattle.trace_text.specs.FitsLaws.{calls_by_places}
 use Rattle.trace_text.specs.Fits.{CallsAreIn, ArgumentsAreIn, HasArguments, IsResultOf, called, entry_in, step_in, Fits, IsLegalTrace, AreLegalTraces, IsLegalRun}
 use Rattle.report_reader.specs.Told.{IsPlainTrace}
+
+abbrev some : {A : Type 0} → A → Option A
+some x = Some x
+
+some_same : {A : Type 0} (x y : A) → some x ≡ some y → x ≡ y
+some_same x y e = cc
 
 all_from : {X : Type 0} (P : X → Type 0) (xs : List X) → ((i : ℕ) (x : X) → slice_get xs i ≡ Some x → P x) → AllByRecursion P xs
 all_from P [] h = tt
@@ -39,7 +46,7 @@ caller_of_step [] i j x is = absurd cc
 caller_of_step (c ∷ cs) zero j x is = (c, refl, is)
 caller_of_step (c ∷ cs) (suc i) j x is = caller_of_step cs i j x is
 
-suits_kind : (c : Config) (k : KindWord) → suits c k ≡ true → IsConfigOf (kind_of_word k) c
+suits_kind : (c : Config) (k : Kind) → suits c k ≡ true → IsConfigOf k c
 suits_kind (config.AudioDecoder c) word.AudioDecoder h = tt
 suits_kind (config.AudioDecoder c) word.AudioEncoder h = absurd cc
 suits_kind (config.AudioDecoder c) word.VideoDecoder h = absurd cc
@@ -55,15 +62,15 @@ suits_kind config.Bad word.VideoDecoder h = tt
 
 -- the step of a configure, which names its codec, has a config of that codec's kind
 step_suits : (script : ScriptData) (files : List (List Chunk)) (w : Recorded) (who : Who) (k p : ℕ) (error : Option DomError) (c : CodecItem) (given : Config) (x : Step)
-    → is_sound script ≡ true → step_in script who.caller who.step ≡ Some x → IsResultOf script w who (called x) (result.Call k p error) → HasArguments script files who (entry.Configure who given) x
-    → slice_get script.codecs k ≡ Some c → IsConfigOf (kind_of_word c.kind) given
+    → is_sound script ≡ true → step_in script who.caller who.step ≡ Some x → IsResultOf script w (called x) (result.Call k p error) → HasArguments script files who (entry.Configure who given) x
+    → slice_get script.codecs k ≡ Some c → IsConfigOf c.kind given
 step_suits script files w who k p error c given (step.Configure on config) sound is kept has at =
     let caller = caller_of_step script.callers who.caller who.step (step.Configure on config) is in
     let there = codec_there script.codecs (suits config) on (step_at script who.caller who.step caller.0 (step.Configure on config) sound caller.1 caller.2) in
     let same : there.0 ≡ c = some_same there.0 c (sym there.1 ∙ ap (λ n. slice_get script.codecs n) (sym kept.0) ∙ at) in
-    let own = subst (λ (y : CodecItem). IsConfigOf (kind_of_word y.kind) config) same (suits_kind config there.0.kind there.2) in
+    let own = subst (λ (y : CodecItem). IsConfigOf y.kind config) same (suits_kind config there.0.kind there.2) in
     let kept_config : config ≡ given = cc in
-    subst (λ (y : Config). IsConfigOf (kind_of_word c.kind) y) kept_config own
+    subst (λ (y : Config). IsConfigOf c.kind y) kept_config own
 step_suits script files w who k p error c given (step.Chunk bind source) sound is kept has at = absurd has
 step_suits script files w who k p error c given (step.Decode on chunk) sound is kept has at = absurd (let wrong = has.2 in cc)
 step_suits script files w who k p error c given (step.Flush on bind) sound is kept has at = absurd cc
@@ -75,9 +82,9 @@ step_suits script files w who k p error c given (step.State on) sound is kept ha
 step_suits script files w who k p error c given (step.Media m) sound is kept has at = absurd has
 
 configures : (script : ScriptData) (files : List (List Chunk)) (w : Recorded) (k p : ℕ) (c : CodecItem) (e : Entry)
-    → is_sound script ≡ true → CallsAreIn script w → ArgumentsAreIn script files w → entry_in w k p ≡ Some e → slice_get script.codecs k ≡ Some c → ConfiguresAs (kind_of_word c.kind) e
+    → is_sound script ≡ true → CallsAreIn script w → ArgumentsAreIn script files w → entry_in w k p ≡ Some e → slice_get script.codecs k ≡ Some c → ConfiguresAs c.kind e
 configures script files w k p c (entry.Configure who given) sound calls arguments is at =
-    let kept = calls.only k p (entry.Configure who given) who is refl in
+    let kept = (calls_by_places script w calls).only k p (entry.Configure who given) who is refl in
     let made = calls.made who.caller who.step (result.Call k p kept.0) kept.1 in
     let gave = arguments k p (entry.Configure who given) who is refl in
     let same : gave.0 ≡ made.0 = some_same gave.0 made.0 (sym gave.1 ∙ made.1) in
@@ -91,18 +98,18 @@ configures script files w k p c (entry.Done epoch item moment outcome) sound cal
 configures script files w k p c entry.Turn sound calls arguments is at = tt
 configures script files w k p c (entry.Reclaim moment) sound calls arguments is at = tt
 
-trace_plain : (c : CodecItem) (t : CodecTrace) → IsLegalTrace c t → ((p : ℕ) (e : Entry) → slice_get t.entries p ≡ Some e → ConfiguresAs (kind_of_word c.kind) e) → IsPlainTrace t
-trace_plain c t legal h =
-    let own : AllByRecursion (ConfiguresAs t.opening.kind) t.entries = rw legal.opening (all_from (ConfiguresAs (kind_of_word c.kind)) t.entries h) in
-    subst (λ (xs : List Shown). AllByRecursion (IsOutputOf t.opening.kind) (units_shown xs)) (sym legal.shown) (outputs_of_kind t.opening t.entries own)
+trace_plain : OutputsAreOfKind → (c : CodecItem) (t : CodecTrace) → IsLegalTrace c t → ((p : ℕ) (e : Entry) → slice_get t.entries p ≡ Some e → ConfiguresAs c.kind e) → IsPlainTrace t
+trace_plain kinds c t legal h =
+    let own : AllByRecursion (ConfiguresAs t.opening.kind) t.entries = rw legal.opening (all_from (ConfiguresAs c.kind) t.entries h) in
+    subst (λ (xs : List Shown). AllByRecursion (IsOutputOf t.opening.kind) (units_shown xs)) (sym legal.shown) (kinds t.opening t.entries own)
 
-traces_plain : (cs : List CodecItem) (ts : List CodecTrace) → AreLegalTraces cs ts
-    → ((k p : ℕ) (c : CodecItem) (e : Entry) → slice_get (at k (map (λ t. t.entries) ts)) p ≡ Some e → slice_get cs k ≡ Some c → ConfiguresAs (kind_of_word c.kind) e) → AllByRecursion IsPlainTrace ts
-traces_plain [] [] legal h = tt
-traces_plain [] (t ∷ ts) legal h = absurd legal
-traces_plain (c ∷ cs) [] legal h = tt
-traces_plain (c ∷ cs) (t ∷ ts) legal h = (trace_plain c t legal.0 (λ p e is. h 0 p c e is refl), traces_plain cs ts legal.1 (λ k p d e is at. h (suc k) p d e is at))
+traces_plain : OutputsAreOfKind → (cs : List CodecItem) (ts : List CodecTrace) → AreLegalTraces cs ts
+    → ((k p : ℕ) (c : CodecItem) (e : Entry) → slice_get (at k (map (λ t. t.entries) ts)) p ≡ Some e → slice_get cs k ≡ Some c → ConfiguresAs c.kind e) → AllByRecursion IsPlainTrace ts
+traces_plain kinds [] [] legal h = tt
+traces_plain kinds [] (t ∷ ts) legal h = absurd legal
+traces_plain kinds (c ∷ cs) [] legal h = tt
+traces_plain kinds (c ∷ cs) (t ∷ ts) legal h = (trace_plain kinds c t legal.0 (λ p e is. h 0 p c e is refl), traces_plain kinds cs ts legal.1 (λ k p d e is at. h (suc k) p d e is at))
 
-pub legal_plain : (script : ScriptData) (files : List (List Chunk)) (made : List Rattle.wc_config.specs.declared.codec.CoderId.CoderId) (run : Run) → is_sound script ≡ true → IsLegalRun script run → Fits script files made run → AllByRecursion IsPlainTrace run.codecs
-legal_plain script files made run sound legal fits =
-    traces_plain script.codecs run.codecs legal.codecs (λ k p c e is at. configures script files _ k p c e sound fits.calls fits.arguments is at)
+pub legal_plain : OutputsAreOfKind → (script : ScriptData) (files : List (List Chunk)) (made : List Rattle.wc_config.specs.declared.codec.CoderId.CoderId) (run : Run) → is_sound script ≡ true → IsLegalRun script run → Fits script files made run → AllByRecursion IsPlainTrace run.codecs
+legal_plain kinds script files made run sound legal fits =
+    traces_plain kinds script.codecs run.codecs legal.codecs (λ k p c e is at. configures script files _ k p c e sound fits.calls fits.arguments is at)

@@ -6,7 +6,7 @@ use Rattle.wc_base.specs.declared.who.Who.{Who}
 use Rattle.wc_config.specs.declared.codec.CoderId.{CoderId}
 use Rattle.wc_config.specs.declared.config.Config.{Config}
 use Rattle.wc_chunk.specs.declared.chunk.Chunk.{Chunk}
-use Rattle.coder_api.specs.declared.unit.Unit as media
+use Rattle.codec_definitions.specs.declared.unit.Unit as media
 use Rattle.codec_model.specs.declared.entry.Entry.{Entry}
 use Rattle.codec_model.specs.declared.entry.Entry.TheVariants as entry
 use Rattle.codec_model.specs.declared.entry.Event.{Event}
@@ -14,25 +14,24 @@ use Rattle.codec_model.specs.declared.entry.Shown.{Shown}
 use Rattle.codec_model.specs.Replay.{State, opening_state, step as legal_step}
 use Rattle.codec_model.specs.Shown.{shows, event_units, units_in, outputs_of, shown_from, each_shown_from}
 use Rattle.codec_follow.specs.Follow.{each_filled, units_shown}
-use Rattle.codec_follow.proofs.Filling.{legal_follows, legal_fills}
+use Rattle.codec_follow.specs.Laws.{LegalFollows, LegalFills, OutputsAreOfKind}
 use Rattle.script_types.specs.declared.script.ScriptData.{ScriptData}
 use Rattle.script_types.specs.declared.script.CodecItem.{CodecItem}
 use Rattle.script_types.specs.declared.steps.Step.{Step}
 use Rattle.script_types.specs.declared.steps.Step.TheVariants as step
 use Rattle.trace_text.specs.declared.run.CodecTrace.{CodecTrace}
 use Rattle.trace_text.specs.declared.run.Run.{Run}
-use Rattle.trace_text.specs.Follow.{at, steps_of}
-use Rattle.trace_text.specs.Fits.{who_of, HasArguments, Fits, IsLegalTrace, AreLegalTraces, IsLegalRun}
-use Rattle.report_text.specs.declared.told.CallWord.TheVariants as call
-use Rattle.report_text.specs.Told.{told_of}
+use Rattle.codec_accounts.specs.Owed.{at}
+use Rattle.codec_accounts.specs.Calls.{who_of}
+use Rattle.trace_text.specs.Follow.{steps_of}
+use Rattle.trace_text.specs.Fits.{HasArguments, Fits, IsLegalTrace, AreLegalTraces, IsLegalRun}
+use Rattle.report_text.specs.declared.line.CallWord.TheVariants as call
+use Rattle.trace_text.specs.Report.{entry_line_of}
 use Rattle.report_reader.specs.Read.{call_of, entry_of}
 use Rattle.report_reader.specs.Told.{HoldsArguments, IsToldTrace, IsWithinTypes, IsTold}
 use Rattle.report_reader.proofs.KindLaws.{legal_plain}
 use Rattle.report_reader.proofs.ThereLaws.{traces_count, lines_fit}
 use Rattle.script_types.specs.Sound.{is_sound}
-use Rattle.report_lines.specs.Fits.{AreNames}
-use Rattle.trace_text.specs.Report.{report_of}
-use Rattle.report_reader.proofs.FormLaws.{report_tells}
 
 abbrev some : Entry → Option Entry
 some e = Some e
@@ -103,7 +102,7 @@ close_made script files who (step.Media m) has = absurd has
 abbrev GetsArguments : ScriptData → List (List Chunk) → Entry → Type 0
 GetsArguments script files e = (who : Who) → who_of e ≡ Some who → (x : Step) × (slice_get (steps_of script who.caller) who.step ≡ Some x) × HasArguments script files who e x
 
-entry_holds : (script : ScriptData) (files : List (List Chunk)) (e : Entry) (x : Shown) → GetsArguments script files e → entry_of script files (told_of e x) ≡ Some e
+entry_holds : (script : ScriptData) (files : List (List Chunk)) (e : Entry) (x : Shown) → GetsArguments script files e → entry_of script files (entry_line_of e x) ≡ Some e
 entry_holds script files (entry.Configure who given) x h = let found = h who refl in rw found.1 (configure_made script files who given found.0 found.2)
 entry_holds script files (entry.Decode who given) x h = let found = h who refl in rw found.1 (decode_made script files who given found.0 found.2)
 entry_holds script files (entry.Flush who) x h = let found = h who refl in rw found.1 (flush_made script files who found.0 found.2)
@@ -136,33 +135,34 @@ shown_units (e ∷ es) s =
     outputs_tagged s.control.place (shows e s) (unwrap_or (option_map (shown_from es) (legal_step e s)) [])
     ∙ ap (λ (us : List media.Unit). units_in (shows e s) ++ us) (units_then es (legal_step e s) (λ t. shown_units es t))
 
+-- what is known of legal histories
+pub record HistoryLaws : Type 0 where
+  pub follow : LegalFollows
+  pub fill : LegalFills
+  pub kinds : OutputsAreOfKind
+
 -- ---- codecs
 
-trace_told : (script : ScriptData) (files : List (List Chunk)) (c : CodecItem) (t : CodecTrace) → IsLegalTrace c t → ((p : ℕ) (e : Entry) → slice_get t.entries p ≡ Some e → GetsArguments script files e) → IsToldTrace script files t
-trace_told script files c t legal h = record {
+trace_told : HistoryLaws → (script : ScriptData) (files : List (List Chunk)) (c : CodecItem) (t : CodecTrace) → IsLegalTrace c t → ((p : ℕ) (e : Entry) → slice_get t.entries p ≡ Some e → GetsArguments script files e) → IsToldTrace script files t
+trace_told laws script files c t legal h = record {
   arguments = entries_hold script files t.entries t.shown h;
-  follows = legal_follows t.opening t.entries legal.legal;
-  shows = legal.shown ∙ legal_fills t.opening t.entries legal.legal ∙ ap (each_filled t.opening t.entries) (shown_units t.entries (opening_state t.opening) ∙ ap units_shown (sym legal.shown));
+  follows = laws.follow t.opening t.entries legal.legal;
+  shows = legal.shown ∙ laws.fill t.opening t.entries legal.legal ∙ ap (each_filled t.opening t.entries) (shown_units t.entries (opening_state t.opening) ∙ ap units_shown (sym legal.shown));
 }
 
-traces_told : (script : ScriptData) (files : List (List Chunk)) (cs : List CodecItem) (ts : List CodecTrace) → AreLegalTraces cs ts
+traces_told : HistoryLaws → (script : ScriptData) (files : List (List Chunk)) (cs : List CodecItem) (ts : List CodecTrace) → AreLegalTraces cs ts
     → ((k p : ℕ) (e : Entry) → slice_get (at k (map (λ t. t.entries) ts)) p ≡ Some e → GetsArguments script files e) → AllByRecursion (IsToldTrace script files) ts
-traces_told script files [] [] legal h = tt
-traces_told script files [] (t ∷ ts) legal h = absurd legal
-traces_told script files (c ∷ cs) [] legal h = absurd legal
-traces_told script files (c ∷ cs) (t ∷ ts) legal h = (trace_told script files c t legal.0 (λ p e is. h 0 p e is), traces_told script files cs ts legal.1 (λ k p e is. h (suc k) p e is))
+traces_told laws script files [] [] legal h = tt
+traces_told laws script files [] (t ∷ ts) legal h = absurd legal
+traces_told laws script files (c ∷ cs) [] legal h = absurd legal
+traces_told laws script files (c ∷ cs) (t ∷ ts) legal h = (trace_told laws script files c t legal.0 (λ p e is. h 0 p e is), traces_told laws script files cs ts legal.1 (λ k p e is. h (suc k) p e is))
 
-pub legal_told : (script : ScriptData) (files : List (List Chunk)) (made : List CoderId) (run : Run) → is_sound script ≡ true → IsLegalRun script run → Fits script files made run → IsWithinTypes script run → IsTold script files run
-legal_told script files made run sound legal fits within = record {
+pub legal_told : HistoryLaws → (script : ScriptData) (files : List (List Chunk)) (made : List CoderId) (run : Run) → is_sound script ≡ true → IsLegalRun script run → Fits script files made run → IsWithinTypes script run → IsTold script files run
+legal_told laws script files made run sound legal fits within = record {
   told = record {
     callers = legal.callers;
     codecs = traces_count script.codecs run.codecs legal.codecs;
-    traces = traces_told script files script.codecs run.codecs legal.codecs (λ k p e is who names. fits.arguments k p e who is names);
+    traces = traces_told laws script files script.codecs run.codecs legal.codecs (λ k p e is who names. fits.arguments k p e who is names);
   };
-  whole = record { plain = legal_plain script files made run sound legal fits; fits = lines_fit script files made run sound legal fits within };
+  whole = record { plain = legal_plain laws.kinds script files made run sound legal fits; fits = lines_fit script files made run sound legal fits within };
 }
-
--- legal runs of one script with the same report
-pub legal_same : (script : ScriptData) (files : List (List Chunk)) (made : List CoderId) (a b : Run) → is_sound script ≡ true → AreNames script → IsLegalRun script a → Fits script files made a → IsWithinTypes script a
-    → IsLegalRun script b → Fits script files made b → IsWithinTypes script b → report_of script a ≡ report_of script b → a ≡ b
-legal_same script files made a b sound names la fa wa lb fb wb same = report_tells script files a b names (legal_told script files made a sound la fa wa) (legal_told script files made b sound lb fb wb) same

@@ -4,15 +4,15 @@ use Rattle.std.specs.List.{list_all, list_any, slice_get}
 use Rattle.std.specs.Prelude.{unwrap_or, option_map}
 use Rattle.std.specs.Str.{bytes_eq}
 use Rattle.std.proofs.lemmas.Bool.{and_parts, or_parts}
+use Rattle.std.proofs.lemmas.Slice.Eq.{bytes_eq-Decides}
 use Rattle.script_types.specs.declared.script.CodecItem.{CodecItem}
 use Rattle.script_types.specs.declared.script.CallerItem.{CallerItem}
 use Rattle.script_types.specs.declared.script.ScriptData.{ScriptData}
 use Rattle.script_types.specs.Names.{is_name_byte, is_name, is_codec_name, is_caller_name}
 use Rattle.script_types.specs.Sound.{is_sound, is_sound_caller, are_sound_callers}
-use Rattle.script_types.proofs.SoundLaws.{parts_of, codec_at}
+use Rattle.script_types.specs.SoundLaws.{parts_of, codec_at}
 use Rattle.report_text.specs.Names.{caller_name, codec_name}
-use Rattle.report_fields.specs.Words.{is_word_byte}
-use Rattle.report_fields.proofs.WordLaws.{same_bytes}
+use Rattle.report_lines.specs.Words.{is_word_byte}
 use Rattle.report_lines.specs.Fits.{AreNames}
 
 first : (a b : Bool) → (a && b) ≡ true → a ≡ true
@@ -126,7 +126,7 @@ caller_known s i h lt =
 -- ---- all differ
 
 same_name : (a b : List ℕ) → a ≡ b → bytes_eq a b ≡ true
-same_name a b e = subst (λ (x : List ℕ). bytes_eq a x ≡ true) e (same_bytes a)
+same_name a b e = (bytes_eq-Decides a b).1 e
 
 codecs_before : (s : ScriptData) (i j : ℕ) → is_sound s ≡ true → i < j → j < length s.codecs → codec_name s.codecs i ≡ codec_name s.codecs j → ⊥
 codecs_before s i j h less lt e =

@@ -4,7 +4,7 @@ use Rattle.std.specs.Prelude.{flat_map}
 use Rattle.std.specs.List.{zip}
 use Rattle.std.proofs.lemmas.Bool.{lt-ltb}
 use Rattle.wc_chunk.specs.declared.chunk.Chunk.{Chunk}
-use Rattle.coder_api.specs.declared.unit.Unit.TheVariants as unit
+use Rattle.codec_definitions.specs.declared.unit.Unit.TheVariants as unit
 use Rattle.coder_api.specs.declared.slot.SlotEntry.{SlotEntry}
 use Rattle.codec_model.specs.declared.entry.Opening.{Opening}
 use Rattle.codec_model.specs.declared.entry.Entry.{Entry}
@@ -18,13 +18,12 @@ use Rattle.report_text.specs.declared.result.StepResult.{StepResult}
 use Rattle.trace_text.specs.declared.run.CallerTrace.{CallerTrace}
 use Rattle.trace_text.specs.declared.run.CodecTrace.{CodecTrace}
 use Rattle.trace_text.specs.declared.run.Run.{Run}
-use Rattle.report_lines.specs.declared.line.Line.{Line}
-use Rattle.report_lines.specs.declared.line.Line.TheVariants as line
-use Rattle.report_lines.specs.Laws.{event_seen}
-use Rattle.report_lines.specs.Whole.{lines_from, result_seen, caller_seen, entry_seen, codec_seen, slot_seen, end_seen, lines_of}
+use Rattle.report_text.specs.declared.line.Line.{Line}
+use Rattle.report_text.specs.declared.line.Line.TheVariants as line
+use Rattle.trace_text.specs.Report.{event_lines, lines_from, result_lines, caller_lines, entry_lines, codec_lines, slot_lines, end_lines, lines_of}
 use Rattle.report_reader.specs.declared.forms.Section.{Section}
 use Rattle.report_reader.specs.declared.forms.Section.TheVariants as section
-use Rattle.report_reader.specs.Form.{next_part, next, next_in, form_at, Passes, numbered}
+use Rattle.report_reader.specs.Form.{next_part, next, next_in, form_at, Passes, next_number}
 use Rattle.report_reader.specs.Told.{IsToldRun}
 use Rattle.report_reader.proofs.FormLaws.{form_parts}
 
@@ -34,36 +33,36 @@ if_some : (q : Bool) (x t : Section) → cond q (Some x) None ≡ Some t → x �
 if_some true x t e = cc
 if_some false x t e = absurd cc
 
-rises_if : (q : Bool) (x t : Section) (n : ℕ) → cond q (Some x) None ≡ Some t → numbered x ≤ n → numbered t ≤ n
-rises_if q x t n e le = subst (λ (y : Section). numbered y ≤ n) (if_some q x t e) le
+rises_if : (q : Bool) (x t : Section) (n : ℕ) → cond q (Some x) None ≡ Some t → next_number x ≤ n → next_number t ≤ n
+rises_if q x t n e le = subst (λ (y : Section). next_number y ≤ n) (if_some q x t e) le
 
-rises_at : (x t : Section) (n : ℕ) → ◌≡◌ {A = Option Section} (Some x) (Some t) → numbered x ≤ n → numbered t ≤ n
+rises_at : (x t : Section) (n : ℕ) → ◌≡◌ {A = Option Section} (Some x) (Some t) → next_number x ≤ n → next_number t ≤ n
 rises_at x t n e le = rises_if true x t n e le
 
-part_rises : (codecs k : ℕ) (l : Line) (t : Section) (n : ℕ) → next_part codecs k l ≡ Some t → numbered t ≤ n
+part_rises : (codecs k : ℕ) (l : Line) (t : Section) (n : ℕ) → next_part codecs k l ≡ Some t → next_number t ≤ n
 part_rises codecs k line.Header t n e = absurd cc
 part_rises codecs k (line.Caller i) t n e = absurd cc
 part_rises codecs k (line.Result step found) t n e = absurd cc
 part_rises codecs k (line.Codec i opening) t n e = rises_if _ (section.Codecs (k + 1) 0) t n e (omega arith)
 part_rises codecs k (line.Entry place told) t n e = absurd cc
-part_rises codecs k (line.Seen shown) t n e = absurd cc
+part_rises codecs k (line.Event shown) t n e = absurd cc
 part_rises codecs k line.Pool t n e = rises_if _ section.Pool t n e (omega arith)
 part_rises codecs k line.Slots t n e = absurd cc
 part_rises codecs k (line.Slot place entry) t n e = absurd cc
 part_rises codecs k (line.Held held) t n e = absurd cc
 part_rises codecs k line.End t n e = absurd cc
 
-if_part : (q : Bool) (codecs k : ℕ) (l : Line) (t : Section) (n : ℕ) → cond q (next_part codecs k l) None ≡ Some t → numbered t ≤ n
+if_part : (q : Bool) (codecs k : ℕ) (l : Line) (t : Section) (n : ℕ) → cond q (next_part codecs k l) None ≡ Some t → next_number t ≤ n
 if_part true codecs k l t n e = part_rises codecs k l t n e
 if_part false codecs k l t n e = absurd cc
 
-rises : (callers codecs : ℕ) (s : Section) (l : Line) (t : Section) → next callers codecs s l ≡ Some t → numbered t ≤ numbered s + 1
+rises : (callers codecs : ℕ) (s : Section) (l : Line) (t : Section) → next callers codecs s l ≡ Some t → next_number t ≤ next_number s + 1
 rises callers codecs section.Start line.Header t e = rises_at (section.Callers 0 0) t _ e (omega arith)
 rises callers codecs section.Start (line.Caller i) t e = absurd cc
 rises callers codecs section.Start (line.Result step found) t e = absurd cc
 rises callers codecs section.Start (line.Codec i opening) t e = absurd cc
 rises callers codecs section.Start (line.Entry place told) t e = absurd cc
-rises callers codecs section.Start (line.Seen shown) t e = absurd cc
+rises callers codecs section.Start (line.Event shown) t e = absurd cc
 rises callers codecs section.Start line.Pool t e = absurd cc
 rises callers codecs section.Start line.Slots t e = absurd cc
 rises callers codecs section.Start (line.Slot place entry) t e = absurd cc
@@ -74,14 +73,14 @@ rises callers codecs (section.Callers k n) (line.Result step found) t e = rises_
 rises callers codecs (section.Callers k n) line.Header t e = if_part (eqb k callers) codecs 0 line.Header t _ e
 rises callers codecs (section.Callers k n) (line.Codec i opening) t e = if_part (eqb k callers) codecs 0 (line.Codec i opening) t _ e
 rises callers codecs (section.Callers k n) (line.Entry place told) t e = if_part (eqb k callers) codecs 0 (line.Entry place told) t _ e
-rises callers codecs (section.Callers k n) (line.Seen shown) t e = if_part (eqb k callers) codecs 0 (line.Seen shown) t _ e
+rises callers codecs (section.Callers k n) (line.Event shown) t e = if_part (eqb k callers) codecs 0 (line.Event shown) t _ e
 rises callers codecs (section.Callers k n) line.Pool t e = if_part (eqb k callers) codecs 0 line.Pool t _ e
 rises callers codecs (section.Callers k n) line.Slots t e = if_part (eqb k callers) codecs 0 line.Slots t _ e
 rises callers codecs (section.Callers k n) (line.Slot place entry) t e = if_part (eqb k callers) codecs 0 (line.Slot place entry) t _ e
 rises callers codecs (section.Callers k n) (line.Held held) t e = if_part (eqb k callers) codecs 0 (line.Held held) t _ e
 rises callers codecs (section.Callers k n) line.End t e = if_part (eqb k callers) codecs 0 line.End t _ e
 rises callers codecs (section.Codecs k n) (line.Entry place told) t e = rises_if _ (section.Codecs k (n + 1)) t _ e (omega arith)
-rises callers codecs (section.Codecs k n) (line.Seen shown) t e = rises_at (section.Codecs k n) t _ e (omega arith)
+rises callers codecs (section.Codecs k n) (line.Event shown) t e = rises_at (section.Codecs k n) t _ e (omega arith)
 rises callers codecs (section.Codecs k n) line.Header t e = part_rises codecs k line.Header t _ e
 rises callers codecs (section.Codecs k n) (line.Caller i) t e = part_rises codecs k (line.Caller i) t _ e
 rises callers codecs (section.Codecs k n) (line.Result step found) t e = part_rises codecs k (line.Result step found) t _ e
@@ -97,7 +96,7 @@ rises callers codecs section.Pool (line.Caller i) t e = absurd cc
 rises callers codecs section.Pool (line.Result step found) t e = absurd cc
 rises callers codecs section.Pool (line.Codec i opening) t e = absurd cc
 rises callers codecs section.Pool (line.Entry place told) t e = absurd cc
-rises callers codecs section.Pool (line.Seen shown) t e = absurd cc
+rises callers codecs section.Pool (line.Event shown) t e = absurd cc
 rises callers codecs section.Pool line.Pool t e = absurd cc
 rises callers codecs section.Pool (line.Slot place entry) t e = absurd cc
 rises callers codecs section.Pool (line.Held held) t e = absurd cc
@@ -109,7 +108,7 @@ rises callers codecs (section.Slots n) (line.Caller i) t e = absurd cc
 rises callers codecs (section.Slots n) (line.Result step found) t e = absurd cc
 rises callers codecs (section.Slots n) (line.Codec i opening) t e = absurd cc
 rises callers codecs (section.Slots n) (line.Entry place told) t e = absurd cc
-rises callers codecs (section.Slots n) (line.Seen shown) t e = absurd cc
+rises callers codecs (section.Slots n) (line.Event shown) t e = absurd cc
 rises callers codecs (section.Slots n) line.Pool t e = absurd cc
 rises callers codecs (section.Slots n) line.Slots t e = absurd cc
 rises callers codecs (section.Slots n) line.End t e = absurd cc
@@ -119,14 +118,14 @@ rises callers codecs section.Held (line.Caller i) t e = absurd cc
 rises callers codecs section.Held (line.Result step found) t e = absurd cc
 rises callers codecs section.Held (line.Codec i opening) t e = absurd cc
 rises callers codecs section.Held (line.Entry place told) t e = absurd cc
-rises callers codecs section.Held (line.Seen shown) t e = absurd cc
+rises callers codecs section.Held (line.Event shown) t e = absurd cc
 rises callers codecs section.Held line.Pool t e = absurd cc
 rises callers codecs section.Held line.Slots t e = absurd cc
 rises callers codecs section.Held (line.Slot place entry) t e = absurd cc
 rises callers codecs section.Held (line.Held held) t e = absurd cc
 rises callers codecs section.Ended l t e = absurd cc
 
-pub form_numbered : (script : ScriptData) (s : Section) (bs : List ℕ) (l : Line) (rest : List ℕ) (t : Section) → form_at script s bs ≡ Some (l, rest, t) → numbered t ≤ numbered s + 1
+pub form_numbered : (script : ScriptData) (s : Section) (bs : List ℕ) (l : Line) (rest : List ℕ) (t : Section) → form_at script s bs ≡ Some (l, rest, t) → next_number t ≤ next_number s + 1
 form_numbered script s bs l rest t e = rises (length script.callers) (length script.codecs) s l t (form_parts script s bs l rest t e).next
 
 -- ---- lines that stand one behind another
@@ -135,32 +134,30 @@ passes_on : (script : ScriptData) (s : Section) (a b : List Line) (mid end : Sec
 passes_on script s [] b mid end p q = subst (λ (x : Section). Passes script x b end) (sym p) q
 passes_on script s (l ∷ a) b mid end p q = (p.0, p.1, passes_on script p.0 a b mid end p.2 q)
 
-results_pass : (script : ScriptData) (k n : ℕ) (rs : List StepResult) → 0 < k → Passes script (section.Callers k n) (lines_from result_seen n rs) (section.Callers k (n + length rs))
+results_pass : (script : ScriptData) (k n : ℕ) (rs : List StepResult) → 0 < k → Passes script (section.Callers k n) (lines_from result_lines n rs) (section.Callers k (n + length rs))
 results_pass script k n [] some = ap (λ (m : ℕ). section.Callers k m) (omega arith)
 results_pass script k n (r ∷ rs) some =
     let same : n + 1 + length rs ≡ n + suc (length rs) = omega arith in
-    (section.Callers k (n + 1), rw (lt-ltb 0 k some, eq-eqb n n refl) refl, subst (λ (m : ℕ). Passes script (section.Callers k (n + 1)) (lines_from result_seen (n + 1) rs) (section.Callers k m)) same (results_pass script k (n + 1) rs some))
+    (section.Callers k (n + 1), rw (lt-ltb 0 k some, eq-eqb n n refl) refl, subst (λ (m : ℕ). Passes script (section.Callers k (n + 1)) (lines_from result_lines (n + 1) rs) (section.Callers k m)) same (results_pass script k (n + 1) rs some))
 
 -- these lines lead to where so many callers were named
 pub record PassesCallers (script : ScriptData) (s : Section) (ls : List Line) (k : ℕ) : Type 0 where
   pub results : ℕ
   pub passes : Passes script s ls (section.Callers k results)
 
-callers_pass : (script : ScriptData) (k n : ℕ) (items : List CallerItem) (cs : List CallerTrace) → k + length items ≤ length script.callers → length cs ≡ length items
-    → PassesCallers script (section.Callers k n) (lines_from caller_seen k (zip items cs)) (k + length items)
-callers_pass script k n [] [] le same = record { results = n; passes = ap (λ (m : ℕ). section.Callers m n) (omega arith) }
-callers_pass script k n [] (c ∷ cs) le same = absurd (omega arith)
-callers_pass script k n (x ∷ items) [] le same = absurd (omega arith)
-callers_pass script k n (x ∷ items) (c ∷ cs) le same =
-    let more = callers_pass script (k + 1) (0 + length c.results) items cs (omega arith) (omega arith) in
-    let count : k + 1 + length items ≡ k + suc (length items) = omega arith in
-    let tail = lines_from caller_seen (k + 1) (zip items cs) in
-    let on : Passes script (section.Callers (k + 1) 0) (lines_from result_seen 0 c.results ++ tail) (section.Callers (k + suc (length items)) more.results) =
-    passes_on script (section.Callers (k + 1) 0) (lines_from result_seen 0 c.results) tail (section.Callers (k + 1) (0 + length c.results)) (section.Callers (k + suc (length items)) more.results) (results_pass script (k + 1) 0 c.results (omega arith))
+callers_pass : (script : ScriptData) (k n : ℕ) (cs : List CallerTrace) → k + length cs ≤ length script.callers
+    → PassesCallers script (section.Callers k n) (lines_from caller_lines k cs) (k + length cs)
+callers_pass script k n [] le = record { results = n; passes = ap (λ (m : ℕ). section.Callers m n) (omega arith) }
+callers_pass script k n (c ∷ cs) le =
+    let more = callers_pass script (k + 1) (0 + length c.results) cs (omega arith) in
+    let count : k + 1 + length cs ≡ k + suc (length cs) = omega arith in
+    let tail = lines_from caller_lines (k + 1) cs in
+    let on : Passes script (section.Callers (k + 1) 0) (lines_from result_lines 0 c.results ++ tail) (section.Callers (k + suc (length cs)) more.results) =
+    passes_on script (section.Callers (k + 1) 0) (lines_from result_lines 0 c.results) tail (section.Callers (k + 1) (0 + length c.results)) (section.Callers (k + suc (length cs)) more.results) (results_pass script (k + 1) 0 c.results (omega arith))
     (subst (λ (m : ℕ). Passes script (section.Callers (k + 1) (0 + length c.results)) tail (section.Callers m more.results)) count more.passes) in
     record { results = more.results; passes = (section.Callers (k + 1) 0, rw (eq-eqb k k refl, lt-ltb k (length script.callers) (omega arith)) refl, on) }
 
-events_pass : (script : ScriptData) (k n : ℕ) (es : List Event) → Passes script (section.Codecs k n) (flat_map event_seen es) (section.Codecs k n)
+events_pass : (script : ScriptData) (k n : ℕ) (es : List Event) → Passes script (section.Codecs k n) (flat_map event_lines es) (section.Codecs k n)
 events_pass script k n [] = refl
 events_pass script k n (event.Refusal x ∷ es) = events_pass script k n es
 events_pass script k n (event.Output m (unit.Sound samples) ∷ es) = (section.Codecs k n, refl, events_pass script k n es)
@@ -172,14 +169,14 @@ events_pass script k n (event.Reject p x ∷ es) = (section.Codecs k n, refl, ev
 events_pass script k n (event.Dequeue ∷ es) = (section.Codecs k n, refl, events_pass script k n es)
 events_pass script k n (event.ErrorCall x ∷ es) = (section.Codecs k n, refl, events_pass script k n es)
 
-entries_pass : (script : ScriptData) (k n : ℕ) (made : List (Entry × Shown)) → Passes script (section.Codecs k n) (lines_from entry_seen n made) (section.Codecs k (n + length made))
+entries_pass : (script : ScriptData) (k n : ℕ) (made : List (Entry × Shown)) → Passes script (section.Codecs k n) (lines_from entry_lines n made) (section.Codecs k (n + length made))
 entries_pass script k n [] = ap (λ (m : ℕ). section.Codecs k m) (omega arith)
 entries_pass script k n (m ∷ made) =
     let same : n + 1 + length made ≡ n + suc (length made) = omega arith in (
       section.Codecs k (n + 1),
       rw (eq-eqb n n refl) refl,
-      passes_on script (section.Codecs k (n + 1)) (flat_map event_seen m.1.events) (lines_from entry_seen (n + 1) made) (section.Codecs k (n + 1)) (section.Codecs k (n + suc (length made)))
-          (events_pass script k (n + 1) m.1.events) (subst (λ (j : ℕ). Passes script (section.Codecs k (n + 1)) (lines_from entry_seen (n + 1) made) (section.Codecs k j)) same (entries_pass script k (n + 1) made)),
+      passes_on script (section.Codecs k (n + 1)) (flat_map event_lines m.1.events) (lines_from entry_lines (n + 1) made) (section.Codecs k (n + 1)) (section.Codecs k (n + suc (length made)))
+          (events_pass script k (n + 1) m.1.events) (subst (λ (j : ℕ). Passes script (section.Codecs k (n + 1)) (lines_from entry_lines (n + 1) made) (section.Codecs k j)) same (entries_pass script k (n + 1) made)),
     )
 
 -- in this section the next codec, or the pool, may stand
@@ -187,35 +184,33 @@ pub record IsReady (script : ScriptData) (s : Section) (k : ℕ) : Type 0 where
   pub codec : (i : ℕ) (o : Opening) → next_in script s (line.Codec i o) ≡ next_part (length script.codecs) k (line.Codec i o)
   pub pool : next_in script s line.Pool ≡ next_part (length script.codecs) k line.Pool
 
-codecs_pass : (script : ScriptData) (s : Section) (k : ℕ) (items : List CodecItem) (cs : List CodecTrace) (rest : List Line) → IsReady script s k → k + length items ≡ length script.codecs → length cs ≡ length items
-    → Passes script section.Pool rest section.Ended → Passes script s (lines_from codec_seen k (zip items cs) ++ line.Pool ∷ rest) section.Ended
-codecs_pass script s k [] [] rest ready count same tail = (section.Pool, ready.pool ∙ rw (eq-eqb k (length script.codecs) (omega arith)) refl, tail)
-codecs_pass script s k [] (c ∷ cs) rest ready count same tail = absurd (omega arith)
-codecs_pass script s k (x ∷ items) [] rest ready count same tail = absurd (omega arith)
-codecs_pass script s k (x ∷ items) (c ∷ cs) rest ready count same tail =
+codecs_pass : (script : ScriptData) (s : Section) (k : ℕ) (cs : List CodecTrace) (rest : List Line) → IsReady script s k → k + length cs ≡ length script.codecs
+    → Passes script section.Pool rest section.Ended → Passes script s (lines_from codec_lines k cs ++ line.Pool ∷ rest) section.Ended
+codecs_pass script s k [] rest ready count tail = (section.Pool, ready.pool ∙ rw (eq-eqb k (length script.codecs) (omega arith)) refl, tail)
+codecs_pass script s k (c ∷ cs) rest ready count tail =
     let made = zip c.entries c.shown in
-    let entries = lines_from entry_seen 0 made in
-    let more = lines_from codec_seen (k + 1) (zip items cs) in
+    let entries = lines_from entry_lines 0 made in
+    let more = lines_from codec_lines (k + 1) cs in
     let there : Section = section.Codecs (k + 1) (0 + length made) in
-    let on : Passes script there (more ++ line.Pool ∷ rest) section.Ended = codecs_pass script there (k + 1) items cs rest (record { codec = λ i o. refl; pool = refl }) (omega arith) (omega arith) tail in
+    let on : Passes script there (more ++ line.Pool ∷ rest) section.Ended = codecs_pass script there (k + 1) cs rest (record { codec = λ i o. refl; pool = refl }) (omega arith) tail in
     let own : Passes script (section.Codecs (k + 1) 0) (entries ++ (more ++ line.Pool ∷ rest)) section.Ended = passes_on script (section.Codecs (k + 1) 0) entries (more ++ line.Pool ∷ rest) there section.Ended (entries_pass script (k + 1) 0 made) on in
     (section.Codecs (k + 1) 0, ready.codec k c.opening ∙ rw (eq-eqb k k refl, lt-ltb k (length script.codecs) (omega arith)) refl, subst (λ (ls : List Line). Passes script (section.Codecs (k + 1) 0) ls section.Ended) (sym (append_assoc entries more (line.Pool ∷ rest))) own)
 
-slots_pass : (script : ScriptData) (n : ℕ) (es : List SlotEntry) (held : ℕ) → Passes script (section.Slots n) (lines_from slot_seen n es ++ end_seen held) section.Ended
+slots_pass : (script : ScriptData) (n : ℕ) (es : List SlotEntry) (held : ℕ) → Passes script (section.Slots n) (lines_from slot_lines n es ++ end_lines held) section.Ended
 slots_pass script n [] held = (section.Held, refl, (section.Ended, refl, refl))
 slots_pass script n (e ∷ es) held = (section.Slots (n + 1), rw (eq-eqb n n refl) refl, slots_pass script (n + 1) es held)
 
 -- the lines of a run that is told stand in their places
-pub run_passes : (script : ScriptData) (media_of : List (List Chunk)) (run : Run) → IsToldRun script media_of run → Passes script section.Start (lines_of script run) section.Ended
+pub run_passes : (script : ScriptData) (media_of : List (List Chunk)) (run : Run) → IsToldRun script media_of run → Passes script section.Start (lines_of run) section.Ended
 run_passes script media_of run told =
-    let end = lines_from slot_seen 0 run.slots ++ end_seen run.held in
-    let callers = lines_from caller_seen 0 (zip script.callers run.callers) in
-    let codecs = lines_from codec_seen 0 (zip script.codecs run.codecs) in
+    let end = lines_from slot_lines 0 run.slots ++ end_lines run.held in
+    let callers = lines_from caller_lines 0 run.callers in
+    let codecs = lines_from codec_lines 0 run.codecs in
     let n = length script.callers in
-    let front = callers_pass script 0 0 script.callers run.callers (omega arith) told.callers in
+    let front = callers_pass script 0 0 run.callers (omega (arith, told.callers)) in
     let there : Section = section.Callers n front.results in
     let ready : IsReady script there 0 = record { codec = λ i o. rw (eq-eqb n n refl) refl; pool = rw (eq-eqb n n refl) refl } in
     let back : Passes script there (codecs ++ line.Pool ∷ line.Slots ∷ end) section.Ended =
-    codecs_pass script there 0 script.codecs run.codecs (line.Slots ∷ end) ready (omega arith) told.codecs (section.Slots 0, refl, slots_pass script 0 run.slots run.held) in
-    let first : Passes script (section.Callers 0 0) callers there = subst (λ (m : ℕ). Passes script (section.Callers 0 0) callers (section.Callers m front.results)) (omega arith) front.passes in
+    codecs_pass script there 0 run.codecs (line.Slots ∷ end) ready (omega (arith, told.codecs)) (section.Slots 0, refl, slots_pass script 0 run.slots run.held) in
+    let first : Passes script (section.Callers 0 0) callers there = subst (λ (m : ℕ). Passes script (section.Callers 0 0) callers (section.Callers m front.results)) (omega (arith, told.callers)) front.passes in
     (section.Callers 0 0, refl, passes_on script (section.Callers 0 0) callers (codecs ++ line.Pool ∷ line.Slots ∷ end) there section.Ended first back)

@@ -7,11 +7,10 @@ use Rattle.wc_chunk.specs.declared.chunk.Chunk.{Chunk}
 use Rattle.script_types.specs.declared.script.ScriptData.{ScriptData}
 use Rattle.script_types.specs.Sound.{is_sound}
 use Rattle.trace_text.specs.declared.run.Run.{Run}
-use Rattle.trace_text.specs.Report.{report_of}
-use Rattle.report_lines.specs.declared.line.Line.{Line}
-use Rattle.report_lines.specs.Whole.{lines_of}
+use Rattle.trace_text.specs.Report.{report_of, lines_of}
+use Rattle.report_text.specs.declared.line.Line.{Line}
 use Rattle.report_lines.specs.Fits.{AreNames}
-use Rattle.report_lines.proofs.Report.{report_is}
+use Rattle.report_lines.specs.Laws.{LineAgain, LineFits}
 use Rattle.report_reader.specs.declared.forms.Forms.{Forms}
 use Rattle.report_reader.specs.declared.forms.Forms.TheVariants as forms
 use Rattle.report_reader.specs.declared.fault.ReportFault.{ReportFault}
@@ -39,21 +38,21 @@ read_same script media_of bs f v run text f_is told run_is text_is same =
     record { lines = v.items; forms = own; shown = run_is; text = sym same ∙ text_is }
 
 -- what is told is read
-pub read_again : (script : ScriptData) (media_of : List (List Chunk)) (bs : List ℕ) (result : Result Run ReportFault) (run : Run) → AreNames script
+pub read_again : LineAgain → (script : ScriptData) (media_of : List (List Chunk)) (bs : List ℕ) (result : Result Run ReportFault) (run : Run) → AreNames script
     → IfOk result (IsRead script media_of bs) → IfErr result (IsFault script media_of bs) → IsTold script media_of run → bs ≡ report_of script run → Gives result run
-read_again script media_of bs (Ok x) run names ok bad told e =
-    let same = forms_again script names bs ok.lines (lines_of script run) ok.forms (run_passes script media_of run told.told) told.whole.fits (e ∙ report_is script run) in
+read_again again script media_of bs (Ok x) run names ok bad told e =
+    let same = forms_again again script names bs ok.lines (lines_of run) ok.forms (run_passes script media_of run told.told) told.whole.fits e in
     ok.shown ∙ ap (run_of script media_of) same ∙ run_again script media_of run told.told told.whole.plain
-read_again script media_of bs (Err fault.NoMemory) run names ok bad told e = tt
-read_again script media_of bs (Err (fault.BadLine n)) run names ok (inl form) told e =
-    never_stuck script names bs form.before form.at form.left (lines_of script run) form.reads form.not_all form.none (run_passes script media_of run told.told) told.whole.fits (e ∙ report_is script run)
-read_again script media_of bs (Err (fault.BadLine n)) run names ok (inr d) told e =
-    let same = forms_again script names bs d.lines (lines_of script run) d.forms (run_passes script media_of run told.told) told.whole.fits (e ∙ report_is script run) in
+read_again again script media_of bs (Err fault.NoMemory) run names ok bad told e = tt
+read_again again script media_of bs (Err (fault.BadLine n)) run names ok (inl form) told e =
+    never_stuck again script names bs form.before form.at form.left (lines_of run) form.reads form.not_all form.none (run_passes script media_of run told.told) told.whole.fits e
+read_again again script media_of bs (Err (fault.BadLine n)) run names ok (inr d) told e =
+    let same = forms_again again script names bs d.lines (lines_of run) d.forms (run_passes script media_of run told.told) told.whole.fits e in
     d.differs (ap (report_of script) (ap (run_of script media_of) same ∙ run_again script media_of run told.told told.whole.plain) ∙ sym e)
 
 -- what the lines show is told
-pub shown_told : (script : ScriptData) (media_of : List (List Chunk)) (bs : List ℕ) (f : Forms) (v : Vec Line) (run : Run) → is_sound script ≡ true
+pub shown_told : LineFits → (script : ScriptData) (media_of : List (List Chunk)) (bs : List ℕ) (f : Forms) (v : Vec Line) (run : Run) → is_sound script ≡ true
     → f ≡ forms.Lines v → IsForms script bs f → length v.items < 2 ^ 64 → run ≡ run_of script media_of v.items → AllByRecursion FitsTrace run.codecs → IsTold script media_of run
-shown_told script media_of bs f v run sound f_is told few run_is promises =
+shown_told fits script media_of bs f v run sound f_is told few run_is promises =
     let own : IsForms script bs (forms.Lines v) = subst (λ (x : Forms). IsForms script bs x) f_is told in
-    forms_told script media_of bs v.items run sound own few run_is promises
+    forms_told fits script media_of bs v.items run sound own few run_is promises

@@ -1,14 +1,14 @@
 -- The lines of a run that is told show that run.
 use Rattle.std.proofs.lemmas.Bool.{lt-ltb}
-use Rattle.std.proofs.Common.{◌≡◌, ℕ, suc, ◌+◌, true, List, [], ◌∷◌, ◌++◌, length, map, Option, Some, None, is_some, refl, sym, ap, subst, ◌∙◌, arith, append_assoc}
+use Rattle.std.proofs.Common.{◌≡◌, ℕ, zero, suc, ◌+◌, true, List, [], ◌∷◌, ◌++◌, length, map, Option, Some, None, is_some, refl, sym, ap, subst, ◌∙◌, arith, append_assoc}
 use Rattle.std.specs.Prelude.{flat_map, unwrap_or, option_and_then}
 use Rattle.std.specs.List.{AllByRecursion, zip}
 use Rattle.wc_chunk.specs.declared.chunk.Chunk.{Chunk}
-use Rattle.coder_api.specs.declared.unit.Unit as media
-use Rattle.coder_api.specs.declared.unit.Unit.TheVariants as unit
+use Rattle.codec_definitions.specs.declared.unit.Unit as media
+use Rattle.codec_definitions.specs.declared.unit.Unit.TheVariants as unit
 use Rattle.coder_api.specs.declared.slot.SlotEntry.{SlotEntry}
-use Rattle.codec_model.specs.declared.entry.Kind.{Kind}
-use Rattle.codec_model.specs.declared.entry.Kind.TheVariants as kind
+use Rattle.wc_config.specs.declared.kind.Kind.{Kind}
+use Rattle.wc_config.specs.declared.kind.Kind.TheVariants as kind
 use Rattle.codec_model.specs.declared.entry.Entry.{Entry}
 use Rattle.codec_model.specs.declared.entry.Event.{Event}
 use Rattle.codec_model.specs.declared.entry.Event.TheVariants as event
@@ -23,13 +23,11 @@ use Rattle.report_text.specs.declared.result.StepResult.{StepResult}
 use Rattle.trace_text.specs.declared.run.CallerTrace.{CallerTrace}
 use Rattle.trace_text.specs.declared.run.CodecTrace.{CodecTrace}
 use Rattle.trace_text.specs.declared.run.Run.{Run}
-use Rattle.report_text.specs.declared.told.Told.{Told}
-use Rattle.report_lines.specs.declared.line.Line.{Line}
-use Rattle.report_lines.specs.declared.line.Line.TheVariants as line
-use Rattle.report_text.specs.Told.{told_of}
-use Rattle.report_lines.specs.Laws.{event_seen}
-use Rattle.report_lines.specs.Whole.{lines_from, result_seen, caller_seen, entry_seen, codec_seen, slot_seen, end_seen, lines_of}
-use Rattle.report_reader.specs.Read.{results_in, behind_results, callers_in, entries_from, told_in, behind_entries, description_of, config_in, outputs_in, trace_of, codecs_in, slots_in, held_in, run_of}
+use Rattle.report_text.specs.declared.line.EntryLine.{EntryLine}
+use Rattle.report_text.specs.declared.line.Line.{Line}
+use Rattle.report_text.specs.declared.line.Line.TheVariants as line
+use Rattle.trace_text.specs.Report.{entry_line_of, event_lines, lines_from, result_lines, caller_lines, entry_lines, codec_lines, slot_lines, end_lines, lines_of}
+use Rattle.report_reader.specs.Read.{results_in, behind_results, callers_in, entries_from, entry_lines_in, behind_entries, description_of, config_in, outputs_in, trace_of, codecs_in, slots_in, held_in, run_of}
 use Rattle.report_reader.specs.Told.{HoldsArguments, IsPlainTrace, IsToldTrace, IsToldRun}
 use Rattle.codec_follow.specs.Outputs.{IsPlainDescription, IsOutputOf}
 
@@ -39,48 +37,48 @@ use Rattle.codec_follow.specs.Outputs.{IsPlainDescription, IsOutputOf}
 abbrev EndsResults : List Line → Type 0
 EndsResults ls = (results_in ls ≡ []) × (behind_results ls ≡ ls)
 
-results_again : (n : ℕ) (rs : List StepResult) (rest : List Line) → EndsResults rest → results_in (lines_from result_seen n rs ++ rest) ≡ rs
+results_again : (n : ℕ) (rs : List StepResult) (rest : List Line) → EndsResults rest → results_in (lines_from result_lines n rs ++ rest) ≡ rs
 results_again n [] rest ends = ends.0
 results_again n (r ∷ rs) rest ends = ap (λ (x : List StepResult). r ∷ x) (results_again (n + 1) rs rest ends)
 
-behind_results_again : (n : ℕ) (rs : List StepResult) (rest : List Line) → EndsResults rest → behind_results (lines_from result_seen n rs ++ rest) ≡ rest
+behind_results_again : (n : ℕ) (rs : List StepResult) (rest : List Line) → EndsResults rest → behind_results (lines_from result_lines n rs ++ rest) ≡ rest
 behind_results_again n [] rest ends = ends.1
 behind_results_again n (r ∷ rs) rest ends = behind_results_again (n + 1) rs rest ends
 
-callers_end : (i : ℕ) (made : List (CallerItem × CallerTrace)) (rest : List Line) → EndsResults rest → EndsResults (lines_from caller_seen i made ++ rest)
+callers_end : (i : ℕ) (cs : List CallerTrace) (rest : List Line) → EndsResults rest → EndsResults (lines_from caller_lines i cs ++ rest)
 callers_end i [] rest ends = ends
-callers_end i (m ∷ made) rest ends = (refl, refl)
+callers_end i (c ∷ cs) rest ends = (refl, refl)
 
-callers_again : (i : ℕ) (items : List CallerItem) (cs : List CallerTrace) (rest : List Line) → length cs ≡ length items → EndsResults rest
-    → callers_in (length items) (lines_from caller_seen i (zip items cs) ++ rest) ≡ (cs, rest)
-callers_again i [] [] rest same ends = refl
-callers_again i [] (c ∷ cs) rest same ends = absurd (omega arith)
-callers_again i (x ∷ items) [] rest same ends = absurd (omega arith)
-callers_again i (x ∷ items) (c ∷ cs) rest same ends =
-    let tail = lines_from caller_seen (i + 1) (zip items cs) in
-    let ends_more : EndsResults (tail ++ rest) = callers_end (i + 1) (zip items cs) rest ends in
+callers_again : (i n : ℕ) (cs : List CallerTrace) (rest : List Line) → length cs ≡ n → EndsResults rest
+    → callers_in n (lines_from caller_lines i cs ++ rest) ≡ (cs, rest)
+callers_again i zero [] rest same ends = refl
+callers_again i zero (c ∷ cs) rest same ends = absurd (omega arith)
+callers_again i (suc n) [] rest same ends = absurd (omega arith)
+callers_again i (suc n) (c ∷ cs) rest same ends =
+    let tail = lines_from caller_lines (i + 1) cs in
+    let ends_more : EndsResults (tail ++ rest) = callers_end (i + 1) cs rest ends in
     rw (
-      append_assoc (lines_from result_seen 0 c.results) tail rest,
+      append_assoc (lines_from result_lines 0 c.results) tail rest,
       behind_results_again 0 c.results (tail ++ rest) ends_more,
       results_again 0 c.results (tail ++ rest) ends_more,
-      callers_again (i + 1) items cs rest (omega arith) ends,
+      callers_again (i + 1) n cs rest (omega arith) ends,
     ) refl
 
 -- ---- what an entry showed
 
-told_events : (es : List Event) (ls : List Line) → told_in (flat_map event_seen es ++ ls) ≡ told_in ls
-told_events [] ls = refl
-told_events (event.Refusal x ∷ es) ls = told_events es ls
-told_events (event.Output n (unit.Sound samples) ∷ es) ls = told_events es ls
-told_events (event.Output n (unit.Image picture) ∷ es) ls = told_events es ls
-told_events (event.Output n (unit.Coded chunk None) ∷ es) ls = told_events es ls
-told_events (event.Output n (unit.Coded chunk (Some c)) ∷ es) ls = told_events es ls
-told_events (event.Resolve p ∷ es) ls = told_events es ls
-told_events (event.Reject p x ∷ es) ls = told_events es ls
-told_events (event.Dequeue ∷ es) ls = told_events es ls
-told_events (event.ErrorCall x ∷ es) ls = told_events es ls
+entry_lines_behind_events : (es : List Event) (ls : List Line) → entry_lines_in (flat_map event_lines es ++ ls) ≡ entry_lines_in ls
+entry_lines_behind_events [] ls = refl
+entry_lines_behind_events (event.Refusal x ∷ es) ls = entry_lines_behind_events es ls
+entry_lines_behind_events (event.Output n (unit.Sound samples) ∷ es) ls = entry_lines_behind_events es ls
+entry_lines_behind_events (event.Output n (unit.Image picture) ∷ es) ls = entry_lines_behind_events es ls
+entry_lines_behind_events (event.Output n (unit.Coded chunk None) ∷ es) ls = entry_lines_behind_events es ls
+entry_lines_behind_events (event.Output n (unit.Coded chunk (Some c)) ∷ es) ls = entry_lines_behind_events es ls
+entry_lines_behind_events (event.Resolve p ∷ es) ls = entry_lines_behind_events es ls
+entry_lines_behind_events (event.Reject p x ∷ es) ls = entry_lines_behind_events es ls
+entry_lines_behind_events (event.Dequeue ∷ es) ls = entry_lines_behind_events es ls
+entry_lines_behind_events (event.ErrorCall x ∷ es) ls = entry_lines_behind_events es ls
 
-behind_events : (es : List Event) (ls : List Line) → behind_entries (flat_map event_seen es ++ ls) ≡ behind_entries ls
+behind_events : (es : List Event) (ls : List Line) → behind_entries (flat_map event_lines es ++ ls) ≡ behind_entries ls
 behind_events [] ls = refl
 behind_events (event.Refusal x ∷ es) ls = behind_events es ls
 behind_events (event.Output n (unit.Sound samples) ∷ es) ls = behind_events es ls
@@ -93,7 +91,7 @@ behind_events (event.Dequeue ∷ es) ls = behind_events es ls
 behind_events (event.ErrorCall x ∷ es) ls = behind_events es ls
 
 -- no config stands in front, since each stands behind its chunk
-config_events : (es : List Event) (ls : List Line) → config_in ls ≡ None → config_in (flat_map event_seen es ++ ls) ≡ None
+config_events : (es : List Event) (ls : List Line) → config_in ls ≡ None → config_in (flat_map event_lines es ++ ls) ≡ None
 config_events [] ls none = none
 config_events (event.Refusal x ∷ es) ls none = config_events es ls none
 config_events (event.Output n (unit.Sound samples) ∷ es) ls none = refl
@@ -109,7 +107,7 @@ description_again None plain = refl
 description_again (Some []) plain = absurd plain
 description_again (Some (b ∷ bs)) plain = refl
 
-outputs_events : (k : Kind) (es : List Event) (ls : List Line) → config_in ls ≡ None → AllByRecursion (IsOutputOf k) (units_in es) → outputs_in k (flat_map event_seen es ++ ls) ≡ units_in es ++ outputs_in k ls
+outputs_events : (k : Kind) (es : List Event) (ls : List Line) → config_in ls ≡ None → AllByRecursion (IsOutputOf k) (units_in es) → outputs_in k (flat_map event_lines es ++ ls) ≡ units_in es ++ outputs_in k ls
 outputs_events k [] ls none plain = refl
 outputs_events k (event.Refusal x ∷ es) ls none plain = outputs_events k es ls none plain
 outputs_events kind.AudioDecoder (event.Output n (unit.Sound samples) ∷ es) ls none plain = rw (lt-ltb 0 samples.shape.rate plain.0) (ap (λ (us : List media.Unit). unit.Sound samples ∷ us) (outputs_events kind.AudioDecoder es ls none plain.1))
@@ -139,27 +137,27 @@ outputs_events kind.VideoDecoder (event.ErrorCall x ∷ es) ls none plain = outp
 
 -- no entry, and nothing that one showed, stands in front
 pub record EndsEntries (ls : List Line) : Type 0 where
-  pub told : told_in ls ≡ []
+  pub told : entry_lines_in ls ≡ []
   pub outputs : (k : Kind) → outputs_in k ls ≡ []
   pub behind : behind_entries ls ≡ ls
   pub config : config_in ls ≡ None
 
-abbrev told_of_made : Entry × Shown → Told
-told_of_made made = told_of made.0 made.1
+abbrev entry_line_of_pair : Entry × Shown → EntryLine
+entry_line_of_pair made = entry_line_of made.0 made.1
 
-told_again : (n : ℕ) (made : List (Entry × Shown)) (rest : List Line) → EndsEntries rest → told_in (lines_from entry_seen n made ++ rest) ≡ map told_of_made made
-told_again n [] rest ends = ends.told
-told_again n (m ∷ made) rest ends =
-    let tail = lines_from entry_seen (n + 1) made in
-    rw (append_assoc (flat_map event_seen m.1.events) tail rest, told_events m.1.events (tail ++ rest), told_again (n + 1) made rest ends) refl
+entry_lines_again : (n : ℕ) (made : List (Entry × Shown)) (rest : List Line) → EndsEntries rest → entry_lines_in (lines_from entry_lines n made ++ rest) ≡ map entry_line_of_pair made
+entry_lines_again n [] rest ends = ends.told
+entry_lines_again n (m ∷ made) rest ends =
+    let tail = lines_from entry_lines (n + 1) made in
+    rw (append_assoc (flat_map event_lines m.1.events) tail rest, entry_lines_behind_events m.1.events (tail ++ rest), entry_lines_again (n + 1) made rest ends) refl
 
-behind_entries_again : (n : ℕ) (made : List (Entry × Shown)) (rest : List Line) → EndsEntries rest → behind_entries (lines_from entry_seen n made ++ rest) ≡ rest
+behind_entries_again : (n : ℕ) (made : List (Entry × Shown)) (rest : List Line) → EndsEntries rest → behind_entries (lines_from entry_lines n made ++ rest) ≡ rest
 behind_entries_again n [] rest ends = ends.behind
 behind_entries_again n (m ∷ made) rest ends =
-    let tail = lines_from entry_seen (n + 1) made in
-    rw (append_assoc (flat_map event_seen m.1.events) tail rest, behind_events m.1.events (tail ++ rest)) (behind_entries_again (n + 1) made rest ends)
+    let tail = lines_from entry_lines (n + 1) made in
+    rw (append_assoc (flat_map event_lines m.1.events) tail rest, behind_events m.1.events (tail ++ rest)) (behind_entries_again (n + 1) made rest ends)
 
-config_entries : (n : ℕ) (made : List (Entry × Shown)) (rest : List Line) → EndsEntries rest → config_in (lines_from entry_seen n made ++ rest) ≡ None
+config_entries : (n : ℕ) (made : List (Entry × Shown)) (rest : List Line) → EndsEntries rest → config_in (lines_from entry_lines n made ++ rest) ≡ None
 config_entries n [] rest ends = ends.config
 config_entries n (m ∷ made) rest ends = refl
 
@@ -171,21 +169,21 @@ pub all_right : {X : Type 0} (P : X → Type 0) (xs ys : List X) → AllByRecurs
 all_right P [] ys all = all
 all_right P (x ∷ xs) ys all = all_right P xs ys all.1
 
-abbrev shown_of_made : Entry × Shown → Shown
-shown_of_made made = made.1
+abbrev shown_of_pair : Entry × Shown → Shown
+shown_of_pair made = made.1
 
-outputs_again : (k : Kind) (n : ℕ) (made : List (Entry × Shown)) (rest : List Line) → EndsEntries rest → AllByRecursion (IsOutputOf k) (units_shown (map shown_of_made made))
-    → outputs_in k (lines_from entry_seen n made ++ rest) ≡ units_shown (map shown_of_made made)
+outputs_again : (k : Kind) (n : ℕ) (made : List (Entry × Shown)) (rest : List Line) → EndsEntries rest → AllByRecursion (IsOutputOf k) (units_shown (map shown_of_pair made))
+    → outputs_in k (lines_from entry_lines n made ++ rest) ≡ units_shown (map shown_of_pair made)
 outputs_again k n [] rest ends plain = ends.outputs k
 outputs_again k n (m ∷ made) rest ends plain =
-    let tail = lines_from entry_seen (n + 1) made in
+    let tail = lines_from entry_lines (n + 1) made in
     rw (
-      append_assoc (flat_map event_seen m.1.events) tail rest,
-      outputs_events k m.1.events (tail ++ rest) (config_entries (n + 1) made rest ends) (all_left (IsOutputOf k) (units_in m.1.events) (units_shown (map shown_of_made made)) plain),
-      outputs_again k (n + 1) made rest ends (all_right (IsOutputOf k) (units_in m.1.events) (units_shown (map shown_of_made made)) plain),
+      append_assoc (flat_map event_lines m.1.events) tail rest,
+      outputs_events k m.1.events (tail ++ rest) (config_entries (n + 1) made rest ends) (all_left (IsOutputOf k) (units_in m.1.events) (units_shown (map shown_of_pair made)) plain),
+      outputs_again k (n + 1) made rest ends (all_right (IsOutputOf k) (units_in m.1.events) (units_shown (map shown_of_pair made)) plain),
     ) refl
 
-pub shown_again : (es : List Entry) (xs : List Shown) → length xs ≡ length es → map shown_of_made (zip es xs) ≡ xs
+pub shown_again : (es : List Entry) (xs : List Shown) → length xs ≡ length es → map shown_of_pair (zip es xs) ≡ xs
 shown_again [] [] same = refl
 shown_again [] (x ∷ xs) same = absurd (omega arith)
 shown_again (e ∷ es) [] same = absurd (omega arith)
@@ -212,7 +210,7 @@ filled_length k (e ∷ es) s us some =
     rw (next.step) (ap (λ (n : ℕ). suc n) (filled_length k es next.state (filled k (shows e s) us).1 next.more))
 
 entries_again : (script : ScriptData) (media_of : List (List Chunk)) (s : State) (es : List Entry) (xs : List Shown) → length xs ≡ length es → AllByRecursion (HoldsArguments script media_of) (zip es xs) → is_some (follow_from es s) ≡ true
-    → entries_from script media_of s (map told_of_made (zip es xs)) ≡ es
+    → entries_from script media_of s (map entry_line_of_pair (zip es xs)) ≡ es
 entries_again script media_of s [] [] same holds some = refl
 entries_again script media_of s [] (x ∷ xs) same holds some = absurd (omega arith)
 entries_again script media_of s (e ∷ es) [] same holds some = absurd (omega arith)
@@ -223,59 +221,59 @@ entries_again script media_of s (e ∷ es) (x ∷ xs) same holds some =
 -- ---- codecs
 
 trace_again : (script : ScriptData) (media_of : List (List Chunk)) (c : CodecTrace) → IsToldTrace script media_of c
-    → trace_of script media_of c.opening (map told_of_made (zip c.entries c.shown)) (units_shown (map shown_of_made (zip c.entries c.shown))) ≡ c
+    → trace_of script media_of c.opening (map entry_line_of_pair (zip c.entries c.shown)) (units_shown (map shown_of_pair (zip c.entries c.shown))) ≡ c
 trace_again script media_of c told =
     let same : length c.shown ≡ length c.entries = ap (λ (xs : List Shown). length xs) told.shows ∙ filled_length c.opening.kind c.entries (opening_state c.opening) (units_shown c.shown) told.follows in
     rw (shown_again c.entries c.shown same, entries_again script media_of (opening_state c.opening) c.entries c.shown same told.arguments told.follows, ← told.shows) refl
 
-codecs_end : (i : ℕ) (made : List (CodecItem × CodecTrace)) (rest : List Line) → EndsEntries rest → EndsEntries (lines_from codec_seen i made ++ rest)
+codecs_end : (i : ℕ) (cs : List CodecTrace) (rest : List Line) → EndsEntries rest → EndsEntries (lines_from codec_lines i cs ++ rest)
 codecs_end i [] rest ends = ends
-codecs_end i (m ∷ made) rest ends = record { told = refl; outputs = λ k. refl; behind = refl; config = refl }
+codecs_end i (c ∷ cs) rest ends = record { told = refl; outputs = λ k. refl; behind = refl; config = refl }
 
-codecs_again : (script : ScriptData) (media_of : List (List Chunk)) (i : ℕ) (items : List CodecItem) (cs : List CodecTrace) (rest : List Line) → length cs ≡ length items → EndsEntries rest → AllByRecursion (IsToldTrace script media_of) cs → AllByRecursion IsPlainTrace cs
-    → codecs_in script media_of (length items) (lines_from codec_seen i (zip items cs) ++ rest) ≡ (cs, rest)
-codecs_again script media_of i [] [] rest same ends told plain = refl
-codecs_again script media_of i [] (c ∷ cs) rest same ends told plain = absurd (omega arith)
-codecs_again script media_of i (x ∷ items) [] rest same ends told plain = absurd (omega arith)
-codecs_again script media_of i (x ∷ items) (c ∷ cs) rest same ends told plain =
-    let tail = lines_from codec_seen (i + 1) (zip items cs) in
-    let ends_more : EndsEntries (tail ++ rest) = codecs_end (i + 1) (zip items cs) rest ends in
+codecs_again : (script : ScriptData) (media_of : List (List Chunk)) (i n : ℕ) (cs : List CodecTrace) (rest : List Line) → length cs ≡ n → EndsEntries rest → AllByRecursion (IsToldTrace script media_of) cs → AllByRecursion IsPlainTrace cs
+    → codecs_in script media_of n (lines_from codec_lines i cs ++ rest) ≡ (cs, rest)
+codecs_again script media_of i zero [] rest same ends told plain = refl
+codecs_again script media_of i zero (c ∷ cs) rest same ends told plain = absurd (omega arith)
+codecs_again script media_of i (suc n) [] rest same ends told plain = absurd (omega arith)
+codecs_again script media_of i (suc n) (c ∷ cs) rest same ends told plain =
+    let tail = lines_from codec_lines (i + 1) cs in
+    let ends_more : EndsEntries (tail ++ rest) = codecs_end (i + 1) cs rest ends in
     let made = zip c.entries c.shown in
     let own = told.0 in
     let count : length c.shown ≡ length c.entries = ap (λ (xs : List Shown). length xs) own.shows ∙ filled_length c.opening.kind c.entries (opening_state c.opening) (units_shown c.shown) own.follows in
-    let clear : AllByRecursion (IsOutputOf c.opening.kind) (units_shown (map shown_of_made made)) = subst (λ (xs : List Shown). AllByRecursion (IsOutputOf c.opening.kind) (units_shown xs)) (sym (shown_again c.entries c.shown count)) plain.0 in
+    let clear : AllByRecursion (IsOutputOf c.opening.kind) (units_shown (map shown_of_pair made)) = subst (λ (xs : List Shown). AllByRecursion (IsOutputOf c.opening.kind) (units_shown xs)) (sym (shown_again c.entries c.shown count)) plain.0 in
     rw (
-      append_assoc (lines_from entry_seen 0 made) tail rest,
+      append_assoc (lines_from entry_lines 0 made) tail rest,
       behind_entries_again 0 made (tail ++ rest) ends_more,
-      told_again 0 made (tail ++ rest) ends_more,
+      entry_lines_again 0 made (tail ++ rest) ends_more,
       outputs_again c.opening.kind 0 made (tail ++ rest) ends_more clear,
       trace_again script media_of c own,
-      codecs_again script media_of (i + 1) items cs rest (omega arith) ends told.1 plain.1,
+      codecs_again script media_of (i + 1) n cs rest (omega arith) ends told.1 plain.1,
     ) refl
 
 -- ---- the run
 
-slots_again : (n : ℕ) (es : List SlotEntry) (held : ℕ) → slots_in (lines_from slot_seen n es ++ end_seen held) ≡ es
+slots_again : (n : ℕ) (es : List SlotEntry) (held : ℕ) → slots_in (lines_from slot_lines n es ++ end_lines held) ≡ es
 slots_again n [] held = refl
 slots_again n (e ∷ es) held = ap (λ (x : List SlotEntry). e ∷ x) (slots_again (n + 1) es held)
 
-held_again : (n : ℕ) (es : List SlotEntry) (held : ℕ) → held_in (lines_from slot_seen n es ++ end_seen held) ≡ held
+held_again : (n : ℕ) (es : List SlotEntry) (held : ℕ) → held_in (lines_from slot_lines n es ++ end_lines held) ≡ held
 held_again n [] held = refl
 held_again n (e ∷ es) held = held_again (n + 1) es held
 
-codecs_end_results : (i : ℕ) (made : List (CodecItem × CodecTrace)) (rest : List Line) → EndsResults (lines_from codec_seen i made ++ line.Pool ∷ rest)
+codecs_end_results : (i : ℕ) (cs : List CodecTrace) (rest : List Line) → EndsResults (lines_from codec_lines i cs ++ line.Pool ∷ rest)
 codecs_end_results i [] rest = (refl, refl)
-codecs_end_results i (m ∷ made) rest = (refl, refl)
+codecs_end_results i (c ∷ cs) rest = (refl, refl)
 
 -- the lines of a run that is told show that run
-pub run_again : (script : ScriptData) (media_of : List (List Chunk)) (run : Run) → IsToldRun script media_of run → AllByRecursion IsPlainTrace run.codecs → run_of script media_of (lines_of script run) ≡ run
+pub run_again : (script : ScriptData) (media_of : List (List Chunk)) (run : Run) → IsToldRun script media_of run → AllByRecursion IsPlainTrace run.codecs → run_of script media_of (lines_of run) ≡ run
 unfolding run_of
 run_again script media_of run told plain =
-    let end = lines_from slot_seen 0 run.slots ++ end_seen run.held in
-    let codecs = lines_from codec_seen 0 (zip script.codecs run.codecs) in
+    let end = lines_from slot_lines 0 run.slots ++ end_lines run.held in
+    let codecs = lines_from codec_lines 0 run.codecs in
     rw (
-      callers_again 0 script.callers run.callers (codecs ++ line.Pool ∷ line.Slots ∷ end) told.callers (codecs_end_results 0 (zip script.codecs run.codecs) (line.Slots ∷ end)),
-      codecs_again script media_of 0 script.codecs run.codecs (line.Pool ∷ line.Slots ∷ end) told.codecs (record { told = refl; outputs = λ k. refl; behind = refl; config = refl }) told.traces plain,
+      callers_again 0 (length script.callers) run.callers (codecs ++ line.Pool ∷ line.Slots ∷ end) told.callers (codecs_end_results 0 run.codecs (line.Slots ∷ end)),
+      codecs_again script media_of 0 (length script.codecs) run.codecs (line.Pool ∷ line.Slots ∷ end) told.codecs (record { told = refl; outputs = λ k. refl; behind = refl; config = refl }) told.traces plain,
       slots_again 0 run.slots run.held,
       held_again 0 run.slots run.held,
     ) refl

@@ -10,8 +10,8 @@ use Rattle.wc_base.specs.declared.who.By.TheVariants as by
 use Rattle.wc_config.specs.declared.codec.CoderId.{CoderId}
 use Rattle.wc_config.specs.declared.config.AudioDecoderConfig.{AudioDecoderConfig}
 use Rattle.wc_chunk.specs.declared.chunk.Chunk.{Chunk}
-use Rattle.coder_api.specs.declared.unit.Unit as media
-use Rattle.coder_api.specs.declared.unit.Unit.TheVariants as unit
+use Rattle.codec_definitions.specs.declared.unit.Unit as media
+use Rattle.codec_definitions.specs.declared.unit.Unit.TheVariants as unit
 use Rattle.coder_api.specs.declared.slot.SlotEntry.{SlotEntry}
 use Rattle.coder_api.specs.declared.slot.SlotOp.{SlotOp}
 use Rattle.coder_api.specs.declared.slot.SlotOp.TheVariants as slot
@@ -29,23 +29,25 @@ use Rattle.script_types.specs.declared.script.CallerItem.{CallerItem}
 use Rattle.script_types.specs.declared.steps.Step.{Step}
 use Rattle.script_types.specs.declared.steps.Step.TheVariants as step
 use Rattle.script_types.specs.Sound.{is_sound, any_kind}
-use Rattle.script_types.proofs.SoundLaws.{step_at, codec_within}
+use Rattle.script_types.specs.SoundLaws.{step_at, codec_within}
 use Rattle.report_text.specs.declared.result.StepResult.{StepResult}
 use Rattle.report_text.specs.declared.result.StepResult.TheVariants as result
-use Rattle.report_text.specs.declared.told.Told.{Told}
-use Rattle.report_text.specs.declared.told.Told.TheVariants as told
-use Rattle.report_text.specs.Told.{told_of}
+use Rattle.report_text.specs.declared.line.EntryLine.{EntryLine}
+use Rattle.report_text.specs.declared.line.EntryLine.TheVariants as entry_line
+use Rattle.trace_text.specs.Report.{entry_line_of, config_lines, output_lines, event_lines, lines_from, result_lines, caller_lines, entry_lines, codec_lines, slot_lines, lines_of}
 use Rattle.trace_text.specs.declared.run.CallerTrace.{CallerTrace}
 use Rattle.trace_text.specs.declared.run.CodecTrace.{CodecTrace}
 use Rattle.trace_text.specs.declared.run.Run.{Run}
-use Rattle.trace_text.specs.Follow.{Recorded, at, opening_at}
-use Rattle.trace_text.specs.Accounts.{asked_on, asks_at, ComesBack, BoxesAccounted}
-use Rattle.trace_text.specs.Fits.{recorded_of, who_of, called, result_in, entry_in, step_in, KeepsCall, IsResultOf, CallsAreIn, LookShows, LooksAreIn, Fits, AreLegalTraces, IsLegalRun}
-use Rattle.report_lines.specs.declared.line.Line.{Line}
-use Rattle.report_lines.specs.declared.line.Line.TheVariants as line
-use Rattle.report_lines.specs.Laws.{config_seen, output_seen, event_seen}
-use Rattle.report_lines.specs.Whole.{lines_from, result_seen, caller_seen, entry_seen, codec_seen, slot_seen, lines_of}
-use Rattle.report_lines.specs.Fits.{FitsResult, FitsTold, FitsBy, FitsLine}
+use Rattle.codec_accounts.specs.Owed.{at}
+use Rattle.codec_accounts.specs.Calls.{who_of}
+use Rattle.codec_accounts.specs.Registry.{BoxesAccounted}
+use Rattle.codec_accounts.specs.SlotPlaces.{IsOfCodec, cause_there}
+use Rattle.trace_text.specs.Follow.{Recorded, opening_at}
+use Rattle.trace_text.specs.FitsLaws.{calls_by_places}
+use Rattle.trace_text.specs.Fits.{recorded_of, called, result_in, entry_in, step_in, CallsAreIn, LookShows, LooksAreIn, Fits, AreLegalTraces, IsLegalRun}
+use Rattle.report_text.specs.declared.line.Line.{Line}
+use Rattle.report_text.specs.declared.line.Line.TheVariants as line
+use Rattle.report_lines.specs.Fits.{FitsResult, FitsEntryLine, FitsBy, FitsLine}
 use Rattle.report_reader.specs.Told.{IsLineWithinTypes, IsWithinTypes}
 use Rattle.report_reader.proofs.FitLaws.{all_both}
 use Rattle.report_reader.proofs.KindLaws.{caller_of_step}
@@ -60,12 +62,12 @@ IsThereResult script (result.Look n len end) = n < length script.codecs
 IsThereResult script (result.State n len state size) = n < length script.codecs
 IsThereResult script result.Absent = Unit {0}
 
-abbrev IsThereTold : ScriptData → Told → Type 0
-IsThereTold script (told.Call who call error) = who.caller < length script.callers
-IsThereTold script (told.Start epoch item) = Unit {0}
-IsThereTold script (told.Done epoch item moment outcome) = Unit {0}
-IsThereTold script (told.Turn word) = Unit {0}
-IsThereTold script (told.Reclaim moment) = Unit {0}
+abbrev IsThereTold : ScriptData → EntryLine → Type 0
+IsThereTold script (entry_line.Call who call error) = who.caller < length script.callers
+IsThereTold script (entry_line.Start epoch item) = Unit {0}
+IsThereTold script (entry_line.Done epoch item moment outcome) = Unit {0}
+IsThereTold script (entry_line.Turn word) = Unit {0}
+IsThereTold script (entry_line.Reclaim moment) = Unit {0}
 
 abbrev IsThereBy : ScriptData → By → Type 0
 IsThereBy script (by.Caller who) = who.caller < length script.callers
@@ -77,7 +79,7 @@ AreThere script (line.Caller n) = n < length script.callers
 AreThere script (line.Result step found) = IsThereResult script found
 AreThere script (line.Codec n opening) = n < length script.codecs
 AreThere script (line.Entry place entry) = IsThereTold script entry
-AreThere script (line.Seen shown) = Unit {0}
+AreThere script (line.Event shown) = Unit {0}
 AreThere script line.Pool = Unit {0}
 AreThere script line.Slots = Unit {0}
 AreThere script (line.Slot place entry) = IsThereBy script entry.by
@@ -91,12 +93,12 @@ result_there script other (result.Look n len end) fits there = ((there, fits.0.1
 result_there script other (result.State n len state size) fits there = ((there, fits.0.1), fits.1, fits.2)
 result_there script other result.Absent fits there = tt
 
-told_there : (script other : ScriptData) (t : Told) → FitsTold other t → IsThereTold script t → FitsTold script t
-told_there script other (told.Call who call error) fits there = ((there, fits.0.1), fits.1)
-told_there script other (told.Start epoch item) fits there = fits
-told_there script other (told.Done epoch item moment outcome) fits there = fits
-told_there script other (told.Turn word) fits there = fits
-told_there script other (told.Reclaim moment) fits there = fits
+told_there : (script other : ScriptData) (t : EntryLine) → FitsEntryLine other t → IsThereTold script t → FitsEntryLine script t
+told_there script other (entry_line.Call who call error) fits there = ((there, fits.0.1), fits.1)
+told_there script other (entry_line.Start epoch item) fits there = fits
+told_there script other (entry_line.Done epoch item moment outcome) fits there = fits
+told_there script other (entry_line.Turn word) fits there = fits
+told_there script other (entry_line.Reclaim moment) fits there = fits
 
 by_there : (script other : ScriptData) (b : By) → FitsBy other b → IsThereBy script b → FitsBy script b
 by_there script other (by.Caller who) fits there = ((there, fits.0.1), fits.1)
@@ -108,7 +110,7 @@ line_there script other (line.Caller n) fits there = (there, fits.1)
 line_there script other (line.Result step found) fits there = (fits.0, result_there script other found fits.1 there)
 line_there script other (line.Codec n opening) fits there = ((there, fits.0.1), fits.1)
 line_there script other (line.Entry place entry) fits there = (fits.0, told_there script other entry fits.1 there)
-line_there script other (line.Seen shown) fits there = fits
+line_there script other (line.Event shown) fits there = fits
 line_there script other line.Pool fits there = tt
 line_there script other line.Slots fits there = tt
 line_there script other (line.Slot place entry) fits there = (fits.0, by_there script other entry.by fits.1 there, fits.2)
@@ -141,17 +143,10 @@ record Counts (s : ScriptData) (w : Recorded) : Type 0 where
   callers : length w.callers ≡ length s.callers
   codecs : length w.codecs ≡ length s.codecs
 
-kept_there : (s : ScriptData) (w : Recorded) (who : Who) (k p : ℕ) (error : Option DomError) → Counts s w → KeepsCall s w who k p error → k < length s.codecs
-kept_there s w who k p error counts kept = omega (arith, counts.codecs, at_there k p w.codecs kept.entry kept.stands)
-
-call_there : (s : ScriptData) (w : Recorded) (who : Who) (o : Option ℕ) (k p : ℕ) (error : Option DomError) → Counts s w → IsResultOf s w who o (result.Call k p error) → k < length s.codecs
-call_there s w who (Some n) k p error counts h = omega (arith, h.0, kept_there s w who n p error counts h.1)
-call_there s w who None k p error counts h = absurd h
-
 result_call_there : (s : ScriptData) (w : Recorded) → Counts s w → CallsAreIn s w → (c j k p : ℕ) (error : Option DomError) → result_in w c j ≡ Some (result.Call k p error) → k < length s.codecs
 result_call_there s w counts calls c j k p error is =
-    let made = calls.made c j (result.Call k p error) is in
-    call_there s w _ (called made.0) k p error counts made.2
+    let kept = (calls_by_places s w calls).kept c j k p error is in
+    omega (arith, counts.codecs, at_there k p w.codecs kept.entry kept.stands)
 
 look_there : (s : ScriptData) (w : Recorded) (c k n : ℕ) (end : PromiseState) (x : Step) → Counts s w → CallsAreIn s w → LookShows s w c x (result.Look k n end) → k < length s.codecs
 look_there s w c k n end (step.Await promise) counts calls shows = result_call_there s w counts calls c promise.step k shows.0 shows.1 shows.2
@@ -192,10 +187,10 @@ results_name s w sound counts calls looks c j result.Absent is = tt
 
 caller_there : (s : ScriptData) (w : Recorded) → Counts s w → CallsAreIn s w → (k p : ℕ) (e : Entry) (who : Who) → entry_in w k p ≡ Some e → who_of e ≡ Some who → who.caller < length s.callers
 caller_there s w counts calls k p e who is names =
-    let kept = calls.only k p e who is names in
+    let kept = (calls_by_places s w calls).only k p e who is names in
     omega (arith, counts.callers, at_there who.caller who.step w.callers (result.Call k p kept.0) kept.1)
 
-entries_name : (s : ScriptData) (w : Recorded) → Counts s w → CallsAreIn s w → (k p : ℕ) (e : Entry) (x : Shown) → entry_in w k p ≡ Some e → IsThereTold s (told_of e x)
+entries_name : (s : ScriptData) (w : Recorded) → Counts s w → CallsAreIn s w → (k p : ℕ) (e : Entry) (x : Shown) → entry_in w k p ≡ Some e → IsThereTold s (entry_line_of e x)
 entries_name s w counts calls k p (entry.Configure who config) x is = caller_there s w counts calls k p (entry.Configure who config) who is refl
 entries_name s w counts calls k p (entry.Decode who chunk) x is = caller_there s w counts calls k p (entry.Decode who chunk) who is refl
 entries_name s w counts calls k p (entry.Flush who) x is = caller_there s w counts calls k p (entry.Flush who) who is refl
@@ -206,55 +201,38 @@ entries_name s w counts calls k p (entry.Done epoch item moment outcome) x is = 
 entries_name s w counts calls k p entry.Turn x is = tt
 entries_name s w counts calls k p (entry.Reclaim moment) x is = tt
 
-asked_entry : (o : Option Entry) (t : State) (id : CoderId) → asked_on o t ≡ Some id → (e : Entry) × (o ≡ Some e)
-asked_entry None t id asks = absurd cc
-asked_entry (Some e) t id asks = (e, refl)
-
-asks_there : (s : ScriptData) (w : Recorded) (k p : ℕ) (id : CoderId) → Counts s w → asks_at (opening_at s k) (at k w.codecs) p ≡ Some id → k < length s.codecs
-asks_there s w k p id counts asks =
-    let stands = asked_entry (slice_get (at k w.codecs) p) _ id asks in
-    omega (arith, counts.codecs, at_there k p w.codecs stands.0 stands.1)
-
-slots_name : (s : ScriptData) (made : List CoderId) (w : Recorded) → Counts s w → BoxesAccounted s made w → (n : ℕ) (b : By) (op : SlotOp) → slice_get w.slots n ≡ Some (record { by = b; op = op }) → IsThereBy s b
-slots_name s made w counts boxes n b (slot.Acquire id number) is =
-    let asked = boxes.only_asked n (record { by = b; op = slot.Acquire id number }) id is refl in
-    subst (λ (x : By). IsThereBy s x) (sym asked.2) (asks_there s w asked.0 asked.1 id counts asked.3)
-slots_name s made w counts boxes n b (slot.Refused id out there) is =
-    let asked = boxes.only_asked n (record { by = b; op = slot.Refused id out there }) id is refl in
-    subst (λ (x : By). IsThereBy s x) (sym asked.2) (asks_there s w asked.0 asked.1 id counts asked.3)
-slots_name s made w counts boxes n b (slot.Give id number) is =
-    let back = boxes.only_back n number id b is in
-    let asked = boxes.only_asked back.0 (record { by = back.1; op = slot.Acquire id number }) id back.2.out refl in
-    let own = subst (λ (x : By). ComesBack w.slots back.0 n id number x b) asked.2 back.2 in
-    let lets = boxes.by_that_entry back.0 n asked.0 asked.1 number id b own in
-    subst (λ (x : By). IsThereBy s x) (sym lets.2) (asks_there s w asked.0 asked.1 id counts asked.3)
+slots_name : (s : ScriptData) (made : List CoderId) (w : Recorded) → Counts s w → BoxesAccounted made (opening_at s) w.codecs w.slots → (n : ℕ) (b : By) (op : SlotOp) → slice_get w.slots n ≡ Some (record { by = b; op = op }) → IsThereBy s b
+slots_name s made w counts boxes n b op is = by_cause b (cause_there made (opening_at s) w.codecs w.slots n (record { by = b; op = op }) boxes is)
+  where
+    by_cause : (c : By) → IsOfCodec (length w.codecs) c → IsThereBy s c
+    by_cause (by.Caller who) there = absurd there
+    by_cause (by.Codec k p) there = omega (arith, there, counts.codecs)
 
 -- ---- the lines of a run
 
-result_lines_there : (s : ScriptData) (n : ℕ) (rs : List StepResult) → ((j : ℕ) (r : StepResult) → slice_get rs j ≡ Some r → IsThereResult s r) → AllByRecursion (AreThere s) (lines_from result_seen n rs)
+result_lines_there : (s : ScriptData) (n : ℕ) (rs : List StepResult) → ((j : ℕ) (r : StepResult) → slice_get rs j ≡ Some r → IsThereResult s r) → AllByRecursion (AreThere s) (lines_from result_lines n rs)
 result_lines_there s n [] h = tt
 result_lines_there s n (r ∷ rs) h = (h 0 r refl, result_lines_there s (n + 1) rs (λ j x is. h (suc j) x is))
 
-caller_lines_there : (s : ScriptData) (k : ℕ) (items : List CallerItem) (cs : List CallerTrace) → k + length items ≤ length s.callers
-    → ((c j : ℕ) (r : StepResult) → slice_get (at c (map (λ c. c.results) cs)) j ≡ Some r → IsThereResult s r) → AllByRecursion (AreThere s) (lines_from caller_seen k (zip items cs))
-caller_lines_there s k [] cs le h = tt
-caller_lines_there s k (x ∷ items) [] le h = tt
-caller_lines_there s k (x ∷ items) (c ∷ cs) le h = (
+caller_lines_there : (s : ScriptData) (k : ℕ) (cs : List CallerTrace) → k + length cs ≤ length s.callers
+    → ((c j : ℕ) (r : StepResult) → slice_get (at c (map (λ c. c.results) cs)) j ≡ Some r → IsThereResult s r) → AllByRecursion (AreThere s) (lines_from caller_lines k cs)
+caller_lines_there s k [] le h = tt
+caller_lines_there s k (c ∷ cs) le h = (
   omega arith,
-  all_both (AreThere s) (lines_from result_seen 0 c.results) (lines_from caller_seen (k + 1) (zip items cs))
-      (result_lines_there s 0 c.results (λ j r is. h 0 j r is)) (caller_lines_there s (k + 1) items cs (omega arith) (λ i j r is. h (suc i) j r is)),
+  all_both (AreThere s) (lines_from result_lines 0 c.results) (lines_from caller_lines (k + 1) cs)
+      (result_lines_there s 0 c.results (λ j r is. h 0 j r is)) (caller_lines_there s (k + 1) cs (omega arith) (λ i j r is. h (suc i) j r is)),
 )
 
-config_there : (s : ScriptData) (c : Option AudioDecoderConfig) → AllByRecursion (AreThere s) (config_seen c)
+config_there : (s : ScriptData) (c : Option AudioDecoderConfig) → AllByRecursion (AreThere s) (config_lines c)
 config_there s None = tt
 config_there s (Some c) = (tt, tt)
 
-output_there : (s : ScriptData) (u : media.Unit) → AllByRecursion (AreThere s) (output_seen u)
+output_there : (s : ScriptData) (u : media.Unit) → AllByRecursion (AreThere s) (output_lines u)
 output_there s (unit.Sound samples) = (tt, tt)
 output_there s (unit.Image picture) = (tt, tt)
 output_there s (unit.Coded chunk config) = (tt, config_there s config)
 
-event_there : (s : ScriptData) (e : Event) → AllByRecursion (AreThere s) (event_seen e)
+event_there : (s : ScriptData) (e : Event) → AllByRecursion (AreThere s) (event_lines e)
 event_there s (event.Refusal error) = tt
 event_there s (event.Output number unit) = output_there s unit
 event_there s (event.Resolve promise) = (tt, tt)
@@ -262,44 +240,43 @@ event_there s (event.Reject promise error) = (tt, tt)
 event_there s event.Dequeue = (tt, tt)
 event_there s (event.ErrorCall error) = (tt, tt)
 
-events_there : (s : ScriptData) (es : List Event) → AllByRecursion (AreThere s) (flat_map event_seen es)
+events_there : (s : ScriptData) (es : List Event) → AllByRecursion (AreThere s) (flat_map event_lines es)
 events_there s [] = tt
-events_there s (e ∷ es) = all_both (AreThere s) (event_seen e) (flat_map event_seen es) (event_there s e) (events_there s es)
+events_there s (e ∷ es) = all_both (AreThere s) (event_lines e) (flat_map event_lines es) (event_there s e) (events_there s es)
 
-entry_lines_there : (s : ScriptData) (n : ℕ) (es : List Entry) (xs : List Shown) → ((p : ℕ) (e : Entry) (x : Shown) → slice_get es p ≡ Some e → IsThereTold s (told_of e x))
-    → AllByRecursion (AreThere s) (lines_from entry_seen n (zip es xs))
+entry_lines_there : (s : ScriptData) (n : ℕ) (es : List Entry) (xs : List Shown) → ((p : ℕ) (e : Entry) (x : Shown) → slice_get es p ≡ Some e → IsThereTold s (entry_line_of e x))
+    → AllByRecursion (AreThere s) (lines_from entry_lines n (zip es xs))
 entry_lines_there s n [] xs h = tt
 entry_lines_there s n (e ∷ es) [] h = tt
 entry_lines_there s n (e ∷ es) (x ∷ xs) h = (
   h 0 e x refl,
-  all_both (AreThere s) (flat_map event_seen x.events) (lines_from entry_seen (n + 1) (zip es xs))
+  all_both (AreThere s) (flat_map event_lines x.events) (lines_from entry_lines (n + 1) (zip es xs))
       (events_there s x.events) (entry_lines_there s (n + 1) es xs (λ p d y is. h (suc p) d y is)),
 )
 
-codec_lines_there : (s : ScriptData) (k : ℕ) (items : List CodecItem) (cs : List CodecTrace) → k + length items ≤ length s.codecs
-    → ((i p : ℕ) (e : Entry) (x : Shown) → slice_get (at i (map (λ t. t.entries) cs)) p ≡ Some e → IsThereTold s (told_of e x)) → AllByRecursion (AreThere s) (lines_from codec_seen k (zip items cs))
-codec_lines_there s k [] cs le h = tt
-codec_lines_there s k (x ∷ items) [] le h = tt
-codec_lines_there s k (x ∷ items) (c ∷ cs) le h = (
+codec_lines_there : (s : ScriptData) (k : ℕ) (cs : List CodecTrace) → k + length cs ≤ length s.codecs
+    → ((i p : ℕ) (e : Entry) (x : Shown) → slice_get (at i (map (λ t. t.entries) cs)) p ≡ Some e → IsThereTold s (entry_line_of e x)) → AllByRecursion (AreThere s) (lines_from codec_lines k cs)
+codec_lines_there s k [] le h = tt
+codec_lines_there s k (c ∷ cs) le h = (
   omega arith,
-  all_both (AreThere s) (lines_from entry_seen 0 (zip c.entries c.shown)) (lines_from codec_seen (k + 1) (zip items cs))
-      (entry_lines_there s 0 c.entries c.shown (λ p e y is. h 0 p e y is)) (codec_lines_there s (k + 1) items cs (omega arith) (λ i p e y is. h (suc i) p e y is)),
+  all_both (AreThere s) (lines_from entry_lines 0 (zip c.entries c.shown)) (lines_from codec_lines (k + 1) cs)
+      (entry_lines_there s 0 c.entries c.shown (λ p e y is. h 0 p e y is)) (codec_lines_there s (k + 1) cs (omega arith) (λ i p e y is. h (suc i) p e y is)),
 )
 
-slot_lines_there : (s : ScriptData) (n : ℕ) (es : List SlotEntry) → ((i : ℕ) (e : SlotEntry) → slice_get es i ≡ Some e → IsThereBy s e.by) → AllByRecursion (AreThere s) (lines_from slot_seen n es)
+slot_lines_there : (s : ScriptData) (n : ℕ) (es : List SlotEntry) → ((i : ℕ) (e : SlotEntry) → slice_get es i ≡ Some e → IsThereBy s e.by) → AllByRecursion (AreThere s) (lines_from slot_lines n es)
 slot_lines_there s n [] h = tt
 slot_lines_there s n (e ∷ es) h = (h 0 e refl, slot_lines_there s (n + 1) es (λ i d is. h (suc i) d is))
 
 pub lines_fit : (script : ScriptData) (files : List (List Chunk)) (made : List CoderId) (run : Run) → is_sound script ≡ true → IsLegalRun script run → Fits script files made run → IsWithinTypes script run
-    → AllByRecursion (FitsLine script) (lines_of script run)
+    → AllByRecursion (FitsLine script) (lines_of run)
 lines_fit script files made run sound legal fits within =
     let w = recorded_of run in
     let counts : Counts script w = record { callers = map_count _ run.callers ∙ legal.callers; codecs = map_count _ run.codecs ∙ traces_count script.codecs run.codecs legal.codecs } in
-    let callers = caller_lines_there script 0 script.callers run.callers (omega arith) (λ c j r is. results_name script w sound counts fits.calls fits.looks c j r is) in
-    let codecs = codec_lines_there script 0 script.codecs run.codecs (omega arith) (λ i p e x is. entries_name script w counts fits.calls i p e x is) in
+    let callers = caller_lines_there script 0 run.callers (omega (arith, legal.callers)) (λ c j r is. results_name script w sound counts fits.calls fits.looks c j r is) in
+    let codecs = codec_lines_there script 0 run.codecs (omega (arith, traces_count script.codecs run.codecs legal.codecs)) (λ i p e x is. entries_name script w counts fits.calls i p e x is) in
     let slots = slot_lines_there script 0 run.slots (λ i e is. slots_name script made w counts fits.boxes i e.by e.op is) in
-    lines_there script (lines_of script run) within (
+    lines_there script (lines_of run) within (
       tt,
-      all_both (AreThere script) (lines_from caller_seen 0 (zip script.callers run.callers)) _ callers
-          (all_both (AreThere script) (lines_from codec_seen 0 (zip script.codecs run.codecs)) _ codecs (tt, (tt, all_both (AreThere script) (lines_from slot_seen 0 run.slots) _ slots (tt, (tt, tt))))),
+      all_both (AreThere script) (lines_from caller_lines 0 run.callers) _ callers
+          (all_both (AreThere script) (lines_from codec_lines 0 run.codecs) _ codecs (tt, (tt, all_both (AreThere script) (lines_from slot_lines 0 run.slots) _ slots (tt, (tt, tt))))),
     )

@@ -4,9 +4,9 @@ use Rattle.std.specs.Prelude.{option_map, option_and_then}
 use Rattle.std.specs.List.{AllByRecursion, zip, slice_get}
 use Rattle.wc_base.specs.declared.who.Who.{Who}
 use Rattle.wc_chunk.specs.declared.chunk.Chunk.{Chunk}
-use Rattle.coder_api.specs.declared.unit.Unit as media
+use Rattle.codec_definitions.specs.declared.unit.Unit as media
 use Rattle.codec_model.specs.declared.entry.Opening.{Opening}
-use Rattle.codec_model.specs.declared.entry.Kind.{Kind}
+use Rattle.wc_config.specs.declared.kind.Kind.{Kind}
 use Rattle.codec_model.specs.declared.entry.Entry.{Entry}
 use Rattle.codec_model.specs.declared.entry.Entry.TheVariants as entry
 use Rattle.codec_model.specs.declared.entry.Event.{Event}
@@ -19,13 +19,12 @@ use Rattle.script_types.specs.declared.script.ScriptData.{ScriptData}
 use Rattle.script_types.specs.declared.steps.Step.{Step}
 use Rattle.script_types.specs.declared.steps.Step.TheVariants as step
 use Rattle.trace_text.specs.Follow.{steps_of, chunk_at}
-use Rattle.report_text.specs.Told.{refusal_in}
-use Rattle.report_text.specs.declared.told.CallWord.{CallWord}
-use Rattle.report_text.specs.declared.told.CallWord.TheVariants as call
-use Rattle.report_text.specs.declared.told.Told.{Told}
-use Rattle.report_text.specs.declared.told.Told.TheVariants as told
-use Rattle.report_lines.specs.declared.line.Line.{Line}
-use Rattle.report_text.specs.Told.{told_of}
+use Rattle.trace_text.specs.Report.{refusal_in, entry_line_of}
+use Rattle.report_text.specs.declared.line.CallWord.{CallWord}
+use Rattle.report_text.specs.declared.line.CallWord.TheVariants as call
+use Rattle.report_text.specs.declared.line.EntryLine.{EntryLine}
+use Rattle.report_text.specs.declared.line.EntryLine.TheVariants as entry_line
+use Rattle.report_text.specs.declared.line.Line.{Line}
 use Rattle.report_reader.specs.Read.{call_of, entry_of, next_of, entry_then, entries_from, trace_of, callers_in, behind_results, codecs_in, behind_entries, run_of}
 use Rattle.report_reader.specs.Told.{HoldsArguments, IsToldTrace, IsToldRun}
 use Rattle.report_reader.proofs.RunLaws.{step_of_followed}
@@ -39,12 +38,12 @@ entry_is d e h = cc
 
 -- ---- an entry's line tells the entry
 
-decode_told : (who : Who) (o : Option Chunk) (e : Entry) (x : Shown) → option_map (λ c. entry.Decode who c) o ≡ Some e → told_of e x ≡ told.Call who call.Decode (refusal_in x.events)
+decode_told : (who : Who) (o : Option Chunk) (e : Entry) (x : Shown) → option_map (λ c. entry.Decode who c) o ≡ Some e → entry_line_of e x ≡ entry_line.Call who call.Decode (refusal_in x.events)
 decode_told who None e x h = absurd cc
-decode_told who (Some c) e x h = sym (ap (λ (z : Entry). told_of z x) (entry_is (entry.Decode who c) e h))
+decode_told who (Some c) e x h = sym (ap (λ (z : Entry). entry_line_of z x) (entry_is (entry.Decode who c) e h))
 
-word_told : (files : List (List Chunk)) (steps : List Step) (who : Who) (word : CallWord) (s : Step) (e : Entry) (x : Shown) → call_of files steps who word s ≡ Some e → told_of e x ≡ told.Call who word (refusal_in x.events)
-word_told files steps who call.Configure (step.Configure on config) e x h = sym (ap (λ (z : Entry). told_of z x) (entry_is (entry.Configure who config) e h))
+word_told : (files : List (List Chunk)) (steps : List Step) (who : Who) (word : CallWord) (s : Step) (e : Entry) (x : Shown) → call_of files steps who word s ≡ Some e → entry_line_of e x ≡ entry_line.Call who word (refusal_in x.events)
+word_told files steps who call.Configure (step.Configure on config) e x h = sym (ap (λ (z : Entry). entry_line_of z x) (entry_is (entry.Configure who config) e h))
 word_told files steps who call.Configure (step.Chunk bind source) e x h = absurd cc
 word_told files steps who call.Configure (step.Decode on chunk) e x h = absurd cc
 word_told files steps who call.Configure (step.Flush on bind) e x h = absurd cc
@@ -67,7 +66,7 @@ word_told files steps who call.Decode (step.Media m) e x h = absurd cc
 word_told files steps who call.Flush (step.Configure on config) e x h = absurd cc
 word_told files steps who call.Flush (step.Chunk bind source) e x h = absurd cc
 word_told files steps who call.Flush (step.Decode on chunk) e x h = absurd cc
-word_told files steps who call.Flush (step.Flush on bind) e x h = sym (ap (λ (z : Entry). told_of z x) (entry_is (entry.Flush who) e h))
+word_told files steps who call.Flush (step.Flush on bind) e x h = sym (ap (λ (z : Entry). entry_line_of z x) (entry_is (entry.Flush who) e h))
 word_told files steps who call.Flush (step.Poll promise) e x h = absurd cc
 word_told files steps who call.Flush (step.Await promise) e x h = absurd cc
 word_told files steps who call.Flush (step.Reset on) e x h = absurd cc
@@ -80,7 +79,7 @@ word_told files steps who call.Reset (step.Decode on chunk) e x h = absurd cc
 word_told files steps who call.Reset (step.Flush on bind) e x h = absurd cc
 word_told files steps who call.Reset (step.Poll promise) e x h = absurd cc
 word_told files steps who call.Reset (step.Await promise) e x h = absurd cc
-word_told files steps who call.Reset (step.Reset on) e x h = sym (ap (λ (z : Entry). told_of z x) (entry_is (entry.Reset who) e h))
+word_told files steps who call.Reset (step.Reset on) e x h = sym (ap (λ (z : Entry). entry_line_of z x) (entry_is (entry.Reset who) e h))
 word_told files steps who call.Reset (step.Close on) e x h = absurd cc
 word_told files steps who call.Reset (step.State on) e x h = absurd cc
 word_told files steps who call.Reset (step.Media m) e x h = absurd cc
@@ -91,44 +90,44 @@ word_told files steps who call.Close (step.Flush on bind) e x h = absurd cc
 word_told files steps who call.Close (step.Poll promise) e x h = absurd cc
 word_told files steps who call.Close (step.Await promise) e x h = absurd cc
 word_told files steps who call.Close (step.Reset on) e x h = absurd cc
-word_told files steps who call.Close (step.Close on) e x h = sym (ap (λ (z : Entry). told_of z x) (entry_is (entry.Close who) e h))
+word_told files steps who call.Close (step.Close on) e x h = sym (ap (λ (z : Entry). entry_line_of z x) (entry_is (entry.Close who) e h))
 word_told files steps who call.Close (step.State on) e x h = absurd cc
 word_told files steps who call.Close (step.Media m) e x h = absurd cc
 
-pub step_told : (files : List (List Chunk)) (steps : List Step) (who : Who) (word : CallWord) (o : Option Step) (e : Entry) (x : Shown) → option_and_then (call_of files steps who word) o ≡ Some e → told_of e x ≡ told.Call who word (refusal_in x.events)
+pub step_told : (files : List (List Chunk)) (steps : List Step) (who : Who) (word : CallWord) (o : Option Step) (e : Entry) (x : Shown) → option_and_then (call_of files steps who word) o ≡ Some e → entry_line_of e x ≡ entry_line.Call who word (refusal_in x.events)
 step_told files steps who word None e x h = absurd cc
 step_told files steps who word (Some s) e x h = word_told files steps who word s e x h
 
-told_holds : (script : ScriptData) (files : List (List Chunk)) (t : Told) (e : Entry) (x : Shown) → entry_of script files t ≡ Some e → entry_of script files (told_of e x) ≡ Some e
-told_holds script files (told.Call who word error) e x h =
+told_holds : (script : ScriptData) (files : List (List Chunk)) (t : EntryLine) (e : Entry) (x : Shown) → entry_of script files t ≡ Some e → entry_of script files (entry_line_of e x) ≡ Some e
+told_holds script files (entry_line.Call who word error) e x h =
     let steps = steps_of script who.caller in
     ap (entry_of script files) (step_told files steps who word (slice_get steps who.step) e x h) ∙ h
-told_holds script files (told.Start epoch item) e x h = subst (λ (z : Entry). entry_of script files (told_of z x) ≡ Some z) (entry_is (entry.Start epoch item) e h) refl
-told_holds script files (told.Done epoch item moment outcome) e x h = subst (λ (z : Entry). entry_of script files (told_of z x) ≡ Some z) (entry_is (entry.Done epoch item moment outcome) e h) refl
-told_holds script files (told.Turn word) e x h = subst (λ (z : Entry). entry_of script files (told_of z x) ≡ Some z) (entry_is entry.Turn e h) refl
-told_holds script files (told.Reclaim moment) e x h = subst (λ (z : Entry). entry_of script files (told_of z x) ≡ Some z) (entry_is (entry.Reclaim moment) e h) refl
+told_holds script files (entry_line.Start epoch item) e x h = subst (λ (z : Entry). entry_of script files (entry_line_of z x) ≡ Some z) (entry_is (entry.Start epoch item) e h) refl
+told_holds script files (entry_line.Done epoch item moment outcome) e x h = subst (λ (z : Entry). entry_of script files (entry_line_of z x) ≡ Some z) (entry_is (entry.Done epoch item moment outcome) e h) refl
+told_holds script files (entry_line.Turn word) e x h = subst (λ (z : Entry). entry_of script files (entry_line_of z x) ≡ Some z) (entry_is entry.Turn e h) refl
+told_holds script files (entry_line.Reclaim moment) e x h = subst (λ (z : Entry). entry_of script files (entry_line_of z x) ≡ Some z) (entry_is (entry.Reclaim moment) e h) refl
 
 -- ---- the entries of a history
 
 abbrev HoldAll : Kind → ScriptData → List (List Chunk) → List Entry → State → List media.Unit → Type 0
 HoldAll k script files es s us = AllByRecursion (HoldsArguments script files) (zip es (each_filled_from k es s us))
 
-hold_then : (k : Kind) → (script : ScriptData) (files : List (List Chunk)) (t : Told) (ts : List Told) (s : State) (us : List media.Unit) → ((u : State) (vs : List media.Unit) → HoldAll k script files (entries_from script files u ts) u vs)
+hold_then : (k : Kind) → (script : ScriptData) (files : List (List Chunk)) (t : EntryLine) (ts : List EntryLine) (s : State) (us : List media.Unit) → ((u : State) (vs : List media.Unit) → HoldAll k script files (entries_from script files u ts) u vs)
     → (o : Option (Entry × State)) → next_of script files s t ≡ o → HoldAll k script files (entry_then (λ u. entries_from script files u ts) o) s us
 hold_then k script files t ts s us later None is = tt
 hold_then k script files t ts s us later (Some (e, u)) is =
     rw (next_step_is script files t s e u is) (told_holds script files t e (filled_at k e s us) (next_entry_is script files t s e u is), later u (filled k (shows e s) us).1)
 
-all_hold : (k : Kind) → (script : ScriptData) (files : List (List Chunk)) (ts : List Told) (s : State) (us : List media.Unit) → HoldAll k script files (entries_from script files s ts) s us
+all_hold : (k : Kind) → (script : ScriptData) (files : List (List Chunk)) (ts : List EntryLine) (s : State) (us : List media.Unit) → HoldAll k script files (entries_from script files s ts) s us
 all_hold k script files [] s us = tt
 all_hold k script files (t ∷ ts) s us = hold_then k script files t ts s us (λ u vs. all_hold k script files ts u vs) (next_of script files s t) refl
 
-follow_then : (script : ScriptData) (files : List (List Chunk)) (t : Told) (ts : List Told) (s : State) → ((u : State) → is_some (follow_from (entries_from script files u ts) u) ≡ true)
+follow_then : (script : ScriptData) (files : List (List Chunk)) (t : EntryLine) (ts : List EntryLine) (s : State) → ((u : State) → is_some (follow_from (entries_from script files u ts) u) ≡ true)
     → (o : Option (Entry × State)) → next_of script files s t ≡ o → is_some (follow_from (entry_then (λ u. entries_from script files u ts) o) s) ≡ true
 follow_then script files t ts s later None is = refl
 follow_then script files t ts s later (Some (e, u)) is = rw (next_step_is script files t s e u is) (later u)
 
-all_follow : (script : ScriptData) (files : List (List Chunk)) (ts : List Told) (s : State) → is_some (follow_from (entries_from script files s ts) s) ≡ true
+all_follow : (script : ScriptData) (files : List (List Chunk)) (ts : List EntryLine) (s : State) → is_some (follow_from (entries_from script files s ts) s) ≡ true
 all_follow script files [] s = refl
 all_follow script files (t ∷ ts) s = follow_then script files t ts s (λ u. all_follow script files ts u) (next_of script files s t) refl
 
@@ -152,18 +151,18 @@ each_again k (e ∷ es) s us some =
 
 -- ---- the run
 
-trace_told : (script : ScriptData) (files : List (List Chunk)) (o : Opening) (ts : List Told) (us : List media.Unit) → IsToldTrace script files (trace_of script files o ts us)
+trace_told : (script : ScriptData) (files : List (List Chunk)) (o : Opening) (ts : List EntryLine) (us : List media.Unit) → IsToldTrace script files (trace_of script files o ts us)
 trace_told script files o ts us = record {
   arguments = all_hold o.kind script files ts (opening_state o) us;
   follows = all_follow script files ts (opening_state o);
   shows = sym (each_again o.kind (entries_from script files (opening_state o) ts) (opening_state o) us (all_follow script files ts (opening_state o)));
 }
 
-callers_count : (n : ℕ) (ls : List Line) → length (callers_in n ls).0 ≡ n
+pub callers_count : (n : ℕ) (ls : List Line) → length (callers_in n ls).0 ≡ n
 callers_count zero ls = refl
 callers_count (suc n) ls = ap (λ (k : ℕ). suc k) (callers_count n (behind_results (drop 1 ls)))
 
-codecs_count : (script : ScriptData) (files : List (List Chunk)) (n : ℕ) (ls : List Line) → length (codecs_in script files n ls).0 ≡ n
+pub codecs_count : (script : ScriptData) (files : List (List Chunk)) (n : ℕ) (ls : List Line) → length (codecs_in script files n ls).0 ≡ n
 codecs_count script files zero ls = refl
 codecs_count script files (suc n) ls = ap (λ (k : ℕ). suc k) (codecs_count script files n (behind_entries (drop 1 ls)))
 

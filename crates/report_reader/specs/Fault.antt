@@ -4,7 +4,7 @@ use Rattle.wc_chunk.specs.declared.chunk.Chunk.{Chunk}
 use Rattle.script_types.specs.declared.script.ScriptData.{ScriptData}
 use Rattle.trace_text.specs.declared.run.Run.{Run}
 use Rattle.trace_text.specs.Report.{report_of}
-use Rattle.report_lines.specs.declared.line.Line.{Line}
+use Rattle.report_text.specs.declared.line.Line.{Line}
 use Rattle.report_reader.specs.declared.forms.Forms.{Forms}
 use Rattle.report_reader.specs.declared.forms.Forms.TheVariants as forms
 use Rattle.report_reader.specs.declared.fault.ReportFault.{ReportFault}

@@ -1,9 +1,9 @@
 -- Which line of a report may stand behind which, and the lines that stand in front of some bytes, each in its form.
 use Rattle.std.specs.Prelude.{ℕ, ◌≡◌, ◌+◌, nat_lt, ◌==◌, ◌&&◌, if◌then◌else◌, List, [], ◌∷◌, length, Option, Some, None}
 use Rattle.script_types.specs.declared.script.ScriptData.{ScriptData}
-use Rattle.report_fields.specs.Words.{◌>>=◌}
-use Rattle.report_lines.specs.declared.line.Line.{Line}
-use Rattle.report_lines.specs.declared.line.Line.TheVariants as line
+use Rattle.report_lines.specs.Words.{◌>>=◌}
+use Rattle.report_text.specs.declared.line.Line.{Line}
+use Rattle.report_text.specs.declared.line.Line.TheVariants as line
 use Rattle.report_lines.specs.Reading.{line_at}
 use Rattle.report_reader.specs.declared.forms.Section.{Section}
 use Rattle.report_reader.specs.declared.forms.Section.TheVariants as section
@@ -24,7 +24,7 @@ next callers codecs (section.Callers k n) (line.Caller i) = if (i == k) && nat_l
 next callers codecs (section.Callers k n) (line.Result step found) = if nat_lt 0 k && (step == n) then Some (section.Callers k (n + 1)) else None
 next callers codecs (section.Callers k n) l = if k == callers then next_part codecs 0 l else None
 next callers codecs (section.Codecs k n) (line.Entry place told) = if place == n then Some (section.Codecs k (n + 1)) else None
-next callers codecs (section.Codecs k n) (line.Seen shown) = Some (section.Codecs k n)
+next callers codecs (section.Codecs k n) (line.Event shown) = Some (section.Codecs k n)
 next callers codecs (section.Codecs k n) l = next_part codecs k l
 next callers codecs section.Pool line.Slots = Some (section.Slots 0)
 next callers codecs section.Pool _ = None
@@ -61,8 +61,8 @@ Passes script s [] end = s ≡ end
 Passes script s (l ∷ ls) end = (mid : Section) × (next_in script s l ≡ Some mid) × Passes script mid ls end
 
 -- the number that the next result or entry of a section has
-abbrev pub numbered : Section → ℕ
-numbered (section.Callers k n) = n
-numbered (section.Codecs k n) = n
-numbered (section.Slots n) = n
-numbered _ = 0
+abbrev pub next_number : Section → ℕ
+next_number (section.Callers k n) = n
+next_number (section.Codecs k n) = n
+next_number (section.Slots n) = n
+next_number _ = 0

@@ -6,9 +6,8 @@ use Rattle.wc_config.specs.declared.codec.CoderId.{CoderId}
 use Rattle.script_types.specs.declared.script.ScriptData.{ScriptData}
 use Rattle.script_types.specs.Sound.{is_sound}
 use Rattle.trace_text.specs.declared.run.Run.{Run}
-use Rattle.trace_text.specs.Report.{report_of}
+use Rattle.trace_text.specs.Report.{report_of, lines_of}
 use Rattle.trace_text.specs.Fits.{Fits, IsLegalRun}
-use Rattle.report_lines.specs.Whole.{lines_of}
 use Rattle.report_lines.specs.Fits.{AreNames}
 use Rattle.report_reader.specs.declared.fault.ReportFault.TheVariants as fault
 use Rattle.report_reader.specs.Read.{run_of}
@@ -17,7 +16,7 @@ use Rattle.report_reader.specs.Told.{IsToldRun, IsPlainTrace, IsWithinTypes, IsT
 
 -- the lines of a run show that run, where its histories are told and its outputs are of its codecs' kinds
 abbrev pub RunAgain : Type 0
-RunAgain = (script : ScriptData) (media : List (List Chunk)) (run : Run) → IsToldRun script media run → AllByRecursion IsPlainTrace run.codecs → run_of script media (lines_of script run) ≡ run
+RunAgain = (script : ScriptData) (media : List (List Chunk)) (run : Run) → IsToldRun script media run → AllByRecursion IsPlainTrace run.codecs → run_of script media (lines_of run) ≡ run
 
 -- two runs that are told are equal where their reports are
 abbrev pub ReportsDetermineRuns : Type 0

@@ -3,11 +3,11 @@ use Rattle.std.specs.Prelude.{ℕ, zero, suc, nat_lt, if◌then◌else◌, List,
 use Rattle.wc_base.specs.declared.who.Who.{Who}
 use Rattle.wc_config.specs.declared.config.AudioDecoderConfig.{AudioDecoderConfig}
 use Rattle.wc_chunk.specs.declared.chunk.Chunk.{Chunk}
-use Rattle.coder_api.specs.declared.unit.Unit as media
-use Rattle.coder_api.specs.declared.unit.Unit.TheVariants as unit
+use Rattle.codec_definitions.specs.declared.unit.Unit as media
+use Rattle.codec_definitions.specs.declared.unit.Unit.TheVariants as unit
 use Rattle.coder_api.specs.declared.slot.SlotEntry.{SlotEntry}
-use Rattle.codec_model.specs.declared.entry.Kind.{Kind}
-use Rattle.codec_model.specs.declared.entry.Kind.TheVariants as kind
+use Rattle.wc_config.specs.declared.kind.Kind.{Kind}
+use Rattle.wc_config.specs.declared.kind.Kind.TheVariants as kind
 use Rattle.codec_model.specs.declared.entry.Opening.{Opening}
 use Rattle.codec_model.specs.declared.entry.Entry.{Entry}
 use Rattle.codec_model.specs.declared.entry.Entry.TheVariants as entry
@@ -22,14 +22,14 @@ use Rattle.trace_text.specs.declared.run.CallerTrace.{CallerTrace}
 use Rattle.trace_text.specs.declared.run.CodecTrace.{CodecTrace}
 use Rattle.trace_text.specs.declared.run.Run.{Run}
 use Rattle.trace_text.specs.Follow.{steps_of, chunk_at}
-use Rattle.report_text.specs.declared.told.CallWord.{CallWord}
-use Rattle.report_text.specs.declared.told.CallWord.TheVariants as call
-use Rattle.report_text.specs.declared.told.Told.{Told}
-use Rattle.report_text.specs.declared.told.Told.TheVariants as told
-use Rattle.report_lines.specs.declared.line.Seen.{Seen}
-use Rattle.report_lines.specs.declared.line.Seen.TheVariants as seen
-use Rattle.report_lines.specs.declared.line.Line.{Line}
-use Rattle.report_lines.specs.declared.line.Line.TheVariants as line
+use Rattle.report_text.specs.declared.line.CallWord.{CallWord}
+use Rattle.report_text.specs.declared.line.CallWord.TheVariants as call
+use Rattle.report_text.specs.declared.line.EntryLine.{EntryLine}
+use Rattle.report_text.specs.declared.line.EntryLine.TheVariants as entry_line
+use Rattle.report_text.specs.declared.line.EventLine.{EventLine}
+use Rattle.report_text.specs.declared.line.EventLine.TheVariants as event_line
+use Rattle.report_text.specs.declared.line.Line.{Line}
+use Rattle.report_text.specs.declared.line.Line.TheVariants as line
 
 -- ---- callers
 
@@ -67,15 +67,15 @@ abbrev pub call_entry : ScriptData → List (List Chunk) → Who → CallWord �
 call_entry script media who word = let steps = steps_of script who.caller in option_and_then (call_of media steps who word) (slice_get steps who.step)
 
 -- the entry that is told, with the arguments of its step
-abbrev pub entry_of : ScriptData → List (List Chunk) → Told → Option Entry
-entry_of script media (told.Call who word error) = call_entry script media who word
-entry_of script media (told.Start epoch item) = Some (entry.Start epoch item)
-entry_of script media (told.Done epoch item moment outcome) = Some (entry.Done epoch item moment outcome)
-entry_of script media (told.Turn word) = Some entry.Turn
-entry_of script media (told.Reclaim moment) = Some (entry.Reclaim moment)
+abbrev pub entry_of : ScriptData → List (List Chunk) → EntryLine → Option Entry
+entry_of script media (entry_line.Call who word error) = call_entry script media who word
+entry_of script media (entry_line.Start epoch item) = Some (entry.Start epoch item)
+entry_of script media (entry_line.Done epoch item moment outcome) = Some (entry.Done epoch item moment outcome)
+entry_of script media (entry_line.Turn word) = Some entry.Turn
+entry_of script media (entry_line.Reclaim moment) = Some (entry.Reclaim moment)
 
 -- the entry that is told, where it has its arguments and follows, and the state after it
-abbrev pub next_of : ScriptData → List (List Chunk) → State → Told → Option (Entry × State)
+abbrev pub next_of : ScriptData → List (List Chunk) → State → EntryLine → Option (Entry × State)
 next_of script media s t = option_and_then (λ e. option_map (λ u. (e, u)) (follow_step e s)) (entry_of script media t)
 
 -- an entry, and those that come behind it
@@ -84,21 +84,21 @@ entry_then rest None = []
 entry_then rest (Some x) = x.0 ∷ rest x.1
 
 -- the entries that are told, up to the first that has no arguments or does not follow
-abbrev pub entries_from : ScriptData → List (List Chunk) → State → List Told → List Entry
+abbrev pub entries_from : ScriptData → List (List Chunk) → State → List EntryLine → List Entry
 entries_from script media s [] = []
 entries_from script media s (t ∷ ts) = entry_then (λ u. entries_from script media u ts) (next_of script media s t)
 
 -- the entries that are told in front, among the lines of what they show, and the lines behind
-abbrev pub told_in : List Line → List Told
-told_in [] = []
-told_in (line.Entry place t ∷ ls) = t ∷ told_in ls
-told_in (line.Seen shown ∷ ls) = told_in ls
-told_in (l ∷ ls) = []
+abbrev pub entry_lines_in : List Line → List EntryLine
+entry_lines_in [] = []
+entry_lines_in (line.Entry place t ∷ ls) = t ∷ entry_lines_in ls
+entry_lines_in (line.Event shown ∷ ls) = entry_lines_in ls
+entry_lines_in (l ∷ ls) = []
 
 abbrev pub behind_entries : List Line → List Line
 behind_entries [] = []
 behind_entries (line.Entry place t ∷ ls) = behind_entries ls
-behind_entries (line.Seen shown ∷ ls) = behind_entries ls
+behind_entries (line.Event shown ∷ ls) = behind_entries ls
 behind_entries (l ∷ ls) = l ∷ ls
 
 -- ---- the outputs of a codec
@@ -114,22 +114,22 @@ config_of codec rate channels description = if is_codec_string codec then Some (
 
 -- the config in front, if there is one
 abbrev pub config_in : List Line → Option AudioDecoderConfig
-config_in (line.Seen (seen.Config codec rate channels description) ∷ ls) = config_of codec rate channels description
+config_in (line.Event (event_line.Config codec rate channels description) ∷ ls) = config_of codec rate channels description
 config_in _ = None
 
 -- The output that a line shows, if it shows one of a codec of this kind: an audio decoder gives samples, whose rate is above
 -- 0, an audio encoder chunks, and a video decoder pictures. A chunk has the config of the line behind it.
-abbrev pub unit_of : Kind → Seen → Option AudioDecoderConfig → Option media.Unit
-unit_of kind.AudioDecoder (seen.Sound shape bytes) config = if nat_lt 0 shape.rate then Some (unit.Sound (record { shape = shape; bytes = bytes })) else None
-unit_of kind.AudioEncoder (seen.Chunk key timestamp duration bytes) config = Some (unit.Coded (record { key = key; timestamp = timestamp; duration = duration; bytes = bytes }) config)
-unit_of kind.VideoDecoder (seen.Image shape bytes) config = Some (unit.Image (record { shape = shape; bytes = bytes }))
+abbrev pub unit_of : Kind → EventLine → Option AudioDecoderConfig → Option media.Unit
+unit_of kind.AudioDecoder (event_line.Sound samples) config = if nat_lt 0 samples.shape.rate then Some (unit.Sound samples) else None
+unit_of kind.AudioEncoder (event_line.Chunk chunk) config = Some (unit.Coded chunk config)
+unit_of kind.VideoDecoder (event_line.Image picture) config = Some (unit.Image picture)
 unit_of k _ config = None
 
 -- the outputs in front of a codec of this kind, among the lines of entries
 abbrev pub outputs_in : Kind → List Line → List media.Unit
 outputs_in k [] = []
 outputs_in k (line.Entry place t ∷ ls) = outputs_in k ls
-outputs_in k (line.Seen shown ∷ ls) = option_to_list (unit_of k shown (config_in ls)) ++ outputs_in k ls
+outputs_in k (line.Event shown ∷ ls) = option_to_list (unit_of k shown (config_in ls)) ++ outputs_in k ls
 outputs_in k (l ∷ ls) = []
 
 -- ---- codecs
@@ -140,13 +140,13 @@ opening_of (line.Codec n opening ∷ ls) = opening
 opening_of _ = record { kind = kind.AudioDecoder; saturation = 1 }
 
 -- a codec opened so, with the entries that are told, and these outputs
-abbrev pub trace_of : ScriptData → List (List Chunk) → Opening → List Told → List media.Unit → CodecTrace
+abbrev pub trace_of : ScriptData → List (List Chunk) → Opening → List EntryLine → List media.Unit → CodecTrace
 trace_of script media o ts us =
     let entries = entries_from script media (opening_state o) ts in
     record { opening = o; entries = entries; shown = each_filled o entries us }
 
 abbrev pub codec_in : ScriptData → List (List Chunk) → List Line → CodecTrace
-codec_in script media ls = trace_of script media (opening_of ls) (told_in (drop 1 ls)) (outputs_in (opening_of ls).kind (drop 1 ls))
+codec_in script media ls = trace_of script media (opening_of ls) (entry_lines_in (drop 1 ls)) (outputs_in (opening_of ls).kind (drop 1 ls))
 
 -- so many codecs, each with its line and its entries, and the lines behind them
 abbrev pub codecs_in : ScriptData → List (List Chunk) → ℕ → List Line → List CodecTrace × List Line

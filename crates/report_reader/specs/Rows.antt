@@ -1,17 +1,17 @@
 -- The ordinary run and its report.
 use Rattle.std.specs.Prelude.{◌≡◌, [], ◌∷◌, codes}
 use Rattle.trace_text.specs.Rows.{ordinary_script, file_script, two_chunks, ordinary_run}
-use Rattle.report_lines.specs.Whole.{lines_of}
+use Rattle.trace_text.specs.Report.{lines_of}
 use Rattle.report_reader.specs.Read.{run_of}
 use Rattle.report_reader.specs.Told.{IsTold}
 use Rattle.report_reader.specs.Fault.{line_of_difference}
 
 -- its lines show it, its chunk made or from a file
 abbrev pub OrdinaryAgain : Type 0
-OrdinaryAgain = run_of ordinary_script [] (lines_of ordinary_script ordinary_run) ≡ ordinary_run
+OrdinaryAgain = run_of ordinary_script [] (lines_of ordinary_run) ≡ ordinary_run
 
 abbrev pub FileAgain : Type 0
-FileAgain = run_of file_script (two_chunks ∷ []) (lines_of file_script ordinary_run) ≡ ordinary_run
+FileAgain = run_of file_script (two_chunks ∷ []) (lines_of ordinary_run) ≡ ordinary_run
 
 -- the run is told by its report
 abbrev pub OrdinaryTold : Type 0

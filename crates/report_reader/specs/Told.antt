@@ -9,15 +9,14 @@ use Rattle.codec_follow.specs.Outputs.{IsOutputOf}
 use Rattle.script_types.specs.declared.script.ScriptData.{ScriptData}
 use Rattle.trace_text.specs.declared.run.CodecTrace.{CodecTrace}
 use Rattle.trace_text.specs.declared.run.Run.{Run}
-use Rattle.report_text.specs.Told.{told_of}
-use Rattle.report_lines.specs.declared.line.Line.{Line}
-use Rattle.report_lines.specs.Whole.{lines_of}
+use Rattle.trace_text.specs.Report.{entry_line_of, lines_of}
+use Rattle.report_text.specs.declared.line.Line.{Line}
 use Rattle.report_lines.specs.Fits.{FitsLine}
 use Rattle.report_reader.specs.Read.{entry_of}
 
 -- the entry is what its line tells, with the arguments of its step
 abbrev pub HoldsArguments : ScriptData → List (List Chunk) → Entry × Shown → Type 0
-HoldsArguments script media made = entry_of script media (told_of made.0 made.1) ≡ Some made.0
+HoldsArguments script media made = entry_of script media (entry_line_of made.0 made.1) ≡ Some made.0
 
 -- A codec's history follows and holds the arguments of the script's steps, and shows what it shows with its own outputs.
 pub record IsToldTrace (script : ScriptData) (media : List (List Chunk)) (trace : CodecTrace) : Type 0 where
@@ -42,12 +41,12 @@ abbrev pub IsLineWithinTypes : Line → Type 0
 IsLineWithinTypes l = (other : ScriptData) × FitsLine other l
 
 abbrev pub IsWithinTypes : ScriptData → Run → Type 0
-IsWithinTypes script run = AllByRecursion IsLineWithinTypes (lines_of script run)
+IsWithinTypes script run = AllByRecursion IsLineWithinTypes (lines_of run)
 
 -- The run's outputs are of their codecs' kinds, and its lines fit the script.
 pub record IsWithoutLoss (script : ScriptData) (run : Run) : Type 0 where
   pub plain : AllByRecursion IsPlainTrace run.codecs
-  pub fits : AllByRecursion (FitsLine script) (lines_of script run)
+  pub fits : AllByRecursion (FitsLine script) (lines_of run)
 
 -- A run that its report tells.
 pub record IsTold (script : ScriptData) (media : List (List Chunk)) (run : Run) : Type 0 where

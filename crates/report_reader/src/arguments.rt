@@ -3,7 +3,7 @@ ghost use Rattle.std.specs.Prelude.{◌≡◌, IfOk, Some, None, option_map};
 ghost use Rattle.report_reader.specs.Read as spec;
 
 use codec_model::Entry;
-use report_lines::{CallWord, Told};
+use report_text::{CallWord, EntryLine};
 use script_types::{ScriptData, Step};
 use trace_text::{find_chunk, steps_of};
 use wc_base::{List, NoMemory, Who};
@@ -61,23 +61,23 @@ fn call_entry(
     }
 }
 
-/// The entry that is told, with the arguments of its step. `None` where its step makes no such call, or decodes a chunk
+/// The entry of a line, with the arguments of its step. `None` where its step makes no such call, or decodes a chunk
 /// that is absent.
 pub fn entry_of(
     script: &ScriptData,
     media: &[List<Chunk>],
-    told: Told,
+    line: EntryLine,
 ) -> Result<Option<Entry>, NoMemory>
-    ensures { IfOk result (λ o. o ≡ spec.entry_of script.now media.now told) }
+    ensures { IfOk result (λ o. o ≡ spec.entry_of script.now media.now line) }
 {
-    match told {
-        Told::Call {
+    match line {
+        EntryLine::Call {
             who,
             call,
             error: _,
         } => call_entry(script, media, who, call),
-        Told::Start { epoch, item } => Ok(Some(Entry::Start { epoch, item })),
-        Told::Done {
+        EntryLine::Start { epoch, item } => Ok(Some(Entry::Start { epoch, item })),
+        EntryLine::Done {
             epoch,
             item,
             moment,
@@ -88,7 +88,7 @@ pub fn entry_of(
             moment,
             outcome,
         })),
-        Told::Turn(_) => Ok(Some(Entry::Turn)),
-        Told::Reclaim { moment } => Ok(Some(Entry::Reclaim { moment })),
+        EntryLine::Turn(_) => Ok(Some(Entry::Turn)),
+        EntryLine::Reclaim { moment } => Ok(Some(Entry::Reclaim { moment })),
     }
 }

@@ -2,18 +2,18 @@
 ghost use Rattle.std.specs.Prelude.{◌≡◌, ◌++◌, IfOk, OnOk, Some, None, drop, length, if◌then◌else◌};
 ghost use Rattle.std.specs.Option.{option_copied, option_to_list};
 ghost use Rattle.codec_follow.specs.Outputs.{is_codec_string};
-ghost use Rattle.codec_model.specs.declared.entry.Kind.TheVariants as kinds;
-ghost use Rattle.report_lines.specs.declared.line.Seen.TheVariants as seen_as;
+ghost use Rattle.wc_config.specs.declared.kind.Kind.TheVariants as kinds;
+ghost use Rattle.report_text.specs.declared.line.EventLine.TheVariants as event_line;
 ghost use Rattle.report_reader.specs.Read as spec;
 
 use bytes::Bytes;
 use codec_model::{Kind, Opening};
 use coder_api::{SlotEntry, Unit};
-use report_lines::{Line, Seen, Told, codec_id_of};
-use report_text::codec_text;
+use report_lines::codec_id_of;
+use report_text::{EntryLine, EventLine, Line, codec_text};
 use std::alloc::{AllocError, Global};
 use trace_text::{CallerTrace, StepResult};
-use wc_base::{List, Picture, Samples, SoundShape, Text};
+use wc_base::{List, Picture, Samples, Text};
 use wc_chunk::Chunk;
 use wc_config::AudioDecoderConfig;
 
@@ -27,8 +27,8 @@ fn results_of<'a>(
 {
     let mut results = Vec::new(alloc);
     let mut rest = lines;
-    while let [Line::Result { step: _, found }, more @ ..] = rest {
-        results.push(*found)?;
+    while let [Line::Result { step: _, answer }, more @ ..] = rest {
+        results.push(*answer)?;
         rest = more;
     }
     Ok((results, rest))
@@ -64,17 +64,20 @@ pub fn callers_of<'a>(
     Ok((callers, rest))
 }
 
-/// The entries that are told in front, among the lines of what they show, and the lines behind.
-pub fn told_of<'a>(alloc: Global, lines: &'a [Line]) -> Result<(Vec<Told>, &'a [Line]), AllocError>
-    ensures told { IfOk result (λ x. x.0.items ≡ spec.told_in lines.now) }
+/// The entries in front, among the lines of what they show, and the lines behind.
+pub fn entry_lines_of<'a>(
+    alloc: Global,
+    lines: &'a [Line],
+) -> Result<(Vec<EntryLine>, &'a [Line]), AllocError>
+    ensures entries { IfOk result (λ x. x.0.items ≡ spec.entry_lines_in lines.now) }
     ensures behind { IfOk result (λ x. x.1.now ≡ spec.behind_entries lines.now) }
 {
     let mut entries = Vec::new(alloc);
     let mut rest = lines;
     while let [line, more @ ..] = rest {
         match line {
-            Line::Entry { place: _, told } => entries.push(*told)?,
-            Line::Seen(_) => {}
+            Line::Entry { place: _, entry } => entries.push(*entry)?,
+            Line::Event(_) => {}
             _ => return Ok((entries, rest)),
         }
         rest = more;
@@ -93,36 +96,30 @@ fn codec_string(bytes: &[u8]) -> Option<&str>
     }
 }
 
-fn bytes_of(alloc: Global, bytes: &List<u8>) -> Result<Bytes, AllocError>
-    ensures { IfOk result (λ x. x ≡ bytes.now) }
-{
-    Bytes::copy_from_slice(alloc, bytes.as_slice())
-}
-
 // No bytes are no description.
-fn description_of(alloc: Global, bytes: &List<u8>) -> Result<Option<Bytes>, AllocError>
+fn description_of(bytes: &Bytes) -> Result<Option<Bytes>, AllocError>
     ensures { IfOk result (λ x. x ≡ spec.description_of bytes.now) }
 {
     if bytes.is_empty() {
         return Ok(None);
     }
-    Ok(Some(bytes_of(alloc, bytes)?))
+    Ok(Some(bytes.clone()?))
 }
 
 // The config of these parts.
 fn config_of(
     alloc: Global,
-    codec: &List<u8>,
+    codec: &[u8],
     rate: u32,
     channels: u32,
-    description: &List<u8>,
+    description: &Bytes,
 ) -> Result<Option<AudioDecoderConfig>, AllocError>
     ensures { IfOk result (λ c. c ≡ spec.config_of codec.now rate channels description.now) }
 {
-    match codec_string(codec.as_slice()) {
+    match codec_string(codec) {
         None => Ok(None),
         Some(codec) => {
-            let description = description_of(alloc, description)?;
+            let description = description_of(description)?;
             Ok(Some(AudioDecoderConfig {
                 codec: Text::of(String::from_str(alloc, codec)?),
                 rate,
@@ -139,8 +136,8 @@ fn config_in(alloc: Global, lines: &[Line]) -> Result<Option<AudioDecoderConfig>
 {
     match lines {
         [
-            Line::Seen(
-                Seen::Config {
+            Line::Event(
+                EventLine::Config {
                     codec,
                     rate,
                     channels,
@@ -148,58 +145,46 @@ fn config_in(alloc: Global, lines: &[Line]) -> Result<Option<AudioDecoderConfig>
                 },
             ),
             ..
-        ] => config_of(alloc, codec, *rate, *channels, description),
+        ] => config_of(alloc, codec.as_slice(), *rate, *channels, description),
         _ => Ok(None),
     }
 }
 
 // The samples of a line, whose rate has to be above 0.
-fn samples_of(
-    alloc: Global,
-    shape: SoundShape,
-    bytes: &List<u8>,
-) -> Result<Option<Unit>, AllocError>
-    ensures { IfOk result (λ u. u ≡ spec.unit_of kinds.AudioDecoder (seen_as.Sound shape bytes.now) None) }
+fn samples_of(samples: &Samples) -> Result<Option<Unit>, AllocError>
+    ensures { IfOk result
+        (λ u. u ≡ spec.unit_of kinds.AudioDecoder (event_line.Sound samples.now) None) }
 {
-    if shape.rate == 0 {
+    if samples.shape.rate == 0 {
         return Ok(None);
     }
-    let bytes = bytes_of(alloc, bytes)?;
-    Ok(Some(Unit::Sound(Samples { shape, bytes })))
+    Ok(Some(Unit::Sound(Samples {
+        shape: samples.shape,
+        bytes: samples.bytes.clone()?,
+    })))
 }
 
 // The output that a line shows, if it shows one of a codec of this kind; a chunk has the config of the line behind it.
 fn unit_of(
     alloc: Global,
     kind: Kind,
-    seen: &Seen,
+    event: &EventLine,
     behind: &[Line],
 ) -> Result<Option<Unit>, AllocError>
-    ensures { IfOk result (λ u. u ≡ spec.unit_of kind seen.now (spec.config_in behind.now)) }
+    ensures { IfOk result (λ u. u ≡ spec.unit_of kind event.now (spec.config_in behind.now)) }
 {
-    match (kind, seen) {
-        (Kind::AudioDecoder, Seen::Sound { shape, bytes }) => samples_of(alloc, *shape, bytes),
-        (Kind::VideoDecoder, Seen::Image { shape, bytes }) => {
-            let bytes = bytes_of(alloc, bytes)?;
-            Ok(Some(Unit::Image(Picture {
-                shape: *shape,
-                bytes,
-            })))
-        }
-        (
-            Kind::AudioEncoder,
-            Seen::Chunk {
-                key,
-                timestamp,
-                duration,
-                bytes,
-            },
-        ) => {
+    match (kind, event) {
+        (Kind::AudioDecoder, EventLine::Sound(samples)) => samples_of(samples),
+        (Kind::VideoDecoder, EventLine::Image(picture)) => Ok(Some(Unit::Image(Picture {
+            shape: picture.shape,
+            bytes: picture.bytes.clone()?,
+        }))),
+        (Kind::AudioEncoder, EventLine::Chunk(chunk)) => {
             let chunk = Chunk {
-                key: *key,
-                timestamp: *timestamp,
-                duration: *duration,
-                bytes: bytes_of(alloc, bytes)?,
+                key: chunk.key,
+                timestamp: chunk.timestamp,
+                duration: chunk.duration,
+                bytes: chunk.bytes.clone()?,
             };
             let config = config_in(alloc, behind)?;
             Ok(Some(Unit::Coded { chunk, config }))
@@ -225,9 +210,9 @@ pub fn outputs_of(alloc: Global, kind: Kind, lines: &[Line]) -> Result<Vec<Unit>
     let mut rest = lines;
     while let [line, more @ ..] = rest {
         match line {
-            Line::Entry { place: _, told: _ } => {}
-            Line::Seen(seen) => {
-                let unit = unit_of(alloc, kind, seen, more)?;
+            Line::Entry { place: _, entry: _ } => {}
+            Line::Event(event) => {
+                let unit = unit_of(alloc, kind, event, more)?;
                 push_unit(&mut units, unit)?;
             }
             _ => return Ok(units),

@@ -1,6 +1,6 @@
 // The lines of a report, each by the form of its place.
 
-use report_lines::Line;
+use report_text::Line;
 
 /// Where in a report the next line stands.
 #[derive(Clone, Copy, Debug, PartialEq, Eq)]

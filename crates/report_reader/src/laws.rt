@@ -1,12 +1,17 @@
 // What the report of a run tells.
 ghost use Rattle.report_reader.specs.Laws.{RunAgain, ReportsDetermineRuns, SoundNames, LegalRunsAreTold, LegalReportsDetermineRuns, FaultIsOne};
 
+use codec_follow::{legal_histories_follow, outputs_are_of_their_kind};
+use report_lines::lines_are_read_again;
+
 /// Laws: the lines of a run that is told show that run, and two runs of one script that are told are equal where their
 /// reports are. The script's names are words and differ.
 pub fn reports_determine_runs()
     ensures again { RunAgain }
     ensures determine { ReportsDetermineRuns }
-{}
+{
+    lines_are_read_again();
+}
 
 /// Law: the names of a script in which nothing is at fault are words and differ, callers' and codecs' together.
 pub fn names_of_sound_scripts()
@@ -21,7 +26,11 @@ pub fn names_of_sound_scripts()
 pub fn legal_runs_are_told()
     ensures told { LegalRunsAreTold }
     ensures determine { LegalReportsDetermineRuns }
-{}
+{
+    legal_histories_follow();
+    outputs_are_of_their_kind();
+    lines_are_read_again();
+}
 
 /// Law: of bytes that are no report of a run at most one line is at fault.
 pub fn faults_are_one()

@@ -11,6 +11,7 @@ use crate::forms::Forms;
 use crate::page::report_text;
 use crate::reading::read_forms;
 use crate::run::run_of;
+use report_lines::{lines_are_read_again, lines_that_are_read_fit};
 use script_types::Script;
 use std::alloc::Global;
 use trace_text::Run;
@@ -29,6 +30,7 @@ fn run_or_fault(
     ensures bad { IfErr result (IsFault script.now media.now bytes.now) }
     ensures sound { IsTrue (is_sound script.now) }
 {
+    lines_that_are_read_fit();
     match read_forms(alloc, script.data(), bytes)? {
         Forms::Bad(line) => Err(ReportFault::BadLine { line }),
         Forms::Lines(lines) => {
@@ -59,9 +61,11 @@ pub fn read_report(
     ensures ok { IfOk result (λ run. bytes.now ≡ report_of script.now run) }
     ensures told { IfOk result (λ run. IsTold script.now media.now run) }
     // A run that its report tells is read, unless memory is wanted.
-    ensures only { (run : Run) → IsTold script.now media.now run → bytes.now ≡ report_of script.now run → Gives result run }
+    ensures only { (run : Run) → IsTold script.now media.now run
+        → bytes.now ≡ report_of script.now run → Gives result run }
     // A refusal names the line at fault.
     ensures bad { IfErr result (IsFault script.now media.now bytes.now) }
 {
+    lines_are_read_again();
     run_or_fault(alloc, script, media, bytes)
 }

@@ -4,8 +4,8 @@ ghost use Rattle.report_reader.specs.Form as spec;
 ghost use Rattle.report_reader.specs.Fault.{IsForms};
 
 use crate::forms::{Forms, Section};
-use report_fields::FieldFault;
-use report_lines::{Line, line_at};
+use report_lines::{FieldFault, line_at, lines_are_read_again};
+use report_text::Line;
 use script_types::ScriptData;
 use std::alloc::{AllocError, Global};
 
@@ -15,7 +15,7 @@ fn next_part(codecs: u64, k: u64, line: &Line) -> Option<Section>
 {
     match line {
         Line::Codec { codec, opening: _ } => {
-            if u64::from(*codec) == k && k < codecs {
+            if *codec == k && k < codecs {
                 Some(Section::Codecs {
                     codecs: k + 1,
                     entries: 0,
@@ -42,7 +42,7 @@ fn next_caller(callers: u64, codecs: u64, k: u64, n: u64, line: &Line) -> Option
 {
     match line {
         Line::Caller(caller) => {
-            if u64::from(*caller) == k && k < callers {
+            if *caller == k && k < callers {
                 Some(Section::Callers {
                     callers: k + 1,
                     results: 0,
@@ -51,7 +51,7 @@ fn next_caller(callers: u64, codecs: u64, k: u64, n: u64, line: &Line) -> Option
                 None
             }
         }
-        Line::Result { step, found: _ } => {
+        Line::Result { step, answer: _ } => {
             if 0 < k && *step == n {
                 Some(Section::Callers {
                     callers: k,
@@ -77,7 +77,7 @@ fn next_codec(callers: u64, codecs: u64, k: u64, n: u64, line: &Line) -> Option<
     ensures { result ≡ spec.next callers codecs (Section.Codecs k n) line.now }
 {
     match line {
-        Line::Entry { place, told: _ } => {
+        Line::Entry { place, entry: _ } => {
             if *place == n {
                 Some(Section::Codecs {
                     codecs: k,
@@ -87,7 +87,7 @@ fn next_codec(callers: u64, codecs: u64, k: u64, n: u64, line: &Line) -> Option<
                 None
             }
         }
-        Line::Seen(_) => Some(Section::Codecs {
+        Line::Event(_) => Some(Section::Codecs {
             codecs: k,
             entries: n,
         }),
@@ -115,7 +115,7 @@ fn next_slot(callers: u64, codecs: u64, n: u64, line: &Line) -> Option<Section>
 
 // The section behind a line, where the line may stand.
 fn next(callers: u64, codecs: u64, section: Section, line: &Line) -> Option<Section>
-    requires { spec.numbered section + 1 < 2 ^ 64 }
+    requires { spec.next_number section + 1 < 2 ^ 64 }
     ensures { result ≡ spec.next callers codecs section line.now }
 {
     match section {
@@ -152,9 +152,11 @@ fn form_at<'a>(
     section: Section,
     bytes: &'a [u8],
 ) -> Result<(Line, &'a [u8], Section), FieldFault>
-    requires { spec.numbered section + 1 < 2 ^ 64 }
-    ensures ok { IfOk result (λ x. spec.form_at script.now section bytes.now ≡ Some (x.0, x.1.now, x.2)) }
-    ensures err { IfErr result (λ e. e ≢ FieldFault.NoMemory → spec.form_at script.now section bytes.now ≡ None) }
+    requires { spec.next_number section + 1 < 2 ^ 64 }
+    ensures ok { IfOk result
+        (λ x. spec.form_at script.now section bytes.now ≡ Some (x.0, x.1.now, x.2)) }
+    ensures err { IfErr result
+        (λ e. e ≢ FieldFault.NoMemory → spec.form_at script.now section bytes.now ≡ None) }
 {
     let (line, rest) = line_at(alloc, script, bytes)?;
     let callers = script.callers.len() as u64;
@@ -167,6 +169,7 @@ fn form_at<'a>(
 pub fn read_forms(alloc: Global, script: &ScriptData, bytes: &[u8]) -> Result<Forms, AllocError>
     ensures { IfOk result (IsForms script.now bytes.now) }
 {
+    lines_are_read_again();
     let mut lines = Vec::new(alloc);
     let mut rest = bytes;
     let mut section = Section::Start;

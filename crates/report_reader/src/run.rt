@@ -6,7 +6,7 @@ ghost use Rattle.report_reader.specs.Read as spec;
 
 use crate::build::{behind_first, callers_of, held_of, slots_of};
 use crate::trace::codecs_of;
-use report_lines::Line;
+use report_text::Line;
 use script_types::ScriptData;
 use std::alloc::Global;
 use trace_text::Run;

@@ -7,11 +7,11 @@ ghost use Rattle.report_reader.specs.Next.{NextIs};
 ghost use Rattle.report_reader.specs.Read as spec;
 
 use crate::arguments::entry_of;
-use crate::build::{behind_first, opening_of, outputs_of, told_of};
+use crate::build::{behind_first, entry_lines_of, opening_of, outputs_of};
 use codec_follow::{Follower, empty_output};
 use codec_model::{Entry, Event, Kind, Opening, Shown, TurnWord};
 use coder_api::Unit;
-use report_lines::{Line, Told};
+use report_text::{EntryLine, Line};
 use script_types::ScriptData;
 use std::alloc::Global;
 use trace_text::CodecTrace;
@@ -91,16 +91,17 @@ fn push<T: Drop>(items: &mut Vec<T>, item: T) -> Result<(), NoMemory>
     }
 }
 
-// The entry that is told, with what it shows, where it has its arguments and follows.
+// The entry of a line, with what it shows, where it has its arguments and follows.
 fn next_entry(
     follower: &mut Follower,
     script: &ScriptData,
     media: &[List<Chunk>],
-    told: Told,
+    line: EntryLine,
 ) -> Result<Option<(Entry, Shown)>, NoMemory>
-    ensures { IfOk result (λ found. NextIs script.now media.now told follower.old found follower.new) }
+    ensures { IfOk result
+        (λ found. NextIs script.now media.now line follower.old found follower.new) }
 {
-    let Some(entry) = entry_of(script, media, told)? else {
+    let Some(entry) = entry_of(script, media, line)? else {
         return Ok(None);
     };
     let shown = follower.follow(&entry)?;
@@ -117,26 +118,27 @@ fn with_shown(entry: Entry, shown: Option<Shown>) -> Option<(Entry, Shown)>
     }
 }
 
-// A codec opened so, with the entries that are told, up to the first that has no arguments or does not follow, and these
+// A codec opened so, with the entries of these lines, up to the first that has no arguments or does not follow, and these
 // outputs.
 fn trace_of(
     alloc: Global,
     script: &ScriptData,
     media: &[List<Chunk>],
     opening: Opening,
-    told: &[Told],
+    lines: &[EntryLine],
     units: &[Unit],
 ) -> Result<CodecTrace, NoMemory>
-    ensures trace { IfOk result (λ trace. trace ≡ spec.trace_of script.now media.now opening told.now units.now) }
+    ensures trace { IfOk result
+        (λ trace. trace ≡ spec.trace_of script.now media.now opening lines.now units.now) }
     ensures fits { IfOk result FitsTrace }
 {
     let mut follower = Follower::open(alloc, opening)?;
     let mut entries = Vec::new(alloc);
     let mut shown = Vec::new(alloc);
     let mut left = units;
-    let mut rest = told;
-    while let [told, more @ ..] = rest {
-        match next_entry(&mut follower, script, media, *told)? {
+    let mut rest = lines;
+    while let [line, more @ ..] = rest {
+        match next_entry(&mut follower, script, media, *line)? {
             None => return Ok(trace_with(opening, entries, shown)),
             Some((entry, blank)) => {
                 let (events, behind) = filled(alloc, opening.kind, blank.events.as_slice(), left)?;
@@ -181,10 +183,10 @@ fn codec_of<'a>(
     ensures behind { IfOk result (λ x. x.1.now ≡ spec.behind_entries (drop 1 lines.now)) }
 {
     let own = behind_first(lines);
-    let (told, behind) = told_of(alloc, own)?;
+    let (entries, behind) = entry_lines_of(alloc, own)?;
     let opening = opening_of(lines);
     let units = outputs_of(alloc, opening.kind, own)?;
-    let trace = trace_of(alloc, script, media, opening, &told, &units)?;
+    let trace = trace_of(alloc, script, media, opening, &entries, &units)?;
     Ok((trace, behind))
 }
 
@@ -196,7 +198,8 @@ pub fn codecs_of<'a>(
     count: usize,
     lines: &'a [Line],
 ) -> Result<(Vec<CodecTrace>, &'a [Line]), NoMemory>
-    ensures codecs { IfOk result (λ x. spec.codecs_in script.now media.now count lines.now ≡ (x.0.items, x.1.now)) }
+    ensures codecs { IfOk result
+        (λ x. spec.codecs_in script.now media.now count lines.now ≡ (x.0.items, x.1.now)) }
     // The promises whose ends they show have numbers of 64 bits.
     ensures fits { IfOk result (λ x. AllByRecursion FitsTrace x.0.items) }
 {

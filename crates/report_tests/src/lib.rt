@@ -2,7 +2,7 @@
 #![tactic(auto)]
 
 #[cfg(test)]
-mod report_fields_tests;
+mod fields_tests;
 #[cfg(test)]
 mod report_lines_tests;
 #[cfg(test)]

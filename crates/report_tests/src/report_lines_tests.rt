@@ -1,8 +1,7 @@
 // A text with each line of a report, and lines that are not written so.
-use report_fields::FieldFault;
-use report_lines::{Line, line_at, line_text};
-use report_text::StepResult;
-use script_types::{CallerItem, CodecItem, KindWord, ScriptData};
+use report_lines::{FieldFault, line_at};
+use report_text::{Line, StepResult, line_text};
+use script_types::{CallerItem, CodecItem, Kind, ScriptData};
 use std::alloc::Global;
 use std::test::Fail;
 use wc_base::{By, List, Text};
@@ -13,7 +12,7 @@ const LINES: &str =
 fn script(alloc: Global) -> Result<ScriptData, Fail> {
     let codec = CodecItem {
         name: Text::of(String::from_str(alloc, "d")?),
-        kind: KindWord::AudioDecoder,
+        kind: Kind::AudioDecoder,
         saturation: 4,
     };
     let caller = CallerItem {
@@ -62,7 +61,7 @@ fn what_a_line_tells_is_read(rt: HostRuntime) -> Result<(), Fail> {
     match look {
         Line::Result {
             step,
-            found: StepResult::State { length, size, .. },
+            answer: StepResult::State { length, size, .. },
         } => {
             assert_eq!(rt; step, 3);
             assert_eq!(rt; length, 14);

@@ -9,7 +9,7 @@ ghost use Rattle.trace_text.specs.Rows.{init, steps_with};
 use bytes::Bytes;
 use report_reader::{ReportFault, read_report};
 use script_types::{
-    CallerItem, ChunkInit, ChunkSource, CodecItem, KindWord, Script, ScriptData, Step, Variable,
+    CallerItem, ChunkInit, ChunkSource, CodecItem, Kind, Script, ScriptData, Step, Variable,
     VariableKind,
 };
 use std::alloc::Global;
@@ -89,7 +89,7 @@ fn data(alloc: Global) -> Result<ScriptData, Fail>
 {
     let codec = CodecItem {
         name: text(alloc, "d")?,
-        kind: KindWord::AudioDecoder,
+        kind: Kind::AudioDecoder,
         saturation: 4,
     };
     let caller = CallerItem {

@@ -7,7 +7,7 @@ use codec_model::{
     CodecState, Entry, Event, Kind, Opening, Outcome, PromiseState, Shown, TurnWord,
 };
 use coder_api::{SlotEntry, SlotOp, Unit};
-use script_types::{CallerItem, CodecItem, KindWord, Script, ScriptData};
+use script_types::{CallerItem, CodecItem, Script, ScriptData};
 use std::alloc::Global;
 use std::test::Fail;
 use trace_text::{CallerTrace, CodecTrace, Run, StepResult, WriteFault, write_report};
@@ -32,7 +32,7 @@ fn codec(alloc: Global) -> Result<CodecItem, Fail>
 {
     Ok(CodecItem {
         name: Text::of(String::from_str(alloc, "d")?),
-        kind: KindWord::AudioDecoder,
+        kind: Kind::AudioDecoder,
         saturation: 4,
     })
 }

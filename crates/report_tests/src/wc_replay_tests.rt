@@ -9,7 +9,7 @@ use bytes::Bytes;
 use codec_model::Entry;
 use coder_api::CoderBox;
 use script_types::{
-    CallerItem, ChunkSource, CodecItem, KindWord, OrderItem, Script, ScriptData, Step, Variable,
+    CallerItem, ChunkSource, CodecItem, Kind, OrderItem, Script, ScriptData, Step, Variable,
     VariableKind,
 };
 use std::alloc::Global;
@@ -109,7 +109,7 @@ fn script(alloc: Global) -> Result<Script, Fail>
 {
     let codec = CodecItem {
         name: text(alloc, "d")?,
-        kind: KindWord::AudioDecoder,
+        kind: Kind::AudioDecoder,
         saturation: 4,
     };
     let caller = CallerItem {

@@ -1,5 +1,3 @@
 pub mod Words
-pub mod Told
 pub mod Names
-pub mod Lines
-pub mod Outputs
+pub mod Text

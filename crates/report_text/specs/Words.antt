@@ -10,12 +10,12 @@ use Rattle.wc_config.specs.declared.codec.CodecId.{CodecId}
 use Rattle.wc_config.specs.declared.codec.CodecId.TheVariants as codec
 use Rattle.wc_config.specs.declared.codec.Role.{Role}
 use Rattle.wc_config.specs.declared.codec.Role.TheVariants as role
-use Rattle.codec_model.specs.declared.entry.Kind.{Kind}
-use Rattle.codec_model.specs.declared.entry.Kind.TheVariants as kind
+use Rattle.wc_config.specs.declared.kind.Kind.{Kind}
+use Rattle.wc_config.specs.declared.kind.Kind.TheVariants as kind
 use Rattle.codec_model.specs.declared.entry.CodecState.{CodecState}
 use Rattle.codec_model.specs.declared.entry.CodecState.TheVariants as state
-use Rattle.report_text.specs.declared.told.CallWord.{CallWord}
-use Rattle.report_text.specs.declared.told.CallWord.TheVariants as call
+use Rattle.report_text.specs.declared.line.CallWord.{CallWord}
+use Rattle.report_text.specs.declared.line.CallWord.TheVariants as call
 
 -- one text after another; it groups to the right
 infixr 65 ◌<>◌

@@ -1,18 +1,18 @@
-//! The texts of a report's lines: their words, the names in them, and each line.
+//! The lines of a report: what stands on each, and its text.
 #![tactic(auto)]
 
-mod lines;
+mod events;
+mod line;
 mod names;
-mod outputs;
 mod result;
-mod told;
+mod text;
 mod words;
 
-pub use lines::{caller_header, codec_header, entry_line, held_line, result_line, slot_line};
+pub use line::{CallWord, EntryLine, EventLine, Line};
 pub use names::{caller_name, codec_name};
-pub use outputs::{
-    chunk_line, config_line, error_line, picture_line, reject_line, resolve_line, sound_line,
-};
 pub use result::StepResult;
-pub use told::{CallWord, Told, told_of};
-pub use words::codec_text;
+pub use text::line_text;
+pub use words::{
+    answer_text, call_word, chunk_type_text, codec_text, error_name, kind_text,
+    picture_format_text, role_text, sample_format_text, state_text,
+};

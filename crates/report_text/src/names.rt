@@ -9,7 +9,7 @@ use wc_base::{By, Who};
 use wc_config::CoderId;
 
 /// The name of a codec by its number, empty where the script has no such codec.
-pub fn codec_name(codecs: &[CodecItem], number: u32) -> &str
+pub fn codec_name(codecs: &[CodecItem], number: u64) -> &str
     ensures { result.now ≡ spec.codec_name codecs.now number }
 {
     match codecs.get(number as usize) {
@@ -19,7 +19,7 @@ pub fn codec_name(codecs: &[CodecItem], number: u32) -> &str
 }
 
 /// The name of a caller by its number, empty where the script has no such caller.
-pub fn caller_name(callers: &[CallerItem], number: u32) -> &str
+pub fn caller_name(callers: &[CallerItem], number: u64) -> &str
     ensures { result.now ≡ spec.caller_name callers.now number }
 {
     match callers.get(number as usize) {
@@ -39,44 +39,36 @@ impl fmt::Display for StepName<'_> {
     ghost output = { λ s. Some (spec.who_text s.callers.now s.who) };
 
     fn fmt<W: fmt::Write>(&self, f: &mut fmt::Formatter<W>) -> fmt::Result {
-        let caller = caller_name(self.callers, self.who.caller);
+        let caller = caller_name(self.callers, u64::from(self.who.caller));
         let step = self.who.step;
         write!(f, "{caller}.{step}")
     }
 }
 
-// A codec's entry, as `d.2`.
+// An entry of the codec with this number among these, by its place, as `d.2`.
 #[derive(Drop)]
-pub struct EntryName<'a> {
-    pub codecs: &'a [CodecItem],
-    pub codec: u32,
-    pub place: u64,
-}
+pub struct EntryName<'a>(pub &'a [CodecItem], pub u32, pub u64);
 
 impl fmt::Display for EntryName<'_> {
-    ghost output = { λ e. Some (spec.entry_name e.codecs.now e.codec e.place) };
+    ghost output = { λ e. Some (spec.entry_name e.0.now e.1 e.2) };
 
     fn fmt<W: fmt::Write>(&self, f: &mut fmt::Formatter<W>) -> fmt::Result {
-        let codec = codec_name(self.codecs, self.codec);
-        let place = self.place;
+        let codec = codec_name(self.0, u64::from(self.1));
+        let place = self.2;
         write!(f, "{codec}.{place}")
     }
 }
 
-// A look at a codec, as `d:14`.
+// A look at the codec with this number among these, after so many entries, as `d:14`.
 #[derive(Drop)]
-pub struct LookName<'a> {
-    pub codecs: &'a [CodecItem],
-    pub codec: u32,
-    pub length: u64,
-}
+pub struct LookName<'a>(pub &'a [CodecItem], pub u32, pub u64);
 
 impl fmt::Display for LookName<'_> {
-    ghost output = { λ l. Some (spec.look_name l.codecs.now l.codec l.length) };
+    ghost output = { λ l. Some (spec.look_name l.0.now l.1 l.2) };
 
     fn fmt<W: fmt::Write>(&self, f: &mut fmt::Formatter<W>) -> fmt::Result {
-        let codec = codec_name(self.codecs, self.codec);
-        let length = self.length;
+        let codec = codec_name(self.0, u64::from(self.1));
+        let length = self.2;
         write!(f, "{codec}:{length}")
     }
 }
@@ -101,11 +93,7 @@ impl fmt::Display for ByText<'_> {
                 write!(f, "{step}")
             }
             By::Codec { codec, place } => {
-                let entry = EntryName {
-                    codecs: self.script.codecs.as_slice(),
-                    codec,
-                    place,
-                };
+                let entry = EntryName(self.script.codecs.as_slice(), codec, place);
                 write!(f, "{entry}")
             }
         }

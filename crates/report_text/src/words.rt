@@ -2,7 +2,7 @@
 ghost use Rattle.std.specs.Prelude.{◌≡◌};
 ghost use Rattle.report_text.specs.Words as spec;
 
-use crate::told::CallWord;
+use crate::line::CallWord;
 use codec_model::{CodecState, Kind};
 use wc_base::{DomError, PictureFormat, SampleFormat};
 use wc_config::{CodecId, Role};

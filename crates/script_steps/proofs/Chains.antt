@@ -1,9 +1,9 @@
 -- What is known of a chain of tests that ended well.
 use Rattle.std.proofs.Common.{◌≡◌, Bool, true, false, if◌then◌else◌, ◌&&◌, Option, Some, None, Result, Ok, Err, refl, sym, ap, ◌∙◌}
 use Rattle.std.proofs.lemmas.Option.{same_Some}
-use Rattle.script_members.specs.declared.wrong.Wrong.{Wrong}
-use Rattle.script_members.specs.declared.wrong.Wrong.TheVariants as wrong
-use Rattle.script_members.specs.Members.{and_then, needed, known, expected}
+use Rattle.script_steps.specs.declared.wrong.Wrong.{Wrong}
+use Rattle.script_steps.specs.declared.wrong.Wrong.TheVariants as wrong
+use Rattle.script_steps.specs.Members.{and_then, needed, known, expected}
 
 abbrev value_or : {A E : Type 0} → A → Result A E → A
 value_or other (Ok a) = a

@@ -3,11 +3,11 @@ use Rattle.std.proofs.Common.{◌≡◌, ℕ, true, List, Option, Some, Ok, code
 use Rattle.serde_json.specs.Data.{Data}
 use Rattle.wc_config.specs.declared.config.Config.{Config}
 use Rattle.serde_json.specs.Find.{get}
-use Rattle.script_members.specs.Members.{hex_if_there}
-use Rattle.script_types.specs.declared.script.KindWord.{KindWord}
-use Rattle.script_types.specs.declared.script.KindWord.TheVariants as kind
+use Rattle.script_steps.specs.Members.{hex_if_there}
+use Rattle.wc_config.specs.declared.kind.Kind.{Kind}
+use Rattle.wc_config.specs.declared.kind.Kind.TheVariants as kind
 use Rattle.script_types.specs.Sound.{suits}
-use Rattle.script_members.specs.ConfigRead.{codec_in, rate_in, channels_in, flac_in, flac_number, pixels_in, audio_decoder_with, audio_encoder_with, video_decoder_with, config_of}
+use Rattle.script_steps.specs.ConfigRead.{codec_in, rate_in, channels_in, flac_in, flac_number, pixels_in, audio_decoder_with, audio_encoder_with, video_decoder_with, config_of}
 use Rattle.script_steps.proofs.Chains.{same_Ok, chain}
 
 audio_decoder_suits : (codec : Option (List ℕ)) (rate channels : Option ℕ) (description : Option (List ℕ))
@@ -25,7 +25,7 @@ video_decoder_suits : (codec : Option (List ℕ)) (width height aspect_width asp
 video_decoder_suits (Some codec) (Some width) (Some height) (Some aspect_width) (Some aspect_height) = refl
 video_decoder_suits _ _ _ _ _ = refl
 
-pub config_suits : (k : KindWord) (d : Data) (c : Config) → config_of k d ≡ Ok c → suits c k ≡ true
+pub config_suits : (k : Kind) (d : Data) (c : Config) → config_of k d ≡ Ok c → suits c k ≡ true
 config_suits kind.AudioDecoder d c h =
     let codec = chain (codec_in d) _ c h in
     let rate = chain (rate_in d) _ c codec.rest in

@@ -4,7 +4,7 @@ use Rattle.std.specs.List.{list_any, position_or_len}
 use Rattle.std.proofs.lemmas.Bool.{eq-eqb}
 use Rattle.std.proofs.lemmas.List.{append_assoc, append-nil, length-append}
 use Rattle.script_types.specs.Sound.{next_file, are_apart}
-use Rattle.script_names.specs.Files.{file_number, with_file}
+use Rattle.script_steps.specs.Files.{file_number, with_file}
 
 -- ---- counts
 

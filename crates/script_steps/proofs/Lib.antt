@@ -7,3 +7,7 @@ mod ReferenceLaws
 mod SourceLaws
 mod MediaLaws
 pub mod StepLaws
+mod NumberLaws
+mod PlaceLaws
+mod Positions
+mod StepTables

@@ -3,15 +3,15 @@ use Rattle.std.proofs.Common.{◌≡◌, ◌≤◌, ℕ, nat_le, codes, Bool, tr
 use Rattle.std.proofs.lemmas.Option.{same_Some}
 use Rattle.serde_json.specs.Data.{Data}
 use Rattle.serde_json.specs.Find.{get}
-use Rattle.script_types.specs.declared.script.KindWord.{KindWord}
-use Rattle.script_types.specs.declared.script.KindWord.TheVariants as kind
+use Rattle.wc_config.specs.declared.kind.Kind.{Kind}
+use Rattle.wc_config.specs.declared.kind.Kind.TheVariants as kind
 use Rattle.script_types.specs.declared.script.CodecItem.{CodecItem}
 use Rattle.script_types.specs.declared.steps.Step.{Step}
 use Rattle.script_types.specs.declared.steps.MediaStep.{MediaStep}
 use Rattle.script_types.specs.Names.{outputs_of}
 use Rattle.script_types.specs.Sound.{most_chunk, encodes, gives, is_sound_media, bytes_of_media, bytes_of_sound, bytes_of_picture}
-use Rattle.script_members.specs.Members.{known, name_in, object_in, natural_of}
-use Rattle.script_members.specs.Media.{sound_of, picture_of}
+use Rattle.script_steps.specs.Members.{known, name_in, object_in, natural_of}
+use Rattle.script_steps.specs.Media.{sound_of, picture_of}
 use Rattle.script_steps.specs.declared.words.StepWord.TheVariants as word
 use Rattle.script_steps.specs.declared.words.MediaWord.{MediaWord}
 use Rattle.script_steps.specs.declared.words.MediaWord.TheVariants as medium
@@ -60,7 +60,7 @@ encode codecs before d s h =
     let g = given_to_sound encodes (codes "data") needed.Audio codecs before d given.value given.first in
     subst (λ x. SoundMedia codecs before d medium.Encode x) (same_Ok _ s given.rest) (record { sound = all_true _ _ g.codec g.variable; bytes = omega arith })
 
-gives_own : (k : KindWord) → gives (outputs_of k) k ≡ true
+gives_own : (k : Kind) → gives (outputs_of k) k ≡ true
 gives_own kind.AudioDecoder = refl
 gives_own kind.AudioEncoder = refl
 gives_own kind.VideoDecoder = refl

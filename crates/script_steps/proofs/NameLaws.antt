@@ -4,7 +4,7 @@ use Rattle.std.specs.List.{slice_get}
 use Rattle.std.proofs.lemmas.Bool.{eq-eqb}
 use Rattle.std.proofs.lemmas.Option.{same_Some}
 use Rattle.serde_json.specs.Data.{Data}
-use Rattle.script_types.specs.declared.script.KindWord.{KindWord}
+use Rattle.wc_config.specs.declared.kind.Kind.{Kind}
 use Rattle.script_types.specs.declared.script.CodecItem.{CodecItem}
 use Rattle.script_types.specs.declared.found.FoundCodec.{FoundCodec}
 use Rattle.script_types.specs.declared.found.FoundVariable.{FoundVariable}
@@ -13,9 +13,9 @@ use Rattle.script_types.specs.declared.steps.VariableKind.{VariableKind}
 use Rattle.script_types.specs.declared.steps.VariableKind.TheVariants as holds
 use Rattle.script_types.specs.Names.{is_name, codec_at, codec_named, variable_named, is_variable_name}
 use Rattle.script_types.specs.Sound.{is_free, is_codec, is_codec_kind, is_variable, is_found, same_kind}
-use Rattle.script_members.specs.declared.wrong.Wrong.{Wrong}
-use Rattle.script_members.specs.declared.wrong.Wrong.TheVariants as wrong
-use Rattle.script_members.specs.Members.{checked_name, name_in, text_in, known}
+use Rattle.script_steps.specs.declared.wrong.Wrong.{Wrong}
+use Rattle.script_steps.specs.declared.wrong.Wrong.TheVariants as wrong
+use Rattle.script_steps.specs.Members.{checked_name, name_in, text_in, known}
 use Rattle.script_steps.specs.declared.references.Needed.{Needed}
 use Rattle.script_steps.specs.References.{is_right, unused, codec_if, variable_if, variable_of}
 use Rattle.script_steps.proofs.Chains.{same_Ok, needed_some, known_some, expected_right, all_true}
@@ -46,25 +46,25 @@ name_is_free before name bind h k =
 
 -- ---- codecs
 
-found_kind : (right : KindWord → Bool) (n : ℕ) (o : Option CodecItem) (c : FoundCodec) → codec_at n o ≡ Some c
+found_kind : (right : Kind → Bool) (n : ℕ) (o : Option CodecItem) (c : FoundCodec) → codec_at n o ≡ Some c
     → (c.number ≡ n) × (is_codec_kind right o ≡ right c.kind)
 found_kind right n None c h = absurd cc
 found_kind right n (Some item) c h =
     let e = same_Some _ c h in
     (ap (λ f. f.number) (sym e), ap (λ f. right f.kind) e)
 
-codec_from : (codecs : List CodecItem) (right : KindWord → Bool) (o : Option ℕ) (c : FoundCodec)
+codec_from : (codecs : List CodecItem) (right : Kind → Bool) (o : Option ℕ) (c : FoundCodec)
     → option_and_then (λ n. codec_at n (slice_get codecs n)) o ≡ Some c → is_codec codecs right c.number ≡ right c.kind
 codec_from codecs right None c h = absurd cc
 codec_from codecs right (Some n) c h =
     let f = found_kind right n (slice_get codecs n) c h in
     ap (λ k. is_codec codecs right k) f.0 ∙ f.1
 
-pub codec_is_there : (codecs : List CodecItem) (right : KindWord → Bool) (name : List ℕ) (c : FoundCodec)
+pub codec_is_there : (codecs : List CodecItem) (right : Kind → Bool) (name : List ℕ) (c : FoundCodec)
     → known (codec_named codecs name) ≡ Ok c → is_codec codecs right c.number ≡ right c.kind
 codec_is_there codecs right name c h = codec_from codecs right _ c (known_some (codec_named codecs name) c h)
 
-pub codec_is_right : (codecs : List CodecItem) (right : KindWord → Bool) (name : List ℕ) (m : Option FoundCodec) (c : FoundCodec)
+pub codec_is_right : (codecs : List CodecItem) (right : Kind → Bool) (name : List ℕ) (m : Option FoundCodec) (c : FoundCodec)
     → codec_if right codecs name ≡ Ok m → known m ≡ Ok c → is_codec codecs right c.number ≡ true
 codec_is_right codecs right name m c h k =
     let e = expected_right (λ f. right f.kind) (codec_named codecs name) m c h k in

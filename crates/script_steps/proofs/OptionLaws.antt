@@ -8,8 +8,8 @@ use Rattle.script_types.specs.declared.steps.VariableKind.{VariableKind}
 use Rattle.script_types.specs.declared.steps.VariableKind.TheVariants as holds
 use Rattle.script_types.specs.Names.{is_copied, is_medium}
 use Rattle.script_types.specs.Sound.{are_options_of}
-use Rattle.script_members.specs.Members.{known, object_if_there}
-use Rattle.script_members.specs.CopyOptions.{audio_options_of, frame_options_of, options_by, options_for}
+use Rattle.script_steps.specs.Members.{known, object_if_there}
+use Rattle.script_steps.specs.CopyOptions.{audio_options_of, frame_options_of, options_by, options_for}
 use Rattle.script_steps.specs.MediaSteps.{options_in}
 use Rattle.script_steps.proofs.Chains.{same_Ok, chain}
 

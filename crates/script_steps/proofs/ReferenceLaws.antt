@@ -1,14 +1,14 @@
 -- What is known of the references of a step that was read.
 use Rattle.std.proofs.Common.{◌≡◌, ℕ, codes, Bool, true, List, Ok, subst}
 use Rattle.serde_json.specs.Data.{Data}
-use Rattle.script_types.specs.declared.script.KindWord.{KindWord}
+use Rattle.wc_config.specs.declared.kind.Kind.{Kind}
 use Rattle.script_types.specs.declared.script.CodecItem.{CodecItem}
 use Rattle.script_types.specs.declared.found.FoundCodec.{FoundCodec}
 use Rattle.script_types.specs.declared.steps.Step.{Step}
 use Rattle.script_types.specs.declared.steps.Variable.{Variable}
 use Rattle.script_types.specs.Names.{codec_named, is_medium}
 use Rattle.script_types.specs.Sound.{is_codec, any_kind, is_variable, is_free}
-use Rattle.script_members.specs.Members.{known, name_in}
+use Rattle.script_steps.specs.Members.{known, name_in}
 use Rattle.script_steps.specs.declared.references.Needed.{Needed}
 use Rattle.script_steps.specs.declared.references.Needed.TheVariants as needed
 use Rattle.script_steps.specs.References.{is_right, unused, codec_if, variable_if, variable_in, on_of, bound_on, given_to, bound_from}
@@ -31,7 +31,7 @@ on_sound codecs d on h =
     subst (λ n. is_codec codecs any_kind n ≡ true) (same_Ok _ on codec.rest) (codec_is_there codecs any_kind name.value codec.value codec.first)
 
 pub record BoundOn (codecs : List CodecItem) (before : List Step) (b : FoundCodec × List ℕ) : Type 0 where
-  pub codec : (right : KindWord → Bool) → is_codec codecs right b.0.number ≡ right b.0.kind
+  pub codec : (right : Kind → Bool) → is_codec codecs right b.0.number ≡ right b.0.kind
   pub free : is_free before b.1 ≡ true
 
 pub bound_on_sound : (codecs : List CodecItem) (before : List Step) (d : Data) (b : FoundCodec × List ℕ) → bound_on codecs before d ≡ Ok b → BoundOn codecs before b
@@ -45,11 +45,11 @@ bound_on_sound codecs before d b h =
       free = name_is_free before name.value bind.value (name_is_name (codes "as") name.value d name.first) bind.first;
     })
 
-pub record GivenTo (codecs : List CodecItem) (right : KindWord → Bool) (before : List Step) (kind : Needed) (g : ℕ × Variable) : Type 0 where
+pub record GivenTo (codecs : List CodecItem) (right : Kind → Bool) (before : List Step) (kind : Needed) (g : ℕ × Variable) : Type 0 where
   pub codec : is_codec codecs right g.0 ≡ true
   pub variable : is_variable before (is_right kind) g.1 ≡ true
 
-pub given_to_sound : (right : KindWord → Bool) (key : List ℕ) (kind : Needed) (codecs : List CodecItem) (before : List Step) (d : Data) (g : ℕ × Variable)
+pub given_to_sound : (right : Kind → Bool) (key : List ℕ) (kind : Needed) (codecs : List CodecItem) (before : List Step) (d : Data) (g : ℕ × Variable)
     → given_to right key kind codecs before d ≡ Ok g → GivenTo codecs right before kind g
 given_to_sound right key kind codecs before d g h =
     let on = chain (name_in (codes "on") d) _ g h in

@@ -9,10 +9,10 @@ use Rattle.script_types.specs.declared.steps.ChunkInit.{ChunkInit}
 use Rattle.script_types.specs.declared.steps.SoundInit.{SoundInit}
 use Rattle.script_types.specs.declared.steps.PictureInit.{PictureInit}
 use Rattle.script_types.specs.Sound.{bytes_of_chunk, bytes_of_source, bytes_of_sound, bytes_of_picture}
-use Rattle.script_members.specs.declared.source.SourceWords.{SourceWords}
-use Rattle.script_members.specs.Members.{needed, word_of, required, u32_of, hex_of, checked_object, is_object, object_in, text_in}
-use Rattle.script_members.specs.Media.{data_value, data_of_init, data_of_step, timestamp_in, duration_in, content_in, key_of, chunk_with, chunk_of, sample_format_of, sound_with, sound_of, picture_format_of, picture_with, picture_of}
-use Rattle.script_members.specs.Sources.{has, index_in, made_of, taken_of, source_by, source_of}
+use Rattle.script_steps.specs.declared.source.SourceWords.{SourceWords}
+use Rattle.script_steps.specs.Members.{needed, word_of, required, u32_of, hex_of, checked_object, is_object, object_in, text_in}
+use Rattle.script_steps.specs.Media.{data_value, data_of_init, data_of_step, timestamp_in, duration_in, content_in, key_of, chunk_with, chunk_of, sample_format_of, sound_with, sound_of, picture_format_of, picture_with, picture_of}
+use Rattle.script_steps.specs.Sources.{has, index_in, made_of, taken_of, source_by, source_of}
 use Rattle.script_steps.specs.Words.{byte_count}
 use Rattle.script_steps.specs.Steps.{numbered}
 use Rattle.script_steps.proofs.Chains.{same_Ok, chain, needed_some}

@@ -1,3 +1,10 @@
+pub mod Members
+pub mod ConfigRead
+pub mod Media
+pub mod CopyOptions
+pub mod Sources
+pub mod Files
+pub mod Places
 pub mod Words
 pub mod References
 pub mod MediaSteps

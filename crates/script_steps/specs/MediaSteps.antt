@@ -11,10 +11,10 @@ use Rattle.script_types.specs.declared.steps.MediaStep.{MediaStep}
 use Rattle.script_types.specs.declared.steps.MediaStep.TheVariants as media
 use Rattle.script_types.specs.Names.{outputs_of}
 use Rattle.script_types.specs.Sound.{most_chunk, encodes}
-use Rattle.script_members.specs.declared.wrong.Wrong.{Wrong}
-use Rattle.script_members.specs.Members.{and_then, needed as there, known, name_in, object_in, object_if_there, natural_of}
-use Rattle.script_members.specs.Media.{sound_of, picture_of}
-use Rattle.script_members.specs.CopyOptions.{options_for}
+use Rattle.script_steps.specs.declared.wrong.Wrong.{Wrong}
+use Rattle.script_steps.specs.Members.{and_then, needed as there, known, name_in, object_in, object_if_there, natural_of}
+use Rattle.script_steps.specs.Media.{sound_of, picture_of}
+use Rattle.script_steps.specs.CopyOptions.{options_for}
 use Rattle.script_steps.specs.declared.words.MediaWord.{MediaWord}
 use Rattle.script_steps.specs.declared.words.MediaWord.TheVariants as medium
 use Rattle.script_steps.specs.declared.references.Needed.TheVariants as needed

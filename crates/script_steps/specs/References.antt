@@ -1,7 +1,7 @@
 -- What the names in a step name, and the new name that it may give.
 use Rattle.std.specs.Prelude.{ℕ, Bool, List, codes, if◌then◌else◌, Option, Result, Ok, Err}
 use Rattle.serde_json.specs.Data.{Data}
-use Rattle.script_types.specs.declared.script.KindWord.{KindWord}
+use Rattle.wc_config.specs.declared.kind.Kind.{Kind}
 use Rattle.script_types.specs.declared.script.CodecItem.{CodecItem}
 use Rattle.script_types.specs.declared.found.FoundCodec.{FoundCodec}
 use Rattle.script_types.specs.declared.found.FoundVariable.{FoundVariable}
@@ -9,9 +9,9 @@ use Rattle.script_types.specs.declared.steps.Step.{Step}
 use Rattle.script_types.specs.declared.steps.Variable.{Variable}
 use Rattle.script_types.specs.declared.steps.VariableKind.{VariableKind}
 use Rattle.script_types.specs.Names.{codec_named, variable_named, is_variable_name, is_chunk, is_audio, is_medium, is_copied, is_promise}
-use Rattle.script_members.specs.declared.wrong.Wrong.{Wrong}
-use Rattle.script_members.specs.declared.wrong.Wrong.TheVariants as wrong
-use Rattle.script_members.specs.Members.{and_then, known, expected, name_in}
+use Rattle.script_steps.specs.declared.wrong.Wrong.{Wrong}
+use Rattle.script_steps.specs.declared.wrong.Wrong.TheVariants as wrong
+use Rattle.script_steps.specs.Members.{and_then, known, expected, name_in}
 use Rattle.script_steps.specs.declared.references.Needed.{Needed}
 use Rattle.script_steps.specs.declared.references.Needed.TheVariants as needed
 
@@ -28,7 +28,7 @@ abbrev pub unused : List Step → List ℕ → Result (List ℕ) Wrong
 unused before name = if is_variable_name before name then Err wrong.Twice else Ok name
 
 -- the codec of this name, if there is one; another kind than the one that is needed is a fault of shape
-abbrev pub codec_if : (KindWord → Bool) → List CodecItem → List ℕ → Result (Option FoundCodec) Wrong
+abbrev pub codec_if : (Kind → Bool) → List CodecItem → List ℕ → Result (Option FoundCodec) Wrong
 codec_if right codecs name = expected (λ c. right c.kind) (codec_named codecs name)
 
 -- the variable of this name, if there is one; another kind than the one that is needed is a fault of shape
@@ -55,7 +55,7 @@ bound_on codecs before d =
     and_then (unused before name) (λ bind. and_then (known (codec_named codecs on)) (λ codec. Ok (codec, bind)))))
 
 -- a codec of the kind that is needed, and what it is given
-abbrev pub given_to : (KindWord → Bool) → List ℕ → Needed → List CodecItem → List Step → Data → Result (ℕ × Variable) Wrong
+abbrev pub given_to : (Kind → Bool) → List ℕ → Needed → List CodecItem → List Step → Data → Result (ℕ × Variable) Wrong
 given_to right key kind codecs before d =
     and_then (name_in (codes "on") d) (λ on. and_then (name_in key d) (λ name.
     and_then (codec_if right codecs on) (λ maybe_codec. and_then (variable_if kind before name) (λ maybe_variable.

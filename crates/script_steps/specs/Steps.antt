@@ -9,13 +9,13 @@ use Rattle.script_types.specs.declared.steps.Step.{Step}
 use Rattle.script_types.specs.declared.steps.Step.TheVariants as step
 use Rattle.script_types.specs.declared.steps.Variable.{Variable}
 use Rattle.script_types.specs.Names.{codec_named, decodes}
-use Rattle.script_members.specs.declared.source.SourceWords.{SourceWords}
-use Rattle.script_members.specs.declared.source.SourceWords.TheVariants as words
-use Rattle.script_members.specs.declared.wrong.Wrong.{Wrong}
-use Rattle.script_members.specs.Members.{and_then, needed as there, known, name_in, object_in}
-use Rattle.script_members.specs.ConfigRead.{config_of}
-use Rattle.script_members.specs.Sources.{source_of}
-use Rattle.script_names.specs.Files.{file_number, with_file}
+use Rattle.script_steps.specs.declared.source.SourceWords.{SourceWords}
+use Rattle.script_steps.specs.declared.source.SourceWords.TheVariants as words
+use Rattle.script_steps.specs.declared.wrong.Wrong.{Wrong}
+use Rattle.script_steps.specs.Members.{and_then, needed as there, known, name_in, object_in}
+use Rattle.script_steps.specs.ConfigRead.{config_of}
+use Rattle.script_steps.specs.Sources.{source_of}
+use Rattle.script_steps.specs.Files.{file_number, with_file}
 use Rattle.script_steps.specs.declared.words.StepWord.{StepWord}
 use Rattle.script_steps.specs.declared.words.StepWord.TheVariants as word
 use Rattle.script_steps.specs.declared.references.Needed.TheVariants as needed

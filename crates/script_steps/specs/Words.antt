@@ -1,8 +1,8 @@
 -- What the word of a step means, and the inline data that comes with it.
 use Rattle.std.specs.Prelude.{ℕ, List, length, bytes_eq, codes, if◌then◌else◌, Option, Some, None, option_and_then, option_map}
 use Rattle.serde_json.specs.Data.{Data}
-use Rattle.script_members.specs.Members.{text_in}
-use Rattle.script_members.specs.Media.{data_of_step}
+use Rattle.script_steps.specs.Members.{text_in}
+use Rattle.script_steps.specs.Media.{data_of_step}
 use Rattle.script_steps.specs.declared.words.StepWord.{StepWord}
 use Rattle.script_steps.specs.declared.words.StepWord.TheVariants as word
 use Rattle.script_steps.specs.declared.words.MediaWord.{MediaWord}

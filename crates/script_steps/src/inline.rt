@@ -3,9 +3,8 @@ ghost use Rattle.std.specs.Prelude.{◌≡◌, IfOk};
 ghost use Rattle.serde_json.specs.View.{view};
 ghost use Rattle.script_steps.specs.Words.{word_of, media_word_of, word_in, data_of_word};
 
-use crate::{MediaWord, StepWord};
+use crate::{MediaWord, StepWord, read_step_data, text_member};
 use bytes::Bytes;
-use script_members::{read_step_data, text_member};
 use serde_json::Value;
 use std::alloc::Global;
 use wc_base::NoMemory;

@@ -8,9 +8,8 @@ ghost use Rattle.script_steps.specs.References as spec;
 ghost use Rattle.script_steps.specs.declared.references.Needed.TheVariants as needed;
 
 use crate::references::Needed;
-use script_members::{Wrong, copied, name_member};
-use script_names::{Variables, find_codec};
-use script_types::{CodecItem, FoundCodec, FoundVariable, KindWord, Variable, VariableKind};
+use crate::{Variables, Wrong, copied, find_codec, name_member};
+use script_types::{CodecItem, FoundCodec, FoundVariable, Kind, Variable, VariableKind};
 use serde_json::Value;
 use std::alloc::Global;
 use wc_base::{NoMemory, Text};
@@ -27,12 +26,12 @@ fn is_right(needed: Needed, kind: VariableKind) -> bool
     }
 }
 
-fn decodes(kind: KindWord) -> bool
+fn decodes(kind: Kind) -> bool
     ensures { result ≡ names.decodes kind }
 {
     match kind {
-        KindWord::AudioDecoder | KindWord::VideoDecoder => true,
-        KindWord::AudioEncoder => false,
+        Kind::AudioDecoder | Kind::VideoDecoder => true,
+        Kind::AudioEncoder => false,
     }
 }
 

@@ -2,24 +2,22 @@
 ghost use Rattle.std.specs.Prelude.{◌≡◌, ◌≢◌, ◌≤◌, IfOk, IfErr, Some, length, codes};
 ghost use Rattle.serde_json.specs.View.{view};
 ghost use Rattle.script_types.specs.Names as names;
-ghost use Rattle.script_members.specs.Media.{data_of_step};
+ghost use Rattle.script_steps.specs.Media.{data_of_step};
 ghost use Rattle.script_steps.specs.declared.words.StepWord.TheVariants as step_word;
 ghost use Rattle.script_steps.specs.Words.{data_of_word};
 ghost use Rattle.script_steps.specs.MediaSteps.{audio_of, frame_of, take_of, size_in, options_in, copy_of, size_of, media_by};
 
-use crate::MediaWord;
 use crate::lookups::{
     find_variable, read_bound_from, read_bound_on, read_encoder_data, read_unused, read_variable,
     variable_of,
 };
 use crate::references::Needed;
-use bytes::Bytes;
-use script_members::{
-    Wrong, name_member, natural_member, object_member, optional_object, read_options,
-    read_picture_init, read_sound_init,
+use crate::{
+    MediaWord, Variables, Wrong, name_member, natural_member, object_member, optional_object,
+    read_options, read_picture_init, read_sound_init,
 };
-use script_names::Variables;
-use script_types::{CodecItem, FoundVariable, KindWord, MediaStep, Options, VariableKind};
+use bytes::Bytes;
+use script_types::{CodecItem, FoundVariable, Kind, MediaStep, Options, VariableKind};
 use serde_json::Value;
 use std::alloc::Global;
 
@@ -58,13 +56,13 @@ fn read_frame(
 }
 
 // What the outputs of a codec are.
-fn outputs_of(kind: KindWord) -> VariableKind
+fn outputs_of(kind: Kind) -> VariableKind
     ensures { result ≡ names.outputs_of kind }
 {
     match kind {
-        KindWord::AudioDecoder => VariableKind::Audio,
-        KindWord::AudioEncoder => VariableKind::Chunk,
-        KindWord::VideoDecoder => VariableKind::Frame,
+        Kind::AudioDecoder => VariableKind::Audio,
+        Kind::AudioEncoder => VariableKind::Chunk,
+        Kind::VideoDecoder => VariableKind::Frame,
     }
 }
 

@@ -1,17 +1,18 @@
 // Reads steps.
 ghost use Rattle.std.specs.Prelude.{◌≡◌, ◌≢◌, ◌≤◌, IfOk, IfErr, OnErr, Some, length, codes};
 ghost use Rattle.serde_json.specs.View.{view};
-ghost use Rattle.script_members.specs.Media.{data_of_step};
+ghost use Rattle.script_steps.specs.Media.{data_of_step};
 ghost use Rattle.script_steps.specs.Words.{data_of_word};
 ghost use Rattle.script_steps.specs.Steps.{configure_of, numbered, chunk_step_of, step_by};
 
-use crate::StepWord;
 use crate::lookups::{read_bound_on, read_decoder_chunk, read_on, read_unused, read_variable};
 use crate::media_steps::read_media_step;
 use crate::references::Needed;
+use crate::{
+    Files, SourceWords, StepWord, Variables, Wrong, find_codec, name_member, object_member,
+    read_config, read_source,
+};
 use bytes::Bytes;
-use script_members::{SourceWords, Wrong, name_member, object_member, read_config, read_source};
-use script_names::{Files, Variables, find_codec};
 use script_types::{ChunkSource, CodecItem, Step};
 use serde_json::Value;
 use std::alloc::Global;

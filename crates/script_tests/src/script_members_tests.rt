@@ -1,5 +1,5 @@
 // What single objects spell: a value, no value, where a rule of WebIDL is broken, or a fault of shape.
-use script_members::{
+use script_steps::{
     SourceWords, Wrong, object_member, read_options, read_picture_init, read_sound_init,
     read_source, read_step_data,
 };

@@ -1,8 +1,6 @@
 // The tables by name.
-use script_names::{Files, Variables, find_caller, find_codec};
-use script_types::{
-    CallerItem, CodecItem, FoundCodec, FoundVariable, KindWord, Step, VariableKind,
-};
+use script_steps::{Files, Variables, find_caller, find_codec};
+use script_types::{CallerItem, CodecItem, FoundCodec, FoundVariable, Kind, Step, VariableKind};
 use std::alloc::Global;
 use std::test::Fail;
 use wc_base::{List, Text};
@@ -87,7 +85,7 @@ fn codecs_and_callers_are_found(rt: HostRuntime) -> Result<(), Fail> {
     for name in ["d", "e"] {
         codecs.push(CodecItem {
             name: text(rt.alloc(), name)?,
-            kind: KindWord::VideoDecoder,
+            kind: Kind::VideoDecoder,
             saturation: 1,
         })?;
         callers.push(CallerItem {
@@ -95,7 +93,7 @@ fn codecs_and_callers_are_found(rt: HostRuntime) -> Result<(), Fail> {
             steps: List::empty(rt.alloc()),
         })?;
     }
-    let kind = KindWord::VideoDecoder;
+    let kind = Kind::VideoDecoder;
     assert_eq!(rt; codec(&codecs, "e"), Some(FoundCodec { number: 1, kind }));
     assert_eq!(rt; codec(&codecs, "f"), None);
     assert_eq!(rt; caller(&callers, "e"), Some(1));

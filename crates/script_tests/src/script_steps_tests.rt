@@ -1,13 +1,13 @@
 // Steps that are read, and what is refused.
-use script_members::{Wrong, copied};
-use script_names::{Files, Variables};
-use script_steps::{StepWord, read_inline_data, read_step, word_member};
-use script_types::{ChunkSource, CodecItem, KindWord, MediaStep, Options, Step, VariableKind};
+use script_steps::{
+    Files, StepWord, Variables, Wrong, copied, read_inline_data, read_step, word_member,
+};
+use script_types::{ChunkSource, CodecItem, Kind, MediaStep, Options, Step, VariableKind};
 use serde_json::Value;
 use std::alloc::Global;
 use std::test::Fail;
 
-fn codec(alloc: Global, name: &str, kind: KindWord) -> Result<CodecItem, Wrong> {
+fn codec(alloc: Global, name: &str, kind: Kind) -> Result<CodecItem, Wrong> {
     Ok(CodecItem {
         name: copied(alloc, name)?,
         kind,
@@ -18,9 +18,9 @@ fn codec(alloc: Global, name: &str, kind: KindWord) -> Result<CodecItem, Wrong> 
 // A codec of each kind.
 fn codecs(alloc: Global) -> Result<[CodecItem; 3], Wrong> {
     Ok([
-        codec(alloc, "decoder", KindWord::AudioDecoder)?,
-        codec(alloc, "encoder", KindWord::AudioEncoder)?,
-        codec(alloc, "video", KindWord::VideoDecoder)?,
+        codec(alloc, "decoder", Kind::AudioDecoder)?,
+        codec(alloc, "encoder", Kind::AudioEncoder)?,
+        codec(alloc, "video", Kind::VideoDecoder)?,
     ])
 }
 

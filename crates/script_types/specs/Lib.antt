@@ -2,3 +2,4 @@ pub mod Names
 pub mod Sound
 pub mod Built
 pub mod Places
+pub mod SoundLaws

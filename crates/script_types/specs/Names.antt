@@ -1,8 +1,8 @@
 -- What a name in a script names: a codec, a caller, or a variable that an earlier step of the same caller defines.
 use Rattle.std.specs.Prelude.{ℕ, ◌&&◌, ◌||◌, ◌==◌, nat_lt, nat_le, Bool, true, false, List, length, bytes_eq, Option, Some, None, option_and_then}
 use Rattle.std.specs.List.{list_all, list_any, position, slice_get}
-use Rattle.script_types.specs.declared.script.KindWord.{KindWord}
-use Rattle.script_types.specs.declared.script.KindWord.TheVariants as kind
+use Rattle.wc_config.specs.declared.kind.Kind.{Kind}
+use Rattle.wc_config.specs.declared.kind.Kind.TheVariants as kind
 use Rattle.script_types.specs.declared.script.CodecItem.{CodecItem}
 use Rattle.script_types.specs.declared.script.CallerItem.{CallerItem}
 use Rattle.script_types.specs.declared.found.FoundCodec.{FoundCodec}
@@ -34,13 +34,13 @@ codec_at n (Some c) = Some (record { number = n; kind = c.kind })
 abbrev pub codec_named : List CodecItem → List ℕ → Option FoundCodec
 codec_named codecs name = option_and_then (λ n. codec_at n (slice_get codecs n)) (position (λ c. bytes_eq c.name name) codecs)
 
-abbrev pub decodes : KindWord → Bool
+abbrev pub decodes : Kind → Bool
 decodes kind.AudioDecoder = true
 decodes kind.AudioEncoder = false
 decodes kind.VideoDecoder = true
 
 -- what the outputs of a codec of this kind are
-abbrev pub outputs_of : KindWord → VariableKind
+abbrev pub outputs_of : Kind → VariableKind
 outputs_of kind.AudioDecoder = holds.Audio
 outputs_of kind.AudioEncoder = holds.Chunk
 outputs_of kind.VideoDecoder = holds.Frame

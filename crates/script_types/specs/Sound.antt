@@ -5,8 +5,8 @@ use Rattle.std.specs.Prelude.{ℕ, ◌+◌, ◌&&◌, ◌||◌, ◌==◌, not, n
 use Rattle.std.specs.List.{list_all, list_any, slice_get, count_by}
 use Rattle.wc_config.specs.declared.config.Config.{Config}
 use Rattle.wc_config.specs.declared.config.Config.TheVariants as config
-use Rattle.script_types.specs.declared.script.KindWord.{KindWord}
-use Rattle.script_types.specs.declared.script.KindWord.TheVariants as kind
+use Rattle.wc_config.specs.declared.kind.Kind.{Kind}
+use Rattle.wc_config.specs.declared.kind.Kind.TheVariants as kind
 use Rattle.script_types.specs.declared.script.CodecItem.{CodecItem}
 use Rattle.script_types.specs.declared.script.CallerItem.{CallerItem}
 use Rattle.script_types.specs.declared.script.OrderItem.{OrderItem}
@@ -63,17 +63,17 @@ are_sound_codecs before (c ∷ cs) = is_sound_codec before c && are_sound_codecs
 -- ---- references
 
 -- the codec of this number is there, and its kind is the one that is needed
-abbrev pub is_codec_kind : (KindWord → Bool) → Option CodecItem → Bool
+abbrev pub is_codec_kind : (Kind → Bool) → Option CodecItem → Bool
 is_codec_kind right None = false
 is_codec_kind right (Some c) = right c.kind
 
-abbrev pub is_codec : List CodecItem → (KindWord → Bool) → ℕ → Bool
+abbrev pub is_codec : List CodecItem → (Kind → Bool) → ℕ → Bool
 is_codec codecs right on = is_codec_kind right (slice_get codecs on)
 
-abbrev pub any_kind : KindWord → Bool
+abbrev pub any_kind : Kind → Bool
 any_kind k = true
 
-abbrev pub encodes : KindWord → Bool
+abbrev pub encodes : Kind → Bool
 encodes k = not (decodes k)
 
 -- the variable is the one that was found
@@ -99,7 +99,7 @@ is_free before bind = is_name bind && not (is_variable_name before bind)
 -- ---- steps
 
 -- the config is one of the codec's kind, or breaks a rule of WebIDL
-abbrev pub suits : Config → KindWord → Bool
+abbrev pub suits : Config → Kind → Bool
 suits (config.AudioDecoder c) kind.AudioDecoder = true
 suits (config.AudioEncoder c) kind.AudioEncoder = true
 suits (config.VideoDecoder c) kind.VideoDecoder = true
@@ -114,7 +114,7 @@ are_options_of options.Nothing holds.Chunk = true
 are_options_of _ _ = false
 
 -- a codec of this kind gives outputs of this kind
-abbrev pub gives : VariableKind → KindWord → Bool
+abbrev pub gives : VariableKind → Kind → Bool
 gives v k = same_kind (outputs_of k) v
 
 abbrev pub is_sound_media : List CodecItem → List Step → MediaStep → Bool

@@ -1,11 +1,11 @@
 // What names are found to name.
-use crate::{KindWord, VariableKind};
+use crate::{Kind, VariableKind};
 
 /// A codec, by its number in the script, and its kind.
 #[derive(Clone, Copy, Debug, PartialEq, Eq)]
 pub struct FoundCodec {
     pub number: u32,
-    pub kind: KindWord,
+    pub kind: Kind,
 }
 
 /// A variable, by the number of the step that defines it, and what it holds.

@@ -10,7 +10,8 @@ mod steps;
 pub use fault::{Counted, Place, ScriptFault};
 pub use found::{FoundCodec, FoundVariable};
 pub use options::{AudioOptions, FormatWord, FrameOptions, LayoutWords, Options, RectWords};
-pub use script::{CallerItem, CodecItem, KindWord, OrderItem, Script, ScriptData};
+pub use script::{CallerItem, CodecItem, OrderItem, Script, ScriptData};
 pub use steps::{
     ChunkInit, ChunkSource, MediaStep, PictureInit, SoundInit, Step, Variable, VariableKind,
 };
+pub use wc_config::Kind;

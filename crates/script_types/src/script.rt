@@ -5,20 +5,13 @@ ghost use Rattle.script_types.specs.Sound.{is_sound};
 use crate::Step;
 use std::marker::Model;
 use wc_base::{List, Text};
-
-/// What kind of codec is opened.
-#[derive(Clone, Copy, Debug, PartialEq, Eq)]
-pub enum KindWord {
-    AudioDecoder,
-    AudioEncoder,
-    VideoDecoder,
-}
+use wc_config::Kind;
 
 /// A codec. `saturation` is the count of items at which its codec is saturated.
 #[derive(Debug, PartialEq, Drop)]
 pub struct CodecItem {
     pub name: Text,
-    pub kind: KindWord,
+    pub kind: Kind,
     pub saturation: u32,
 }
 

@@ -13,8 +13,8 @@ use Rattle.coder_api.specs.Lent.{Lent}
 use Rattle.coder_api.specs.Meaning.{Meaning}
 use Rattle.slot_registry.specs.Slots.{SlotsValue, IsLeastFree, recorded, acquired, acquire_op, given_back, is_later}
 use Rattle.slot_registry.specs.Places.{Placed, ids_of, is_away, IsInStep, IsKept}
-use Rattle.slot_registry.proofs.Ids.{ids_of-set}
-use Rattle.slot_registry.proofs.Numbers.{find_fails}
+use Rattle.slot_registry.specs.IdLaws.{ids_of-set}
+use Rattle.slot_registry.specs.NumberLaws.{find_fails}
 use Rattle.slot_registry.proofs.Kept.{place_id, moves_keep, acquire_moves, give_moves, away_falls}
 
 -- a place of an id, which has the box with this number

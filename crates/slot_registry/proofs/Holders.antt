@@ -9,9 +9,9 @@ use Rattle.coder_api.specs.declared.slot.SlotEntry.{SlotEntry}
 use Rattle.coder_api.specs.declared.slot.SlotOp.TheVariants as slot
 use Rattle.slot_registry.specs.Boxes.{is_box, holder_of, is_out, made_of, out_of, least_free}
 use Rattle.slot_registry.specs.Slots.{SlotsValue, recorded, acquired, acquire_op, given_back, IsHeld, KeepsBoxes, KeepsOthers, IsLeastFree}
-use Rattle.slot_registry.proofs.Ids.{id_is}
-use Rattle.slot_registry.proofs.Numbers.{find_fails}
-use Rattle.slot_registry.proofs.Histories.{holder_more, box_same}
+use Rattle.slot_registry.specs.IdLaws.{id_is}
+use Rattle.slot_registry.specs.NumberLaws.{find_fails}
+use Rattle.slot_registry.specs.HistoryLaws.{holder_more, box_same}
 
 -- the box that goes out is held by its cause
 pub acquired_is_held : (s new : SlotsValue) (cause : By) (id : CoderId) (lent : Lent) → IsLeastFree cause id s lent → new ≡ acquired cause id s → IsHeld new lent

@@ -13,8 +13,8 @@ use Rattle.coder_api.specs.Meaning.{is_id}
 use Rattle.slot_registry.specs.Boxes.{is_box, holder_of, is_out, made_of, out_of, least_free}
 use Rattle.slot_registry.specs.Slots.{is_legal_next, is_legal_slots, is_later}
 use Rattle.slot_registry.specs.Places.{Placed, ids_of, is_away, IsInStep, IsKept}
-use Rattle.slot_registry.proofs.Ids.{id_is, number_made, number_rises, ids_of-set}
-use Rattle.slot_registry.proofs.Histories.{legal_more, goes_out, comes_back, stays_at_acquire, stays_at_give, stays_at_refusal, acquire_is_legal, refusal_is_legal, give_is_legal}
+use Rattle.slot_registry.specs.IdLaws.{id_is, number_made, number_rises, ids_of-set}
+use Rattle.slot_registry.specs.HistoryLaws.{legal_more, goes_out, comes_back, stays_at_acquire, stays_at_give, stays_at_refusal, acquire_is_legal, refusal_is_legal, give_is_legal}
 
 -- an entry that sends out or brings back the box of place k alone
 pub record Moves (ids : List CoderId) (history : List SlotEntry) (k : ℕ) (p : Placed) (e : SlotEntry) : Type 0 where

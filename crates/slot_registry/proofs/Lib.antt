@@ -1,6 +1,3 @@
-pub mod Ids
-pub mod Numbers
-pub mod Histories
 pub mod Kept
 pub mod Walks
 pub mod Changes

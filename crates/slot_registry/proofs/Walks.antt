@@ -10,8 +10,8 @@ use Rattle.coder_api.specs.Meaning.{is_id}
 use Rattle.slot_registry.specs.Boxes.{is_out, made_of}
 use Rattle.slot_registry.specs.Slots.{SlotsValue}
 use Rattle.slot_registry.specs.Places.{Placed, ids_of, IsInStep, IsKept, IsFreeAt, AreAllOut}
-use Rattle.slot_registry.proofs.Ids.{id_is, made_of_more, number_made}
-use Rattle.slot_registry.proofs.Numbers.{find-all, find-first, count_by-all}
+use Rattle.slot_registry.specs.IdLaws.{id_is, made_of_more, number_made}
+use Rattle.slot_registry.specs.NumberLaws.{find-all, find-first, count_by-all}
 use Rattle.slot_registry.proofs.Kept.{place_id}
 
 -- the walk is at a place of these ids

@@ -1,2 +1,3 @@
-pub mod Steps
+mod Steps
+mod LinesLaws
 pub mod Places

@@ -3,7 +3,8 @@ use Rattle.std.proofs.Common.{ℕ, zero, suc, ◌≡◌, ◌<◌, ◌≤◌, Lis
 use Rattle.std.proofs.lemmas.Option.{slice_get_read, slice_get_past}
 use Rattle.std.specs.Prelude.{slice_get, slice_set}
 use Rattle.script_types.specs.declared.script.CallerItem.{CallerItem}
-use Rattle.trace_text.specs.Follow.{at, append_at, steps_in}
+use Rattle.codec_accounts.specs.Owed.{at, append_at}
+use Rattle.trace_text.specs.Follow.{steps_in}
 
 pub at_within : {X : Type 0} (c : ℕ) (ls : List (List X)) (l : List X) → slice_get ls c ≡ Some l → at c ls ≡ l
 at_within c [] l h = absurd cc

@@ -7,7 +7,7 @@ use Rattle.codec_model.specs.declared.entry.Entry.{Entry}
 use Rattle.codec_model.specs.declared.entry.Entry.TheVariants as entry
 use Rattle.codec_model.specs.Rows.{four, pcm, step_of, ordinary, resetting}
 use Rattle.trace_text.specs.Rows.{coder}
-use Rattle.trace_text.specs.Accounts.{asks_at, lets}
+use Rattle.codec_accounts.specs.Boxes.{asks_at, lets}
 
 -- the first start asks for the one box of the run, which its codec keeps
 pub record KeepsOne : Type 0 where

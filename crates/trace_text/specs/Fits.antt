@@ -17,21 +17,13 @@ use Rattle.trace_text.specs.declared.run.Run.{Run}
 use Rattle.trace_text.specs.declared.run.CodecTrace.{CodecTrace}
 use Rattle.report_text.specs.declared.result.StepResult.{StepResult}
 use Rattle.report_text.specs.declared.result.StepResult.TheVariants as result
-use Rattle.report_text.specs.Told.{refusal_in}
-use Rattle.trace_text.specs.Accounts.{BoxesAccounted}
-use Rattle.trace_text.specs.Follow.{Recorded, at, opening_of, opening_at, state_after, steps_of, chunk_at, source_error, promise_after, order_items, Holding, Follows, nothing_yet}
-
--- the caller whose call an entry keeps, with its step
-abbrev pub who_of : Entry → Option Who
-who_of (entry.Configure who config) = Some who
-who_of (entry.Decode who chunk) = Some who
-who_of (entry.Flush who) = Some who
-who_of (entry.Reset who) = Some who
-who_of (entry.Close who) = Some who
-who_of (entry.Start epoch item) = None
-who_of (entry.Done epoch item moment o) = None
-who_of entry.Turn = None
-who_of (entry.Reclaim moment) = None
+use Rattle.trace_text.specs.Report.{refusal_in}
+use Rattle.codec_accounts.specs.Owed.{at}
+use Rattle.codec_accounts.specs.Registry.{BoxesAccounted}
+use Rattle.codec_accounts.specs.Codec.{state_after}
+use Rattle.codec_accounts.specs.Calls.{who_of, Mark, Climbs}
+use Rattle.codec_accounts.specs.Calls as mark
+use Rattle.trace_text.specs.Follow.{Recorded, Course, record_of, opening_of, opening_at, steps_of, chunk_at, source_error, promise_after, order_items, Follows, nothing_yet}
 
 -- the codec that a step calls, if it calls one
 abbrev pub called : Step → Option ℕ
@@ -66,42 +58,41 @@ step_in s c j = slice_get (steps_of s c) j
 abbrev pub exception_at : Opening → List Entry → ℕ → Option DomError
 exception_at o h p = option_and_then (λ x. refusal_in x.events) (slice_get (each_shown o h) p)
 
--- The entry at this place is the call of this step, and shows this exception.
-pub record KeepsCall (s : ScriptData) (w : Recorded) (who : Who) (k p : ℕ) (error : Option DomError) : Type 0 where
-  pub entry : Entry
-  pub stands : entry_in w k p ≡ Some entry
-  pub names : who_of entry ≡ Some who
-  pub shows : error ≡ exception_at (opening_at s k) (at k w.codecs) p
+-- what the result of a step says of a codec's history
+abbrev pub mark_of : StepResult → Mark
+mark_of (result.Call k place error) = mark.Call k place
+mark_of (result.Look k length end) = mark.Look k length
+mark_of (result.State k length state size) = mark.Look k length
+mark_of (result.Local error) = mark.Local
+mark_of result.Absent = mark.Local
 
--- The result of a step that calls a codec: one entry keeps the call, unless the step's variable is absent.
-abbrev pub IsCallResult : ScriptData → Recorded → Who → ℕ → StepResult → Type 0
-IsCallResult s w who k (result.Call other p error) = (other ≡ k) × KeepsCall s w who k p error
-IsCallResult s w who k result.Absent = Unit {0}
-IsCallResult s w who k _ = ⊥
+-- what the results of all callers say
+abbrev pub marks_of : Recorded → List (List Mark)
+marks_of w = map (λ rs. map mark_of rs) w.callers
+
+-- The result of a step that calls a codec: a call of that codec, with the exception that its entry shows, unless the step's
+-- variable is absent.
+abbrev pub IsCallResult : ScriptData → Recorded → ℕ → StepResult → Type 0
+IsCallResult s w k (result.Call other p error) = (other ≡ k) × (error ≡ exception_at (opening_at s k) (at k w.codecs) p)
+IsCallResult s w k result.Absent = Unit {0}
+IsCallResult s w k _ = ⊥
 
 -- a step calls a codec by a call result, and no other step has one
-abbrev pub IsResultOf : ScriptData → Recorded → Who → Option ℕ → StepResult → Type 0
-IsResultOf s w who (Some k) r = IsCallResult s w who k r
-IsResultOf s w who None (result.Call k p error) = ⊥
-IsResultOf s w who None r = Unit {0}
+abbrev pub IsResultOf : ScriptData → Recorded → Option ℕ → StepResult → Type 0
+IsResultOf s w (Some k) r = IsCallResult s w k r
+IsResultOf s w None (result.Call k p error) = ⊥
+IsResultOf s w None r = Unit {0}
 
--- Each call of a caller's steps stands once, in its codec's history, and the places of a caller's calls on one codec rise
--- with its steps.
+-- Each call of a caller's steps stands once, in its codec's history, at the place that its result names, and no other entry
+-- names a caller's step.
 pub record CallsAreIn (s : ScriptData) (w : Recorded) : Type 0 where
-  -- each step made is a step of the script, and a call's result names its entry
-  pub made : (c j : ℕ) (r : StepResult) → result_in w c j ≡ Some r → (x : Step) × (step_in s c j ≡ Some x) × IsResultOf s w (record { caller = c; step = j }) (called x) r
-  -- each entry that names a caller's step is the one in that step's result
-  pub only : (k p : ℕ) (e : Entry) (who : Who) → entry_in w k p ≡ Some e → who_of e ≡ Some who → (error : Option DomError) × (result_in w who.caller who.step ≡ Some (result.Call k p error))
-  pub rising : (c i j k p q : ℕ) (e f : Option DomError) → i < j → result_in w c i ≡ Some (result.Call k p e) → result_in w c j ≡ Some (result.Call k q f) → p < q
+  -- each step made is a step of the script, with a result of its kind
+  pub made : (c j : ℕ) (r : StepResult) → result_in w c j ≡ Some r → (x : Step) × (step_in s c j ≡ Some x) × IsResultOf s w (called x) r
+  -- the entries that name a caller's step are those of the calls in the results
+  pub once : (k : ℕ) → mark.CallsAreIn k (at k w.codecs) (marks_of w)
 
 abbrev pub CallsStandOnce : ScriptData → Run → Type 0
 CallsStandOnce s run = CallsAreIn s (recorded_of run)
-
--- a look at a codec after this many entries, if the result is one
-abbrev pub look_of : StepResult → Option (ℕ × ℕ)
-look_of (result.Look k length end) = Some (k, length)
-look_of (result.State k length state size) = Some (k, length)
-look_of _ = None
 
 -- what a look shows is read from the history up to it
 abbrev pub LookShows : ScriptData → Recorded → ℕ → Step → StepResult → Type 0
@@ -115,12 +106,14 @@ LookShows s w c x (result.Look k n end) = ⊥
 LookShows s w c x (result.State k n state size) = ⊥
 LookShows s w c x r = Unit {0}
 
--- A look saw at most the whole history, all that its caller did on the codec before, and nothing that it did afterwards.
+-- what each caller's results say of a codec rises with its steps, up to the length of the codec's history
+abbrev pub MarksClimb : Recorded → Type 0
+MarksClimb w = (c k : ℕ) → Climbs k 0 (map mark_of (at c w.callers)) (length (at k w.codecs))
+
+-- The places of a caller's calls on a codec rise with its steps; a look saw at most the whole history, all that its caller
+-- did on the codec before, as much as an earlier look, and nothing that its caller did afterwards.
 pub record LooksAreIn (s : ScriptData) (w : Recorded) : Type 0 where
-  pub within : (c j k n : ℕ) (r : StepResult) → result_in w c j ≡ Some r → look_of r ≡ Some (k, n) → n ≤ length (at k w.codecs)
-  pub after_calls : (c i j k p n : ℕ) (e : Option DomError) (r : StepResult) → i < j → result_in w c i ≡ Some (result.Call k p e) → result_in w c j ≡ Some r → look_of r ≡ Some (k, n) → p < n
-  pub before_calls : (c i j k p n : ℕ) (e : Option DomError) (r : StepResult) → i < j → result_in w c i ≡ Some r → look_of r ≡ Some (k, n) → result_in w c j ≡ Some (result.Call k p e) → n ≤ p
-  pub rising : (c i j k m n : ℕ) (q r : StepResult) → i < j → result_in w c i ≡ Some q → look_of q ≡ Some (k, m) → result_in w c j ≡ Some r → look_of r ≡ Some (k, n) → m ≤ n
+  pub climbs : MarksClimb w
   pub shows : (c j : ℕ) (x : Step) (r : StepResult) → step_in s c j ≡ Some x → result_in w c j ≡ Some r → LookShows s w c x r
 
 abbrev pub LooksAreBetween : ScriptData → Run → Type 0
@@ -160,14 +153,15 @@ LocalStepsAnswer s media run = LocalsAreIn s media (recorded_of run)
 -- Each box that went out was asked for, and went back by the entry that let it go. `made` has the ids of the coders that
 -- were handed in.
 abbrev pub BoxesAreAccounted : ScriptData → List CoderId → Run → Type 0
-BoxesAreAccounted s made run = BoxesAccounted s made (recorded_of run)
+BoxesAreAccounted s made run = let w = recorded_of run in BoxesAccounted made (opening_at s) w.codecs w.slots
 
 -- All entries, results and slot entries are those that following the script's order makes, item after item. `made` has the
 -- ids of the coders that were handed in.
 pub record FollowsTheOrder (s : ScriptData) (media : List (List Chunk)) (made : List CoderId) (run : Run) : Type 0 where
-  -- what each codec has of the registry in the end
-  pub holdings : List Holding
-  pub follows : Follows s media made (order_items s) (nothing_yet s) (record { recorded = recorded_of run; holdings = holdings })
+  -- how the callers, the codecs and the registry stand in the end
+  pub course : Course
+  pub follows : Follows s media (order_items s) (nothing_yet s made) course
+  pub is_recorded : recorded_of run ≡ record_of course
 
 -- `media` has the chunks of each of the script's chunk files.
 pub record Fits (s : ScriptData) (media : List (List Chunk)) (made : List CoderId) (run : Run) : Type 0 where

@@ -1,7 +1,10 @@
 pub mod Fits
+pub mod FitsLaws
 pub mod Follow
 pub mod Missing
+pub mod Numbered
 pub mod Report
+pub mod Behind
+pub mod Written
 pub mod Rows
-pub mod Accounts
 pub mod AccountsRows

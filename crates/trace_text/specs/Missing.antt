@@ -10,7 +10,7 @@ use Rattle.script_types.specs.declared.steps.ChunkSource.{ChunkSource}
 use Rattle.script_types.specs.declared.steps.ChunkSource.TheVariants as source
 use Rattle.script_types.specs.declared.steps.Step.{Step}
 use Rattle.script_types.specs.declared.steps.Step.TheVariants as step
-use Rattle.trace_text.specs.Follow.{at}
+use Rattle.codec_accounts.specs.Owed.{at}
 
 -- the file that lacks the chunk of a source, if one does
 abbrev pub lacking_source : List (List Chunk) → ChunkSource → Option ℕ

@@ -1,84 +1,116 @@
--- The text of a run's report (a format of our own): lines that each end with a line feed, numbers in decimal, bytes in
--- lower case hex, and `-` for no bytes and for what is absent. It begins with `wcrun report 1`. For each caller it has
--- the line `caller NAME` and one line for each step made; for each codec the line `codec NAME KIND S` and its entries,
+-- The report of a run (a format of our own) is the texts of its lines. It begins with `wcrun report 1`. For each caller it
+-- has the line `caller NAME` and one line for each step made; for each codec the line `codec NAME KIND S` and its entries,
 -- each with the lines of what it showed; then `pool`, `slots` and the registry's entries, `held N` and `end`.
-use Rattle.std.specs.Prelude.{ℕ, ◌+◌, List, [], ◌∷◌, ◌++◌, flat_map, codes, Option, Some, None}
+use Rattle.std.specs.Prelude.{ℕ, ◌+◌, List, [], ◌∷◌, ◌++◌, flat_map, unwrap_or, Option, Some, None}
 use Rattle.std.specs.List.{zip}
+use Rattle.wc_base.specs.declared.error.DomError.{DomError}
 use Rattle.wc_config.specs.declared.config.AudioDecoderConfig.{AudioDecoderConfig}
-use Rattle.coder_api.specs.declared.unit.Unit as media
-use Rattle.coder_api.specs.declared.unit.Unit.TheVariants as unit
+use Rattle.coder_api.specs.declared.slot.SlotEntry.{SlotEntry}
+use Rattle.codec_definitions.specs.declared.unit.Unit as media
+use Rattle.codec_definitions.specs.declared.unit.Unit.TheVariants as unit
 use Rattle.codec_model.specs.declared.entry.Event.{Event}
 use Rattle.codec_model.specs.declared.entry.Event.TheVariants as event
 use Rattle.codec_model.specs.declared.entry.Shown.{Shown}
 use Rattle.codec_model.specs.declared.entry.Entry.{Entry}
+use Rattle.codec_model.specs.declared.entry.Entry.TheVariants as entry
 use Rattle.script_types.specs.declared.script.ScriptData.{ScriptData}
-use Rattle.script_types.specs.declared.script.CodecItem.{CodecItem}
-use Rattle.script_types.specs.declared.script.CallerItem.{CallerItem}
+use Rattle.report_text.specs.declared.result.StepResult.{StepResult}
+use Rattle.report_text.specs.declared.line.CallWord.TheVariants as call
+use Rattle.report_text.specs.declared.line.EntryLine.{EntryLine}
+use Rattle.report_text.specs.declared.line.EntryLine.TheVariants as entry_line
+use Rattle.report_text.specs.declared.line.EventLine.TheVariants as event_line
+use Rattle.report_text.specs.declared.line.Line.{Line}
+use Rattle.report_text.specs.declared.line.Line.TheVariants as line
+use Rattle.report_text.specs.Text.{line_text}
 use Rattle.trace_text.specs.declared.run.CallerTrace.{CallerTrace}
 use Rattle.trace_text.specs.declared.run.CodecTrace.{CodecTrace}
 use Rattle.trace_text.specs.declared.run.Run.{Run}
-use Rattle.report_text.specs.Words.{◌<>◌}
-use Rattle.report_text.specs.Lines.{caller_header, result_line, codec_header, entry_line, slot_line, held_line}
-use Rattle.report_text.specs.Outputs.{sound_line, picture_line, chunk_line, config_line, resolve_line, reject_line, error_line, dequeue_line}
 
--- the texts of items, each with its number
-abbrev pub each_from : {X : Type 0} → (ℕ → X → List ℕ) → ℕ → List X → List ℕ
-each_from text n [] = []
-each_from text n (x ∷ xs) = text n x ++ each_from text (n + 1) xs
+-- the lines of items, each with its number
+abbrev pub lines_from : {X : Type 0} → (ℕ → X → List Line) → ℕ → List X → List Line
+lines_from lines n [] = []
+lines_from lines n (x ∷ xs) = lines n x ++ lines_from lines (n + 1) xs
 
--- the line `caller NAME`, and its results, numbered by their steps
-abbrev pub caller_lines : ScriptData → ℕ → CallerItem × CallerTrace → List ℕ
-caller_lines script n caller = caller_header caller.0.name ++ each_from (result_line script.codecs) 0 caller.1.results
+-- ---- callers
 
--- What an entry showed.
+abbrev pub result_lines : ℕ → StepResult → List Line
+result_lines step answer = line.Result step answer ∷ []
 
--- where a chunk carries a decoder's config, that config's line
-abbrev pub config_lines : Option AudioDecoderConfig → List ℕ
+-- the line that begins a caller, and its results, numbered by their steps
+abbrev pub caller_lines : ℕ → CallerTrace → List Line
+caller_lines n caller = line.Caller n ∷ lines_from result_lines 0 caller.results
+
+-- ---- what an entry showed
+
+-- a decoder's config, in which an absent description is one of no bytes
+abbrev pub config_line : AudioDecoderConfig → Line
+config_line c = line.Event (event_line.Config c.codec c.rate c.channels (unwrap_or c.description []))
+
+abbrev pub config_lines : Option AudioDecoderConfig → List Line
 config_lines None = []
-config_lines (Some c) = config_line c
+config_lines (Some c) = config_line c ∷ []
 
-abbrev pub output_lines : media.Unit → List ℕ
-output_lines (unit.Sound samples) = sound_line samples.shape samples.bytes
-output_lines (unit.Image picture) = picture_line picture.shape picture.bytes
-output_lines (unit.Coded chunk config) = chunk_line chunk ++ config_lines config
+-- an output; behind a chunk stands the config that it carries
+abbrev pub output_lines : media.Unit → List Line
+output_lines (unit.Sound samples) = line.Event (event_line.Sound samples) ∷ []
+output_lines (unit.Image picture) = line.Event (event_line.Image picture) ∷ []
+output_lines (unit.Coded chunk config) = line.Event (event_line.Chunk chunk) ∷ config_lines config
 
--- an event's lines; a refusal stands in its call's own line
-abbrev pub event_lines : Event → List ℕ
+-- an event; a refusal stands in its call's own line
+abbrev pub event_lines : Event → List Line
 event_lines (event.Refusal error) = []
 event_lines (event.Output number unit) = output_lines unit
-event_lines (event.Resolve promise) = resolve_line promise
-event_lines (event.Reject promise error) = reject_line promise error
-event_lines event.Dequeue = dequeue_line
-event_lines (event.ErrorCall error) = error_line error
+event_lines (event.Resolve promise) = line.Event (event_line.Resolve promise) ∷ []
+event_lines (event.Reject promise error) = line.Event (event_line.Reject promise error) ∷ []
+event_lines event.Dequeue = line.Event event_line.Dequeue ∷ []
+event_lines (event.ErrorCall error) = line.Event (event_line.Error error) ∷ []
 
--- Entries of codecs.
+-- ---- entries of codecs
 
--- an entry's line, and the lines of what it showed
-abbrev pub entry_lines : List CallerItem → ℕ → Entry × Shown → List ℕ
-entry_lines callers place made = entry_line callers place made.0 made.1 ++ flat_map event_lines made.1.events
+-- the exception with which a call was refused, by what it showed: a refusal stands first
+abbrev pub refusal_in : List Event → Option DomError
+refusal_in (event.Refusal error ∷ events) = Some error
+refusal_in _ = None
 
--- the line `codec NAME KIND S`, and its entries, numbered by their places
-abbrev pub codec_lines : ScriptData → ℕ → CodecItem × CodecTrace → List ℕ
-codec_lines script n codec = codec_header codec.0.name codec.1.opening.kind codec.1.opening.saturation ++ each_from (entry_lines script.callers) 0 (zip codec.1.entries codec.1.shown)
+-- what stands on an entry's line behind its place: a call with its exception, a turn with the task that it ran
+abbrev pub entry_line_of : Entry → Shown → EntryLine
+entry_line_of (entry.Configure who config) shown = entry_line.Call who call.Configure (refusal_in shown.events)
+entry_line_of (entry.Decode who chunk) shown = entry_line.Call who call.Decode (refusal_in shown.events)
+entry_line_of (entry.Flush who) shown = entry_line.Call who call.Flush (refusal_in shown.events)
+entry_line_of (entry.Reset who) shown = entry_line.Call who call.Reset (refusal_in shown.events)
+entry_line_of (entry.Close who) shown = entry_line.Call who call.Close (refusal_in shown.events)
+entry_line_of (entry.Start epoch item) shown = entry_line.Start epoch item
+entry_line_of (entry.Done epoch item moment outcome) shown = entry_line.Done epoch item moment outcome
+entry_line_of entry.Turn shown = entry_line.Turn shown.turn
+entry_line_of (entry.Reclaim moment) shown = entry_line.Reclaim moment
 
--- The whole. Callers and codecs of the script and of the run are taken in pairs, in order.
+-- an entry, and what it showed
+abbrev pub entry_lines : ℕ → Entry × Shown → List Line
+entry_lines place pair = line.Entry place (entry_line_of pair.0 pair.1) ∷ flat_map event_lines pair.1.events
 
-abbrev pub callers_text : ScriptData → Run → List ℕ
-callers_text script run = each_from (caller_lines script) 0 (zip script.callers run.callers)
+-- the line that begins a codec, and its entries, numbered by their places
+abbrev pub codec_lines : ℕ → CodecTrace → List Line
+codec_lines n codec = line.Codec n codec.opening ∷ lines_from entry_lines 0 (zip codec.entries codec.shown)
 
-abbrev pub codecs_text : ScriptData → Run → List ℕ
-codecs_text script run = each_from (codec_lines script) 0 (zip script.codecs run.codecs)
+-- ---- the whole
 
-abbrev pub slots_text : ScriptData → Run → List ℕ
-slots_text script run = each_from (slot_line script) 0 run.slots
+abbrev pub slot_lines : ℕ → SlotEntry → List Line
+slot_lines place slot = line.Slot place slot ∷ []
 
 -- how many media resources are still held, and the end
-abbrev pub end_text : ℕ → List ℕ
-end_text held = held_line held ++ codes "end\n"
+abbrev pub end_lines : ℕ → List Line
+end_lines held = line.Held held ∷ line.End ∷ []
 
--- the entries of the pool of media, of which a run has none yet, those of the registry, and the end
-abbrev pub registry_text : ScriptData → Run → List ℕ
-registry_text script run = codes "pool\n" <> codes "slots\n" <> slots_text script run <> end_text run.held
+-- the registry's entries, and the end
+abbrev pub slots_lines : Run → List Line
+slots_lines run = lines_from slot_lines 0 run.slots ++ end_lines run.held
 
+-- callers and codecs, numbered in order, the entries of the pool of media, of which a run has none yet, and the registry's
+abbrev pub lines_of : Run → List Line
+lines_of run =
+    line.Header ∷ (lines_from caller_lines 0 run.callers
+    ++ (lines_from codec_lines 0 run.codecs ++ (line.Pool ∷ line.Slots ∷ slots_lines run)))
+
+-- the report of a run of the script
 abbrev pub report_of : ScriptData → Run → List ℕ
-report_of script run = codes "wcrun report 1\n" <> callers_text script run <> codecs_text script run <> registry_text script run
+report_of script run = flat_map (line_text script) (lines_of run)

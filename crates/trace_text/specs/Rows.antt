@@ -18,7 +18,7 @@ use Rattle.codec_model.specs.Shown.{each_shown}
 use Rattle.codec_model.specs.Rows.{four, pcm, unit, chunk, ordinary}
 use Rattle.script_types.specs.declared.fault.Place.TheVariants as place
 use Rattle.script_types.specs.declared.script.ScriptData.{ScriptData}
-use Rattle.script_types.specs.declared.script.KindWord.TheVariants as word
+use Rattle.wc_config.specs.declared.kind.Kind.TheVariants as word
 use Rattle.script_types.specs.declared.script.CodecItem.{CodecItem}
 use Rattle.script_types.specs.declared.steps.ChunkInit.{ChunkInit}
 use Rattle.script_types.specs.declared.steps.ChunkSource.{ChunkSource}

@@ -2,12 +2,16 @@
 #![tactic(auto)]
 
 mod chunks;
-mod outputs;
+mod laws;
+mod lines;
+mod numbered;
 mod report;
 mod rows;
 mod run;
 
 pub use chunks::{chunks_of, find_chunk, steps_of};
+pub use laws::fits_by_places;
+pub use lines::{RunLines, Section};
 pub use report::{WriteFault, write_report};
 pub use report_text::StepResult;
 pub use rows::{boxes_of_histories, ordinary_report, run_from_a_file};

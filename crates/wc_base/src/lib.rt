@@ -12,7 +12,7 @@ mod who;
 
 pub use error::{DomError, Failed, NoMemory};
 pub use files::{FileFault, Files, MemFiles, SystemFiles};
-pub use list::List;
+pub use list::{List, try_push};
 pub use media::{Picture, PictureFormat, PictureShape, SampleFormat, Samples, SoundShape};
 pub use sink::{MemSink, Output, Sink};
 pub use text::Text;

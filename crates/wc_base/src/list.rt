@@ -1,6 +1,7 @@
 // A list that contracts see as its items alone.
-ghost use Rattle.std.specs.Prelude.{◌≡◌, ◌==◌, [], length};
+ghost use Rattle.std.specs.Prelude.{◌≡◌, ◌==◌, [], ◌∷◌, ◌++◌, OnOk, OnErr, length};
 
+use crate::error::NoMemory;
 use std::alloc::Global;
 use std::fmt;
 use std::marker::Model;
@@ -84,4 +85,14 @@ impl<T: fmt::Debug> fmt::Debug for List<T> {
     fn fmt<W: fmt::Write>(&self, f: &mut fmt::Formatter<W>) -> fmt::Result {
         self.inner.fmt(f)
     }
+}
+
+/// Appends an item. After want of memory nothing has changed.
+pub fn try_push<T: Drop>(items: &mut Vec<T>, item: T) -> Result<(), NoMemory>
+    ensures ok { OnOk result (items.new.items ≡ items.old.items ++ item ∷ []) }
+    ensures err { OnErr result (items.new.items ≡ items.old.items) }
+{
+    items.reserve(1)?;
+    items.push_reserved(item);
+    Ok(())
 }

@@ -1,4 +1,2 @@
 pub mod Configs
-pub mod Pcm
-pub mod G711
 pub mod Streams

@@ -3,9 +3,11 @@
 
 mod codec;
 mod config;
+mod kind;
 mod stream_info;
 mod support;
 
 pub use codec::{CodecId, CoderId, Role};
 pub use config::{AudioDecoderConfig, AudioEncoderConfig, Config, VideoDecoderConfig};
+pub use kind::Kind;
 pub use stream_info::{StreamInfo, read_streaminfo};

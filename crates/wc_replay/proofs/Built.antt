@@ -15,12 +15,12 @@ use Rattle.script_types.specs.declared.steps.Variable.{Variable}
 use Rattle.script_types.specs.declared.steps.VariableKind.TheVariants as holds
 use Rattle.script_types.specs.Names.{decodes, is_promise}
 use Rattle.script_types.specs.Sound.{is_sound, are_sound_codecs, is_sound_step, is_sound_item, is_variable, suits, any_kind}
-use Rattle.script_types.proofs.SoundLaws.{Defines, parts_of, codec_within, step_at, few_steps, variable_is, promise_kind, promise_of_flush, item_at}
+use Rattle.script_types.specs.SoundLaws.{Defines, parts_of, codec_within, step_at, few_steps, variable_is, promise_kind, promise_of_flush, item_at}
 use Rattle.trace_text.specs.Follow.{steps_in, steps_of}
 use Rattle.trace_text.specs.Fits.{step_in, called}
-use Rattle.wc_replay.specs.Sound.{IsSound, promise_of, IsFlush}
+use Rattle.order_laws.specs.Sound.{IsSound, promise_of, IsFlush}
 use Rattle.wc_replay.specs.Player.{IsPlayable, IsInRange, LooksInRange, is_openable}
-use Rattle.wc_replay.proofs.Lists.{taken_before, get_from_front}
+use Rattle.codec_accounts.specs.ListLaws.{taken_before, get_from_front}
 
 -- ---- steps by their caller's number
 

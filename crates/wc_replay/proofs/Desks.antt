@@ -1,14 +1,15 @@
--- What a desk keeps as its codec's history grows.
-use Rattle.std.proofs.Common.{ℕ, ◌≡◌, Bool, true, false, not, cond, List, [], ◌∷◌, ◌++◌, length, Option, Some, None, refl, ap, sym, subst, ◌∙◌, Result, Ok, Err, option_map, is_some}
-use Rattle.std.specs.Prelude.{◌==◌}
-use Rattle.std.specs.Result.{OnOk}
+-- What a desk keeps as its codec's history grows, and what becomes of its box.
+use Rattle.std.proofs.Common.{ℕ, ◌≡◌, Bool, true, false, not, cond, List, [], ◌∷◌, ◌++◌, length, Option, Some, None, is_some, is_none, refl, ap, sym, subst, ◌∙◌, option_map, append-nil}
+use Rattle.std.specs.Prelude.{◌==◌, ◌||◌, unwrap_or, map}
 use Rattle.wc_base.specs.declared.error.DomError.{DomError}
 use Rattle.wc_base.specs.declared.who.Who.{Who}
+use Rattle.wc_base.specs.declared.who.By.{By}
 use Rattle.wc_base.specs.declared.who.By.TheVariants as by
 use Rattle.wc_config.specs.declared.codec.CoderId.{CoderId}
 use Rattle.coder_api.specs.Lent.{Lent}
-use Rattle.coder_api.specs.declared.unit.Unit as media
+use Rattle.codec_definitions.specs.declared.unit.Unit as media
 use Rattle.coder_api.specs.declared.slot.SlotEntry.{SlotEntry}
+use Rattle.slot_registry.specs.Slots.{SlotsValue, acquired}
 use Rattle.codec_model.specs.declared.entry.Call.{Call}
 use Rattle.codec_model.specs.declared.entry.Call.TheVariants as call
 use Rattle.codec_model.specs.declared.entry.Ended.{Ended}
@@ -18,71 +19,221 @@ use Rattle.codec_model.specs.declared.entry.Entry.TheVariants as entry
 use Rattle.codec_model.specs.declared.entry.Item.{Item}
 use Rattle.codec_model.specs.declared.entry.Opening.{Opening}
 use Rattle.codec_model.specs.declared.entry.Outcome.{Outcome}
+use Rattle.codec_model.specs.declared.entry.Removal.{Removal}
+use Rattle.codec_model.specs.declared.entry.Removal.TheVariants as removal
 use Rattle.codec_model.specs.declared.entry.Running.{Running}
-use Rattle.codec_model.specs.declared.entry.Shown.{Shown}
 use Rattle.codec_model.specs.declared.entry.Task.{Task}
-use Rattle.codec_model.specs.declared.entry.Task.TheVariants as task
 use Rattle.codec_model.specs.declared.entry.Work.{Work}
 use Rattle.codec_model.specs.Control.{Control, kind_of, front, start_item, may_start, is_close, may_reclaim}
-use Rattle.codec_model.specs.Replay.{State, missing_coder, entry_of, call_error, flush_error, removal_error, answer_to}
-use Rattle.codec_model.specs.Shown.{shown_at, word_of_task, rejection}
-use Rattle.codec_follow.specs.Events.{call_events, task_events, noted}
+use Rattle.codec_model.specs.Replay.{State, missing_coder, entry_of, removal_entry, removal_error, answer_to, turn_step}
 use Rattle.codec_core.specs.Codec.{Codec, item_parts, state_at, Makes, KeepsRunning, kept_box, handed_back, closes_now}
 use Rattle.codec_core.specs.Job.{JobValue, DoneValue, IsJobOf, EndsBy, outcome_of, stopped_box, missing_id}
-use Rattle.codec_core.proofs.Laws.{makes_shows, job_stays}
-use Rattle.trace_text.specs.Follow.{BoxOut, Holding, outcome_for}
-use Rattle.wc_replay.specs.Boxes.{IsRefused, filled_slots, filled_holding}
-use Rattle.wc_replay.specs.Desk.{DeskValue, JobMatches, IsDesk, moved, state_of, next_by, box_out, box_of, holding_of, holding_with, left_by, let_go, left_unless, let_go_unless, left_if, let_go_if, kept_by, back_by, after_start, start_slots, started_with, slots_with, after_removal, removal_box, turned_by, after_turn, box_by_turn, turn_box, after_reclaim, reclaim_box, after_done, done_box, shown_where, shown_by_turn}
+use Rattle.codec_accounts.specs.Boxes.{Act, Asks, Begins, Ends, Removes, Other, act_of, lacking, start_act, removal_act, closes_codec}
+use Rattle.codec_accounts.specs.Registry.{BoxOut}
+use Rattle.codec_accounts.specs.Codec.{Holding, nothing_held, CodecValue, state_of, next_by, BoxStep, Keep, Give, Renew, is_old, box_step, give_of, after_give, after_ask, slots_after, holding_after, step_by, after_entry, slots_by, IsGivable}
+use Rattle.trace_text.specs.Follow.{outcome_for, start_entry, end_of, done_entry, turn_on, turn_entry, reclaim_entry}
+use Rattle.wc_replay.specs.Desk as desk
+use Rattle.wc_replay.specs.Desk.{box_out, holding_with, box_of, holding_of, JobMatches, LacksBox, IsRefused, IsDesk, more, renewal, codec_by, registry_by}
 
-pub record HasBox (job : Option JobValue) (refusal : Option ℕ) (slot : Option Lent) : Type 0 where
-  pub refused : IsRefused job refusal
-  pub away : is_some job ≡ true → slot ≡ None
+-- what contracts see
+abbrev pub seen : Codec → Option JobValue → Option ℕ → CodecValue
+seen core job refusal = record { opening = core.opening; history = core.history; holding = holding_of core.slot job refusal }
 
-pub desk_more : (old new : Codec) (e : Entry) (job job' : Option JobValue) (refusal refusal' : Option ℕ) (shown : List Shown) (x : Shown) → IsDesk old job refusal shown → Makes old new e → x ≡ shown_at e (state_at old) → JobMatches (state_at new) job' → HasBox job' refusal' new.slot → IsDesk new job' refusal' (shown ++ x ∷ [])
-desk_more old new e job job' refusal refusal' shown x desk made is matches box = record {
-  shows = ap (λ (y : Shown). shown ++ y ∷ []) is ∙ (ap (λ (ys : List Shown). ys ++ shown_at e (state_at old) ∷ []) desk.shows ∙ sym (makes_shows old new e made));
-  legal = made.legal;
-  matches = matches;
-  refused = box.refused;
-  away = box.away;
+same_codec : (o p : Opening) (h i : List Entry) (x y : Holding) → o ≡ p → h ≡ i → x ≡ y → ◌≡◌ {A = CodecValue} (record { opening = o; history = h; holding = x }) (record { opening = p; history = i; holding = y })
+same_codec o p h i x y a b c = cc
+
+-- one more entry
+pub seen_more : (old new : Codec) (e : Entry) (job job' : Option JobValue) (refusal refusal' : Option ℕ) (h : Holding) → Makes old new e → holding_of new.slot job' refusal' ≡ h → seen new job' refusal' ≡ record { opening = old.opening; history = old.history ++ e ∷ []; holding = h }
+seen_more old new e job job' refusal refusal' h made is = same_codec _ _ _ _ _ _ made.same_opening made.longer is
+
+job_stays : (s t : State) (job : JobValue) → KeepsRunning s t → IsJobOf s job → IsJobOf t job
+job_stays s t job keeps is = record {
+  running = is.running;
+  is_running = keeps.same_running ∙ is.is_running;
+  same_epoch = is.same_epoch;
+  same_number = is.same_number;
+  same_kind = is.same_kind;
+  given = rw keeps.same_given is.given;
 }
 
--- what is known of the box that a desk holds
-pub has_box : (core : Codec) (job : Option JobValue) (refusal : Option ℕ) (shown : List Shown) → IsDesk core job refusal shown → HasBox job refusal core.slot
-has_box core job refusal shown desk = record { refused = desk.refused; away = desk.away }
-
--- a slot that was kept or emptied is still away while an item is running
-pub kept_away : (stays : Bool) (slot : Option Lent) (job : Option JobValue) → (is_some job ≡ true → slot ≡ None) → is_some job ≡ true → kept_box stays slot ≡ None
-kept_away true slot job away out = away out
-kept_away false slot job away out = refl
-
-pub box_stays : (stays : Bool) (slot new : Option Lent) (job : Option JobValue) (refusal : Option ℕ) → HasBox job refusal slot → new ≡ kept_box stays slot → HasBox job refusal new
-box_stays stays slot new job refusal box is = record { refused = box.refused; away = λ out. is ∙ kept_away stays slot job box.away out }
-
--- places for more calls change nothing that a desk speaks of
-pub desk_reserved : (old mid : Codec) (n : ℕ) (job : Option JobValue) (refusal : Option ℕ) (shown : List Shown) → mid ≡ record old { spare = n } → IsDesk old job refusal shown → IsDesk mid job refusal shown
-desk_reserved old mid n job refusal shown is desk =
-    subst (λ (c : Codec). IsDesk c job refusal shown) (sym is) (record { shows = desk.shows; legal = desk.legal; matches = desk.matches; refused = desk.refused; away = desk.away })
-
-pub job_matches : (s t : State) (job : Option JobValue) → KeepsRunning s t → JobMatches s job → JobMatches t job
+job_matches : (s t : State) (job : Option JobValue) → KeepsRunning s t → JobMatches s job → JobMatches t job
 job_matches s t None keeps matches = keeps.same_running ∙ matches
 job_matches s t (Some job) keeps matches = job_stays s t job keeps matches
 
--- what a task shows where it runs
-pub task_shown : (s : State) (t : Task) (ts : List Task) → s.control.tasks ≡ t ∷ ts → record { turn = Some (word_of_task t); events = task_events t (length s.control.shown) s.control.pending } ≡ shown_at entry.Turn s
-task_shown s task.Unblock ts is = rw is refl
-task_shown s task.Process ts is = rw is refl
-task_shown s task.Desaturate ts is = rw is refl
-task_shown s (task.Output units) ts is = rw is refl
-task_shown s (task.Flushed promise units) ts is = rw is refl
-task_shown s task.Dequeue ts is = rw is refl
-task_shown s (task.Close error) ts is = rw is refl
+kept_away : (stays : Bool) (slot : Option Lent) (job : Option JobValue) → (is_some job ≡ true → slot ≡ None) → is_some job ≡ true → kept_box stays slot ≡ None
+kept_away true slot job away out = away out
+kept_away false slot job away out = refl
 
--- what a call shows
-pub call_shown : (s : State) (who : Who) (x : Call) (place : ℕ) → s.control.place ≡ place → noted (call_events x place (call_error x s.control)) ≡ shown_at (entry_of who x) s
-call_shown s who (call.Configure config) place at = refl
-call_shown s who (call.Decode chunk) place at = refl
-call_shown s who call.Flush place at = ap (λ (n : ℕ). noted (rejection n (flush_error s.control))) (sym at)
+-- an entry that keeps the running item keeps a desk
+pub desk_stays : (old new : Codec) (e : Entry) (job : Option JobValue) (refusal : Option ℕ) (stays : Bool) → IsDesk old job refusal → Makes old new e → KeepsRunning (state_at old) (state_at new) → new.slot ≡ kept_box stays old.slot → IsDesk new job refusal
+desk_stays old new e job refusal stays d made keeps slot = record {
+  legal = made.legal;
+  matches = job_matches (state_at old) (state_at new) job keeps d.matches;
+  refused = d.refused;
+  away = λ out. slot ∙ kept_away stays old.slot job d.away out;
+}
+
+-- places for more calls change nothing that a desk speaks of
+pub desk_reserved : (old mid : Codec) (n : ℕ) (job : Option JobValue) (refusal : Option ℕ) → mid ≡ record old { spare = n } → IsDesk old job refusal → IsDesk mid job refusal
+desk_reserved old mid n job refusal is d = subst (λ (c : Codec). IsDesk c job refusal) (sym is) (record { legal = d.legal; matches = d.matches; refused = d.refused; away = d.away })
+
+pub seen_reserved : (old mid : Codec) (n : ℕ) (job : Option JobValue) (refusal : Option ℕ) → mid ≡ record old { spare = n } → seen mid job refusal ≡ seen old job refusal
+seen_reserved old mid n job refusal is = ap (λ (c : Codec). seen c job refusal) is
+
+-- ---- boxes that stay or go back
+
+stopped_out : (slot : Option Lent) → option_map box_out (stopped_box slot) ≡ option_map box_out slot
+stopped_out None = refl
+stopped_out (Some lent) = refl
+
+-- the box that a step without an acquire lets go
+abbrev pub given_by : BoxStep → Option BoxOut → Option BoxOut
+given_by Keep box = None
+given_by Give box = box
+given_by (Renew id) box = box
+
+-- a removal, where it is one
+part_holding : (goes : Bool) (slot : Option Lent) (job : Option JobValue) (refusal : Option ℕ) (s : State) (cause : By) (slots : SlotsValue) → JobMatches s job → IsRefused job refusal
+    → holding_of (kept_box (not goes) slot) job refusal ≡ holding_after cause (box_step (removal_act goes) s.control refusal) (holding_of slot job refusal) slots
+part_holding false slot job refusal s cause slots matches refused = refl
+part_holding true slot None refusal s cause slots matches refused = rw (matches, refused) refl
+part_holding true slot (Some job) refusal s cause slots matches refused = rw matches.is_running refl
+
+part_box : (goes : Bool) (slot : Option Lent) (job : Option JobValue) (refusal : Option ℕ) (s : State) → JobMatches s job → (is_some job ≡ true → slot ≡ None)
+    → option_map box_out (handed_back (not goes) slot) ≡ given_by (box_step (removal_act goes) s.control refusal) (box_of slot job)
+part_box false slot job refusal s matches away = refl
+part_box true slot None refusal s matches away = rw matches (stopped_out slot)
+part_box true slot (Some job) refusal s matches away = rw (matches.is_running, away refl) refl
+
+-- a step that asks for nothing lets go what it gives
+no_ask : (goes : Bool) (c : Control) (refusal : Option ℕ) (id : CoderId) → box_step (removal_act goes) c refusal ≡ Renew id → ⊥
+no_ask false c refusal id is = absurd cc
+no_ask true c refusal id is = by_run (is_some c.running) is
+  where
+    by_run : (b : Bool) → cond b Keep Give ≡ Renew id → ⊥
+    by_run true h = absurd cc
+    by_run false h = absurd cc
+
+gave : (b : BoxStep) (cause : By) (box : Option BoxOut) (s : SlotsValue) → ((id : CoderId) → b ≡ Renew id → ⊥) → after_give cause (given_by b box) s ≡ slots_after cause b box s
+gave Keep cause box s none = ap (λ (l : List SlotEntry). record s { history = l }) (append-nil s.history)
+gave Give cause box s none = refl
+gave (Renew id) cause box s none = absurd (none id refl)
+
+givable_part : (b : BoxStep) (history : List SlotEntry) (cause : By) (box : Option BoxOut) → IsGivable history cause box → IsGivable history cause (given_by b box)
+givable_part Keep history cause box is = tt
+givable_part Give history cause box is = is
+givable_part (Renew id) history cause box is = is
+
+-- What becomes of a codec by an entry that is a removal or leaves its box alone.
+pub record Parts (k : ℕ) (e : Entry) (old new : Codec) (job : Option JobValue) (refusal : Option ℕ) (goes : Bool) : Type 0 where
+  pub desk : IsDesk new job refusal
+  pub codec : (s : SlotsValue) → seen new job refusal ≡ after_entry k e s (seen old job refusal)
+  pub givable : (history : List SlotEntry) (place : ℕ) (box : Option BoxOut) → place ≡ length old.history → box ≡ option_map box_out (handed_back (not goes) old.slot) → IsGivable history (next_by k (seen old job refusal)) (seen old job refusal).holding.box → IsGivable history (by.Codec k place) box
+  pub registry : (s : SlotsValue) (place : ℕ) (box : Option BoxOut) → place ≡ length old.history → box ≡ option_map box_out (handed_back (not goes) old.slot) → after_give (by.Codec k place) box s ≡ slots_by k e s (seen old job refusal)
+
+pub parts_of : (k : ℕ) (e : Entry) (old new : Codec) (job : Option JobValue) (refusal : Option ℕ) (goes : Bool) → IsDesk old job refusal → Makes old new e → KeepsRunning (state_at old) (state_at new) → act_of e (state_at old) ≡ removal_act goes → new.slot ≡ kept_box (not goes) old.slot
+    → Parts k e old new job refusal goes
+parts_of k e old new job refusal goes d made keeps act slot =
+    let t = state_at old in
+    let h = holding_of old.slot job refusal in
+    let step : step_by e (seen old job refusal) ≡ box_step (removal_act goes) t.control refusal = ap (λ (a : Act). box_step a t.control refusal) act in
+    let lets : option_map box_out (handed_back (not goes) old.slot) ≡ given_by (box_step (removal_act goes) t.control refusal) h.box = part_box goes old.slot job refusal t d.matches d.away in
+    record {
+      desk = desk_stays old new e job refusal (not goes) d made keeps slot;
+      codec = λ s. seen_more old new e job job refusal refusal (holding_after (next_by k (seen old job refusal)) (step_by e (seen old job refusal)) h s) made
+          (ap (λ (x : Option Lent). holding_of x job refusal) slot
+          ∙ (part_holding goes old.slot job refusal t (next_by k (seen old job refusal)) s d.matches d.refused
+          ∙ ap (λ (b : BoxStep). holding_after (next_by k (seen old job refusal)) b h s) (sym step)));
+      givable = λ history place box at is may.
+          subst (λ (n : ℕ). IsGivable history (by.Codec k n) box) (sym at) (subst (λ (b : Option BoxOut). IsGivable history (next_by k (seen old job refusal)) b) (sym (is ∙ lets))
+          (givable_part (box_step (removal_act goes) t.control refusal) history (next_by k (seen old job refusal)) h.box may));
+      registry = λ s place box at is.
+          ap (λ (n : ℕ). after_give (by.Codec k n) box s) at
+          ∙ (ap (λ (b : Option BoxOut). after_give (next_by k (seen old job refusal)) b s) (is ∙ lets)
+          ∙ (gave (box_step (removal_act goes) t.control refusal) (next_by k (seen old job refusal)) h.box s (no_ask goes t.control refusal)
+          ∙ ap (λ (b : BoxStep). slots_after (next_by k (seen old job refusal)) b h.box s) (sym step)));
+    }
+
+-- ---- which entries are removals
+
+pub call_act : (who : Who) (x : Call) (t : State) → act_of (entry_of who x) t ≡ Other
+call_act who (call.Configure config) t = refl
+call_act who (call.Decode chunk) t = refl
+call_act who call.Flush t = refl
+
+pub removal_goes : (who : Who) (r : Removal) (t : State) → act_of (removal_entry who r) t ≡ removal_act (is_none (removal_error t.control))
+removal_goes who removal.Reset t = refl
+removal_goes who removal.Close t = refl
+
+none_some : {X : Type 0} (o : Option X) → is_some o ≡ not (is_none o)
+none_some None = refl
+none_some (Some x) = refl
+
+pub removal_keeps : (o : Option DomError) (slot : Option Lent) → kept_box (is_some o) slot ≡ kept_box (not (is_none o)) slot
+removal_keeps o slot = ap (λ (b : Bool). kept_box b slot) (none_some o)
+
+pub removal_hands : (o : Option DomError) (slot : Option Lent) → handed_back (is_some o) slot ≡ handed_back (not (is_none o)) slot
+removal_hands o slot = ap (λ (b : Bool). handed_back b slot) (none_some o)
+
+pub turn_goes : (t : State) → act_of entry.Turn t ≡ removal_act (closes_now t.control)
+turn_goes t = ap removal_act (sym (closes t.control.tasks refl))
+  where
+    closes : (ts : List Task) → t.control.tasks ≡ ts → closes_now t.control ≡ closes_codec t.control.tasks
+    closes [] is = rw is refl
+    closes (x ∷ ts) is = rw is refl
+
+-- a call leaves the codec's box alone
+pub call_keeps : (k : ℕ) (who : Who) (x : Call) (s : SlotsValue) (d : CodecValue) → (after_entry k (entry_of who x) s d ≡ more (entry_of who x) d) × (slots_by k (entry_of who x) s d ≡ s)
+call_keeps k who (call.Configure config) s d = (refl, refl)
+call_keeps k who (call.Decode chunk) s d = (refl, refl)
+call_keeps k who call.Flush s d = (refl, refl)
+
+-- ---- what is done where there is nothing to do
+
+pub no_turn : (d : CodecValue) → (state_of d).control.tasks ≡ [] → turn_entry d ≡ None
+no_turn d is = ap turn_on is
+
+pub turn_there : (old new : Codec) (job : Option JobValue) (refusal : Option ℕ) → Makes old new entry.Turn → turn_entry (seen old job refusal) ≡ Some entry.Turn
+turn_there old new job refusal made = by_tasks (state_at old).control.tasks refl
+  where
+    by_tasks : (ts : List Task) → (state_at old).control.tasks ≡ ts → turn_entry (seen old job refusal) ≡ Some entry.Turn
+    by_tasks [] is = absurd (let bad = sym (ap (λ (l : List Task). turn_step l (state_at old)) is) ∙ made.steps in cc)
+    by_tasks (t ∷ ts) is = ap turn_on is
+
+pub no_reclaim : (d : CodecValue) (moment : ℕ) → may_reclaim moment (state_of d).control ≡ false → reclaim_entry moment d ≡ None
+no_reclaim d moment is = ap (λ (b : Bool). cond b (Some (entry.Reclaim moment)) None) is
+
+may_by : (b : Bool) (s t : State) → cond b (Some s) None ≡ Some t → b ≡ true
+may_by true s t h = refl
+may_by false s t h = absurd cc
+
+pub reclaim_there : (old new : Codec) (moment : ℕ) (job : Option JobValue) (refusal : Option ℕ) → Makes old new (entry.Reclaim moment) → reclaim_entry moment (seen old job refusal) ≡ Some (entry.Reclaim moment)
+reclaim_there old new moment job refusal made = ap (λ (b : Bool). cond b (Some (entry.Reclaim moment)) None) (may_by (may_reclaim moment (state_at old).control) _ (state_at new) made.steps)
+
+pub no_start : (d : CodecValue) → start_item (state_of d).control ≡ None → start_entry d ≡ None
+no_start d is = ap (λ o. option_map (λ (i : Item). entry.Start (state_of d).control.epoch i.number) o) is
+
+pub no_done : (wants : Bool) (moment : ℕ) (d : CodecValue) → (state_of d).control.running ≡ None → done_entry wants moment d ≡ None
+no_done wants moment d is = ap (λ o. option_map (end_of wants moment d.holding.refusal (state_of d).running_given) o) is
+
+-- nothing was made
+pub makes_none : (k : ℕ) (o : Option Entry) (s : SlotsValue) (d new : CodecValue) → o ≡ None → new ≡ d → desk.Makes k o s s d new
+makes_none k o s d new is same = record {
+  codec = same ∙ sym (ap (λ (x : Option Entry). codec_by k x s d) is);
+  registry = sym (ap (λ (x : Option Entry). registry_by k x s d) is);
+}
+
+pub makes_some : (k : ℕ) (o : Option Entry) (e : Entry) (s next : SlotsValue) (d new : CodecValue) → o ≡ Some e → new ≡ after_entry k e s d → next ≡ slots_by k e s d → desk.Makes k o s next d new
+makes_some k o e s next d new is codec registry = record {
+  codec = codec ∙ sym (ap (λ (x : Option Entry). codec_by k x s d) is);
+  registry = registry ∙ sym (ap (λ (x : Option Entry). registry_by k x s d) is);
+}
+
+-- what a desk made, said of what contracts see of it
+pub makes_seen : (k : ℕ) (o : CodecValue → Option Entry) (s next : SlotsValue) (c d new : CodecValue) → c ≡ d → desk.Makes k (o c) s next c new → desk.Makes k (o d) s next d new
+makes_seen k o s next c d new is made = subst (λ (x : CodecValue). desk.Makes k (o x) s next x new) is made
+
+-- ---- ends
 
 -- an end by the definition's answer is the outcome of that answer, or memory was wanted
 pub outcome_is : (answer : Option (List media.Unit)) (e : Ended) → EndsBy answer e → (wants : Bool) × (outcome_of e ≡ outcome_for wants None answer)
@@ -91,179 +242,65 @@ outcome_is answer ended.Refused is = (false, rw is refl)
 outcome_is answer (ended.NoSlot entry) is = absurd is
 outcome_is answer ended.NoMemory is = (true, refl)
 
--- ---- boxes
+abbrev with_box : Option BoxOut → Holding
+with_box x = record { box = x; refusal = None }
 
-pub stopped_out : (slot : Option Lent) → option_map box_out (stopped_box slot) ≡ option_map box_out slot
-stopped_out None = refl
-stopped_out (Some lent) = refl
+-- the box of an end: it stays with its codec, unless a new epoch began or it was refused
+end_holding : (b : Bool) (refusal : Option ℕ) (slot coder : Option Lent) (job : JobValue) (cause : By) (s : SlotsValue) → option_map box_out coder ≡ option_map box_out job.coder → LacksBox job refusal
+    → holding_of (kept_box b coder) None None ≡ holding_after cause (cond (not b || is_some refusal) Give Keep) (holding_of slot (Some job) refusal) s
+end_holding false refusal slot coder job cause s is lacks = refl
+end_holding true None slot coder job cause s is lacks = ap with_box is
+end_holding true (Some n) slot coder job cause s is lacks = ap with_box (is ∙ ap (option_map box_out) lacks.1)
 
--- a box that stays or goes, as its codec's holding has it
-pub parted : (stays : Bool) (slot : Option Lent) (job : Option JobValue) (refusal : Option ℕ) (s : State) → JobMatches s job → HasBox job refusal slot → holding_of (kept_box stays slot) job refusal ≡ cond stays (holding_of slot job refusal) (left_by s.control.running (holding_of slot job refusal))
-parted true slot job refusal s matches box = refl
-parted false slot None refusal s matches box = rw (matches, box.refused) refl
-parted false slot (Some job) refusal s matches box = rw matches.is_running refl
+end_box : (b : Bool) (refusal : Option ℕ) (coder : Option Lent) (job : JobValue) → option_map box_out coder ≡ option_map box_out job.coder → LacksBox job refusal
+    → option_map box_out (handed_back b coder) ≡ given_by (cond (not b || is_some refusal) Give Keep) (option_map box_out job.coder)
+end_box false refusal coder job is lacks = stopped_out coder ∙ is
+end_box true None coder job is lacks = refl
+end_box true (Some n) coder job is lacks = sym (ap (option_map box_out) lacks.1)
 
-pub parted_box : (stays : Bool) (slot : Option Lent) (job : Option JobValue) (refusal : Option ℕ) (s : State) → JobMatches s job → HasBox job refusal slot → option_map box_out (handed_back stays slot) ≡ cond stays None (let_go s.control.running (holding_of slot job refusal))
-parted_box true slot job refusal s matches box = refl
-parted_box false slot None refusal s matches box = rw matches (stopped_out slot)
-parted_box false slot (Some job) refusal s matches box = rw (matches.is_running, box.away refl) refl
-
-unless : (error : Option DomError) (running : Option Running) (h : Holding) → cond (is_some error) h (left_by running h) ≡ left_unless error running h
-unless None running h = refl
-unless (Some error) running h = refl
-
-unless_box : (error : Option DomError) (running : Option Running) (h : Holding) → cond (is_some error) None (let_go running h) ≡ let_go_unless error running h
-unless_box None running h = refl
-unless_box (Some error) running h = refl
-
-if_closes : (b : Bool) (running : Option Running) (h : Holding) → cond (not b) h (left_by running h) ≡ left_if b running h
-if_closes true running h = refl
-if_closes false running h = refl
-
-if_closes_box : (b : Bool) (running : Option Running) (h : Holding) → cond (not b) None (let_go running h) ≡ let_go_if b running h
-if_closes_box true running h = refl
-if_closes_box false running h = refl
-
--- ---- what contracts see
-
-abbrev pub seen : Codec → Option JobValue → Option ℕ → DeskValue
-seen core job refusal = record { opening = core.opening; history = core.history; holding = holding_of core.slot job refusal }
-
-pub seen_reserved : (old mid : Codec) (n : ℕ) (job : Option JobValue) (refusal : Option ℕ) → mid ≡ record old { spare = n } → seen mid job refusal ≡ seen old job refusal
-seen_reserved old mid n job refusal is = ap (λ (c : Codec). seen c job refusal) is
-
-same_desk : (o p : Opening) (h i : List Entry) (x y : Holding) → o ≡ p → h ≡ i → x ≡ y → ◌≡◌ {A = DeskValue} (record { opening = o; history = h; holding = x }) (record { opening = p; history = i; holding = y })
-same_desk o p h i x y a b c = cc
-
--- one more entry
-pub seen_moved : (old new : Codec) (e : Entry) (job job' : Option JobValue) (refusal refusal' : Option ℕ) (h : Holding) → Makes old new e → holding_of new.slot job' refusal' ≡ h → seen new job' refusal' ≡ moved e h (seen old job refusal)
-seen_moved old new e job job' refusal refusal' h made is = same_desk _ _ _ _ _ _ made.same_opening made.longer is
-
--- a caller's reset or close
-pub seen_removed : (old new : Codec) (e : Entry) (job : Option JobValue) (refusal : Option ℕ) → JobMatches (state_at old) job → HasBox job refusal old.slot → Makes old new e → new.slot ≡ kept_box (is_some (removal_error (state_at old).control)) old.slot → seen new job refusal ≡ after_removal e (seen old job refusal)
-seen_removed old new e job refusal matches box made slot =
-    let s = state_at old in
-    seen_moved old new e job job refusal refusal _ made
-    (ap (λ (x : Option Lent). holding_of x job refusal) slot ∙ (parted (is_some (removal_error s.control)) old.slot job refusal s matches box ∙ unless (removal_error s.control) s.control.running (holding_of old.slot job refusal)))
-
-pub removed_box : (old : Codec) (job : Option JobValue) (refusal : Option ℕ) → JobMatches (state_at old) job → HasBox job refusal old.slot → option_map box_out (handed_back (is_some (removal_error (state_at old).control)) old.slot) ≡ removal_box (seen old job refusal)
-removed_box old job refusal matches box =
-    let s = state_at old in
-    parted_box (is_some (removal_error s.control)) old.slot job refusal s matches box ∙ unless_box (removal_error s.control) s.control.running (holding_of old.slot job refusal)
-
--- a turn
-turned_on : (old new : Codec) (job : Option JobValue) (refusal : Option ℕ) (ts : List Task) (x : Shown) → (state_at old).control.tasks ≡ ts → is_some (shown_where ts x) ≡ true → JobMatches (state_at old) job → HasBox job refusal old.slot → Makes old new entry.Turn → new.slot ≡ kept_box (not (closes_now (state_at old).control)) old.slot → seen new job refusal ≡ turned_by ts (seen old job refusal)
-turned_on old new job refusal [] x is there matches box made slot = absurd cc
-turned_on old new job refusal (t ∷ ts) x is there matches box made slot =
-    let s = state_at old in
-    let closes : closes_now s.control ≡ is_close t = rw is refl in
-    seen_moved old new entry.Turn job job refusal refusal _ made
-    (ap (λ (y : Option Lent). holding_of y job refusal) (slot ∙ ap (λ (b : Bool). kept_box (not b) old.slot) closes)
-    ∙ (parted (not (is_close t)) old.slot job refusal s matches box ∙ if_closes (is_close t) s.control.running (holding_of old.slot job refusal)))
-
-pub seen_turned : (old new : Codec) (job : Option JobValue) (refusal : Option ℕ) → is_some (shown_by_turn (state_at old)) ≡ true → JobMatches (state_at old) job → HasBox job refusal old.slot → Makes old new entry.Turn → new.slot ≡ kept_box (not (closes_now (state_at old).control)) old.slot → seen new job refusal ≡ after_turn (seen old job refusal)
-seen_turned old new job refusal there matches box made slot = turned_on old new job refusal (state_at old).control.tasks (shown_at entry.Turn (state_at old)) refl there matches box made slot
-
-turned_box_on : (old : Codec) (job : Option JobValue) (refusal : Option ℕ) (ts : List Task) (x : Shown) → (state_at old).control.tasks ≡ ts → is_some (shown_where ts x) ≡ true → JobMatches (state_at old) job → HasBox job refusal old.slot → option_map box_out (handed_back (not (closes_now (state_at old).control)) old.slot) ≡ box_by_turn ts (seen old job refusal)
-turned_box_on old job refusal [] x is there matches box = absurd cc
-turned_box_on old job refusal (t ∷ ts) x is there matches box =
-    let s = state_at old in
-    let closes : closes_now s.control ≡ is_close t = rw is refl in
-    ap (λ (b : Bool). option_map box_out (handed_back (not b) old.slot)) closes
-    ∙ (parted_box (not (is_close t)) old.slot job refusal s matches box ∙ if_closes_box (is_close t) s.control.running (holding_of old.slot job refusal))
-
-pub turned_box : (old : Codec) (job : Option JobValue) (refusal : Option ℕ) → is_some (shown_by_turn (state_at old)) ≡ true → JobMatches (state_at old) job → HasBox job refusal old.slot → option_map box_out (handed_back (not (closes_now (state_at old).control)) old.slot) ≡ turn_box (seen old job refusal)
-turned_box old job refusal there matches box = turned_box_on old job refusal (state_at old).control.tasks (shown_at entry.Turn (state_at old)) refl there matches box
-
-no_turn_on : (d : DeskValue) (ts : List Task) (x : Shown) → None ≡ shown_where ts x → (turned_by ts d ≡ d) × (box_by_turn ts d ≡ None)
-no_turn_on d [] x is = (refl, refl)
-no_turn_on d (t ∷ ts) x is = absurd cc
-
-pub not_turned : (d : DeskValue) → None ≡ shown_by_turn (state_of d) → (after_turn d ≡ d) × (turn_box d ≡ None)
-not_turned d is = no_turn_on d (state_of d).control.tasks (shown_at entry.Turn (state_of d)) is
-
--- a reclaim
-pub seen_reclaimed : (old new : Codec) (moment : ℕ) (job : Option JobValue) (refusal : Option ℕ) → may_reclaim moment (state_at old).control ≡ true → JobMatches (state_at old) job → HasBox job refusal old.slot → Makes old new (entry.Reclaim moment) → new.slot ≡ None → seen new job refusal ≡ after_reclaim moment (seen old job refusal)
-seen_reclaimed old new moment job refusal may matches box made slot =
-    let d = seen old job refusal in
-    seen_moved old new (entry.Reclaim moment) job job refusal refusal _ made
-    (ap (λ (x : Option Lent). holding_of x job refusal) slot ∙ parted false old.slot job refusal (state_at old) matches box)
-    ∙ sym (ap (λ (b : Bool). cond b (moved (entry.Reclaim moment) (left_by (state_at old).control.running d.holding) d) d) may)
-
-pub reclaimed_box : (old : Codec) (moment : ℕ) (job : Option JobValue) (refusal : Option ℕ) → may_reclaim moment (state_at old).control ≡ true → JobMatches (state_at old) job → HasBox job refusal old.slot → option_map box_out (stopped_box old.slot) ≡ reclaim_box moment (seen old job refusal)
-reclaimed_box old moment job refusal may matches box =
-    let d = seen old job refusal in
-    parted_box false old.slot job refusal (state_at old) matches box
-    ∙ sym (ap (λ (b : Bool). cond b (let_go (state_at old).control.running d.holding) None) may)
-
--- a reclaim that was made was lawful
-may_by : (b : Bool) (s t : State) → cond b (Some s) None ≡ Some t → b ≡ true
-may_by true s t h = refl
-may_by false s t h = absurd cc
-
-pub reclaim_may : (old new : Codec) (moment : ℕ) → Makes old new (entry.Reclaim moment) → may_reclaim moment (state_at old).control ≡ true
-reclaim_may old new moment made = may_by (may_reclaim moment (state_at old).control) _ (state_at new) made.steps
-
-pub not_reclaimed : (d : DeskValue) (moment : ℕ) → may_reclaim moment (state_of d).control ≡ false → (after_reclaim moment d ≡ d) × (reclaim_box moment d ≡ None)
-not_reclaimed d moment may = (rw may refl, rw may refl)
-
--- an end
-pub kept_as : (b : Bool) (slot coder : Option Lent) (job : JobValue) (refusal : Option ℕ) → option_map box_out coder ≡ option_map box_out job.coder → holding_of (kept_box b coder) None None ≡ kept_by b (holding_of slot (Some job) refusal)
-kept_as true slot coder job refusal is = with_none (option_map box_out coder) (option_map box_out job.coder) is
+not_end : (b : Bool) (refusal : Option ℕ) (id : CoderId) → cond (not b || is_some refusal) Give Keep ≡ Renew id → ⊥
+not_end b refusal id is = by_bool (not b || is_some refusal) is
   where
-    with_none : (x y : Option BoxOut) → x ≡ y → ◌≡◌ {A = Holding} (record { box = x; refusal = None }) (record { box = y; refusal = None })
-    with_none x y is = cc
-kept_as false slot coder job refusal is = refl
+    by_bool : (c : Bool) → cond c Give Keep ≡ Renew id → ⊥
+    by_bool true h = absurd cc
+    by_bool false h = absurd cc
 
-pub back_as : (b : Bool) (slot coder : Option Lent) (job : JobValue) (refusal : Option ℕ) → option_map box_out coder ≡ option_map box_out job.coder → option_map box_out (handed_back b coder) ≡ back_by b (holding_of slot (Some job) refusal)
-back_as true slot coder job refusal is = refl
-back_as false slot coder job refusal is = stopped_out coder ∙ is
-
-pub shown_there : (ts : List Task) (x y : Shown) → shown_where ts x ≡ Some y → y ≡ x
-shown_there [] x y is = absurd cc
-shown_there (t ∷ ts) x y is = cc
-
--- what the next turn shows, by the front task
-pub turn_by_task : (s : State) (ts : List Task) (t : Task) → s.control.tasks ≡ ts → front ts ≡ Some t → Some (record { turn = Some (word_of_task t); events = task_events t (length s.control.shown) s.control.pending }) ≡ shown_by_turn s
-turn_by_task s [] t is at = absurd cc
-turn_by_task s (x ∷ xs) t is at =
-    let same : x ≡ t = cc in
-    let there : s.control.tasks ≡ t ∷ xs = is ∙ ap (λ (y : Task). y ∷ xs) same in
-    ap (λ (y : Shown). Some y) (task_shown s t xs there) ∙ sym (ap (λ (ys : List Task). shown_where ys (shown_at entry.Turn s)) there)
-
-pub no_turn : (s : State) (ts : List Task) → s.control.tasks ≡ ts → front ts ≡ None → None ≡ shown_by_turn s
-no_turn s [] is at = sym (ap (λ (ys : List Task). shown_where ys (shown_at entry.Turn s)) is)
-no_turn s (x ∷ xs) is at = absurd cc
-
-pub on_ok : {T E : Type 0} (r : Result T E) (P : Type 0) → P → OnOk r P
-on_ok (Ok x) P p = p
-on_ok (Err e) P p = tt
-
-pub seen_done : (old new : Codec) (job : JobValue) (d : DoneValue) (refusal : Option ℕ) (moment : ℕ) (wants : Bool) → IsJobOf (state_at old) job → d.epoch ≡ job.epoch → d.number ≡ job.number → outcome_of d.ended ≡ outcome_for wants refusal (answer_to (kind_of job.work) (state_at old).running_given) → option_map box_out d.coder ≡ option_map box_out job.coder → Makes old new (entry.Done d.epoch d.number moment (outcome_of d.ended)) → new.slot ≡ kept_box (d.epoch == (state_at old).control.epoch) d.coder → seen new None None ≡ after_done wants moment (seen old (Some job) refusal)
-seen_done old new job d refusal moment wants is epoch number ends box made slot =
-    let s = state_at old in
-    let h = holding_of old.slot (Some job) refusal in
-    let there = seen_moved old new (entry.Done d.epoch d.number moment (outcome_of d.ended)) (Some job) None refusal None (kept_by (d.epoch == s.control.epoch) h) made
-    (ap (λ (x : Option Lent). holding_of x None None) slot ∙ kept_as (d.epoch == s.control.epoch) old.slot d.coder job refusal box) in
-    there ∙ rw (is.is_running, is.same_epoch, is.same_number, is.same_kind, epoch, number)
-    (ap (λ (o : Outcome). moved (entry.Done job.epoch job.number moment o) (kept_by (job.epoch == s.control.epoch) h) (seen old (Some job) refusal)) ends)
-
-pub done_box_of : (old : Codec) (job : JobValue) (d : DoneValue) (refusal : Option ℕ) → IsJobOf (state_at old) job → d.epoch ≡ job.epoch → option_map box_out d.coder ≡ option_map box_out job.coder → option_map box_out (handed_back (d.epoch == (state_at old).control.epoch) d.coder) ≡ done_box (seen old (Some job) refusal)
-done_box_of old job d refusal is epoch box =
-    let s = state_at old in
-    back_as (d.epoch == s.control.epoch) old.slot d.coder job refusal box
-    ∙ rw (is.is_running, is.same_epoch, epoch) refl
-
-pub not_done : (d : DeskValue) (moment : ℕ) → (state_of d).control.running ≡ None → (d ≡ after_done false moment d) × (None ≡ done_box d)
-not_done d moment is = (rw is refl, rw is refl)
+-- the end of the running item
+pub ended_makes : (k : ℕ) (old new : Codec) (job : JobValue) (d : DoneValue) (refusal : Option ℕ) (moment : ℕ) (wants : Bool) (s next : SlotsValue) (place : ℕ) (back : Option Lent) → IsDesk old (Some job) refusal → d.epoch ≡ job.epoch → d.number ≡ job.number
+    → outcome_of d.ended ≡ outcome_for wants refusal (answer_to (kind_of job.work) (state_at old).running_given) → option_map box_out d.coder ≡ option_map box_out job.coder → Makes old new (entry.Done d.epoch d.number moment (outcome_of d.ended))
+    → new.slot ≡ kept_box (d.epoch == (state_at old).control.epoch) d.coder → place ≡ length old.history → back ≡ handed_back (d.epoch == (state_at old).control.epoch) d.coder → next ≡ after_give (by.Codec k place) (option_map box_out back) s
+    → desk.Makes k (done_entry wants moment (seen old (Some job) refusal)) s next (seen old (Some job) refusal) (seen new None None)
+ended_makes k old new job d refusal moment wants s next place back is epoch number ends box made slot at handed gave_back =
+    let t = state_at old in
+    let v = seen old (Some job) refusal in
+    let b = d.epoch == t.control.epoch in
+    let e = entry.Done d.epoch d.number moment (outcome_of d.ended) in
+    let runs = is.matches in
+    let entry_is : done_entry wants moment v ≡ Some e =
+    ap (λ (o : Option Running). option_map (end_of wants moment refusal t.running_given) o) runs.is_running
+    ∙ ap (λ x. Some x) (done_same runs.running.epoch job.epoch d.epoch runs.running.number job.number d.number moment (outcome_for wants refusal (answer_to runs.running.kind t.running_given)) (outcome_of d.ended)
+    runs.same_epoch epoch runs.same_number number (ap (λ q. outcome_for wants refusal (answer_to q t.running_given)) runs.same_kind ∙ sym ends)) in
+    let old_is : is_old t.control.running t.control.epoch ≡ not b = ap (λ (o : Option Running). is_old o t.control.epoch) runs.is_running ∙ ap (λ n. not (n == t.control.epoch)) (runs.same_epoch ∙ sym epoch) in
+    let step : step_by e v ≡ cond (not b || is_some refusal) Give Keep = ap (λ (c : Bool). cond (c || is_some refusal) Give Keep) old_is in
+    let codec : seen new None None ≡ after_entry k e s v =
+    seen_more old new e (Some job) None refusal None (holding_after (next_by k v) (step_by e v) v.holding s) made
+    (ap (λ (x : Option Lent). holding_of x None None) slot ∙ (end_holding b refusal old.slot d.coder job (next_by k v) s box is.refused ∙ ap (λ (c : BoxStep). holding_after (next_by k v) c v.holding s) (sym step))) in
+    let registry : next ≡ slots_by k e s v =
+    gave_back
+    ∙ (ap (λ (n : ℕ). after_give (by.Codec k n) (option_map box_out back) s) at
+    ∙ (ap (λ (x : Option BoxOut). after_give (next_by k v) x s) (ap (option_map box_out) handed ∙ end_box b refusal d.coder job box is.refused)
+    ∙ (gave (cond (not b || is_some refusal) Give Keep) (next_by k v) v.holding.box s (not_end b refusal)
+    ∙ ap (λ (c : BoxStep). slots_after (next_by k v) c v.holding.box s) (sym step)))) in
+    makes_some k (done_entry wants moment v) e s next v (seen new None None) entry_is codec registry
+  where
+    done_same : (a b c m n o moment : ℕ) (x y : Outcome) → a ≡ b → c ≡ b → m ≡ n → o ≡ n → x ≡ y → entry.Done a m moment x ≡ entry.Done c o moment y
+    done_same a b c m n o moment x y p q r s t = cc
 
 -- ---- starts
 
-pub idle_job : (s : State) (job : Option JobValue) (i : Item) → JobMatches s job → start_item s.control ≡ Some i → job ≡ None
+idle_job : (s : State) (job : Option JobValue) (i : Item) → JobMatches s job → start_item s.control ≡ Some i → job ≡ None
 idle_job s None i matches is = refl
-idle_job s (Some job) i matches is =
-    let may = may_of (may_start s.control) (front s.control.work) i is in
-    absurd (busy s.control matches.running matches.is_running may)
+idle_job s (Some job) i matches is = absurd (busy s.control matches.running matches.is_running (may_of (may_start s.control) (front s.control.work) i is))
   where
     may_of : (b : Bool) (o : Option Item) (x : Item) → cond b o None ≡ Some x → b ≡ true
     may_of true o x h = refl
@@ -280,47 +317,51 @@ pub record IsStarted (old : Codec) (job : JobValue) : Type 0 where
   pub coder : job.coder ≡ old.slot
   pub lacks : missing_id job ≡ missing_coder (state_at old).given job.work
 
-started_on : (o : Option Item) (made : List CoderId) (k : ℕ) (slots : List SlotEntry) (d : DeskValue) (n : ℕ) (w : Work) → option_map item_parts o ≡ Some (n, w) → (moved (entry.Start (state_of d).control.epoch n) (filled_holding made (next_by k d) (missing_coder (state_of d).given w) d.holding.box slots) d ≡ started_with made k slots o d) × (filled_slots made (next_by k d) (missing_coder (state_of d).given w) d.holding.box slots ≡ slots_with made k slots o d)
-started_on None made k slots d n w is = absurd cc
-started_on (Some i) made k slots d n w is =
-    let pair : (i.number, i.work) ≡ (n, w) = cc in (
-      ap (λ (x : ℕ × Work). moved (entry.Start (state_of d).control.epoch x.0) (filled_holding made (next_by k d) (missing_coder (state_of d).given x.1) d.holding.box slots) d) (sym pair),
-      ap (λ (x : ℕ × Work). filled_slots made (next_by k d) (missing_coder (state_of d).given x.1) d.holding.box slots) (sym pair),
-    )
-
-some_item : (o : Option Item) (n : ℕ) (w : Work) → option_map item_parts o ≡ Some (n, w) → (i : Item) × (o ≡ Some i)
+some_item : (o : Option Item) (n : ℕ) (w : Work) → option_map item_parts o ≡ Some (n, w) → (i : Item) × (o ≡ Some i) × (i.number ≡ n) × (i.work ≡ w)
 some_item None n w is = absurd cc
-some_item (Some i) n w is = (i, refl)
+some_item (Some i) n w is = (i, refl, ap number_of is, ap (λ o. work_of i.work o) is)
+  where
+    number_of : Option (ℕ × Work) → ℕ
+    number_of None = 0
+    number_of (Some x) = x.0
 
--- no job is out where a start finds an item
-pub none_out : (old : Codec) (job0 : Option JobValue) (job : JobValue) → JobMatches (state_at old) job0 → IsStarted old job → job0 ≡ None
-none_out old job0 job matches st =
-    let i = some_item (start_item (state_at old).control) job.number job.work st.item in
-    idle_job (state_at old) job0 i.0 matches i.1
+    work_of : Work → Option (ℕ × Work) → Work
+    work_of w None = w
+    work_of w (Some x) = x.1
 
--- the box that the job came with is the codec's
-pub came_with : (old : Codec) (job0 : Option JobValue) (refusal : Option ℕ) (job : JobValue) → JobMatches (state_at old) job0 → IsStarted old job → option_map box_out job.coder ≡ (seen old job0 refusal).holding.box
-came_with old job0 refusal job matches st =
-    ap (λ (x : Option Lent). option_map box_out x) st.coder ∙ sym (ap (λ (x : Option JobValue). box_of old.slot x) (none_out old job0 job matches st))
+start_step_is : (o : Option CoderId) (c : Control) (refusal : Option ℕ) → box_step (start_act o) c refusal ≡ renewal o
+start_step_is None c refusal = refl
+start_step_is (Some id) c refusal = refl
 
-pub seen_started : (old new : Codec) (job0 : Option JobValue) (refusal r : Option ℕ) (job job' : JobValue) (made : List CoderId) (k : ℕ) (slots : List SlotEntry) → JobMatches (state_at old) job0 → IsStarted old job → Makes old new (entry.Start job.epoch job.number) → holding_with job'.coder r ≡ filled_holding made (by.Codec k job.place) (missing_id job) (option_map box_out job.coder) slots → seen new (Some job') r ≡ after_start made k slots (seen old job0 refusal)
-seen_started old new job0 refusal r job job' made k slots matches st makes is =
-    let d = seen old job0 refusal in
-    let s = state_at old in
-    let box = came_with old job0 refusal job matches st in
-    let holding : holding_with job'.coder r ≡ filled_holding made (next_by k d) (missing_coder s.given job.work) d.holding.box slots =
-    is ∙ rw (st.place, st.lacks, box) refl in
-    seen_moved old new (entry.Start job.epoch job.number) job0 (Some job') refusal r _ makes holding
-    ∙ (ap (λ (n : ℕ). moved (entry.Start n job.number) (filled_holding made (next_by k d) (missing_coder s.given job.work) d.holding.box slots) d) st.epoch
-    ∙ (started_on (start_item s.control) made k slots d job.number job.work st.item).0)
+pub started_makes : (k : ℕ) (old new : Codec) (job0 : Option JobValue) (refusal r : Option ℕ) (job job' : JobValue) (place : ℕ) (s next : SlotsValue) → IsDesk old job0 refusal → IsStarted old job → place ≡ job.place → Makes old new (entry.Start job.epoch job.number)
+    → holding_with job'.coder r ≡ holding_after (by.Codec k place) (renewal (missing_id job)) (holding_with job.coder None) s → next ≡ slots_after (by.Codec k place) (renewal (missing_id job)) (option_map box_out job.coder) s
+    → desk.Makes k (start_entry (seen old job0 refusal)) s next (seen old job0 refusal) (seen new (Some job') r)
+started_makes k old new job0 refusal r job job' place s next is st at made holding slots =
+    let t = state_at old in
+    let v = seen old job0 refusal in
+    let i = some_item (start_item t.control) job.number job.work st.item in
+    let idle : job0 ≡ None = idle_job t job0 i.0 is.matches i.1 in
+    let none : refusal ≡ None = subst (λ (o : Option JobValue). IsRefused o refusal) idle is.refused in
+    let e = entry.Start job.epoch job.number in
+    let entry_is : start_entry v ≡ Some e =
+    ap (λ (o : Option Item). option_map (λ (x : Item). entry.Start t.control.epoch x.number) o) i.1
+    ∙ (ap (λ (n : ℕ). Some (entry.Start t.control.epoch n)) i.2 ∙ ap (λ (n : ℕ). Some (entry.Start n job.number)) (sym st.epoch)) in
+    let step : step_by e v ≡ renewal (missing_id job) =
+    ap (λ (o : Option Item). box_step (start_act (lacking t.given o)) t.control refusal) i.1
+    ∙ (ap (λ (w : Work). box_step (start_act (missing_coder t.given w)) t.control refusal) i.3
+    ∙ (start_step_is (missing_coder t.given job.work) t.control refusal ∙ ap renewal (sym st.lacks))) in
+    let there : by.Codec k place ≡ next_by k v = ap (λ n. by.Codec k n) (at ∙ st.place) in
+    let held : holding_with job.coder None ≡ v.holding =
+    ap (λ (c : Option Lent). holding_with c None) st.coder ∙ (ap (λ (q : Option ℕ). holding_with old.slot q) (sym none) ∙ ap (λ (o : Option JobValue). holding_of old.slot o refusal) (sym idle)) in
+    let holding_is : holding_with job'.coder r ≡ holding_after (next_by k v) (step_by e v) v.holding s =
+    holding ∙ (ap (λ (c : By). holding_after c (renewal (missing_id job)) (holding_with job.coder None) s) there
+    ∙ (ap (λ (h : Holding). holding_after (next_by k v) (renewal (missing_id job)) h s) held ∙ ap (λ (b : BoxStep). holding_after (next_by k v) b v.holding s) (sym step))) in
+    let slots_are : next ≡ slots_by k e s v =
+    slots ∙ (ap (λ (c : By). slots_after c (renewal (missing_id job)) (option_map box_out job.coder) s) there
+    ∙ (ap (λ (h : Holding). slots_after (next_by k v) (renewal (missing_id job)) h.box s) held ∙ ap (λ (b : BoxStep). slots_after (next_by k v) b v.holding.box s) (sym step))) in
+    makes_some k (start_entry v) e s next v (seen new (Some job') r) entry_is (seen_more old new e job0 (Some job') refusal r _ made holding_is) slots_are
 
-pub slots_started : (old : Codec) (job0 : Option JobValue) (refusal : Option ℕ) (job : JobValue) (made : List CoderId) (k : ℕ) (slots : List SlotEntry) → JobMatches (state_at old) job0 → IsStarted old job → filled_slots made (by.Codec k job.place) (missing_id job) (option_map box_out job.coder) slots ≡ start_slots made k slots (seen old job0 refusal)
-slots_started old job0 refusal job made k slots matches st =
-    let d = seen old job0 refusal in
-    let s = state_at old in
-    let box = came_with old job0 refusal job matches st in
-    rw (st.place, st.lacks, box) refl
-    ∙ (started_on (start_item s.control) made k slots d job.number job.work st.item).1
-
-pub not_started : (made : List CoderId) (k : ℕ) (slots : List SlotEntry) (d : DeskValue) → start_item (state_of d).control ≡ None → (d ≡ after_start made k slots d) × (slots ≡ start_slots made k slots d)
-not_started made k slots d is = (rw is refl, rw is refl)
+-- an item that lacked a box: the older one went back, and the registry was asked for one
+pub renewed : (s t u : SlotsValue) (cause : By) (id : CoderId) (missing : Option CoderId) (box handed : Option BoxOut) → missing ≡ Some id → handed ≡ box → t ≡ after_give cause handed s → u ≡ acquired cause id t → u ≡ slots_after cause (renewal missing) box s
+renewed s t u cause id missing box handed lacks same gave_back got =
+    got ∙ (ap (acquired cause id) gave_back ∙ (ap (λ (b : Option BoxOut). acquired cause id (after_give cause b s)) same ∙ sym (ap (λ (o : Option CoderId). slots_after cause (renewal o) box s) lacks)))

@@ -1,71 +1,57 @@
--- Looks stand between their caller's calls, as what is recorded grows.
-use Rattle.std.proofs.Common.{ℕ, ◌≡◌, ◌≤◌, ◌++◌, inl, inr, List, take, length, length-append, Some, refl, ap, sym, ◌∙◌, arith}
-use Rattle.std.proofs.lemmas.List.{take-append-le}
-use Rattle.wc_chunk.specs.declared.chunk.Chunk.{Chunk}
+-- One codec among all: what looks show of it, and what becomes of it by an item.
+use Rattle.std.proofs.Common.{ℕ, zero, suc, ◌≡◌, ◌≤◌, ◌<◌, List, [], ◌∷◌, length, get_or, Option, Some, None, refl, ap, sym, ◌∙◌, arith}
+use Rattle.std.specs.Prelude.{slice_get, slice_set, unwrap_or}
+use Rattle.std.proofs.lemmas.Option.{slice_get_read, slice_get_past, some_pair_parts}
+use Rattle.slot_registry.specs.Slots.{SlotsValue}
 use Rattle.codec_model.specs.declared.entry.Entry.{Entry}
-use Rattle.script_types.specs.declared.script.ScriptData.{ScriptData}
-use Rattle.script_types.specs.declared.steps.Step.{Step}
-use Rattle.script_types.specs.declared.steps.Step.TheVariants as step
+use Rattle.wc_config.specs.declared.kind.Kind.TheVariants as kind
+use Rattle.codec_model.specs.declared.entry.PromiseState.{PromiseState}
+use Rattle.codec_model.specs.declared.entry.PromiseState.TheVariants.{Pending}
+use Rattle.codec_accounts.specs.Codec.{CodecValue, new_codec, codec_at}
 use Rattle.report_text.specs.declared.result.StepResult.{StepResult}
 use Rattle.report_text.specs.declared.result.StepResult.TheVariants as result
-use Rattle.trace_text.specs.Follow.{Recorded, at, opening_at, promise_after, state_after}
-use Rattle.trace_text.specs.Fits.{look_of, LookShows, LooksAreIn, CallsAreIn}
-use Rattle.wc_replay.proofs.Calls.{call_within}
-use Rattle.wc_replay.proofs.Grows.{Grows, NewFits}
+use Rattle.trace_text.specs.Follow.{Course, after_move, advance, look_of_flush, promise_after}
+use Rattle.wc_replay.specs.Desk.{codec_by, registry_by}
+use Rattle.wc_replay.specs.Player.{call_in}
 
-taken : (w v : Recorded) (k n : ℕ) → (more : List Entry) × (at k v.codecs ≡ at k w.codecs ++ more) → n ≤ length (at k w.codecs) → take n (at k w.codecs) ≡ take n (at k v.codecs)
-taken w v k n m within = sym (ap (take n) m.1 ∙ take-append-le n (at k w.codecs) m.0 within)
+-- the codec with this number is the one that was read there
+pub codec_is : (k : ℕ) (ds : List CodecValue) (d : CodecValue) → k < length ds → d ≡ get_or ds k d → codec_at k ds ≡ d
+codec_is k ds d lt is =
+    let there : slice_get ds k ≡ Some d = slice_get_read ds (length ds) k d refl lt is in
+    rw there refl
 
--- what a look shows stays
-shows_more : (s : ScriptData) (w v : Recorded) (R : ℕ → ℕ → StepResult → Type 0) (E : ℕ → ℕ → Entry → Type 0) → Grows w v R E → (c : ℕ) (x : Step) (r : StepResult) → ((k n : ℕ) → look_of r ≡ Some (k, n) → n ≤ length (at k w.codecs)) → LookShows s w c x r → LookShows s v c x r
-shows_more s w v R E g c (step.Await promise) (result.Look k n end) within h =
-    (h.0, h.1, g.result_stays c promise.step (result.Call k h.0 h.1) h.2, h.3 ∙ ap (λ (t : List Entry). promise_after (opening_at s k) t h.0) (taken w v k n (g.more k) (within k n refl)))
-shows_more s w v R E g c (step.Poll promise) (result.Look k n end) within h =
-    (h.0, h.1, g.result_stays c promise.step (result.Call k h.0 h.1) h.2, h.3 ∙ ap (λ (t : List Entry). promise_after (opening_at s k) t h.0) (taken w v k n (g.more k) (within k n refl)))
-shows_more s w v R E g c (step.State on) (result.State k n state size) within h =
-    let t = taken w v k n (g.more k) (within k n refl) in
-    (h.0, h.1 ∙ ap (λ (t : List Entry). (state_after (opening_at s k) t).control.phase) t, h.2 ∙ ap (λ (t : List Entry). (state_after (opening_at s k) t).control.size) t)
-shows_more s w v R E g c (step.Configure on config) result.Absent within h = h
-shows_more s w v R E g c (step.Chunk bind source) result.Absent within h = h
-shows_more s w v R E g c (step.Decode on chunk) result.Absent within h = h
-shows_more s w v R E g c (step.Flush on bind) result.Absent within h = h
-shows_more s w v R E g c (step.Reset on) result.Absent within h = h
-shows_more s w v R E g c (step.Close on) result.Absent within h = h
-shows_more s w v R E g c (step.Media y) result.Absent within h = h
-shows_more s w v R E g c x r within h = h
+-- what a look shows of a codec
+abbrev look_at : List CodecValue → ℕ → ℕ → StepResult
+look_at ds k place = let d = codec_at k ds in result.Look k (length d.history) (promise_after d.opening d.history place)
 
-pub looks_more : (s : ScriptData) (media : List (List Chunk)) (w v : Recorded) (R : ℕ → ℕ → StepResult → Type 0) (E : ℕ → ℕ → Entry → Type 0) → Grows w v R E → NewFits s media w v R E → CallsAreIn s w → LooksAreIn s w → LooksAreIn s v
-looks_more s media w v R E g new calls looks = record {
-  within = λ c j k n r h l. elim (g.results c j r h) [
-    | inl o ↦ omega (arith, looks.within c j k n r o l, longer k)
-    | inr b ↦ omega (arith, (new.result c j r b).look k n l, longer k)
-  ];
-  after_calls = λ c i j k p n e r lt a b l. elim (g.results c i (result.Call k p e) a) [
-    | inr m ↦ absurd (g.last c i j (result.Call k p e) r m b lt)
-    | inl o ↦ elim (g.results c j r b) [
-      | inl t ↦ looks.after_calls c i j k p n e r lt o t l
-      | inr m ↦ omega (arith, call_within s w calls c i k p e o, (new.result c j r m).look k n l)
-    ]
-  ];
-  before_calls = λ c i j k p n e r lt a l b. elim (g.results c i r a) [
-    | inr m ↦ absurd (g.last c i j r (result.Call k p e) m b lt)
-    | inl o ↦ elim (g.results c j (result.Call k p e) b) [
-      | inl t ↦ looks.before_calls c i j k p n e r lt o l t
-      | inr m ↦ omega (arith, looks.within c i k n r o l, (new.result c j (result.Call k p e) m).place k p e refl)
-    ]
-  ];
-  rising = λ c i j k m n q r lt a l b y. elim (g.results c i q a) [
-    | inr t ↦ absurd (g.last c i j q r t b lt)
-    | inl o ↦ elim (g.results c j r b) [
-      | inl t ↦ looks.rising c i j k m n q r lt o l t y
-      | inr t ↦ omega (arith, looks.within c i k m q o l, (new.result c j r t).look k n y)
-    ]
-  ];
-  shows = λ c j x r is h. elim (g.results c j r h) [
-    | inl o ↦ shows_more s w v R E g c x r (λ k n l. looks.within c j k n r o l) (looks.shows c j x r is o)
-    | inr b ↦ (new.result c j r b).shows x is
-  ];
-}
-  where
-    longer : (k : ℕ) → length (at k w.codecs) ≤ length (at k v.codecs)
-    longer k = omega (arith, ap length (g.more k).1, length-append (at k w.codecs) (g.more k).0)
+pub look_of_call : (ds : List CodecValue) (flush : Option StepResult) (k place : ℕ) → call_in flush ≡ Some (k, place) → look_at ds k place ≡ look_of_flush ds flush
+look_of_call ds None k place is = absurd cc
+look_of_call ds (Some (result.Call n p error)) k place is =
+    let parts = some_pair_parts n k p place is in
+    sym (ap (λ (m : ℕ). look_at ds m p) parts.0 ∙ ap (λ (q : ℕ). look_at ds k q) parts.1)
+look_of_call ds (Some (result.Local error)) k place is = absurd cc
+look_of_call ds (Some (result.Look n m end)) k place is = absurd cc
+look_of_call ds (Some (result.State n m state size)) k place is = absurd cc
+look_of_call ds (Some result.Absent) k place is = absurd cc
+
+-- a codec that was read, looked at
+pub look_read : (ds : List CodecValue) (k place n : ℕ) (d : CodecValue) (end : PromiseState) → codec_at k ds ≡ d → n ≡ length d.history → end ≡ promise_after d.opening d.history place → result.Look k n end ≡ look_at ds k place
+look_read ds k place n d end is at_end ends = rw (at_end, ends, is) refl
+
+-- a codec that is not there has no entry
+pub look_past : (ds : List CodecValue) (k place : ℕ) → length ds ≤ k → result.Look k 0 Pending ≡ look_at ds k place
+look_past ds k place beyond = rw (slice_get_past ds k beyond) refl
+
+set_same : (ds : List CodecValue) (k : ℕ) → slice_set ds k (codec_at k ds) ≡ ds
+set_same [] k = refl
+set_same (d ∷ ds) zero = refl
+set_same (d ∷ ds) (suc k) = ap (λ (l : List CodecValue). d ∷ l) (set_same ds k)
+
+same_course : (a : List (List StepResult)) (c d : List CodecValue) (s t : SlotsValue) → c ≡ d → s ≡ t → ◌≡◌ {A = Course} (record { callers = a; codecs = c; slots = s }) (record { callers = a; codecs = d; slots = t })
+same_course a c d s t p q = cc
+
+-- an entry of one codec, or none, is the move that it makes
+pub advance_is : (v : Course) (k : ℕ) (o : Option Entry) (codecs : List CodecValue) (slots : SlotsValue) → codecs ≡ slice_set v.codecs k (codec_by k o v.slots (codec_at k v.codecs)) → slots ≡ registry_by k o v.slots (codec_at k v.codecs)
+    → ◌≡◌ {A = Course} (record { callers = v.callers; codecs = codecs; slots = slots }) (after_move (advance k o) v)
+advance_is v k None codecs slots is went = same_course v.callers codecs v.codecs slots v.slots (is ∙ set_same v.codecs k) went
+advance_is v k (Some e) codecs slots is went = same_course v.callers codecs _ slots _ is went

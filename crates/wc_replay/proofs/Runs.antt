@@ -1,5 +1,5 @@
 -- A run that follows the order of a sound script is legal.
-use Rattle.std.proofs.Common.{ℕ, zero, suc, ◌≡◌, List, [], ◌∷◌, map, sym, subst, ◌∙◌}
+use Rattle.std.proofs.Common.{ℕ, zero, suc, ◌≡◌, List, [], ◌∷◌, map, length, refl, ap, sym, subst, ◌∙◌, arith}
 use Rattle.std.proofs.lemmas.List.{length-map}
 use Rattle.wc_chunk.specs.declared.chunk.Chunk.{Chunk}
 use Rattle.codec_model.specs.declared.entry.Opening.{Opening}
@@ -10,11 +10,12 @@ use Rattle.script_types.specs.declared.script.CodecItem.{CodecItem}
 use Rattle.trace_text.specs.declared.run.Run.{Run}
 use Rattle.trace_text.specs.declared.run.CodecTrace.{CodecTrace}
 use Rattle.trace_text.specs.declared.run.CallerTrace.{CallerTrace}
-use Rattle.trace_text.specs.Follow.{at, opening_in}
-use Rattle.trace_text.specs.Fits.{FollowsTheOrder, AreLegalTraces, IsLegalRun}
-use Rattle.wc_replay.specs.Sound.{IsSound}
-use Rattle.wc_replay.specs.Player.{AreShownTraces}
-use Rattle.wc_replay.proofs.Following.{order_makes, legal_of}
+use Rattle.codec_accounts.specs.Owed.{at}
+use Rattle.codec_accounts.specs.Codec.{CodecValue, codec_at}
+use Rattle.trace_text.specs.Follow.{Recorded, Course, opening_in, opening_at}
+use Rattle.trace_text.specs.Fits.{recorded_of, FollowsTheOrder, AreLegalTraces, IsLegalRun}
+use Rattle.order_laws.specs.Course.{IsCourse}
+use Rattle.wc_replay.specs.Player.{AreShownTraces, IsRunOf, trace_of}
 
 legal_traces : (cs : List CodecItem) (ts : List CodecTrace) → AreShownTraces cs ts → ((k : ℕ) → IsLegal (opening_in cs k) (at k (map (λ (t : CodecTrace). t.entries) ts))) → AreLegalTraces cs ts
 legal_traces [] [] shown legal = tt
@@ -30,9 +31,20 @@ legal_traces (c ∷ cs) (t ∷ ts) shown legal = (
 )
 
 -- A run that follows the order of a sound script, with traces that show what they must and nothing held, is legal.
-pub legal_run_of : (s : ScriptData) (media : List (List Chunk)) → IsSound s → (made : List CoderId) (run : Run) → FollowsTheOrder s media made run → AreShownTraces s.codecs run.codecs → run.held ≡ 0 → IsLegalRun s run
-legal_run_of s media sound made run follows shown held = record {
-  callers = sym (length-map run.callers (λ (c : CallerTrace). c.results)) ∙ (order_makes s media sound made run follows).callers;
-  codecs = legal_traces s.codecs run.codecs shown (λ k. legal_of s media sound made run follows k);
+pub legal_run_of : (s : ScriptData) (media : List (List Chunk)) (made : List CoderId) (run : Run) (follows : FollowsTheOrder s media made run) → IsCourse s made follows.course → ((k : ℕ) → IsLegal (opening_at s k) (at k (recorded_of run).codecs))
+    → AreShownTraces s.codecs run.codecs → run.held ≡ 0 → IsLegalRun s run
+legal_run_of s media made run follows is legal shown held = record {
+  callers = sym (length-map run.callers (λ (c : CallerTrace). c.results)) ∙ (ap (λ (w : Recorded). length w.callers) follows.is_recorded ∙ is.callers);
+  codecs = legal_traces s.codecs run.codecs shown legal;
   held = held;
 }
+
+-- traces that are opened as the script says
+shown_traces : (cs : List CodecItem) (ds : List CodecValue) → length ds ≡ length cs → ((k : ℕ) → (codec_at k ds).opening ≡ opening_in cs k) → AreShownTraces cs (map trace_of ds)
+shown_traces [] [] long openings = tt
+shown_traces [] (d ∷ ds) long openings = absurd (omega (arith, long))
+shown_traces (c ∷ cs) [] long openings = absurd (omega (arith, long))
+shown_traces (c ∷ cs) (d ∷ ds) long openings = (record { opening = openings zero; shown = refl }, shown_traces cs ds (omega (arith, long)) (λ k. openings (suc k)))
+
+pub run_shows : (s : ScriptData) (made : List CoderId) (v : Course) (run : Run) → IsCourse s made v → IsRunOf v run → AreShownTraces s.codecs run.codecs
+run_shows s made v run course is = subst (AreShownTraces s.codecs) (sym is.codecs) (shown_traces s.codecs v.codecs course.codecs course.openings)

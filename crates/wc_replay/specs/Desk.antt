@@ -1,35 +1,14 @@
 -- A codec at work in a replay.
-use Rattle.std.specs.Prelude.{ℕ, ◌≡◌, ◌==◌, Bool, true, false, cond, List, [], ◌∷◌, ◌++◌, length, Option, Some, None, is_some, option_map}
-use Rattle.wc_base.specs.declared.error.DomError.{DomError}
+use Rattle.std.specs.Prelude.{ℕ, ◌≡◌, true, List, [], ◌∷◌, ◌++◌, Option, Some, None, is_some, option_map}
 use Rattle.coder_api.specs.Lent.{Lent}
-use Rattle.codec_model.specs.declared.entry.Opening.{Opening}
-use Rattle.codec_model.specs.declared.entry.Item.{Item}
-use Rattle.codec_model.specs.declared.entry.Running.{Running}
-use Rattle.codec_model.specs.declared.entry.Task.{Task}
-use Rattle.codec_model.specs.declared.entry.Shown.{Shown}
-use Rattle.codec_model.specs.declared.entry.Entry.{Entry}
-use Rattle.codec_model.specs.declared.entry.Entry.TheVariants as entry
-use Rattle.codec_model.specs.Control.{start_item, may_reclaim, is_close}
-use Rattle.codec_model.specs.Replay.{State, replay, answer_to, removal_error}
-use Rattle.codec_model.specs.Shown.{each_shown, shown_at}
-use Rattle.codec_core.specs.Codec.{Codec, state_at}
-use Rattle.codec_core.specs.Job.{JobValue, IsJobOf}
-use Rattle.trace_text.specs.Follow.{BoxOut, Holding, nothing_held, state_after, outcome_for}
-use Rattle.coder_api.specs.declared.slot.SlotEntry.{SlotEntry}
-use Rattle.wc_base.specs.declared.who.By.{By}
-use Rattle.wc_base.specs.declared.who.By.TheVariants as by
 use Rattle.wc_config.specs.declared.codec.CoderId.{CoderId}
-use Rattle.codec_model.specs.Replay.{missing_coder}
-use Rattle.wc_replay.specs.Boxes.{IsRefused, filled_slots, filled_holding}
-
--- what is known of a codec: its opening, its history, and what it has of the registry
-pub record DeskValue : Type 0 where
-  pub opening : Opening
-  pub history : List Entry
-  pub holding : Holding
-
-abbrev pub state_of : DeskValue → State
-state_of d = state_after d.opening d.history
+use Rattle.slot_registry.specs.Slots.{SlotsValue}
+use Rattle.codec_model.specs.declared.entry.Entry.{Entry}
+use Rattle.codec_model.specs.Replay.{State, replay}
+use Rattle.codec_core.specs.Codec.{Codec, state_at}
+use Rattle.codec_core.specs.Job.{JobValue, IsJobOf, missing_id}
+use Rattle.codec_accounts.specs.Registry.{BoxOut}
+use Rattle.codec_accounts.specs.Codec.{Holding, CodecValue, BoxStep, Keep, Renew, after_entry, slots_by}
 
 -- a box that is out
 abbrev pub box_out : Lent → BoxOut
@@ -51,138 +30,44 @@ abbrev pub JobMatches : State → Option JobValue → Type 0
 JobMatches s None = s.control.running ≡ None
 JobMatches s (Some job) = IsJobOf s job
 
--- each entry's showing was kept, and the job is out exactly while an item is running
-pub record IsDesk (core : Codec) (job : Option JobValue) (refusal : Option ℕ) (shown : List Shown) : Type 0 where
-  pub shows : shown ≡ each_shown core.opening core.history
+-- a job that was refused a box lacks one and has none
+abbrev pub LacksBox : JobValue → Option ℕ → Type 0
+LacksBox job None = Unit {0}
+LacksBox job (Some entry) = (is_some (missing_id job) ≡ true) × (job.coder ≡ None)
+
+-- only a job may have been refused a box
+abbrev pub IsRefused : Option JobValue → Option ℕ → Type 0
+IsRefused None refusal = refusal ≡ None
+IsRefused (Some job) refusal = LacksBox job refusal
+
+-- the job is out exactly while an item is running
+pub record IsDesk (core : Codec) (job : Option JobValue) (refusal : Option ℕ) : Type 0 where
   pub legal : replay core.opening core.history ≡ Some (state_at core)
   pub matches : JobMatches (state_at core) job
   pub refused : IsRefused job refusal
   -- while an item is running its codec has no box
   pub away : is_some job ≡ true → core.slot ≡ None
 
-abbrev pub more : Entry → DeskValue → DeskValue
+-- with this entry too, which leaves its box alone
+abbrev pub more : Entry → CodecValue → CodecValue
 more e d = record d { history = d.history ++ e ∷ [] }
 
--- with this entry too, and this of the registry
-abbrev pub moved : Entry → Holding → DeskValue → DeskValue
-moved e h d = record { opening = d.opening; history = d.history ++ e ∷ []; holding = h }
+-- a job that lacks a box of this id renews its box
+abbrev pub renewal : Option CoderId → BoxStep
+renewal None = Keep
+renewal (Some id) = Renew id
 
--- ---- starts
+-- ---- after an entry, if one is made
 
--- the cause that the codec's next entry is
-abbrev pub next_by : ℕ → DeskValue → By
-next_by k d = by.Codec k (length d.history)
+abbrev pub codec_by : ℕ → Option Entry → SlotsValue → CodecValue → CodecValue
+codec_by k None s d = d
+codec_by k (Some e) s d = after_entry k e s d
 
-abbrev pub started_with : List CoderId → ℕ → List SlotEntry → Option Item → DeskValue → DeskValue
-started_with made k slots None d = d
-started_with made k slots (Some i) d =
-    moved (entry.Start (state_of d).control.epoch i.number) (filled_holding made (next_by k d) (missing_coder (state_of d).given i.work) d.holding.box slots) d
+abbrev pub registry_by : ℕ → Option Entry → SlotsValue → CodecValue → SlotsValue
+registry_by k None s d = s
+registry_by k (Some e) s d = slots_by k e s d
 
--- after a start of the codec with this number, which has a box if its item needs one; nothing changes where there is none
-abbrev pub after_start : List CoderId → ℕ → List SlotEntry → DeskValue → DeskValue
-after_start made k slots d = started_with made k slots (start_item (state_of d).control) d
-
-abbrev pub slots_with : List CoderId → ℕ → List SlotEntry → Option Item → DeskValue → List SlotEntry
-slots_with made k slots None d = slots
-slots_with made k slots (Some i) d = filled_slots made (next_by k d) (missing_coder (state_of d).given i.work) d.holding.box slots
-
--- the registry's history after such a start
-abbrev pub start_slots : List CoderId → ℕ → List SlotEntry → DeskValue → List SlotEntry
-start_slots made k slots d = slots_with made k slots (start_item (state_of d).control) d
-
--- ---- removals
-
--- a removal lets the codec's box go, unless an item is at work with it
-abbrev pub left_by : Option Running → Holding → Holding
-left_by None h = nothing_held
-left_by (Some r) h = h
-
-abbrev pub let_go : Option Running → Holding → Option BoxOut
-let_go None h = h.box
-let_go (Some r) h = None
-
-abbrev pub left_unless : Option DomError → Option Running → Holding → Holding
-left_unless None running h = left_by running h
-left_unless (Some error) running h = h
-
-abbrev pub let_go_unless : Option DomError → Option Running → Holding → Option BoxOut
-let_go_unless None running h = let_go running h
-let_go_unless (Some error) running h = None
-
--- after a caller's reset or close, which this entry keeps
-abbrev pub after_removal : Entry → DeskValue → DeskValue
-after_removal e d = let c = (state_of d).control in moved e (left_unless (removal_error c) c.running d.holding) d
-
--- the box that a reset or close lets go
-abbrev pub removal_box : DeskValue → Option BoxOut
-removal_box d = let c = (state_of d).control in let_go_unless (removal_error c) c.running d.holding
-
--- ---- turns
-
-abbrev pub left_if : Bool → Option Running → Holding → Holding
-left_if true running h = left_by running h
-left_if false running h = h
-
-abbrev pub let_go_if : Bool → Option Running → Holding → Option BoxOut
-let_go_if true running h = let_go running h
-let_go_if false running h = None
-
-abbrev pub turned_by : List Task → DeskValue → DeskValue
-turned_by [] d = d
-turned_by (t ∷ ts) d = moved entry.Turn (left_if (is_close t) (state_of d).control.running d.holding) d
-
--- after a turn; nothing changes where there is no task
-abbrev pub after_turn : DeskValue → DeskValue
-after_turn d = turned_by (state_of d).control.tasks d
-
-abbrev pub box_by_turn : List Task → DeskValue → Option BoxOut
-box_by_turn [] d = None
-box_by_turn (t ∷ ts) d = let_go_if (is_close t) (state_of d).control.running d.holding
-
--- the box that a turn lets go
-abbrev pub turn_box : DeskValue → Option BoxOut
-turn_box d = box_by_turn (state_of d).control.tasks d
-
--- what the next turn shows, if there is a task
-abbrev pub shown_where : List Task → Shown → Option Shown
-shown_where [] shown = None
-shown_where (t ∷ ts) shown = Some shown
-
-abbrev pub shown_by_turn : State → Option Shown
-shown_by_turn s = shown_where s.control.tasks (shown_at entry.Turn s)
-
--- ---- reclaims
-
-abbrev pub after_reclaim : ℕ → DeskValue → DeskValue
-after_reclaim moment d = let c = (state_of d).control in cond (may_reclaim moment c) (moved (entry.Reclaim moment) (left_by c.running d.holding) d) d
-
-abbrev pub reclaim_box : ℕ → DeskValue → Option BoxOut
-reclaim_box moment d = let c = (state_of d).control in cond (may_reclaim moment c) (let_go c.running d.holding) None
-
--- ---- ends
-
--- after the end of an item its codec keeps the box, unless a new epoch began since
-abbrev pub kept_by : Bool → Holding → Holding
-kept_by true h = record h { refusal = None }
-kept_by false h = nothing_held
-
-abbrev pub back_by : Bool → Holding → Option BoxOut
-back_by true h = None
-back_by false h = h.box
-
-abbrev pub done_by : Bool → ℕ → State → Option Running → DeskValue → DeskValue
-done_by wants moment s None d = d
-done_by wants moment s (Some r) d =
-    moved (entry.Done r.epoch r.number moment (outcome_for wants d.holding.refusal (answer_to r.kind s.running_given))) (kept_by (r.epoch == s.control.epoch) d.holding) d
-
--- after the end of the running item, where memory was wanted or not
-abbrev pub after_done : Bool → ℕ → DeskValue → DeskValue
-after_done wants moment d = done_by wants moment (state_of d) (state_of d).control.running d
-
-abbrev pub box_by_done : State → Option Running → Holding → Option BoxOut
-box_by_done s None h = None
-box_by_done s (Some r) h = back_by (r.epoch == s.control.epoch) h
-
--- the box that the end of an item lets go
-abbrev pub done_box : DeskValue → Option BoxOut
-done_box d = box_by_done (state_of d) (state_of d).control.running d.holding
+-- The codec with this number made this entry, or none.
+pub record Makes (k : ℕ) (e : Option Entry) (s next : SlotsValue) (d new : CodecValue) : Type 0 where
+  pub codec : new ≡ codec_by k e s d
+  pub registry : next ≡ registry_by k e s d

@@ -1,5 +1,2 @@
-pub mod Boxes
 pub mod Desk
 pub mod Player
-pub mod Sound
-pub mod Refusals

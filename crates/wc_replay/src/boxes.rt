@@ -1,12 +1,10 @@
 // The boxes that codecs take from the registry and give back.
-ghost use Rattle.std.specs.Prelude.{◌≡◌, ◌++◌, IfOk, OnOk, option_map, is_some, true, Some, None, length};
+ghost use Rattle.std.specs.Prelude.{◌≡◌, IfOk, OnOk, option_map, is_some, true, Some, None, length};
+ghost use Rattle.codec_accounts.specs.Codec.{IsGivable, after_give, after_ask, slots_after, holding_after};
 ghost use Rattle.codec_core.specs.Job.{IsJobOf, missing_id};
 ghost use Rattle.codec_model.specs.Replay.{State};
-ghost use Rattle.slot_registry.specs.Boxes.{least_free};
 ghost use Rattle.slot_registry.specs.Slots.{acquired};
-ghost use Rattle.trace_text.specs.Follow.{Holding, give_of, holding_by};
-ghost use Rattle.wc_replay.specs.Boxes.{IsGivable, IsRefused, filled_slots, filled_holding};
-ghost use Rattle.wc_replay.specs.Desk.{box_out, holding_with};
+ghost use Rattle.wc_replay.specs.Desk.{LacksBox, box_out, holding_with, renewal};
 
 use codec_core::Job;
 use coder_api::{Coder, SlotBox};
@@ -17,7 +15,7 @@ use wc_config::CoderId;
 /// A box goes back, if there is one.
 pub(crate) fn give<C: Coder>(slots: &mut Slots<C>, by: By, slot: Option<SlotBox<C>>)
     requires givable { IsGivable slots.old.history by (option_map box_out slot) }
-    ensures { slots.new ≡ record slots.old { history = slots.old.history ++ give_of by (option_map box_out slot) } }
+    ensures { slots.new ≡ after_give by (option_map box_out slot) slots.old }
 {
     match slot {
         Some(slot) => slots.give_back(by, slot),
@@ -47,9 +45,9 @@ fn lend<C: Coder>(
     requires lacks { missing_id job ≡ Some id }
     requires none { job.coder ≡ None }
     ensures stays { (s : State) → IsJobOf s job → IsJobOf s result.0 }
-    ensures refused { IfOk result.1 (λ refusal. IsRefused (Some result.0) refusal) }
+    ensures refused { IfOk result.1 (LacksBox result.0) }
     ensures slots { OnOk result.1 (slots.new ≡ acquired by id slots.old) }
-    ensures holding { IfOk result.1 (λ refusal. holding_with result.0.coder refusal ≡ holding_by by id (length slots.old.history) (least_free id slots.old.made slots.old.history)) }
+    ensures holding { IfOk result.1 (λ refusal. holding_with result.0.coder refusal ≡ after_ask by id slots.old) }
 {
     match slots.acquire(by, id) {
         Ok(slot) => {
@@ -76,9 +74,9 @@ pub(crate) fn fill<C: Coder>(
 ) -> (Job<C>, Result<Option<u64>, NoMemory>)
     requires givable { IsGivable slots.old.history by (option_map box_out job.coder) }
     ensures stays { (s : State) → IsJobOf s job → IsJobOf s result.0 }
-    ensures refused { IfOk result.1 (λ refusal. IsRefused (Some result.0) refusal) }
-    ensures slots { OnOk result.1 (slots.new ≡ record slots.old { history = filled_slots slots.old.made by (missing_id job) (option_map box_out job.coder) slots.old.history }) }
-    ensures holding { IfOk result.1 (λ refusal. holding_with result.0.coder refusal ≡ filled_holding slots.old.made by (missing_id job) (option_map box_out job.coder) slots.old.history) }
+    ensures refused { IfOk result.1 (LacksBox result.0) }
+    ensures slots { OnOk result.1 (slots.new ≡ slots_after by (renewal (missing_id job)) (option_map box_out job.coder) slots.old) }
+    ensures holding { IfOk result.1 (λ refusal. holding_with result.0.coder refusal ≡ holding_after by (renewal (missing_id job)) (holding_with job.coder None) slots.old) }
 {
     match job.lacks() {
         None => (job, Ok(None)),

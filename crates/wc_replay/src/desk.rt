@@ -1,45 +1,43 @@
 // A codec at work in a replay.
-ghost use Rattle.std.specs.Prelude.{◌≡◌, ◌≤◌, ◌<◌, Bool, [], ◌∷◌, ◌++◌, IfOk, IfNone, OnOk, OnErr, OnSome, length, None, Some, is_some, not, option_map, true, false};
+ghost use Rattle.std.specs.Prelude.{◌≡◌, ◌≤◌, Bool, [], ◌∷◌, ◌++◌, IfOk, IfSome, OnOk, OnErr, OnSome, IfNone, length, None, Some, is_some, is_none, not, option_map, true};
+ghost use Rattle.codec_accounts.specs.Codec.{new_codec, state_of, next_by, after_entry, slots_by, IsGivable};
+ghost use Rattle.codec_core.specs.Codec.{state_at, Makes as CoreMakes, KeepsRunning, kept_box, handed_back, closes_now};
+ghost use Rattle.codec_core.specs.Job.{IsJobOf, IsEndOf, outcome_of};
 ghost use Rattle.codec_model.specs.declared.entry.Entry.TheVariants as entry;
-ghost use Rattle.codec_model.specs.Replay.{State, entry_of, call_error, IsLegal, removal_error, answer_to};
-ghost use Rattle.codec_model.specs.Shown.{each_shown};
-ghost use Rattle.trace_text.specs.Follow.{exception_of, promise_after, nothing_held, outcome_for};
-ghost use Rattle.codec_core.specs.Codec.{state_at, Makes, KeepsRunning, kept_box, handed_back, closes_now};
-ghost use Rattle.codec_core.specs.Job.{IsJobOf, IsEndOf, stopped_box, outcome_of};
-ghost use Rattle.codec_model.specs.Control.{kind_of, may_reclaim};
-ghost use Rattle.wc_replay.specs.Boxes.{IsGivable, IsRefused};
-ghost use Rattle.wc_replay.specs.Desk.{more, state_of, next_by, box_out, after_start, start_slots, after_removal, removal_box, after_turn, turn_box, after_reclaim, reclaim_box, after_done, done_box, shown_by_turn};
+ghost use Rattle.codec_model.specs.Control.{kind_of};
+ghost use Rattle.codec_model.specs.Replay.{State, entry_of, removal_entry, call_error, removal_error, answer_to};
+ghost use Rattle.codec_model.specs.Shown.{each_shown, exception_of};
+ghost use Rattle.trace_text.specs.Follow.{promise_after, outcome_for, start_entry, done_entry, turn_entry, reclaim_entry, item_entry};
+ghost use Rattle.wc_replay.specs.Desk.{box_out, LacksBox, more, Makes};
 
-use crate::boxes::fill;
+use crate::boxes::{fill, give};
 use codec_core::{CallFault, Core, DoneJob, Job};
 use codec_drive::run;
-use codec_follow::{
-    events_of_call, events_of_reclaim, events_of_removal, events_of_task, note, word_of,
-};
-use codec_model::{Call, CodecState, Entry, Opening, PromiseState, Shown};
+use codec_model::{Call, CodecState, Entry, Opening, PromiseState, Removal, Shown, shown_list};
 use coder_api::{Coder, SlotBox};
+use script_types::OrderItem;
 use slot_registry::Slots;
 use std::alloc::Global;
 use std::marker::Model;
-use wc_base::{By, DomError, List, NoMemory, Who};
+use wc_base::{By, DomError, NoMemory, Who};
 
-/// A codec, the job of its running item with the entry that refused it a box, and what each entry showed.
+/// A codec, and the job of its running item with the entry that refused it a box.
 #[derive(Drop)]
 pub(crate) struct Desk<C: Coder> {
     core: Core<C>,
     job: Option<Job<C>>,
     refusal: Option<u64>,
-    shown: Vec<Shown>,
 }
 
 impl<C: Coder> Model for Desk<C> {
-    ghost use Rattle.wc_replay.specs.Desk.{DeskValue, IsDesk, holding_of};
+    ghost use Rattle.codec_accounts.specs.Codec.{CodecValue};
+    ghost use Rattle.wc_replay.specs.Desk.{IsDesk, holding_of};
 
-    ghost Value = { DeskValue };
+    ghost Value = { CodecValue };
 
     ghost view = { λ d. record { opening = d.core.opening; history = d.core.history; holding = holding_of d.core.slot d.job d.refusal } };
 
-    ghost invariant = { λ d. IsDesk d.core d.job d.refusal d.shown.items };
+    ghost invariant = { λ d. IsDesk d.core d.job d.refusal };
 }
 
 /// What a call came to: its entry's place, and its exception, if it has one.
@@ -53,89 +51,54 @@ impl<C: Coder> Desk<C> {
     pub(crate) fn open(alloc: Global, opening: Opening) -> Result<Desk<C>, NoMemory>
         requires low { 1 ≤ opening.saturation }
         requires high { opening.saturation ≤ 64 }
-        ensures { IfOk result (λ d. d ≡ record { opening = opening; history = []; holding = nothing_held }) }
+        ensures { IfOk result (λ d. d ≡ new_codec opening) }
     {
         let core = Core::open(alloc, opening.kind, opening.saturation, 0)?;
         Ok(Desk {
             core,
             job: None,
             refusal: None,
-            shown: Vec::new(alloc),
         })
     }
 
     /// A configure, decode or flush of a caller.
-    pub(crate) fn call(&mut self, alloc: Global, who: Who, call: Call) -> Result<Answer, NoMemory>
+    pub(crate) fn call(&mut self, who: Who, call: Call) -> Result<Answer, NoMemory>
         ensures made { OnOk result (self.new ≡ more (entry_of who call) self.old) }
         ensures place { IfOk result (λ a. a.place ≡ length self.old.history) }
         ensures error { IfOk result (λ a. a.error ≡ exception_of call (call_error call (state_of self.old).control)) }
     {
-        self.shown.reserve(1)?;
-        let (place, _, _) = self.core.look();
-        let error = self.core.error_of(&call);
-        let events = events_of_call(alloc, &call, place, error)?;
-        let answer = ask(&mut self.core, who, call)?;
-        self.shown.push_reserved(note(events));
+        ask(&mut self.core, who, call)
+    }
+
+    /// A reset or close of a caller, of the codec with this number; the box that it lets go goes back.
+    pub(crate) fn remove(
+        &mut self,
+        codec: u32,
+        slots: &mut Slots<C>,
+        who: Who,
+        removal: Removal,
+    ) -> Result<Answer, NoMemory>
+        requires givable { IsGivable slots.old.history (next_by codec self.old) self.old.holding.box }
+        ensures made { OnOk result (self.new ≡ after_entry codec (removal_entry who removal) slots.old self.old) }
+        ensures slots { OnOk result (slots.new ≡ slots_by codec (removal_entry who removal) slots.old self.old) }
+        ensures place { IfOk result (λ a. a.place ≡ length self.old.history) }
+        ensures error { IfOk result (λ a. a.error ≡ removal_error (state_of self.old).control) }
+    {
+        self.core.reserve(1)?;
+        let (answer, slot) = remove(&mut self.core, who, removal);
+        let place = answer.place;
+        give(slots, By::Codec { codec, place }, slot);
         Ok(answer)
     }
 
-    /// A reset of a caller, with the box that it lets go.
-    pub(crate) fn reset(
-        &mut self,
-        alloc: Global,
-        who: Who,
-    ) -> Result<(Answer, Option<SlotBox<C>>), NoMemory>
-        ensures made { OnOk result (self.new ≡ after_removal (entry.Reset who) self.old) }
-        ensures place { IfOk result (λ a. a.0.place ≡ length self.old.history) }
-        ensures error { IfOk result (λ a. a.0.error ≡ removal_error (state_of self.old).control) }
-        ensures slot { IfOk result (λ a. option_map box_out a.1 ≡ removal_box self.old) }
-    {
-        self.shown.reserve(1)?;
-        self.core.reserve(1)?;
-        let error = self.core.removal_error();
-        let events = events_of_removal(alloc, error, self.core.pending())?;
-        let (answer, slot) = reset(&mut self.core, who);
-        self.shown.push_reserved(note(events));
-        Ok((answer, slot))
-    }
-
-    /// A close of a caller, with the box that it lets go.
-    pub(crate) fn close(
-        &mut self,
-        alloc: Global,
-        who: Who,
-    ) -> Result<(Answer, Option<SlotBox<C>>), NoMemory>
-        ensures made { OnOk result (self.new ≡ after_removal (entry.Close who) self.old) }
-        ensures place { IfOk result (λ a. a.0.place ≡ length self.old.history) }
-        ensures error { IfOk result (λ a. a.0.error ≡ removal_error (state_of self.old).control) }
-        ensures slot { IfOk result (λ a. option_map box_out a.1 ≡ removal_box self.old) }
-    {
-        self.shown.reserve(1)?;
-        self.core.reserve(1)?;
-        let error = self.core.removal_error();
-        let events = events_of_removal(alloc, error, self.core.pending())?;
-        let (answer, slot) = close(&mut self.core, who);
-        self.shown.push_reserved(note(events));
-        Ok((answer, slot))
-    }
-
     /// A start: the front item's job goes out, with the box that it needs or the entry that refused it one.
-    pub(crate) fn start(
-        &mut self,
-        alloc: Global,
-        codec: u32,
-        slots: &mut Slots<C>,
-    ) -> Result<(), NoMemory>
+    fn start(&mut self, codec: u32, slots: &mut Slots<C>) -> Result<(), NoMemory>
         requires givable { IsGivable slots.old.history (next_by codec self.old) self.old.holding.box }
-        ensures made { OnOk result (self.new ≡ after_start slots.old.made codec slots.old.history self.old) }
-        ensures slots { OnOk result (slots.new ≡ record slots.old { history = start_slots slots.old.made codec slots.old.history self.old }) }
-        ensures opening { self.new.opening ≡ self.old.opening }
+        ensures { OnOk result (Makes codec (start_entry self.old) slots.old slots.new self.old self.new) }
     {
-        self.shown.reserve(1)?;
         let Some(job) = self.core.start() else {
             return Ok(());
         };
-        self.shown.push_reserved(note(List::empty(alloc)));
         let place = job.place();
         let (job, answer) = fill(job, slots, By::Codec { codec, place });
         self.job = Some(job);
@@ -144,58 +107,59 @@ impl<C: Coder> Desk<C> {
         Ok(())
     }
 
-    /// The end of the running item: its job is done. The answer is the box that it lets go.
-    pub(crate) fn done(
-        &mut self,
-        alloc: Global,
-        moment: u64,
-    ) -> Result<Option<SlotBox<C>>, NoMemory>
-        ensures made { OnOk result ((wants : Bool) × (self.new ≡ after_done wants moment self.old)) }
-        ensures slot { IfOk result (λ slot. option_map box_out slot ≡ done_box self.old) }
-        ensures opening { self.new.opening ≡ self.old.opening }
+    /// The end of the running item: its job is done, and the box that it lets go goes back.
+    fn done(&mut self, alloc: Global, codec: u32, slots: &mut Slots<C>, moment: u64)
+        requires givable { IsGivable slots.old.history (next_by codec self.old) self.old.holding.box }
+        ensures { (wants : Bool) × Makes codec (done_entry wants moment self.old) slots.old slots.new self.old self.new }
     {
-        self.shown.reserve(1)?;
-        let Some(job) = self.job.take() else {
-            return Ok(None);
-        };
-        let done = end_of_job(alloc, job, self.refusal.take());
-        let back = self.core.done(done, moment);
-        self.shown.push_reserved(note(List::empty(alloc)));
-        Ok(back.coder)
+        if let Some(job) = self.job.take() {
+            let done = end_of_job(alloc, job, self.refusal.take());
+            let back = self.core.done(done, moment);
+            let place = back.place;
+            give(slots, By::Codec { codec, place }, back.coder);
+        }
     }
 
-    /// A turn: the front task runs. The answer is the box that it lets go.
-    pub(crate) fn turn(&mut self, alloc: Global) -> Result<Option<SlotBox<C>>, NoMemory>
-        ensures made { OnOk result (self.new ≡ after_turn self.old) }
-        ensures slot { IfOk result (λ slot. option_map box_out slot ≡ turn_box self.old) }
-        ensures opening { self.new.opening ≡ self.old.opening }
+    /// A turn: the front task runs, and the box that it lets go goes back.
+    fn turn(&mut self, codec: u32, slots: &mut Slots<C>)
+        requires givable { IsGivable slots.old.history (next_by codec self.old) self.old.holding.box }
+        ensures { Makes codec (turn_entry self.old) slots.old slots.new self.old self.new }
     {
-        self.shown.reserve(1)?;
-        let Some(shown) = next_turn(alloc, &self.core)? else {
-            return Ok(None);
-        };
-        let slot = run_task(&mut self.core);
-        self.shown.push_reserved(shown);
-        Ok(slot)
+        if let Some((place, slot)) = run_task(&mut self.core) {
+            give(slots, By::Codec { codec, place }, slot);
+        }
     }
 
-    /// A reclaim at a moment in microseconds, where it is lawful. The answer is the box that it lets go.
-    pub(crate) fn reclaim(
+    /// A reclaim at a moment in microseconds, where it is lawful; the box that it lets go goes back.
+    fn reclaim(&mut self, codec: u32, slots: &mut Slots<C>, moment: u64)
+        requires givable { IsGivable slots.old.history (next_by codec self.old) self.old.holding.box }
+        ensures { Makes codec (reclaim_entry moment self.old) slots.old slots.new self.old self.new }
+    {
+        if let Some(removed) = self.core.reclaim(moment) {
+            let place = removed.place;
+            give(slots, By::Codec { codec, place }, removed.coder);
+        }
+    }
+
+    /// An item of the order that names this codec, the one with this number; nothing where it finds nothing to do.
+    pub(crate) fn take(
         &mut self,
         alloc: Global,
-        moment: u64,
-    ) -> Result<Option<SlotBox<C>>, NoMemory>
-        ensures made { OnOk result (self.new ≡ after_reclaim moment self.old) }
-        ensures slot { IfOk result (λ slot. option_map box_out slot ≡ reclaim_box moment self.old) }
-        ensures opening { self.new.opening ≡ self.old.opening }
+        codec: u32,
+        slots: &mut Slots<C>,
+        item: OrderItem,
+    ) -> Result<(), NoMemory>
+        requires givable { IsGivable slots.old.history (next_by codec self.old) self.old.holding.box }
+        ensures { OnOk result ((wants : Bool) × Makes codec (item_entry wants item self.old) slots.old slots.new self.old self.new) }
     {
-        self.shown.reserve(1)?;
-        let events = events_of_reclaim(alloc, self.core.pending())?;
-        let Some(removed) = self.core.reclaim(moment) else {
-            return Ok(None);
-        };
-        self.shown.push_reserved(note(events));
-        Ok(removed.coder)
+        match item {
+            OrderItem::Caller(_) => {}
+            OrderItem::Start(_) => self.start(codec, slots)?,
+            OrderItem::Done { codec: _, at } => self.done(alloc, codec, slots, at),
+            OrderItem::Turn(_) => self.turn(codec, slots),
+            OrderItem::Reclaim { codec: _, at } => self.reclaim(codec, slots, at),
+        }
+        Ok(())
     }
 
     /// The number of entries, the state, and the number of coded messages in the queue.
@@ -222,29 +186,31 @@ impl<C: Coder> Desk<C> {
     }
 
     /// The history, and what each entry showed.
-    pub(crate) fn into_trace(self) -> (Vec<Entry>, Vec<Shown>)
-        ensures entries { result.0.items ≡ self.history }
-        ensures shown { result.1.items ≡ each_shown self.opening self.history }
+    pub(crate) fn into_trace(self, alloc: Global) -> Result<(Vec<Entry>, Vec<Shown>), NoMemory>
+        ensures entries { IfOk result (λ t. t.0.items ≡ self.history) }
+        ensures shown { IfOk result (λ t. t.1.items ≡ each_shown self.opening self.history) }
     {
-        let (entries, _) = self.core.into_trace();
-        (entries, self.shown)
+        let (entries, showings) = self.core.into_trace();
+        let shown = shown_list(alloc, showings)?;
+        Ok((entries, shown))
     }
 }
 
 // A call on a core: its entry is made, or memory was wanted and nothing has changed.
 fn ask<C: Coder>(core: &mut Core<C>, who: Who, call: Call) -> Result<Answer, NoMemory>
-    ensures made { OnOk result (Makes core.old core.new (entry_of who call)) }
-    ensures place { OnOk result ((state_at core.old).control.place ≡ length core.old.history) }
-    ensures at { IfOk result (λ a. a.place ≡ length core.old.history) }
+    ensures made { OnOk result (CoreMakes core.old core.new (entry_of who call)) }
+    ensures place { IfOk result (λ a. a.place ≡ length core.old.history) }
     ensures error { IfOk result (λ a. a.error ≡ exception_of call (call_error call (state_at core.old).control)) }
     ensures running { KeepsRunning (state_at core.old) (state_at core.new) }
     ensures slot { core.new.slot ≡ core.old.slot }
     ensures err { OnErr result (core.new ≡ core.old) }
 {
-    let place = core.history().len() as u64;
     match core.call(who, call) {
-        Ok(_) => Ok(Answer { place, error: None }),
-        Err(CallFault::Dom { error, place: _ }) => Ok(Answer {
+        Ok(reply) => Ok(Answer {
+            place: reply.place,
+            error: None,
+        }),
+        Err(CallFault::Dom { error, place }) => Ok(Answer {
             place,
             error: Some(error),
         }),
@@ -252,39 +218,17 @@ fn ask<C: Coder>(core: &mut Core<C>, who: Who, call: Call) -> Result<Answer, NoM
     }
 }
 
-// A reset on a core, with the box that it hands back.
-fn reset<C: Coder>(core: &mut Core<C>, who: Who) -> (Answer, Option<SlotBox<C>>)
+// A reset or close on a core, with the box that it hands back.
+fn remove<C: Coder>(core: &mut Core<C>, who: Who, removal: Removal) -> (Answer, Option<SlotBox<C>>)
     requires { 1 ≤ core.old.spare }
-    ensures made { Makes core.old core.new (entry.Reset who) }
+    ensures made { CoreMakes core.old core.new (removal_entry who removal) }
     ensures place { result.0.place ≡ length core.old.history }
     ensures error { result.0.error ≡ removal_error (state_at core.old).control }
     ensures handed { result.1 ≡ handed_back (is_some (removal_error (state_at core.old).control)) core.old.slot }
     ensures slot { core.new.slot ≡ kept_box (is_some (removal_error (state_at core.old).control)) core.old.slot }
     ensures running { KeepsRunning (state_at core.old) (state_at core.new) }
 {
-    match core.reset(who) {
-        Ok(removed) => {
-            let place = removed.place;
-            (Answer { place, error: None }, removed.coder)
-        }
-        Err((error, place)) => {
-            let error = Some(error);
-            (Answer { place, error }, None)
-        }
-    }
-}
-
-// A close on a core, with the box that it hands back.
-fn close<C: Coder>(core: &mut Core<C>, who: Who) -> (Answer, Option<SlotBox<C>>)
-    requires { 1 ≤ core.old.spare }
-    ensures made { Makes core.old core.new (entry.Close who) }
-    ensures place { result.0.place ≡ length core.old.history }
-    ensures error { result.0.error ≡ removal_error (state_at core.old).control }
-    ensures handed { result.1 ≡ handed_back (is_some (removal_error (state_at core.old).control)) core.old.slot }
-    ensures slot { core.new.slot ≡ kept_box (is_some (removal_error (state_at core.old).control)) core.old.slot }
-    ensures running { KeepsRunning (state_at core.old) (state_at core.new) }
-{
-    match core.close(who) {
+    match core.remove(who, removal) {
         Ok(removed) => {
             let place = removed.place;
             (Answer { place, error: None }, removed.coder)
@@ -298,7 +242,7 @@ fn close<C: Coder>(core: &mut Core<C>, who: Who) -> (Answer, Option<SlotBox<C>>)
 
 // The end of a job: no box was free, or it did its work, or memory was wanted.
 fn end_of_job<C: Coder>(alloc: Global, job: Job<C>, refusal: Option<u64>) -> DoneJob<C>
-    requires { IsRefused (Some job) refusal }
+    requires { LacksBox job refusal }
     ensures end { (s : State) → IsJobOf s job → IsEndOf s result }
     ensures outcome { (s : State) → IsJobOf s job → (wants : Bool) × (outcome_of result.ended ≡ outcome_for wants refusal (answer_to (kind_of job.work) s.running_given)) }
     ensures epoch { result.epoch ≡ job.epoch }
@@ -317,35 +261,20 @@ fn end_of_job<C: Coder>(alloc: Global, job: Job<C>, refusal: Option<u64>) -> Don
     }
 }
 
-// What the next turn shows, if there is a task.
-fn next_turn<C: Coder>(alloc: Global, core: &Core<C>) -> Result<Option<Shown>, NoMemory>
-    ensures { IfOk result (λ o. o ≡ shown_by_turn (state_at core.now)) }
+// Runs the front task, if there is one, with the box that it hands back.
+fn run_task<C: Coder>(core: &mut Core<C>) -> Option<(u64, Option<SlotBox<C>>)>
+    ensures none { IfNone result ((state_at core.old).control.tasks ≡ []) }
+    ensures same { IfNone result (core.new ≡ core.old) }
+    ensures made { OnSome result (CoreMakes core.old core.new entry.Turn) }
+    ensures place { IfSome result (λ t. t.0 ≡ length core.old.history) }
+    ensures handed { IfSome result (λ t. t.1 ≡ handed_back (not (closes_now (state_at core.old).control)) core.old.slot) }
+    ensures slot { OnSome result (core.new.slot ≡ kept_box (not (closes_now (state_at core.old).control)) core.old.slot) }
+    ensures running { OnSome result (KeepsRunning (state_at core.old) (state_at core.new)) }
 {
-    let Some(task) = core.front_task() else {
-        return Ok(None);
-    };
-    // No memory holds more outputs than a u64 counts.
-    let first = core.shown_count().ok_or(NoMemory)?;
-    let events = events_of_task(alloc, task, first, core.pending())?;
-    Ok(Some(Shown {
-        turn: Some(word_of(task)),
-        events,
-    }))
-}
-
-// Runs the front task, which is there, with the box that it hands back.
-fn run_task<C: Coder>(core: &mut Core<C>) -> Option<SlotBox<C>>
-    requires { is_some (shown_by_turn (state_at core.old)) ≡ true }
-    ensures made { Makes core.old core.new entry.Turn }
-    ensures running { KeepsRunning (state_at core.old) (state_at core.new) }
-    ensures handed { result ≡ handed_back (not (closes_now (state_at core.old).control)) core.old.slot }
-    ensures slot { core.new.slot ≡ kept_box (not (closes_now (state_at core.old).control)) core.old.slot }
-{
-    match core.turn() {
-        Some(turned) => match turned.removed {
-            Some(removed) => removed.coder,
-            None => None,
-        },
-        None => None,
+    let turned = core.turn()?;
+    let place = turned.place;
+    match turned.removed {
+        Some(removed) => Some((place, removed.coder)),
+        None => Some((place, None)),
     }
 }

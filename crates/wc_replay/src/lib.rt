@@ -3,13 +3,12 @@
 
 mod boxes;
 mod desk;
-mod laws;
 mod missing;
 mod moving;
 mod playing;
 mod results;
 mod steps;
 
-pub use laws::following_fits;
 pub use missing::missing_chunk;
+pub use order_laws::following_fits;
 pub use playing::replay;

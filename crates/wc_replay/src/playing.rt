@@ -2,39 +2,29 @@
 ghost use Rattle.std.specs.Prelude.{◌≡◌, ◌≤◌, [], IfOk, OnOk, IsSome, None, map, length, true};
 ghost use Rattle.std.specs.List.{list_all};
 ghost use Rattle.trace_text.specs.Fits.{IsLegalRun, Fits, FollowsTheOrder};
-ghost use Rattle.trace_text.specs.Follow.{Follows, nothing_yet, opening_of, kind_of_word, order_items};
+ghost use Rattle.trace_text.specs.Follow.{Follows, nothing_yet, opening_of, order_items};
 ghost use Rattle.trace_text.specs.Missing.{missing_in};
-ghost use Rattle.wc_replay.specs.Player.{course, AreOpened, KeepsShape, IsPlayable, is_openable, new_desk, new_results, trace_of, caller_trace, IsRunOf, AreShownTraces};
+ghost use Rattle.wc_replay.specs.Player.{IsPlayable, is_openable, new_desk, new_results, trace_of, caller_trace, IsRunOf, AreShownTraces};
 ghost use Rattle.script_types.specs.Built.{unbuilt_in};
 
 use crate::desk::Desk;
 use crate::results::Results;
 use crate::steps::Player;
-use codec_follow::append;
-use codec_model::{Kind, Opening};
+use codec_model::Opening;
 use coder_api::Coder;
-use script_types::{CallerItem, CodecItem, KindWord, OrderItem, Script, ScriptData};
+use order_laws::{following_fits, following_stands};
+use script_types::{CallerItem, CodecItem, OrderItem, Script, ScriptData};
 use slot_registry::Slots;
 use std::alloc::Global;
 use trace_text::{CallerTrace, CodecTrace, Run};
-use wc_base::{List, NoMemory};
+use wc_base::{List, NoMemory, try_push};
 use wc_chunk::Chunk;
-
-fn kind_of_word(word: KindWord) -> Kind
-    ensures { result ≡ kind_of_word word }
-{
-    match word {
-        KindWord::AudioDecoder => Kind::AudioDecoder,
-        KindWord::AudioEncoder => Kind::AudioEncoder,
-        KindWord::VideoDecoder => Kind::VideoDecoder,
-    }
-}
 
 fn opening_of(codec: &CodecItem) -> Opening
     ensures { result ≡ opening_of codec.now }
 {
     Opening {
-        kind: kind_of_word(codec.kind),
+        kind: codec.kind,
         saturation: codec.saturation,
     }
 }
@@ -55,7 +45,7 @@ fn open_desks<C: Coder>(alloc: Global, codecs: &[CodecItem]) -> Result<Vec<Desk<
     let mut desks = Vec::new(alloc);
     for codec in codecs {
         let desk = open_desk(alloc, codec)?;
-        append(&mut desks, desk)?;
+        try_push(&mut desks, desk)?;
     }
     Ok(desks)
 }
@@ -66,7 +56,7 @@ fn open_callers(alloc: Global, callers: &[CallerItem]) -> Result<Vec<Results>, N
 {
     let mut results = Vec::new(alloc);
     for _caller in callers {
-        append(&mut results, Results::new(alloc))?;
+        try_push(&mut results, Results::new(alloc))?;
     }
     Ok(results)
 }
@@ -88,28 +78,27 @@ fn take_items<C: Coder>(
     script: &ScriptData,
     media: &[List<Chunk>],
 ) -> Result<(), NoMemory>
-    requires opened { AreOpened script.now player.old.desks }
     requires playable { IsPlayable script.now }
-    requires nothing { course player.old ≡ nothing_yet script.now }
-    ensures made { OnOk result (Follows script.now media.now player.old.slots.made (order_items script.now) (course player.old) (course player.new)) }
-    ensures shape { OnOk result (KeepsShape player.old player.new) }
+    requires nothing { player.old ≡ nothing_yet script.now player.old.slots.made }
+    ensures { OnOk result (Follows script.now media.now (order_items script.now) player.old player.new) }
 {
     for item in items_of(script) {
+        following_stands();
         player.take(alloc, script, media, *item)?;
     }
     Ok(())
 }
 
-fn codec_trace<C: Coder>(desk: Desk<C>) -> CodecTrace
-    ensures { result ≡ trace_of desk }
+fn codec_trace<C: Coder>(alloc: Global, desk: Desk<C>) -> Result<CodecTrace, NoMemory>
+    ensures { IfOk result (λ t. t ≡ trace_of desk) }
 {
     let opening = desk.opening();
-    let (entries, shown) = desk.into_trace();
-    CodecTrace {
+    let (entries, shown) = desk.into_trace(alloc)?;
+    Ok(CodecTrace {
         opening,
         entries: List::of(entries),
         shown: List::of(shown),
-    }
+    })
 }
 
 /// What was recorded of the codecs.
@@ -118,8 +107,8 @@ fn codec_traces<C: Coder>(alloc: Global, desks: Vec<Desk<C>>) -> Result<Vec<Code
 {
     let mut traces = Vec::new(alloc);
     for desk in desks {
-        let trace = codec_trace(desk);
-        append(&mut traces, trace)?;
+        let trace = codec_trace(alloc, desk)?;
+        try_push(&mut traces, trace)?;
     }
     Ok(traces)
 }
@@ -131,7 +120,7 @@ fn caller_traces(alloc: Global, callers: Vec<Results>) -> Result<Vec<CallerTrace
     let mut traces = Vec::new(alloc);
     for results in callers {
         let results = List::of(results.into_steps());
-        append(&mut traces, CallerTrace { results })?;
+        try_push(&mut traces, CallerTrace { results })?;
     }
     Ok(traces)
 }
@@ -143,9 +132,7 @@ fn open_player<C: Coder>(
     coders: Vec<C>,
 ) -> Result<Player<C>, NoMemory>
     requires { list_all is_openable script.now.codecs ≡ true }
-    ensures opened { IfOk result (λ p. AreOpened script.now p.desks) }
-    ensures nothing { IfOk result (λ p. course p ≡ nothing_yet script.now) }
-    ensures made { IfOk result (λ p. p.slots.made ≡ map C.coder coders.items) }
+    ensures { IfOk result (λ p. p ≡ nothing_yet script.now (map C.coder coders.items)) }
 {
     Ok(Player {
         desks: open_desks(alloc, script.codecs.as_slice())?,
@@ -186,6 +173,7 @@ fn play<C: Coder>(
 {
     let mut player = open_player(alloc, script, coders)?;
     take_items(&mut player, alloc, script, media)?;
+    following_stands();
     run_of(alloc, player)
 }
 
@@ -208,5 +196,7 @@ pub fn replay<C: Coder>(
     ensures legal { IfOk result (λ run. IsLegalRun script.now run) }
     ensures fits { IfOk result (λ run. Fits script.now media.now (map C.coder coders.items) run) }
 {
+    following_fits();
+    following_stands();
     play(alloc, script.data(), media, coders)
 }

@@ -1,12 +1,11 @@
 // What the callers' steps came to.
 ghost use Rattle.std.specs.Prelude.{◌≡◌, [], ◌∷◌, ◌++◌, OnOk, IfOk, length, slice_get, map};
-ghost use Rattle.trace_text.specs.Follow.{at, append_at};
+ghost use Rattle.codec_accounts.specs.Owed.{at, append_at};
 
-use codec_follow::append;
 use std::alloc::Global;
 use std::marker::Model;
 use trace_text::StepResult;
-use wc_base::NoMemory;
+use wc_base::{NoMemory, try_push};
 
 /// The results of one caller's steps so far.
 #[derive(Drop)]
@@ -35,7 +34,7 @@ impl Results {
     pub(crate) fn push(&mut self, came: StepResult) -> Result<(), NoMemory>
         ensures { OnOk result (self.new ≡ self.old ++ came ∷ []) }
     {
-        append(&mut self.steps, came)
+        try_push(&mut self.steps, came)
     }
 
     pub(crate) fn len(&self) -> usize

@@ -1,17 +1,17 @@
 // The steps of the callers, and the items of the order.
-ghost use Rattle.std.specs.Prelude.{◌≡◌, ◌≤◌, ◌<◌, Bool, false, Some, OnOk, IfOk, length, slice_get, option_copied};
-ghost use Rattle.codec_model.specs.declared.entry.Entry.TheVariants as entry;
+ghost use Rattle.std.specs.Prelude.{◌≡◌, ◌≤◌, ◌<◌, ℕ, Bool, false, Some, OnOk, IfOk, length, slice_get, option_copied};
+ghost use Rattle.codec_accounts.specs.Codec.{codec_at, AreGivable};
+ghost use Rattle.codec_accounts.specs.Owed.{at};
 ghost use Rattle.trace_text.specs.Fits.{called};
-ghost use Rattle.trace_text.specs.Follow.{recording, with_call, with_decode, with_look, with_state, with_result, with_removal, follow_step, follow_item, steps_of, source_error};
+ghost use Rattle.trace_text.specs.Follow.{with_result, after_move, advance, item_entry, call_move, decode_move, removal_move, look_of_flush, look_of_state, step_move, follow_item, steps_of, source_error};
 ghost use Rattle.report_text.specs.declared.result.StepResult.TheVariants as came;
 ghost use Rattle.script_types.specs.declared.script.OrderItem.TheVariants as item;
-ghost use Rattle.wc_replay.specs.Player.{course, AreOpened, KeepsShape, AreHeld, IsInRange, IsPlayable, call_in, look_at};
-ghost use Rattle.wc_replay.specs.Refusals.{RefusalsStand};
+ghost use Rattle.wc_replay.specs.Player.{IsInRange, LooksInRange, IsPlayable, call_in};
 
-use crate::desk::Desk;
-use crate::moving::{call_at, close_at, done_at, reclaim_at, reset_at, start_at, turn_at};
+use crate::desk::{Answer, Desk};
+use crate::moving::{call_at, remove_at, take_at};
 use crate::results::{Results, made_by, note, result_of};
-use codec_model::{Call, CodecState, PromiseState};
+use codec_model::{Call, PromiseState, Removal};
 use coder_api::Coder;
 use script_types::{ChunkSource, OrderItem, ScriptData, Step};
 use slot_registry::Slots;
@@ -30,11 +30,11 @@ pub(crate) struct Player<C: Coder> {
 }
 
 impl<C: Coder> Model for Player<C> {
-    ghost use Rattle.wc_replay.specs.Player.{PlayerValue};
+    ghost use Rattle.trace_text.specs.Follow.{Course};
 
-    ghost Value = { PlayerValue };
+    ghost Value = { Course };
 
-    ghost view = { λ p. record { desks = p.desks.items; callers = p.callers.items; slots = p.slots } };
+    ghost view = { λ p. record { callers = p.callers.items; codecs = p.desks.items; slots = p.slots } };
 }
 
 /// The exception of a chunk's init; a chunk of a file has none.
@@ -65,14 +65,20 @@ fn call_in(flush: Option<StepResult>) -> Option<(u32, u64)>
     }
 }
 
+/// The result of a call on the codec with this number.
+fn call_result(codec: u32, answer: Answer) -> StepResult
+    ensures { result ≡ came.Call codec answer.place answer.error }
+{
+    StepResult::Call {
+        codec,
+        place: answer.place,
+        error: answer.error,
+    }
+}
+
 /// What a look shows at the promise of the flush that came to this result.
-fn look_result<C: Coder>(
-    desks: &[Desk<C>],
-    script: &ScriptData,
-    flush: Option<StepResult>,
-) -> StepResult
-    requires { AreOpened script.now desks.now }
-    ensures { result ≡ look_at script.now desks.now flush }
+fn look_result<C: Coder>(desks: &[Desk<C>], flush: Option<StepResult>) -> StepResult
+    ensures { result ≡ look_of_flush desks.now flush }
 {
     let Some((codec, place)) = call_in(flush) else {
         return StepResult::Absent;
@@ -91,7 +97,7 @@ fn look_result<C: Coder>(
 /// What a look shows of a codec's state.
 fn state_result<C: Coder>(desks: &[Desk<C>], codec: u32) -> StepResult
     requires { codec < length desks.now }
-    ensures { result ≡ Rattle.wc_replay.specs.Player.state_look codec desks.now }
+    ensures { result ≡ look_of_state codec (codec_at codec desks.now) }
 {
     match desks.get(codec as usize) {
         Some(desk) => {
@@ -115,158 +121,91 @@ fn step_at(steps: &[Step], number: usize) -> Option<&Step>
 
 impl<C: Coder> Player<C> {
     /// A configure, decode or flush of a caller.
-    fn call(
-        &mut self,
-        alloc: Global,
-        script: &ScriptData,
-        who: Who,
-        codec: u32,
-        call: Call,
-    ) -> Result<(), NoMemory>
-        requires opened { AreOpened script.now self.old.desks }
-        requires codec { codec < length self.old.desks }
-        ensures made { OnOk result (course self.new ≡ recording (with_call script.now who codec call) (course self.old)) }
-        ensures shape { OnOk result (KeepsShape self.old self.new) }
+    fn call(&mut self, who: Who, codec: u32, call: Call) -> Result<(), NoMemory>
+        requires { codec < length self.old.codecs }
+        ensures { OnOk result (self.new ≡ after_move (call_move who codec call (codec_at codec self.old.codecs)) self.old) }
     {
-        let answer = call_at(&mut self.desks, codec, alloc, who, call)?;
-        let came = StepResult::Call {
-            codec,
-            place: answer.place,
-            error: answer.error,
-        };
-        note(&mut self.callers, who.caller, came)
+        let answer = call_at(&mut self.desks, codec, who, call)?;
+        note(&mut self.callers, who.caller, call_result(codec, answer))
     }
 
     /// A step that calls no codec.
-    fn came_to(&mut self, who: Who, came: StepResult) -> Result<(), NoMemory>
-        ensures made { OnOk result (course self.new ≡ recording (with_result who.caller came) (course self.old)) }
-        ensures shape { OnOk result (KeepsShape self.old self.new) }
+    fn answer(&mut self, who: Who, came: StepResult) -> Result<(), NoMemory>
+        ensures { OnOk result (self.new ≡ with_result who.caller came self.old) }
     {
         note(&mut self.callers, who.caller, came)
     }
 
     /// A decode of the chunk that the variable holds, unless it is absent.
-    fn decode(
-        &mut self,
-        alloc: Global,
-        script: &ScriptData,
-        who: Who,
-        codec: u32,
-        chunk: Option<Chunk>,
-    ) -> Result<(), NoMemory>
-        requires opened { AreOpened script.now self.old.desks }
-        requires codec { codec < length self.old.desks }
-        ensures made { OnOk result (course self.new ≡ recording (with_decode script.now who codec chunk) (course self.old)) }
-        ensures shape { OnOk result (KeepsShape self.old self.new) }
+    fn decode(&mut self, who: Who, codec: u32, chunk: Option<Chunk>) -> Result<(), NoMemory>
+        requires { codec < length self.old.codecs }
+        ensures { OnOk result (self.new ≡ after_move (decode_move who codec chunk (codec_at codec self.old.codecs)) self.old) }
     {
         match chunk {
-            Some(chunk) => self.call(alloc, script, who, codec, Call::Decode(chunk)),
-            None => self.came_to(who, StepResult::Absent),
+            Some(chunk) => self.call(who, codec, Call::Decode(chunk)),
+            None => self.answer(who, StepResult::Absent),
         }
     }
 
     /// A look at the promise of the flush that is the caller's step with this number.
-    fn look(&mut self, script: &ScriptData, who: Who, flush: u32) -> Result<(), NoMemory>
-        requires { AreOpened script.now self.old.desks }
-        ensures made { OnOk result (course self.new ≡ recording (with_look script.now who (slice_get (Rattle.trace_text.specs.Follow.at who.caller self.old.callers) flush)) (course self.old)) }
-        ensures shape { OnOk result (KeepsShape self.old self.new) }
+    fn look(&mut self, who: Who, flush: u32) -> Result<(), NoMemory>
+        ensures { OnOk result (self.new ≡ with_result who.caller (look_of_flush self.old.codecs (slice_get (at who.caller self.old.callers) flush)) self.old) }
     {
         let flush = result_of(&self.callers, who.caller, flush);
-        let came = look_result(&self.desks, script, flush);
-        self.came_to(who, came)
+        let came = look_result(&self.desks, flush);
+        self.answer(who, came)
     }
 
     /// A look at a codec's state.
-    fn look_at_state(&mut self, script: &ScriptData, who: Who, codec: u32) -> Result<(), NoMemory>
-        requires opened { AreOpened script.now self.old.desks }
-        requires codec { codec < length self.old.desks }
-        ensures made { OnOk result (course self.new ≡ recording (with_state script.now who codec) (course self.old)) }
-        ensures shape { OnOk result (KeepsShape self.old self.new) }
+    fn look_at_state(&mut self, who: Who, codec: u32) -> Result<(), NoMemory>
+        requires { codec < length self.old.codecs }
+        ensures { OnOk result (self.new ≡ with_result who.caller (look_of_state codec (codec_at codec self.old.codecs)) self.old) }
     {
         let came = state_result(&self.desks, codec);
-        self.came_to(who, came)
+        self.answer(who, came)
     }
 
-    /// A reset of a caller.
-    fn reset(
-        &mut self,
-        alloc: Global,
-        script: &ScriptData,
-        who: Who,
-        codec: u32,
-    ) -> Result<(), NoMemory>
-        requires opened { AreOpened script.now self.old.desks }
-        requires codec { codec < length self.old.desks }
-        requires held { AreHeld (course self.old) }
-        ensures made { OnOk result (course self.new ≡ with_removal script.now who codec (entry.Reset who) (course self.old)) }
-        ensures shape { OnOk result (KeepsShape self.old self.new) }
+    /// A reset or close of a caller.
+    fn remove(&mut self, who: Who, codec: u32, removal: Removal) -> Result<(), NoMemory>
+        requires codec { codec < length self.old.codecs }
+        requires givable { AreGivable self.old.codecs self.old.slots.history }
+        ensures { OnOk result (self.new ≡ after_move (removal_move who codec removal (codec_at codec self.old.codecs)) self.old) }
     {
-        let answer = reset_at(&mut self.desks, &mut self.slots, codec, alloc, who)?;
-        let came = StepResult::Call {
-            codec,
-            place: answer.place,
-            error: answer.error,
-        };
-        note(&mut self.callers, who.caller, came)
-    }
-
-    /// A close of a caller.
-    fn close(
-        &mut self,
-        alloc: Global,
-        script: &ScriptData,
-        who: Who,
-        codec: u32,
-    ) -> Result<(), NoMemory>
-        requires opened { AreOpened script.now self.old.desks }
-        requires codec { codec < length self.old.desks }
-        requires held { AreHeld (course self.old) }
-        ensures made { OnOk result (course self.new ≡ with_removal script.now who codec (entry.Close who) (course self.old)) }
-        ensures shape { OnOk result (KeepsShape self.old self.new) }
-    {
-        let answer = close_at(&mut self.desks, &mut self.slots, codec, alloc, who)?;
-        let came = StepResult::Call {
-            codec,
-            place: answer.place,
-            error: answer.error,
-        };
-        note(&mut self.callers, who.caller, came)
+        let answer = remove_at(&mut self.desks, &mut self.slots, codec, who, removal)?;
+        note(&mut self.callers, who.caller, call_result(codec, answer))
     }
 
     /// A step of a caller, one of these steps of its own. A step on media is not built, and makes nothing.
     fn step(
         &mut self,
-        alloc: Global,
-        script: &ScriptData,
         media: &[List<Chunk>],
         steps: &[Step],
         who: Who,
         step: &Step,
+        script: &ScriptData,
     ) -> Result<(), NoMemory>
-        requires opened { AreOpened script.now self.old.desks }
         requires steps { steps_of script.now who.caller ≡ steps.now }
-        requires range { (k : Rattle.std.specs.Prelude.ℕ) → called step.now ≡ Some k → k < length self.old.desks }
-        requires state { Rattle.wc_replay.specs.Player.LooksInRange (length self.old.desks) step.now }
-        requires held { AreHeld (course self.old) }
-        ensures made { OnOk result (course self.new ≡ follow_step script.now media.now who step.now (course self.old)) }
-        ensures shape { OnOk result (KeepsShape self.old self.new) }
+        requires range { (k : ℕ) → called step.now ≡ Some k → k < length self.old.codecs }
+        requires state { LooksInRange (length self.old.codecs) step.now }
+        requires givable { AreGivable self.old.codecs self.old.slots.history }
+        ensures { OnOk result (self.new ≡ after_move (step_move script.now media.now who step.now self.old) self.old) }
     {
         match step {
             Step::Configure { on, config } => {
                 let call = Call::Configure(config.copy()?);
-                self.call(alloc, script, who, *on, call)
+                self.call(who, *on, call)
             }
-            Step::Chunk { bind: _, source } => self.came_to(who, local_result(source)),
+            Step::Chunk { bind: _, source } => self.answer(who, local_result(source)),
             Step::Decode { on, chunk } => {
                 let chunk = find_chunk(media, steps, chunk.step)?;
-                self.decode(alloc, script, who, *on, chunk)
+                self.decode(who, *on, chunk)
             }
-            Step::Flush { on, bind: _ } => self.call(alloc, script, who, *on, Call::Flush),
-            Step::Poll { promise } => self.look(script, who, promise.step),
-            Step::Await { promise } => self.look(script, who, promise.step),
-            Step::Reset { on } => self.reset(alloc, script, who, *on),
-            Step::Close { on } => self.close(alloc, script, who, *on),
-            Step::State { on } => self.look_at_state(script, who, *on),
+            Step::Flush { on, bind: _ } => self.call(who, *on, Call::Flush),
+            Step::Poll { promise } => self.look(who, promise.step),
+            Step::Await { promise } => self.look(who, promise.step),
+            Step::Reset { on } => self.remove(who, *on, Removal::Reset),
+            Step::Close { on } => self.remove(who, *on, Removal::Close),
+            Step::State { on } => self.look_at_state(who, *on),
             Step::Media(_) => Ok(()),
         }
     }
@@ -274,16 +213,14 @@ impl<C: Coder> Player<C> {
     /// The next step of a caller, if it has one.
     fn next(
         &mut self,
-        alloc: Global,
         script: &ScriptData,
         media: &[List<Chunk>],
         caller: u32,
     ) -> Result<(), NoMemory>
-        requires opened { AreOpened script.now self.old.desks }
+        requires codecs { length self.old.codecs ≡ length script.now.codecs }
         requires playable { IsPlayable script.now }
-        requires held { AreHeld (course self.old) }
-        ensures made { OnOk result (course self.new ≡ follow_item script.now media.now self.old.slots.made false (item.Caller caller) (course self.old)) }
-        ensures shape { OnOk result (KeepsShape self.old self.new) }
+        requires givable { AreGivable self.old.codecs self.old.slots.history }
+        ensures { OnOk result (self.new ≡ follow_item script.now media.now false (item.Caller caller) self.old) }
     {
         let steps = steps_of(script, caller);
         let number = made_by(&self.callers, caller);
@@ -293,10 +230,19 @@ impl<C: Coder> Player<C> {
                     caller,
                     step: number as u32,
                 };
-                self.step(alloc, script, media, steps, who, step)
+                self.step(media, steps, who, step, script)
             }
             None => Ok(()),
         }
+    }
+
+    /// An item of the order that names the codec with this number.
+    fn advance(&mut self, alloc: Global, codec: u32, item: OrderItem) -> Result<(), NoMemory>
+        requires codec { codec < length self.old.codecs }
+        requires givable { AreGivable self.old.codecs self.old.slots.history }
+        ensures { OnOk result ((wants : Bool) × (self.new ≡ after_move (advance codec (item_entry wants item (codec_at codec self.old.codecs))) self.old)) }
+    {
+        take_at(&mut self.desks, &mut self.slots, codec, alloc, item)
     }
 
     /// One item of the order.
@@ -307,24 +253,18 @@ impl<C: Coder> Player<C> {
         media: &[List<Chunk>],
         item: OrderItem,
     ) -> Result<(), NoMemory>
-        requires opened { AreOpened script.now self.old.desks }
+        requires codecs { length self.old.codecs ≡ length script.now.codecs }
         requires playable { IsPlayable script.now }
-        requires range { IsInRange (length self.old.desks) item }
-        requires held { AreHeld (course self.old) }
-        requires stands { RefusalsStand script.now (course self.old) }
-        ensures made { OnOk result ((wants : Bool) × (course self.new ≡ follow_item script.now media.now self.old.slots.made wants item (course self.old))) }
-        ensures shape { OnOk result (KeepsShape self.old self.new) }
+        requires range { IsInRange (length self.old.codecs) item }
+        requires givable { AreGivable self.old.codecs self.old.slots.history }
+        ensures { OnOk result ((wants : Bool) × (self.new ≡ follow_item script.now media.now wants item self.old)) }
     {
         match item {
-            OrderItem::Caller(caller) => self.next(alloc, script, media, caller),
-            OrderItem::Start(codec) => start_at(&mut self.desks, &mut self.slots, codec, alloc),
-            OrderItem::Done { codec, at } => {
-                done_at(&mut self.desks, &mut self.slots, codec, alloc, at)
-            }
-            OrderItem::Turn(codec) => turn_at(&mut self.desks, &mut self.slots, codec, alloc),
-            OrderItem::Reclaim { codec, at } => {
-                reclaim_at(&mut self.desks, &mut self.slots, codec, alloc, at)
-            }
+            OrderItem::Caller(caller) => self.next(script, media, caller),
+            OrderItem::Start(codec) => self.advance(alloc, codec, item),
+            OrderItem::Done { codec, at: _ } => self.advance(alloc, codec, item),
+            OrderItem::Turn(codec) => self.advance(alloc, codec, item),
+            OrderItem::Reclaim { codec, at: _ } => self.advance(alloc, codec, item),
         }
     }
 }

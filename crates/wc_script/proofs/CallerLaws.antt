@@ -10,9 +10,9 @@ use Rattle.script_types.specs.declared.script.CodecItem.{CodecItem}
 use Rattle.script_types.specs.declared.script.CallerItem.{CallerItem}
 use Rattle.script_types.specs.Names.{is_name, is_codec_name, is_caller_name}
 use Rattle.script_types.specs.Sound.{most_steps, most_media, is_sound_caller, are_sound_callers, are_sound_steps, are_small, bytes_of_caller, files_after, files_in, are_apart}
-use Rattle.script_members.specs.declared.wrong.Wrong.{Wrong}
-use Rattle.script_members.specs.declared.wrong.Wrong.TheVariants as wrong
-use Rattle.script_members.specs.Members.{needed, name_in, array_in}
+use Rattle.script_steps.specs.declared.wrong.Wrong.{Wrong}
+use Rattle.script_steps.specs.declared.wrong.Wrong.TheVariants as wrong
+use Rattle.script_steps.specs.Members.{needed, name_in, array_in}
 use Rattle.script_steps.proofs.Chains.{same_Ok, chain, all_true}
 use Rattle.script_steps.proofs.NameLaws.{name_is_name}
 use Rattle.wc_script.specs.declared.callers.Room.{Room}

@@ -12,7 +12,7 @@ use Rattle.script_types.specs.declared.script.OrderItem.{OrderItem}
 use Rattle.script_types.specs.declared.found.FoundCodec.{FoundCodec}
 use Rattle.script_types.specs.Names.{codec_named, caller_named}
 use Rattle.script_types.specs.Sound.{any_kind, is_codec, is_sound_item}
-use Rattle.script_members.specs.Members.{needed, known, checked_name, name_in, natural_of}
+use Rattle.script_steps.specs.Members.{needed, known, checked_name, name_in, natural_of}
 use Rattle.script_steps.proofs.Chains.{same_Ok, chain, known_some}
 use Rattle.script_steps.proofs.NameLaws.{codec_is_there}
 use Rattle.wc_script.specs.declared.order.OrderWord.{OrderWord}

@@ -3,7 +3,7 @@ use Rattle.std.proofs.Common.{◌≡◌, Bool, true, false, ◌&&◌, List, [], 
 use Rattle.std.specs.List.{list_all}
 use Rattle.script_types.specs.declared.fault.Place.{Place}
 use Rattle.script_types.specs.declared.fault.ScriptFault.{ScriptFault}
-use Rattle.script_members.specs.declared.wrong.Wrong.{Wrong}
+use Rattle.script_steps.specs.declared.wrong.Wrong.{Wrong}
 use Rattle.script_steps.proofs.Chains.{same_Ok, all_true}
 use Rattle.wc_script.specs.Faults.{at, proceed}
 

@@ -14,10 +14,10 @@ use Rattle.script_types.specs.declared.script.CallerItem.{CallerItem}
 use Rattle.script_types.specs.declared.script.OrderItem.{OrderItem}
 use Rattle.script_types.specs.declared.script.ScriptData.{ScriptData}
 use Rattle.script_types.specs.Sound.{most_codecs, most_callers, most_steps, most_order, most_media, are_sound_codecs, are_sound_callers, are_small, bytes_of_caller, files_in, is_count, are_apart, are_sound_files, is_sound_item, counts_agree, is_sound_order, are_few, is_small_media, is_sound}
-use Rattle.script_members.specs.declared.wrong.Wrong.{Wrong}
-use Rattle.script_members.specs.declared.wrong.Wrong.TheVariants as wrong
-use Rattle.script_members.specs.Members.{needed, array_in}
-use Rattle.script_members.specs.Sources.{has}
+use Rattle.script_steps.specs.declared.wrong.Wrong.{Wrong}
+use Rattle.script_steps.specs.declared.wrong.Wrong.TheVariants as wrong
+use Rattle.script_steps.specs.Members.{needed, array_in}
+use Rattle.script_steps.specs.Sources.{has}
 use Rattle.script_steps.proofs.Chains.{same_Ok, chain, needed_some, all_true}
 use Rattle.wc_script.specs.Faults.{limit_of, at}
 use Rattle.wc_script.specs.Codecs.{codecs_of}

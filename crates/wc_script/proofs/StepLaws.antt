@@ -14,8 +14,8 @@ use Rattle.script_types.specs.declared.steps.ChunkSource.TheVariants as source
 use Rattle.script_types.specs.declared.steps.Step.{Step}
 use Rattle.script_types.specs.declared.steps.Step.TheVariants as step
 use Rattle.script_types.specs.Sound.{most_chunk, is_sound_step, are_sound_steps, bytes_of_step, source_after, file_after, files_after, are_apart}
-use Rattle.script_members.specs.declared.wrong.Wrong.{Wrong}
-use Rattle.script_members.specs.declared.wrong.Wrong.TheVariants as wrong
+use Rattle.script_steps.specs.declared.wrong.Wrong.{Wrong}
+use Rattle.script_steps.specs.declared.wrong.Wrong.TheVariants as wrong
 use Rattle.script_steps.specs.Words.{inline_data, byte_count}
 use Rattle.script_steps.specs.Steps.{step_of}
 use Rattle.script_steps.proofs.Chains.{same_Ok, chain, all_true}

@@ -8,9 +8,9 @@ use Rattle.script_types.specs.declared.script.CodecItem.{CodecItem}
 use Rattle.script_types.specs.declared.script.CallerItem.{CallerItem}
 use Rattle.script_types.specs.Names.{is_codec_name, is_caller_name}
 use Rattle.script_types.specs.Sound.{most_chunk}
-use Rattle.script_members.specs.declared.wrong.Wrong.{Wrong}
-use Rattle.script_members.specs.declared.wrong.Wrong.TheVariants as wrong
-use Rattle.script_members.specs.Members.{and_then, needed, name_in, array_in}
+use Rattle.script_steps.specs.declared.wrong.Wrong.{Wrong}
+use Rattle.script_steps.specs.declared.wrong.Wrong.TheVariants as wrong
+use Rattle.script_steps.specs.Members.{and_then, needed, name_in, array_in}
 use Rattle.script_steps.specs.Words.{inline_data, byte_count}
 use Rattle.script_steps.specs.Steps.{step_of}
 use Rattle.wc_script.specs.declared.callers.Room.{Room}

@@ -4,16 +4,16 @@ use Rattle.serde_json.specs.Data.{Data, Items, no_items, item}
 use Rattle.serde_json.specs.Find.{get}
 use Rattle.script_types.specs.declared.fault.Place.TheVariants as place
 use Rattle.script_types.specs.declared.fault.ScriptFault.{ScriptFault}
-use Rattle.script_types.specs.declared.script.KindWord.{KindWord}
-use Rattle.script_types.specs.declared.script.KindWord.TheVariants as kind
+use Rattle.wc_config.specs.declared.kind.Kind.{Kind}
+use Rattle.wc_config.specs.declared.kind.Kind.TheVariants as kind
 use Rattle.script_types.specs.declared.script.CodecItem.{CodecItem}
 use Rattle.script_types.specs.Names.{is_codec_name}
-use Rattle.script_members.specs.declared.wrong.Wrong.{Wrong}
-use Rattle.script_members.specs.declared.wrong.Wrong.TheVariants as wrong
-use Rattle.script_members.specs.Members.{and_then, needed, text_in, name_in, natural_of}
+use Rattle.script_steps.specs.declared.wrong.Wrong.{Wrong}
+use Rattle.script_steps.specs.declared.wrong.Wrong.TheVariants as wrong
+use Rattle.script_steps.specs.Members.{and_then, needed, text_in, name_in, natural_of}
 use Rattle.wc_script.specs.Faults.{at, proceed}
 
-abbrev pub kind_of : List ℕ → Option KindWord
+abbrev pub kind_of : List ℕ → Option Kind
 kind_of text =
     if bytes_eq text (codes "audio-decoder") then Some kind.AudioDecoder
     else if bytes_eq text (codes "audio-encoder") then Some kind.AudioEncoder

@@ -6,8 +6,8 @@ use Rattle.script_types.specs.declared.fault.Counted.TheVariants as counted
 use Rattle.script_types.specs.declared.fault.ScriptFault.{ScriptFault}
 use Rattle.script_types.specs.declared.fault.ScriptFault.TheVariants as fault
 use Rattle.script_types.specs.Sound.{most_codecs, most_callers, most_steps, most_order, most_chunk, most_media}
-use Rattle.script_members.specs.declared.wrong.Wrong.{Wrong}
-use Rattle.script_members.specs.declared.wrong.Wrong.TheVariants as wrong
+use Rattle.script_steps.specs.declared.wrong.Wrong.{Wrong}
+use Rattle.script_steps.specs.declared.wrong.Wrong.TheVariants as wrong
 
 abbrev pub limit_of : Counted → ℕ
 limit_of counted.Codecs = most_codecs

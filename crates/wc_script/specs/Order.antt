@@ -9,9 +9,9 @@ use Rattle.script_types.specs.declared.script.CallerItem.{CallerItem}
 use Rattle.script_types.specs.declared.script.OrderItem.{OrderItem}
 use Rattle.script_types.specs.declared.script.OrderItem.TheVariants as order
 use Rattle.script_types.specs.Names.{codec_named, caller_named}
-use Rattle.script_members.specs.declared.wrong.Wrong.{Wrong}
-use Rattle.script_members.specs.Members.{and_then, needed, known, checked_name, name_in, natural_of}
-use Rattle.script_members.specs.Sources.{has}
+use Rattle.script_steps.specs.declared.wrong.Wrong.{Wrong}
+use Rattle.script_steps.specs.Members.{and_then, needed, known, checked_name, name_in, natural_of}
+use Rattle.script_steps.specs.Sources.{has}
 use Rattle.wc_script.specs.declared.order.OrderWord.{OrderWord}
 use Rattle.wc_script.specs.declared.order.OrderWord.TheVariants as word
 use Rattle.wc_script.specs.Faults.{at, proceed}

@@ -13,10 +13,10 @@ use Rattle.script_types.specs.declared.script.CallerItem.{CallerItem}
 use Rattle.script_types.specs.declared.script.OrderItem.{OrderItem}
 use Rattle.script_types.specs.declared.script.ScriptData.{ScriptData}
 use Rattle.script_types.specs.Sound.{most_steps, most_media, counts_agree}
-use Rattle.script_members.specs.declared.wrong.Wrong.{Wrong}
-use Rattle.script_members.specs.declared.wrong.Wrong.TheVariants as wrong
-use Rattle.script_members.specs.Members.{and_then, needed, array_in}
-use Rattle.script_members.specs.Sources.{has}
+use Rattle.script_steps.specs.declared.wrong.Wrong.{Wrong}
+use Rattle.script_steps.specs.declared.wrong.Wrong.TheVariants as wrong
+use Rattle.script_steps.specs.Members.{and_then, needed, array_in}
+use Rattle.script_steps.specs.Sources.{has}
 use Rattle.wc_script.specs.declared.callers.Room.{Room}
 use Rattle.wc_script.specs.Faults.{limit_of, at, proceed}
 use Rattle.wc_script.specs.Codecs.{codecs_of}

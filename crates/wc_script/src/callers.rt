@@ -8,9 +8,10 @@ ghost use Rattle.script_steps.specs.Words as words;
 
 use crate::faults::{fault_at, limit_of};
 use bytes::Bytes;
-use script_members::{Wrong, array_member, copied, name_member};
-use script_names::{Files, Variables, is_caller_name, is_codec_name};
-use script_steps::{read_inline_data, read_step, word_member};
+use script_steps::{
+    Files, Variables, Wrong, array_member, copied, is_caller_name, is_codec_name, name_member,
+    read_inline_data, read_step, word_member,
+};
 use script_types::{CallerItem, CodecItem, Counted, Place, ScriptFault};
 use serde_json::Value;
 use std::alloc::Global;

@@ -2,29 +2,28 @@
 ghost use Rattle.std.specs.Prelude.{◌≡◌, ◌≢◌, ◌≤◌, [], IfOk, IfErr, Some, None, Option, option_and_then, length, codes};
 ghost use Rattle.serde_json.specs.View.{view, items_view};
 ghost use Rattle.serde_json.specs.Find.{get};
-ghost use Rattle.script_members.specs.Members.{text_in};
+ghost use Rattle.script_steps.specs.Members.{text_in};
 ghost use Rattle.wc_script.specs.Faults as faults;
 ghost use Rattle.wc_script.specs.Codecs.{kind_of, saturation_of, codec_of, codecs_of};
 
 use crate::faults::fault_at;
-use script_members::{Wrong, copied, name_member, text_member};
-use script_names::is_codec_name;
-use script_types::{CodecItem, KindWord, Place, ScriptFault};
+use script_steps::{Wrong, copied, is_codec_name, name_member, text_member};
+use script_types::{CodecItem, Kind, Place, ScriptFault};
 use serde_json::Value;
 use std::alloc::Global;
 
-fn read_kind(text: &str) -> Option<KindWord>
+fn read_kind(text: &str) -> Option<Kind>
     ensures { result ≡ kind_of text.now }
 {
     match text {
-        "audio-decoder" => Some(KindWord::AudioDecoder),
-        "audio-encoder" => Some(KindWord::AudioEncoder),
-        "video-decoder" => Some(KindWord::VideoDecoder),
+        "audio-decoder" => Some(Kind::AudioDecoder),
+        "audio-encoder" => Some(Kind::AudioEncoder),
+        "video-decoder" => Some(Kind::VideoDecoder),
         _ => None,
     }
 }
 
-fn kind_member(value: &Value) -> Option<KindWord>
+fn kind_member(value: &Value) -> Option<Kind>
     ensures { result ≡ option_and_then kind_of (text_in (codes "kind") (view value.now)) }
 {
     read_kind(text_member(value, "kind")?)

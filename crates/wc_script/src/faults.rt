@@ -2,7 +2,7 @@
 ghost use Rattle.std.specs.Prelude.{◌≡◌};
 ghost use Rattle.wc_script.specs.Faults as spec;
 
-use script_members::Wrong;
+use script_steps::Wrong;
 use script_types::{Counted, Place, ScriptFault};
 
 /// How many there may be. The bytes are those of one inline data, and of all.

@@ -5,8 +5,7 @@ ghost use Rattle.wc_script.specs.Faults as faults;
 ghost use Rattle.wc_script.specs.Order.{order_word_of, codec_in, codec_at, order_by, order_item_of, order_of};
 
 use crate::faults::fault_at;
-use script_members::{Wrong, as_name, has, name_member, natural_member};
-use script_names::{find_caller, find_codec};
+use script_steps::{Wrong, as_name, find_caller, find_codec, has, name_member, natural_member};
 use script_types::{CallerItem, CodecItem, OrderItem, Place, ScriptFault};
 use serde_json::Value;
 use std::alloc::Global;

@@ -3,7 +3,7 @@ ghost use Rattle.std.specs.Prelude.{◌≡◌, ◌≢◌, ◌≤◌, [], IfOk, I
 ghost use Rattle.std.specs.List.{count_by};
 ghost use Rattle.serde_json.specs.View.{view, items_view};
 ghost use Rattle.script_types.specs.Sound as sound;
-ghost use Rattle.script_members.specs.Members.{array_in};
+ghost use Rattle.script_steps.specs.Members.{array_in};
 ghost use Rattle.wc_script.specs.Faults as faults;
 ghost use Rattle.wc_script.specs.Walk.{few, parts_of, order_if_there, checked_order, ordered, walk_of};
 
@@ -11,7 +11,7 @@ use crate::callers::{Room, read_callers};
 use crate::codecs::read_codecs;
 use crate::faults::{fault_at, limit_of};
 use crate::order::read_order;
-use script_members::{Wrong, array_member, has};
+use script_steps::{Wrong, array_member, has};
 use script_types::{CallerItem, CodecItem, Counted, OrderItem, Place, ScriptData, ScriptFault};
 use serde_json::Value;
 use std::alloc::Global;

@@ -4,12 +4,12 @@ ghost use Rattle.script_types.specs.Built.{unbuilt_in};
 ghost use Rattle.script_types.specs.Built as spec;
 ghost use Rattle.script_types.specs.declared.script.CallerItem.{CallerItem};
 
-use script_types::{CallerItem, CodecItem, KindWord, Place, Script, Step};
+use script_types::{CallerItem, CodecItem, Kind, Place, Script, Step};
 
-fn is_built_kind(kind: KindWord) -> bool
+fn is_built_kind(kind: Kind) -> bool
     ensures { result ≡ spec.is_built_kind kind }
 {
-    kind == KindWord::AudioDecoder
+    kind == Kind::AudioDecoder
 }
 
 fn is_built_step(step: &Step) -> bool

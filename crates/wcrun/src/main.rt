@@ -17,28 +17,68 @@ mod tests;
 pub use calls::top;
 use calls::want_memory;
 use coder_api::CoderBox;
-use g711_coder::G711Coder;
-use pcm_coder::PcmCoder;
+use g711::Law;
 pub use refusal::{Limited, Refusal};
+use sample_coder::{Coding, SampleCoder};
+use sample_conversion::SampleSize;
 use std::alloc::Global;
 use std::process::ExitCode;
 use std::rt::Env;
 use std::{env, io};
-use wc_base::{Output, SystemFiles};
-use wc_config::{CodecId, CoderId, Role};
+use wc_base::{NoMemory, Output, SystemFiles};
+use wc_config::{CodecId, Role};
 
 // How many boxes of each coder there are.
 const BOXES: u32 = 8;
 
-// The codecs whose coders are built.
-const CODECS: [CodecId; 6] = [
+// All codecs.
+const CODECS: [CodecId; 11] = [
     CodecId::PcmU8,
     CodecId::PcmS16,
     CodecId::PcmS24,
     CodecId::PcmS32,
     CodecId::Alaw,
     CodecId::Ulaw,
+    CodecId::Flac,
+    CodecId::RawI420,
+    CodecId::RawI422,
+    CodecId::RawI444,
+    CodecId::RawNv12,
 ];
+
+// The coder of a codec: each codec has an arm here, and None says that its coder is not built.
+fn coding_of(codec: CodecId) -> Option<Coding> {
+    match codec {
+        CodecId::PcmU8 => Some(Coding::Pcm(SampleSize::One)),
+        CodecId::PcmS16 => Some(Coding::Pcm(SampleSize::Two)),
+        CodecId::PcmS24 => Some(Coding::Pcm(SampleSize::Three)),
+        CodecId::PcmS32 => Some(Coding::Pcm(SampleSize::Four)),
+        CodecId::Alaw => Some(Coding::G711(Law::Alaw)),
+        CodecId::Ulaw => Some(Coding::G711(Law::Ulaw)),
+        CodecId::Flac => None,
+        CodecId::RawI420 | CodecId::RawI422 | CodecId::RawI444 | CodecId::RawNv12 => None,
+    }
+}
+
+// The boxes of all coders that are built.
+fn boxes(alloc: Global) -> Result<Vec<CoderBox>, NoMemory> {
+    let mut coders = Vec::new(alloc);
+    for role in [Role::Decode, Role::Encode] {
+        for _ in 0..BOXES {
+            for codec in CODECS {
+                if let Some(coding) = coding_of(codec) {
+                    let Ok(coder) = Box::new(alloc, SampleCoder::new(role, coding)) else {
+                        return Err(NoMemory);
+                    };
+                    if coders.push(CoderBox::of(coder)).is_err() {
+                        return Err(NoMemory);
+                    }
+                }
+            }
+        }
+    }
+    Ok(coders)
+}
 
 fn words(rt: &(impl Env + Alloc<A = Global>)) -> io::Result<Vec<String>> {
     let mut words = Vec::new(rt.alloc());
@@ -59,36 +99,9 @@ fn main(rt: HostRuntime) -> ExitCode {
         }
         Err(_) => Vec::new(alloc),
     };
-    let mut coders = Vec::new(alloc);
-    for k in 0..2 * BOXES {
-        let role = if k < BOXES {
-            Role::Decode
-        } else {
-            Role::Encode
-        };
-        for codec in CODECS {
-            let id = CoderId { role, codec };
-            let coder = match codec {
-                CodecId::PcmU8 | CodecId::PcmS16 | CodecId::PcmS24 | CodecId::PcmS32 => {
-                    match Box::new(alloc, PcmCoder::new(id)) {
-                        Ok(coder) => Some(CoderBox::of(coder)),
-                        Err(_) => None,
-                    }
-                }
-                CodecId::Alaw | CodecId::Ulaw => match Box::new(alloc, G711Coder::new(id)) {
-                    Ok(coder) => Some(CoderBox::of(coder)),
-                    Err(_) => None,
-                },
-                _ => None,
-            };
-            let Some(coder) = coder else {
-                return ExitCode::from(want_memory(&mut sink));
-            };
-            if coders.push(coder).is_err() {
-                return ExitCode::from(want_memory(&mut sink));
-            }
-        }
-    }
+    let Ok(coders) = boxes(alloc) else {
+        return ExitCode::from(want_memory(&mut sink));
+    };
     let mut files = SystemFiles::new(&rt);
     ExitCode::from(top(alloc, &words, &mut files, &mut sink, coders))
 }

@@ -1,13 +1,14 @@
 // Whole calls on files and sinks in memory.
 use crate::top;
 use coder_api::CoderBox;
-use g711_coder::G711Coder;
-use pcm_coder::PcmCoder;
+use g711::Law;
+use sample_coder::{Coding, SampleCoder};
+use sample_conversion::SampleSize;
 use std::alloc::Global;
 use std::process::Abort;
 use std::test::Fail;
 use wc_base::{MemFiles, MemSink};
-use wc_config::{CodecId, CoderId, Role};
+use wc_config::Role;
 
 const ORDINARY: &str =
     "{\"codecs\":[{\"name\":\"d\",\"kind\":\"audio-decoder\"}],\"callers\":[{\"name\":\"a\",\"steps\":[
@@ -133,17 +134,10 @@ pub(crate) fn call_on(
     let mut files = MemFiles::open(entries, reads);
     let mut sink = MemSink::open(alloc, 4096, writes)?;
     let mut coders = Vec::new(alloc);
-    let role = Role::Decode;
-    let pcm = CoderId {
-        role,
-        codec: CodecId::PcmS16,
-    };
-    let ulaw = CoderId {
-        role,
-        codec: CodecId::Ulaw,
-    };
-    coders.push(CoderBox::of(Box::new(alloc, PcmCoder::new(pcm))?))?;
-    coders.push(CoderBox::of(Box::new(alloc, G711Coder::new(ulaw))?))?;
+    for coding in [Coding::Pcm(SampleSize::Two), Coding::G711(Law::Ulaw)] {
+        let coder = Box::new(alloc, SampleCoder::new(Role::Decode, coding))?;
+        coders.push(CoderBox::of(coder))?;
+    }
     let status = top(alloc, &given, &mut files, &mut sink, coders);
     Ok((status, sink))
 }

@@ -1,5 +1,5 @@
 use Rattle.std.proofs.Common.{Ok}
-use Rattle.coder_api.specs.declared.coder.Command.TheVariants as command
+use Rattle.codec_definitions.specs.declared.command.Command.TheVariants as command
 use Rattle.codec_core.proofs.Ends.{taken}
 use Rattle.codec_core.proofs.work.drain_end.Goals as goal
 

@@ -1,4 +1,4 @@
-use Rattle.coder_api.specs.declared.coder.Command.TheVariants as command
+use Rattle.codec_definitions.specs.declared.command.Command.TheVariants as command
 use Rattle.codec_core.proofs.Ends.{taken}
 use Rattle.codec_core.proofs.work.push_end.Goals as goal
 

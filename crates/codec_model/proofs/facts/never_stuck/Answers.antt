@@ -1,4 +1,4 @@
-use Rattle.codec_model.proofs.FactLaws.{counts, halts, numbers, blocks, saturates, saturation, processes, promises, quiet}
+use Rattle.codec_model.proofs.FactLaws.{counts, halts, numbers, blocks, saturates, saturation, processes, promises, names, quiet}
 use Rattle.codec_model.proofs.facts.never_stuck.Goals as goal
 
 pub returns : goal.returns
@@ -11,5 +11,6 @@ returns c = record {
   saturation = saturation;
   processes = processes;
   promises = promises;
+  names = names;
   quiet = quiet;
 }

@@ -5,7 +5,7 @@ use Rattle.report_reader.proofs.PassLaws.{form_numbered}
 use Rattle.report_reader.proofs.reading.read_forms.Goals as goal
 
 pub loop-rest-smaller : goal.loop-rest-smaller
-loop-rest-smaller c = form_shorter c.args.script.now c.loop-rest.section c.loop-rest.rest.now c.in-Ok.line c.in-Ok.behind.now c.in-Ok.next c.in-Ok.ensures.ok
+loop-rest-smaller c = form_shorter c.lines_are_read_again.ensures.sound c.args.script.now c.loop-rest.section c.loop-rest.rest.now c.in-Ok.line c.in-Ok.behind.now c.in-Ok.next c.in-Ok.ensures.ok
 
 pub loop-rest-preserved : goal.loop-rest-preserved
 loop-rest-preserved c =

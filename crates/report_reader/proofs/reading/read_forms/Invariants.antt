@@ -1,12 +1,12 @@
 use Rattle.std.proofs.Common.{length, ◌≤◌}
 use Rattle.report_reader.specs.declared.forms.Section.TheVariants as section
-use Rattle.report_reader.specs.Form.{Reads, numbered}
+use Rattle.report_reader.specs.Form.{Reads, next_number}
 use Rattle.report_reader.proofs.reading.read_forms.Given as goal
 
 abbrev pub invariant-loop-rest : goal.invariant-loop-rest
 invariant-loop-rest l = record {
   reads : Reads l.script section.Start l.bytes l.lines.items l.section l.rest;
-  few : numbered l.section ≤ length l.lines.items;
+  few : next_number l.section ≤ length l.lines.items;
 }
 
 abbrev pub decreases-loop-rest : goal.decreases-loop-rest

@@ -1,6 +1,6 @@
 use Rattle.std.proofs.Common.{◌++◌, ◌∷◌, [], List, length, ap, sym, ◌∙◌, arith}
 use Rattle.std.specs.Vec.Iter.{into_iter_items}
-use Rattle.slot_registry.proofs.Opens.{nothing_left}
+use Rattle.wc_replay.proofs.Ends.{nothing_left}
 use Rattle.report_text.specs.declared.result.StepResult.{StepResult}
 use Rattle.wc_replay.specs.Player.{caller_trace}
 use Rattle.wc_replay.proofs.Ends.{one_more, all_made}
@@ -12,7 +12,7 @@ loop-results-preserved c =
     let steps = c.in-Some.ensures.steps in
     let short = ap length steps.0 in
     record {
-      all = one_more caller_trace at.traces.items c.append.new.items.items c.in-Some.results (into_iter_items c.next.new.self) (into_iter_items at.results-iterator) c.args.callers.items at.invariant.all steps.0 (c.in_ok-append.ensures.ok ∙ ap (λ (r : List StepResult). at.traces.items ++ record { results = r } ∷ []) (c.of-results.ensures ∙ c.into_steps.ensures));
+      all = one_more caller_trace at.traces.items c.try_push.new.items.items c.in-Some.results (into_iter_items c.next.new.self) (into_iter_items at.results-iterator) c.args.callers.items at.invariant.all steps.0 (c.in_ok-try_push.ensures.ok ∙ ap (λ (r : List StepResult). at.traces.items ++ record { results = r } ∷ []) (c.of-results.ensures ∙ c.into_steps.ensures));
       long = omega (arith, short, steps.1, at.invariant.long);
     }
 

@@ -1,6 +1,6 @@
 use Rattle.std.proofs.Common.{◌++◌, ◌∷◌, [], length, ap, sym, ◌∙◌, arith}
 use Rattle.std.specs.Vec.Iter.{into_iter_items}
-use Rattle.slot_registry.proofs.Opens.{nothing_left}
+use Rattle.wc_replay.proofs.Ends.{nothing_left}
 use Rattle.trace_text.specs.declared.run.CodecTrace.{CodecTrace}
 use Rattle.wc_replay.specs.Player.{trace_of}
 use Rattle.wc_replay.proofs.Ends.{one_more, all_made}
@@ -12,7 +12,7 @@ loop-desk-preserved g c =
     let steps = c.in-Some.ensures.steps in
     let short = ap length steps.0 in
     record {
-      all = one_more trace_of at.traces.items c.append.new.items.items c.in-Some.desk (into_iter_items c.next.new.self) (into_iter_items at.desk-iterator) c.args.desks.items at.invariant.all steps.0 (c.in_ok-append.ensures.ok ∙ ap (λ (t : CodecTrace). c.loop-desk.traces.items ++ t ∷ []) c.codec_trace-trace.ensures);
+      all = one_more trace_of at.traces.items c.try_push.new.items.items c.in-Some.desk (into_iter_items c.next.new.self) (into_iter_items at.desk-iterator) c.args.desks.items at.invariant.all steps.0 (c.in_ok-try_push.ensures.ok ∙ ap (λ (t : CodecTrace). c.loop-desk.traces.items ++ t ∷ []) c.in_ok-trace.ensures);
       long = omega (arith, short, steps.1, at.invariant.long);
     }
 

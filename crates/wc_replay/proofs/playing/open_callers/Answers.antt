@@ -7,8 +7,8 @@ use Rattle.wc_replay.proofs.playing.open_callers.Goals as goal
 pub loop-caller-preserved : goal.loop-caller-preserved
 loop-caller-preserved c =
     let made = c.loop-caller.results.items in
-    next_made new_results c.args.callers.now c.loop-caller._caller-index c._caller-item.result made c.append.new.items.items c.loop-caller-test.true c._caller-item.is c.loop-caller.invariant
-    (c.in_ok-append.ensures.ok ∙ ap (λ (d : List StepResult). made ++ d ∷ []) c.new.ensures)
+    next_made new_results c.args.callers.now c.loop-caller._caller-index c._caller-item.result made c.try_push.new.items.items c.loop-caller-test.true c._caller-item.is c.loop-caller.invariant
+    (c.in_ok-try_push.ensures.ok ∙ ap (λ (d : List StepResult). made ++ d ∷ []) c.new.ensures)
 
 pub returns : goal.returns
 returns c = whole_made new_results c.args.callers.now c.loop-caller._caller-index c.loop-caller.results.items c.loop-caller-test.false c.loop-caller.invariant

@@ -1,8 +1,8 @@
 use Rattle.std.proofs.Common.{◌++◌, ◌∷◌, [], length, refl, ap, ◌∙◌}
 use Rattle.std.proofs.lemmas.Option.{slice_get_read}
-use Rattle.wc_replay.specs.Desk.{DeskValue}
+use Rattle.codec_accounts.specs.Codec.{CodecValue}
 use Rattle.wc_replay.specs.Player.{is_openable, new_desk}
-use Rattle.script_types.proofs.SoundLaws.{all_at}
+use Rattle.script_types.specs.SoundLaws.{all_at}
 use Rattle.wc_replay.proofs.Ends.{next_made, whole_made}
 use Rattle.wc_replay.proofs.playing.open_desks.Goals as goal
 
@@ -15,8 +15,8 @@ open_desk-requires-after_bounds g c κs within =
 pub loop-codec-preserved : goal.loop-codec-preserved
 loop-codec-preserved g c =
     let made = c.loop-codec.desks.items in
-    next_made new_desk c.args.codecs.now c.loop-codec.codec-index c.codec-item.result made c.append.new.items.items c.loop-codec-test.true c.codec-item.is c.loop-codec.invariant
-    (c.in_ok-append.ensures.ok ∙ ap (λ (d : DeskValue). made ++ d ∷ []) c.in_ok-desk.ensures)
+    next_made new_desk c.args.codecs.now c.loop-codec.codec-index c.codec-item.result made c.try_push.new.items.items c.loop-codec-test.true c.codec-item.is c.loop-codec.invariant
+    (c.in_ok-try_push.ensures.ok ∙ ap (λ (d : CodecValue). made ++ d ∷ []) c.in_ok-desk.ensures)
 
 pub returns : goal.returns
 returns g c = whole_made new_desk c.args.codecs.now c.loop-codec.codec-index c.loop-codec.desks.items c.loop-codec-test.false c.loop-codec.invariant

@@ -1,10 +1,6 @@
 use Rattle.std.proofs.Common.{take}
 use Rattle.trace_text.specs.Follow.{order_items, Follows, nothing_yet}
-use Rattle.wc_replay.specs.Player.{course, KeepsShape}
 use Rattle.wc_replay.proofs.playing.take_items.Given as goal
 
 abbrev pub invariant-loop-item : goal.invariant-loop-item
-invariant-loop-item g l = record {
-  shape : KeepsShape l.fn.player l.player;
-  follows : Follows l.script l.media l.fn.player.slots.made (take l.item-index (order_items l.script)) (nothing_yet l.script) (course l.player);
-}
+invariant-loop-item g l = Follows l.script l.media (take l.item-index (order_items l.script)) (nothing_yet l.script l.fn.player.slots.made) l.player

@@ -1,38 +1,44 @@
-use Rattle.std.proofs.Common.{ℕ, ◌∙◌, ap, sym, subst, eqb, arith}
+use Rattle.std.proofs.Common.{ℕ, ◌∙◌, ap, refl, sym, subst, eqb, arith}
 use Rattle.codec_model.specs.declared.entry.Entry.TheVariants as entry
 use Rattle.codec_core.specs.Job.{DoneValue, outcome_of, IsEndOf}
 use Rattle.codec_core.specs.Codec.{Codec, Makes, state_at, kept_box}
-use Rattle.codec_core.proofs.Steps.{Moved, done_moves, kept_more, makes_more, done_reclaims}
+use Rattle.codec_core.proofs.Steps.{Moved, done_moves, makes_more, done_reclaims}
+use Rattle.codec_core.proofs.Recorded.{core_more, next_fits}
 use Rattle.codec_core.proofs.Laws.{done_idle}
 use Rattle.codec_core.proofs.codec.Core.done.Given.{Over}
 use Rattle.codec_core.proofs.codec.Core.done.Goals as goal
 
-job : (g : Over) (c : goal.After-push_reserved g) → DoneValue
+pub done-requires-clause-place : goal.done-requires-clause-place
+done-requires-clause-place g c = next_fits c.self.inside.trace c.self.inside.slot c.self.inside.machine c.self.inside.spare c.self.invariant
+
+job : (g : Over) (c : goal.After-push g) → DoneValue
 job g c = record { epoch = c.d.inside.epoch; number = c.d.inside.number; kind = c.d.inside.kind; ended = c.d.inside.ended; coder = c.d.inside.coder }
 
-moved : (g : Over) (c : goal.After-push_reserved g) → Moved c.hand_back-back.new.slot (entry.Done c.d.inside.epoch c.d.inside.number c.args.moment (outcome_of c.d.inside.ended)) c.self.invariant.0.state c.done.new.self
+moved : (g : Over) (c : goal.After-push g) → Moved c.hand_back-back.new.slot (entry.Done c.d.inside.epoch c.d.inside.number c.args.moment (outcome_of c.d.inside.ended)) c.self.invariant.kept.state c.done.new.self
 unfolding job
 moved g c =
-    done_moves c.self.inside.entries.items c.self.inside.slot c.hand_back-back.new.slot c.self.inside.machine c.done.new.self (job g c) c.args.moment c.self.inside.spare c.self.invariant.0
+    done_moves c.self.inside.trace.entries c.self.inside.slot c.hand_back-back.new.slot c.self.inside.machine c.done.new.self (job g c) c.args.moment c.self.inside.spare c.self.invariant.kept
     (subst (λ (v : Codec). IsEndOf (state_at v) (job g c)) (sym c.self.view_is) (subst (λ (d : DoneValue). IsEndOf (state_at c.args.self.now) d) (sym c.d.view_is) c.requires))
     (c.hand_back-back.ensures.left ∙ ap (λ (n : ℕ). kept_box (eqb c.d.inside.epoch n) c.d.inside.coder) c.epoch.ensures)
     c.done.ensures.after
 
 pub invariant_of-self : goal.invariant_of-self
-invariant_of-self g c = (
-  rw (c.push_reserved.ensures.items, c.outcome_of_end-outcome.ensures) (kept_more c.self.inside.entries.items c.self.inside.slot c.hand_back-back.new.slot c.self.inside.machine c.done.new.self (entry.Done c.d.inside.epoch c.d.inside.number c.args.moment (outcome_of c.d.inside.ended)) c.self.invariant.0 (moved g c)),
-  omega (arith, c.done.ensures.left, done_reclaims c.self.inside.machine c.done.new.self c.d.inside.ended c.args.moment c.done.ensures.after),
-)
+invariant_of-self g c =
+    rw (c.push.ensures, c.outcome_of_end-outcome.ensures)
+    (core_more c.self.inside.trace c.self.inside.slot c.hand_back-back.new.slot c.self.inside.machine c.done.new.self c.self.inside.spare (entry.Done c.d.inside.epoch c.d.inside.number c.args.moment (outcome_of c.d.inside.ended)) _ c.self.invariant.kept c.self.invariant.shows (moved g c)
+    refl
+    (omega (arith, c.done.ensures.left, c.self.invariant.places, done_reclaims c.self.inside.machine c.done.new.self c.d.inside.ended c.args.moment c.done.ensures.after))
+    c.self.invariant.fits)
 
 pub returns-clause-made : goal.returns-clause-made
 returns-clause-made g c =
-    let new : Codec = record { opening = c.done.new.self.opening; history = c.push_reserved.new.self.items; spare = c.self.inside.spare; slot = c.hand_back-back.new.slot } in
+    let new : Codec = record { opening = c.done.new.self.opening; history = c.push.new.self.entries; spare = c.self.inside.spare; slot = c.hand_back-back.new.slot } in
     let here : Makes c.args.self.now new (entry.Done c.d.inside.epoch c.d.inside.number c.args.moment (outcome_of c.d.inside.ended)) =
-    rw (← c.self.view_is, c.push_reserved.ensures.items, c.outcome_of_end-outcome.ensures)
-    (makes_more c.self.inside.entries.items c.self.inside.slot c.hand_back-back.new.slot c.self.inside.machine c.done.new.self (entry.Done c.d.inside.epoch c.d.inside.number c.args.moment (outcome_of c.d.inside.ended)) c.self.invariant.0 (moved g c) c.self.inside.spare c.self.inside.spare) in
+    rw (← c.self.view_is, c.push.ensures, c.outcome_of_end-outcome.ensures)
+    (makes_more c.self.inside.trace.entries c.self.inside.slot c.hand_back-back.new.slot c.self.inside.machine c.done.new.self (entry.Done c.d.inside.epoch c.d.inside.number c.args.moment (outcome_of c.d.inside.ended)) c.self.invariant.kept (moved g c) c.self.inside.spare c.self.inside.spare) in
     subst (λ (d : DoneValue). Makes c.args.self.now new (entry.Done d.epoch d.number c.args.moment (outcome_of d.ended))) c.d.view_is here
 
 pub returns-clause-idle : goal.returns-clause-idle
 returns-clause-idle g c =
-    let new : Codec = record { opening = c.done.new.self.opening; history = c.push_reserved.new.self.items; spare = c.self.inside.spare; slot = c.hand_back-back.new.slot } in
+    let new : Codec = record { opening = c.done.new.self.opening; history = c.push.new.self.entries; spare = c.self.inside.spare; slot = c.hand_back-back.new.slot } in
     done_idle c.args.d.epoch c.args.d.number c.args.moment (outcome_of c.args.d.ended) (state_at c.args.self.now) (state_at new) (returns-clause-made g c).steps

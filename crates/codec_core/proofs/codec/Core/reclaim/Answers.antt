@@ -1,30 +1,32 @@
-use Rattle.std.proofs.Common.{◌≡◌, ◌∙◌, None, sym, arith, true}
+use Rattle.std.proofs.Common.{None, arith}
 use Rattle.codec_model.specs.declared.entry.Entry.TheVariants as entry
-use Rattle.codec_model.specs.Control.{may_reclaim}
-use Rattle.codec_core.proofs.Steps.{Moved, reclaim_moves, kept_more, makes_more, reclaim_reclaims}
+use Rattle.codec_core.proofs.Steps.{Moved, reclaim_moves, makes_more, reclaim_reclaims}
+use Rattle.codec_core.proofs.Recorded.{core_more, next_fits, reclaim_shows_it, reclaim_ends}
 use Rattle.codec_core.proofs.Laws.{reclaim_keeps_running}
 use Rattle.codec_core.proofs.codec.Core.reclaim.Given.{Over}
 use Rattle.codec_core.proofs.codec.Core.reclaim.Goals as goal
 
-is_made : (g : Over) (c : goal.After-push_reserved g) → c.reclaim.result ≡ true
-is_made g c = cc
+pub reclaim-requires : goal.reclaim-requires
+reclaim-requires g c = next_fits c.self.inside.trace c.self.inside.slot c.self.inside.machine c.self.inside.spare c.self.invariant
 
-may : (g : Over) (c : goal.After-push_reserved g) → may_reclaim c.args.now c.self.inside.machine ≡ true
-may g c = sym c.reclaim.ensures.answer ∙ is_made g c
+pub push-requires-clause-ends : goal.push-requires-clause-ends
+push-requires-clause-ends g c = reclaim_ends c.self.inside.trace.entries c.self.inside.slot c.self.inside.machine _ c.self.invariant.kept c.in_ok-answer.ensures.answer.is_shown
 
-moved : (g : Over) (c : goal.After-push_reserved g) → Moved None (entry.Reclaim c.args.now) c.self.invariant.0.state c.reclaim.new.self
-moved g c = reclaim_moves c.self.inside.entries.items c.self.inside.slot c.self.inside.machine c.reclaim.new.self c.args.now c.self.invariant.0 (may g c) (c.reclaim.ensures.made (is_made g c))
+moved : (g : Over) (c : goal.After-push g) → Moved None (entry.Reclaim c.args.now) c.self.invariant.kept.state c.reclaim.new.self
+moved g c = reclaim_moves c.self.inside.trace.entries c.self.inside.slot c.self.inside.machine c.reclaim.new.self c.args.now c.self.invariant.kept c.in_ok-answer.ensures.may c.in_ok-answer.ensures.made
 
 pub invariant_of-self-2 : goal.invariant_of-self-2
-invariant_of-self-2 g c = (
-  rw (c.push_reserved.ensures.items, c.hand_back-coder.ensures.left) (kept_more c.self.inside.entries.items c.self.inside.slot None c.self.inside.machine c.reclaim.new.self (entry.Reclaim c.args.now) c.self.invariant.0 (moved g c)),
-  omega (arith, c.reclaim.ensures.left, reclaim_reclaims c.self.inside.machine c.reclaim.new.self c.args.now (may g c) (c.reclaim.ensures.made (is_made g c))),
-)
+invariant_of-self-2 g c =
+    rw (c.push.ensures, c.hand_back-coder.ensures.left)
+    (core_more c.self.inside.trace c.self.inside.slot None c.self.inside.machine c.reclaim.new.self c.self.inside.spare (entry.Reclaim c.args.now) _ c.self.invariant.kept c.self.invariant.shows (moved g c)
+    (reclaim_shows_it c.self.inside.trace.entries c.self.inside.slot c.self.inside.machine c.args.now _ c.self.invariant.kept c.in_ok-answer.ensures.answer.is_shown)
+    (omega (arith, c.in_ok-answer.ensures.left, c.self.invariant.places, reclaim_reclaims c.self.inside.machine c.reclaim.new.self c.args.now c.in_ok-answer.ensures.may c.in_ok-answer.ensures.made))
+    c.self.invariant.fits)
 
 pub returns-clause-made : goal.returns-clause-made
 returns-clause-made g c =
-    rw (← c.self.view_is, c.push_reserved.ensures.items, c.hand_back-coder.ensures.left)
-    (makes_more c.self.inside.entries.items c.self.inside.slot None c.self.inside.machine c.reclaim.new.self (entry.Reclaim c.args.now) c.self.invariant.0 (moved g c) c.self.inside.spare c.self.inside.spare)
+    rw (← c.self.view_is, c.push.ensures, c.hand_back-coder.ensures.left)
+    (makes_more c.self.inside.trace.entries c.self.inside.slot None c.self.inside.machine c.reclaim.new.self (entry.Reclaim c.args.now) c.self.invariant.kept (moved g c) c.self.inside.spare c.self.inside.spare)
 
 pub returns-clause-running : goal.returns-clause-running
 returns-clause-running g c = reclaim_keeps_running c.args.now _ _ (returns-clause-made g c).steps

@@ -1,39 +1,45 @@
-use Rattle.std.proofs.Common.{◌≡◌, ◌∙◌, ◌++◌, ◌∷◌, [], Some, None, ap, sym, arith}
+use Rattle.std.proofs.Common.{◌≡◌, ◌∙◌, ◌++◌, ◌∷◌, [], Some, None, refl, ap, sym, arith}
 use Rattle.codec_model.specs.declared.entry.Entry.TheVariants as entry
 use Rattle.codec_model.specs.Control.{start_item}
 use Rattle.codec_model.specs.Replay.{State, missing_coder, step}
 use Rattle.codec_core.specs.Codec.{Codec, Makes, state_at}
-use Rattle.codec_core.proofs.Steps.{Moved, start_moves, start_job, start_lacks, state_is, kept_more, makes_more, start_reclaims}
+use Rattle.codec_core.proofs.Steps.{Moved, start_moves, start_job, start_lacks, state_is, makes_more, start_reclaims}
+use Rattle.codec_core.proofs.Recorded.{core_more, next_fits}
 use Rattle.codec_core.proofs.codec.Core.start.Given.{Over}
 use Rattle.codec_core.proofs.codec.Core.start.Goals as goal
 
-item_is : (g : Over) (c : goal.After-push_reserved g) → start_item c.self.inside.machine ≡ Some c.in_ok-item.item
+pub start-requires : goal.start-requires
+start-requires g c = next_fits c.self.inside.trace c.self.inside.slot c.self.inside.machine c.self.inside.spare c.self.invariant
+
+item_is : (g : Over) (c : goal.After-push g) → start_item c.self.inside.machine ≡ Some c.in_ok-item.item
 item_is g c = sym c.start.ensures.item ∙ c.in_ok-item.was
 
-moved : (g : Over) (c : goal.After-push_reserved g) → Moved None (entry.Start c.self.inside.machine.epoch c.in_ok-item.item.number) c.self.invariant.0.state c.start.new.self
-moved g c = start_moves c.self.inside.entries.items c.self.inside.slot c.self.inside.machine c.start.new.self c.in_ok-item.item c.self.invariant.0 (item_is g c) c.start.ensures.after
+moved : (g : Over) (c : goal.After-push g) → Moved None (entry.Start c.self.inside.machine.epoch c.in_ok-item.item.number) c.self.invariant.kept.state c.start.new.self
+moved g c = start_moves c.self.inside.trace.entries c.self.inside.slot c.self.inside.machine c.start.new.self c.in_ok-item.item c.self.invariant.kept (item_is g c) c.start.ensures.after
 
 pub invariant_of-self-2 : goal.invariant_of-self-2
-invariant_of-self-2 g c = (
-  rw (c.push_reserved.ensures.items, c.replace-coder.ensures.after, c.epoch-epoch.ensures) (kept_more c.self.inside.entries.items c.self.inside.slot None c.self.inside.machine c.start.new.self (entry.Start c.self.inside.machine.epoch c.in_ok-item.item.number) c.self.invariant.0 (moved g c)),
-  omega (arith, c.in_ok-item.ensures.left, start_reclaims c.self.inside.machine c.start.new.self c.in_ok-item.item (item_is g c) c.start.ensures.after),
-)
+invariant_of-self-2 g c =
+    rw (c.push.ensures, c.replace-coder.ensures.after, c.epoch-epoch.ensures)
+    (core_more c.self.inside.trace c.self.inside.slot None c.self.inside.machine c.start.new.self c.self.inside.spare (entry.Start c.self.inside.machine.epoch c.in_ok-item.item.number) _ c.self.invariant.kept c.self.invariant.shows (moved g c)
+    refl
+    (omega (arith, c.in_ok-item.ensures.left, c.self.invariant.places, start_reclaims c.self.inside.machine c.start.new.self c.in_ok-item.item (item_is g c) c.start.ensures.after))
+    c.self.invariant.fits)
 
-makes : (g : Over) (c : goal.After-push_reserved g) → Makes (record { opening = c.self.inside.machine.opening; history = c.self.inside.entries.items; spare = c.self.inside.spare; slot = c.self.inside.slot }) (record { opening = c.start.new.self.opening; history = c.self.inside.entries.items ++ entry.Start c.self.inside.machine.epoch c.in_ok-item.item.number ∷ []; spare = c.self.inside.spare; slot = None }) (entry.Start c.self.inside.machine.epoch c.in_ok-item.item.number)
-makes g c = makes_more c.self.inside.entries.items c.self.inside.slot None c.self.inside.machine c.start.new.self (entry.Start c.self.inside.machine.epoch c.in_ok-item.item.number) c.self.invariant.0 (moved g c) c.self.inside.spare c.self.inside.spare
+makes : (g : Over) (c : goal.After-push g) → Makes (record { opening = c.self.inside.machine.opening; history = c.self.inside.trace.entries; spare = c.self.inside.spare; slot = c.self.inside.slot }) (record { opening = c.start.new.self.opening; history = c.self.inside.trace.entries ++ entry.Start c.self.inside.machine.epoch c.in_ok-item.item.number ∷ []; spare = c.self.inside.spare; slot = None }) (entry.Start c.self.inside.machine.epoch c.in_ok-item.item.number)
+makes g c = makes_more c.self.inside.trace.entries c.self.inside.slot None c.self.inside.machine c.start.new.self (entry.Start c.self.inside.machine.epoch c.in_ok-item.item.number) c.self.invariant.kept (moved g c) c.self.inside.spare c.self.inside.spare
 
 pub returns-clause-some : goal.returns-clause-some
-returns-clause-some g c = rw (← c.self.view_is, c.push_reserved.ensures.items, c.replace-coder.ensures.after, c.epoch-epoch.ensures) (makes g c)
+returns-clause-some g c = rw (← c.self.view_is, c.push.ensures, c.replace-coder.ensures.after, c.epoch-epoch.ensures) (makes g c)
 
 pub returns-clause-job : goal.returns-clause-job
 returns-clause-job g c =
-    let is = state_is c.self.inside.entries.items c.self.inside.slot c.self.inside.machine c.self.inside.spare c.self.invariant.0 in
-    rw (c.push_reserved.ensures.items, c.epoch-epoch.ensures, c.replace-coder.ensures.value)
-    (start_job c.self.inside.entries.items c.self.inside.slot c.self.inside.machine c.in_ok-item.item _ _ c.self.invariant.0 (item_is g c) (ap (λ (s : State). step (entry.Start c.self.inside.machine.epoch c.in_ok-item.item.number) s) (sym is) ∙ (makes g c).steps))
+    let is = state_is c.self.inside.trace.entries c.self.inside.slot c.self.inside.machine c.self.inside.spare c.self.invariant.kept in
+    rw (c.push.ensures, c.epoch-epoch.ensures, c.replace-coder.ensures.value)
+    (start_job c.self.inside.trace.entries c.self.inside.slot c.self.inside.machine c.in_ok-item.item _ _ c.self.invariant.kept (item_is g c) (ap (λ (s : State). step (entry.Start c.self.inside.machine.epoch c.in_ok-item.item.number) s) (sym is) ∙ (makes g c).steps))
 
 pub returns-clause-lacks : goal.returns-clause-lacks
 returns-clause-lacks g c =
-    let is = state_is c.self.inside.entries.items c.self.inside.slot c.self.inside.machine c.self.inside.spare c.self.invariant.0 in
+    let is = state_is c.self.inside.trace.entries c.self.inside.slot c.self.inside.machine c.self.inside.spare c.self.invariant.kept in
     rw c.replace-coder.ensures.value
-    (start_lacks c.self.inside.entries.items c.self.inside.slot c.self.inside.machine c.in_ok-item.item c.self.invariant.0 (item_is g c)
+    (start_lacks c.self.inside.trace.entries c.self.inside.slot c.self.inside.machine c.in_ok-item.item c.self.invariant.kept (item_is g c)
     ∙ (ap (λ (s : State). missing_coder s.given c.in_ok-item.item.work) (sym is) ∙ ap (λ (v : Codec). missing_coder (state_at v).given c.in_ok-item.item.work) c.self.view_is))

@@ -8,13 +8,15 @@ invariant_of-self c =
     record {
       counted = rw (c.clear.ensures.items, c.clear-2.ensures.items, c.schedule_dequeue.ensures.items, c.keep_dequeues.ensures.items) (omega (arith, less, c.self.invariant.counted));
       small = c.self.invariant.small;
-      places = search rules;
+      for_work = search rules;
+      for_tasks = search rules;
       epochs = search rules;
       ran = ran_before c.self.inside.epoch c.self.inside.running c.self.invariant.ran;
       items = search rules;
       sizes = rw c.clear.ensures.items refl;
       coded = rw c.clear-2.ensures.items (sym (ap (λ (n : ℕ). 0 + n) (none_coded c.self.inside.epoch c.self.inside.running c.self.invariant.ran)));
-      total = c.self.invariant.total;
+      promises = search rules;
+      outputs = c.self.invariant.outputs;
     }
 
 pub returns-clause-left : goal.returns-clause-left

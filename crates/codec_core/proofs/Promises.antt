@@ -1,0 +1,138 @@
+-- How promises stand after further ends.
+use Rattle.std.proofs.Common.{ℕ, ◌≡◌, ◌≢◌, ◌+◌, ◌<◌, ◌≤◌, Bool, true, false, eqb, eq-eqb, cond, List, [], ◌∷◌, ◌++◌, length, length-append, map, get_or, set, append_assoc, append-nil, Option, Some, None, refl, ap, sym, ◌∙◌, arith, inl, inr}
+use Rattle.std.specs.List.{AllByRecursion, All}
+use Rattle.std.proofs.lemmas.Bool.{cases_eq, cases_lt}
+use Rattle.std.proofs.lemmas.Bool.Decides.{nat_tests}
+use Rattle.std.proofs.lemmas.List.{get_or-set_same, get_or-set_other, get_or_append_left, get_or_push, get_or_past, map-append}
+use Rattle.std.proofs.lemmas.List.Elements.{All-from_recursion}
+use Rattle.wc_base.specs.declared.error.DomError.{DomError}
+use Rattle.codec_definitions.specs.declared.unit.Unit as media
+use Rattle.codec_model.specs.declared.entry.Event.{Event}
+use Rattle.codec_model.specs.declared.entry.Event.TheVariants as event
+use Rattle.codec_model.specs.declared.entry.Task.{Task}
+use Rattle.codec_model.specs.declared.entry.Task.TheVariants as task
+use Rattle.codec_model.specs.declared.entry.Shown.{Shown}
+use Rattle.codec_model.specs.declared.entry.PromiseEnd.{PromiseEnd}
+use Rattle.codec_model.specs.declared.entry.PromiseState.{PromiseState}
+use Rattle.codec_model.specs.declared.entry.PromiseState.TheVariants as promise
+use Rattle.codec_model.specs.Shown.{promise_state, promise_ended, event_ends, ends_of, ends_shown, rejections, outputs_from, task_shows}
+use Rattle.codec_core.specs.Trace.{AreStates, EndsBelow, rejected, resolved_by}
+
+-- ---- the first end counts
+
+abbrev pub or_later : PromiseState → PromiseState → PromiseState
+or_later promise.Pending s = s
+or_later promise.Resolved s = promise.Resolved
+or_later (promise.Rejected error) s = promise.Rejected error
+
+no_later : (s : PromiseState) → or_later s promise.Pending ≡ s
+no_later promise.Pending = refl
+no_later promise.Resolved = refl
+no_later (promise.Rejected error) = refl
+
+ended_stays : (error : Option DomError) (s : PromiseState) → promise_ended error ≡ or_later (promise_ended error) s
+ended_stays None s = refl
+ended_stays (Some x) s = refl
+
+first_counts : (ends : List PromiseEnd) (e : PromiseEnd) (p : ℕ) → promise_state (ends ++ e ∷ []) p ≡ or_later (promise_state ends p) (promise_state (e ∷ []) p)
+first_counts [] e p = refl
+first_counts (x ∷ xs) e p = elim (eqb x.promise p) as (λ b. cond b (promise_ended x.error) (promise_state (xs ++ e ∷ []) p) ≡ or_later (cond b (promise_ended x.error) (promise_state xs p)) (promise_state (e ∷ []) p)) [
+  | true ↦ ended_stays x.error (promise_state (e ∷ []) p)
+  | false ↦ first_counts xs e p
+]
+
+own_end : (p : ℕ) (error : Option DomError) → promise_state (record { promise = p; error = error } ∷ []) p ≡ promise_ended error
+own_end p error = rw (eq-eqb p p refl) refl
+
+other_end : (p q : ℕ) (error : Option DomError) → p ≢ q → promise_state (record { promise = p; error = error } ∷ []) q ≡ promise.Pending
+other_end p q error other = let apart : eqb p q ≡ false = grind (arith, nat_tests, other) in rw apart refl
+
+-- ---- the table of states
+
+pub end_set : (states : List PromiseState) (ends : List PromiseEnd) (p : ℕ) (error : Option DomError) → p < length states → get_or states p promise.Pending ≡ promise.Pending → AreStates states ends → AreStates (set states p (promise_ended error)) (ends ++ record { promise = p; error = error } ∷ [])
+end_set states ends p error low pending h = record {
+  each = λ q. elim (cases_eq q p) [
+    | inl same ↦
+        rw same (
+        get_or-set_same states p (promise_ended error) promise.Pending low
+        ∙ sym (first_counts ends (record { promise = p; error = error }) p ∙ (ap (λ s. or_later s (promise_state (record { promise = p; error = error } ∷ []) p)) (sym (h.each p) ∙ pending) ∙ own_end p error))
+        )
+    | inr other ↦
+        get_or-set_other states p q (promise_ended error) promise.Pending other
+        ∙ (h.each q ∙ sym (first_counts ends (record { promise = p; error = error }) q ∙ (ap (or_later (promise_state ends q)) (other_end p q error (λ e. other (sym e))) ∙ no_later (promise_state ends q))))
+  ];
+}
+
+-- a promise that has ended stays as it is
+pub end_kept : (states : List PromiseState) (ends : List PromiseEnd) (p : ℕ) (error : Option DomError) (s : PromiseState) → get_or states p promise.Pending ≡ s → ((later : PromiseState) → or_later s later ≡ s) → AreStates states ends → AreStates states (ends ++ record { promise = p; error = error } ∷ [])
+end_kept states ends p error s is stays h = record {
+  each = λ q. elim (cases_eq q p) [
+    | inl same ↦
+        rw same (
+        h.each p
+        ∙ sym (first_counts ends (record { promise = p; error = error }) p ∙ (ap (λ x. or_later x (promise_state (record { promise = p; error = error } ∷ []) p)) (sym (h.each p) ∙ is) ∙ (stays (promise_state (record { promise = p; error = error } ∷ []) p) ∙ (sym is ∙ h.each p))))
+        )
+    | inr other ↦
+        h.each q ∙ sym (first_counts ends (record { promise = p; error = error }) q ∙ (ap (or_later (promise_state ends q)) (other_end p q error (λ e. other (sym e))) ∙ no_later (promise_state ends q)))
+  ];
+}
+
+pub resolved_kept : (states : List PromiseState) (ends : List PromiseEnd) (p : ℕ) (error : Option DomError) → get_or states p promise.Pending ≡ promise.Resolved → AreStates states ends → AreStates states (ends ++ record { promise = p; error = error } ∷ [])
+resolved_kept states ends p error is h = end_kept states ends p error promise.Resolved is (λ later. refl) h
+
+pub rejected_kept : (states : List PromiseState) (ends : List PromiseEnd) (p : ℕ) (error : Option DomError) (x : DomError) → get_or states p promise.Pending ≡ promise.Rejected x → AreStates states ends → AreStates states (ends ++ record { promise = p; error = error } ∷ [])
+rejected_kept states ends p error x is h = end_kept states ends p error (promise.Rejected x) is (λ later. refl) h
+
+-- one more entry has a promise that is pending
+pub one_pending : (states : List PromiseState) (ends : List PromiseEnd) → AreStates states ends → AreStates (states ++ promise.Pending ∷ []) ends
+one_pending states ends h = record { each = λ p. same states p ∙ h.each p }
+  where
+    same : (xs : List PromiseState) (p : ℕ) → get_or (xs ++ promise.Pending ∷ []) p promise.Pending ≡ get_or xs p promise.Pending
+    same xs p = elim (cases_lt p (length xs)) [
+      | inl low ↦ get_or_append_left xs (promise.Pending ∷ []) promise.Pending p low
+      | inr high ↦ elim (cases_eq (length xs) p) [
+        | inl last ↦ get_or_push xs promise.Pending promise.Pending p last ∙ sym (get_or_past xs p promise.Pending high)
+        | inr past ↦ get_or_past (xs ++ promise.Pending ∷ []) p promise.Pending (let long = length-append xs (promise.Pending ∷ []) in grind (arith, long, high, past)) ∙ sym (get_or_past xs p promise.Pending high)
+      ]
+    ]
+
+pub none_yet : AreStates [] []
+none_yet = record { each = λ p. refl }
+
+-- ---- the ends that entries show
+
+pub ends_append : (xs ys : List Event) → ends_of (xs ++ ys) ≡ ends_of xs ++ ends_of ys
+ends_append [] ys = refl
+ends_append (x ∷ xs) ys = ap (λ us. event_ends x ++ us) (ends_append xs ys) ∙ sym (append_assoc (event_ends x) (ends_of xs) (ends_of ys))
+
+pub rejection_ends : (error : DomError) (ps : List ℕ) → ends_of (rejections error ps) ≡ map (rejected error) ps
+rejection_ends error [] = refl
+rejection_ends error (p ∷ ps) = ap (λ es. rejected error p ∷ es) (rejection_ends error ps)
+
+-- with an error call after them
+pub close_ends : (error : DomError) (ps : List ℕ) → ends_of (rejections error ps ++ event.ErrorCall error ∷ []) ≡ map (rejected error) ps
+close_ends error ps = ends_append (rejections error ps) (event.ErrorCall error ∷ []) ∙ (append-nil (ends_of (rejections error ps)) ∙ rejection_ends error ps)
+
+output_ends : (n : ℕ) (us : List media.Unit) → ends_of (outputs_from n us) ≡ []
+output_ends n [] = refl
+output_ends n (u ∷ us) = output_ends (n + 1) us
+
+pub task_ends : (t : Task) (n : ℕ) → ends_of (task_shows t n []) ≡ resolved_by t
+task_ends task.Unblock n = refl
+task_ends task.Process n = refl
+task_ends task.Desaturate n = refl
+task_ends (task.Output us) n = output_ends n us
+task_ends (task.Flushed p us) n = ends_append (outputs_from n us) (event.Resolve p ∷ []) ∙ rw (output_ends n us) refl
+task_ends task.Dequeue n = refl
+task_ends (task.Close x) n = refl
+
+below_at : (error : DomError) (n : ℕ) (ps : List ℕ) → AllByRecursion (λ (e : PromiseEnd). e.promise < n) (map (rejected error) ps) → AllByRecursion (λ p. p < n) ps
+below_at error n [] h = tt
+below_at error n (p ∷ ps) h = (h.0, below_at error n ps h.1)
+
+pub rejected_below : (error : DomError) (n : ℕ) (ps : List ℕ) → AllByRecursion (λ (e : PromiseEnd). e.promise < n) (map (rejected error) ps) → All (λ p. p < n) ps
+rejected_below error n ps h = All-from_recursion (λ p. p < n) ps (below_at error n ps h)
+
+pub ends_more : (xs : List Shown) (x : Shown) → ends_shown (xs ++ x ∷ []) ≡ ends_shown xs ++ ends_of x.events
+ends_more [] x = append-nil (ends_of x.events)
+ends_more (y ∷ ys) x = ap (λ es. ends_of y.events ++ es) (ends_more ys x) ∙ sym (append_assoc (ends_of y.events) (ends_shown ys) (ends_of x.events))

@@ -1,0 +1,46 @@
+-- What is kept of a codec's entries.
+use Rattle.std.specs.Prelude.{ℕ, ◌≡◌, ◌≤◌, ◌<◌, ◌+◌, List, [], ◌∷◌, Some, None, get_or, map, vec_len, vec_capacity}
+use Rattle.std.specs.List.{AllByRecursion}
+use Rattle.codec_model.specs.declared.entry.Entry.{Entry}
+use Rattle.codec_model.specs.declared.entry.Shown.{Shown}
+use Rattle.codec_model.specs.declared.entry.Event.{Event}
+use Rattle.codec_model.specs.declared.entry.PromiseEnd.{PromiseEnd}
+use Rattle.codec_model.specs.declared.entry.PromiseState.{PromiseState}
+use Rattle.codec_model.specs.declared.entry.PromiseState.TheVariants.{Pending}
+use Rattle.codec_model.specs.declared.entry.Task.{Task}
+use Rattle.codec_model.specs.declared.entry.Task.TheVariants as task
+use Rattle.wc_base.specs.declared.error.DomError.{DomError}
+use Rattle.codec_model.specs.Shown.{promise_state, ends_of, ends_shown, shown_of}
+use Rattle.codec_core.specs.declared.trace.Trace.TheInside.{Inside}
+
+pub record TraceValue : Type 0 where
+  pub entries : List Entry
+  -- what each of them showed
+  pub shown : List Shown
+  -- so many more have a place
+  pub free : ℕ
+
+-- the states of the promises with these numbers from 0 on, after these ends; none with a higher number has ended
+pub record AreStates (states : List PromiseState) (ends : List PromiseEnd) : Type 0 where
+  pub each : (p : ℕ) → get_or states p Pending ≡ promise_state ends p
+
+-- the promises that these events end have lower numbers
+abbrev pub EndsBelow : ℕ → List Event → Type 0
+EndsBelow n events = AllByRecursion (λ (e : PromiseEnd). e.promise < n) (ends_of events)
+
+abbrev pub rejected : DomError → ℕ → PromiseEnd
+rejected error promise = record { promise = promise; error = Some error }
+
+-- the promise that a task resolves which does not close the codec
+abbrev pub resolved_by : Task → List PromiseEnd
+resolved_by (task.Flushed promise units) = record { promise = promise; error = None } ∷ []
+resolved_by _ = []
+
+-- Each entry has what it showed and the state of its promise, and there are places for more.
+pub record IsTrace (t : Inside) : Type 0 where
+  pub as_many_shown : vec_len t.shown ≡ vec_len t.entries
+  pub as_many_promises : vec_len t.promises ≡ vec_len t.entries
+  pub entries_fit : vec_len t.entries + t.free ≤ vec_capacity t.entries
+  pub shown_fit : vec_len t.shown + t.free ≤ vec_capacity t.shown
+  pub promises_fit : vec_len t.promises + t.free ≤ vec_capacity t.promises
+  pub states : AreStates t.promises.items (ends_shown (map shown_of t.shown.items))

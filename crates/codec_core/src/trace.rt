@@ -1,0 +1,186 @@
+// The entries of a codec, with what each showed.
+ghost use Rattle.std.specs.Prelude.{ℕ, ◌≡◌, ◌≤◌, ◌<◌, ◌+◌, ◌-◌, ◌^◌, ◌++◌, ◌∷◌, [], List, max, length, map, IfOk, OnOk, OnErr, Option, vec_len, vec_capacity};
+ghost use Rattle.std.specs.List.{All, AllByRecursion};
+ghost use Rattle.codec_model.specs.declared.entry.PromiseEnd.{PromiseEnd};
+ghost use Rattle.codec_model.specs.Shown.{shown_of, ends_of, ends_shown, promise_ended, promise_state};
+ghost use Rattle.codec_core.specs.Trace.{AreStates, EndsBelow, rejected, resolved_by};
+
+use codec_model::{Entry, PromiseState, Showing, Task};
+use std::alloc::Global;
+use std::marker::Model;
+use wc_base::{DomError, NoMemory};
+
+/// The entries of a codec's history, what each of them showed, and how the promise of each stands.
+#[derive(Drop)]
+pub(crate) struct Trace {
+    entries: Vec<Entry>,
+    shown: Vec<Showing>,
+    // By the place of the flush; pending at each entry that is none.
+    promises: Vec<PromiseState>,
+    // So many more entries have a place.
+    free: usize,
+}
+
+impl Model for Trace {
+    ghost use Rattle.std.specs.Prelude.{map};
+    ghost use Rattle.codec_model.specs.Shown.{shown_of};
+    ghost use Rattle.codec_core.specs.Trace.{TraceValue, IsTrace};
+
+    ghost Value = { TraceValue };
+
+    ghost view = { λ t. record { entries = t.entries.items; shown = map shown_of t.shown.items; free = t.free } };
+
+    ghost invariant = { IsTrace };
+}
+
+impl Trace {
+    /// A history with no entry, and so many places.
+    pub(crate) fn open(alloc: Global, places: usize) -> Result<Trace, NoMemory>
+        ensures empty { IfOk result (λ t. t ≡ record { entries = []; shown = []; free = places }) }
+        ensures fits { IfOk result (λ t. length t.entries + t.free < 2 ^ 63) }
+    {
+        Ok(Trace {
+            entries: Vec::with_capacity(alloc, places)?,
+            shown: Vec::with_capacity(alloc, places)?,
+            promises: Vec::with_capacity(alloc, places)?,
+            free: places,
+        })
+    }
+
+    /// Makes places for at least so many more entries.
+    pub(crate) fn reserve(&mut self, places: usize) -> Result<(), NoMemory>
+        ensures ok { OnOk result (self.new ≡ record self.old { free = max places self.old.free }) }
+        ensures fits { OnOk result (length self.new.entries + self.new.free < 2 ^ 63) }
+        ensures err { OnErr result (self.new ≡ self.old) }
+    {
+        let free = self.free.max(places);
+        self.entries.reserve(free)?;
+        self.shown.reserve(free)?;
+        self.promises.reserve(free)?;
+        self.free = free;
+        Ok(())
+    }
+
+    /// One more entry, with what it shows.
+    pub(crate) fn push(&mut self, entry: Entry, showing: Showing)
+        requires place { 1 ≤ self.old.free }
+        requires ends { EndsBelow (length self.old.entries + 1) (shown_of showing).events }
+        ensures { self.new ≡ record { entries = self.old.entries ++ entry ∷ []; shown = self.old.shown ++ shown_of showing ∷ []; free = self.old.free - 1 } }
+    {
+        self.free -= 1;
+        self.promises.push_reserved(PromiseState::Pending);
+        end_promises(&mut self.promises, &showing);
+        self.shown.push_reserved(showing);
+        self.entries.push_reserved(entry);
+    }
+
+    /// The entries.
+    pub(crate) fn entries(&self) -> &[Entry]
+        ensures { result.now ≡ self.now.entries }
+    {
+        self.entries.as_slice()
+    }
+
+    /// What each of them showed.
+    pub(crate) fn shown(&self) -> &[Showing]
+        ensures { map shown_of result.now ≡ self.now.shown }
+    {
+        self.shown.as_slice()
+    }
+
+    /// The entries, and what each of them showed, with no memory.
+    pub(crate) fn into_parts(self) -> (Vec<Entry>, Vec<Showing>)
+        ensures entries { result.0.items ≡ self.entries }
+        ensures shown { map shown_of result.1.items ≡ self.shown }
+    {
+        (self.entries, self.shown)
+    }
+
+    /// How the promise of the flush at this place stands.
+    pub(crate) fn end_of(&self, promise: u64) -> PromiseState
+        ensures { result ≡ promise_state (ends_shown self.now.shown) promise }
+    {
+        match self.promises.get(promise as usize) {
+            Some(state) => *state,
+            None => PromiseState::Pending,
+        }
+    }
+}
+
+fn state_of(error: Option<DomError>) -> PromiseState
+    ensures { result ≡ promise_ended error }
+{
+    match error {
+        None => PromiseState::Resolved,
+        Some(error) => PromiseState::Rejected(error),
+    }
+}
+
+/// A promise ends, with an error or resolved, where it is still pending.
+fn end_promise(states: &mut Vec<PromiseState>, promise: u64, error: Option<DomError>)
+    requires { promise < vec_len states.old }
+    ensures states { (ends : List PromiseEnd) → AreStates states.old.items ends → AreStates states.new.items (ends ++ record { promise = promise; error = error } ∷ []) }
+    ensures len { vec_len states.new ≡ vec_len states.old }
+    ensures capacity { vec_capacity states.new ≡ vec_capacity states.old }
+{
+    let place = promise as usize;
+    match states[place] {
+        PromiseState::Pending => {
+            states[place] = state_of(error);
+        }
+        PromiseState::Resolved => {}
+        PromiseState::Rejected(_) => {}
+    }
+}
+
+/// Each of these promises is rejected, where it is still pending.
+fn reject_promises(states: &mut Vec<PromiseState>, error: DomError, promises: &[u64])
+    requires { All (λ p. p < vec_len states.old) promises.now }
+    ensures states { (ends : List PromiseEnd) → AreStates states.old.items ends → AreStates states.new.items (ends ++ map (rejected error) promises.now) }
+    ensures len { vec_len states.new ≡ vec_len states.old }
+    ensures capacity { vec_capacity states.new ≡ vec_capacity states.old }
+{
+    for promise in promises {
+        end_promise(states, *promise, Some(error));
+    }
+}
+
+/// The promises end that an entry ends.
+fn end_promises(states: &mut Vec<PromiseState>, showing: &Showing)
+    requires { EndsBelow (vec_len states.old) (shown_of showing.now).events }
+    ensures states { (ends : List PromiseEnd) → AreStates states.old.items ends → AreStates states.new.items (ends ++ ends_of (shown_of showing.now).events) }
+    ensures len { vec_len states.new ≡ vec_len states.old }
+    ensures capacity { vec_capacity states.new ≡ vec_capacity states.old }
+{
+    match showing {
+        Showing::Nothing => {}
+        Showing::Refusal(_) => {}
+        Showing::Rejection { promise, error } => end_promise(states, *promise, Some(*error)),
+        Showing::Removal(promises) => {
+            reject_promises(states, DomError::Abort, promises.as_slice());
+        }
+        Showing::Reclaim(promises) => {
+            reject_promises(states, DomError::QuotaExceeded, promises.as_slice());
+        }
+        Showing::Turn { task, outputs: _ } => resolve_promise(states, task),
+        Showing::Close { error, promises } => reject_promises(states, *error, promises.as_slice()),
+    }
+}
+
+/// The promise is resolved that a task resolves which does not close the codec.
+fn resolve_promise(states: &mut Vec<PromiseState>, task: &Task)
+    requires { AllByRecursion (λ e. e.promise < vec_len states.old) (resolved_by task.now) }
+    ensures states { (ends : List PromiseEnd) → AreStates states.old.items ends → AreStates states.new.items (ends ++ resolved_by task.now) }
+    ensures len { vec_len states.new ≡ vec_len states.old }
+    ensures capacity { vec_capacity states.new ≡ vec_capacity states.old }
+{
+    match task {
+        Task::Flushed { promise, units: _ } => end_promise(states, *promise, None),
+        Task::Unblock => {}
+        Task::Process => {}
+        Task::Desaturate => {}
+        Task::Output(_) => {}
+        Task::Dequeue => {}
+        Task::Close(_) => {}
+    }
+}

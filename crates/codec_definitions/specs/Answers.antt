@@ -1,0 +1,63 @@
+-- What a codec's definition gives for a list of commands.
+use Rattle.std.specs.Prelude.{Bool, true, false, List, [], ◌∷◌, ◌++◌, Option, Some, None}
+use Rattle.wc_config.specs.declared.codec.CoderId.{CoderId}
+use Rattle.wc_config.specs.declared.codec.CodecId.{CodecId}
+use Rattle.wc_config.specs.declared.config.AudioDecoderConfig.{AudioDecoderConfig}
+use Rattle.wc_config.specs.declared.config.AudioEncoderConfig.{AudioEncoderConfig}
+use Rattle.wc_config.specs.declared.config.Config.{Config}
+use Rattle.wc_config.specs.declared.config.Config.TheVariants as config
+use Rattle.codec_definitions.specs.declared.unit.Unit as unit
+use Rattle.codec_definitions.specs.declared.command.Command.{Command}
+use Rattle.codec_definitions.specs.SampleCodecs.{SampleCodec, sample_codec, sample_decoder, sample_encoder}
+
+abbrev pub sample_decoder_by : Option SampleCodec → AudioDecoderConfig → Command → Option (List unit.Unit)
+sample_decoder_by None c x = None
+sample_decoder_by (Some s) c x = sample_decoder s c x
+
+abbrev pub sample_encoder_by : Option SampleCodec → AudioEncoderConfig → Command → Option (List unit.Unit)
+sample_encoder_by None c x = None
+sample_encoder_by (Some s) c x = sample_encoder s c x
+
+abbrev pub audio_decoder_answer : CodecId → AudioDecoderConfig → Command → Option (List unit.Unit)
+audio_decoder_answer codec c x = sample_decoder_by (sample_codec codec) c x
+
+abbrev pub audio_encoder_answer : CodecId → AudioEncoderConfig → Command → Option (List unit.Unit)
+audio_encoder_answer codec c x = sample_encoder_by (sample_codec codec) c x
+
+-- the units that a command gives after those before it, of which none was refused; none where it is refused
+abbrev pub answer_after : CoderId → Config → List Command → Command → Option (List unit.Unit)
+answer_after id (config.AudioDecoder c) before x = audio_decoder_answer id.codec c x
+answer_after id (config.AudioEncoder c) before x = audio_encoder_answer id.codec c x
+answer_after id _ before x = None
+
+-- an answer and those after it, of which a refusal leaves none
+abbrev pub until_refused : Option (List unit.Unit) → List (Option (List unit.Unit)) → List (Option (List unit.Unit))
+until_refused None rest = None ∷ []
+until_refused (Some units) rest = Some units ∷ rest
+
+-- the answers to commands one after another, after those before them, up to the first refusal
+abbrev pub answers_from : CoderId → Config → List Command → List Command → List (Option (List unit.Unit))
+answers_from id c before [] = []
+answers_from id c before (x ∷ xs) = until_refused (answer_after id c before x) (answers_from id c (before ++ x ∷ []) xs)
+
+-- a codec's definition over the whole list of inputs and drains since its configuration
+abbrev pub answers : CoderId → Config → List Command → List (Option (List unit.Unit))
+answers id c commands = answers_from id c [] commands
+
+-- all units of answers
+abbrev pub units_of : List (Option (List unit.Unit)) → List unit.Unit
+units_of [] = []
+units_of (None ∷ rest) = units_of rest
+units_of (Some units ∷ rest) = units ++ units_of rest
+
+-- the last answer
+abbrev pub last_answer : List (Option (List unit.Unit)) → Option (List unit.Unit)
+last_answer [] = None
+last_answer (x ∷ []) = x
+last_answer (x ∷ y ∷ ys) = last_answer (y ∷ ys)
+
+-- one of the answers is a refusal
+abbrev pub is_refused_in : List (Option (List unit.Unit)) → Bool
+is_refused_in [] = false
+is_refused_in (None ∷ rest) = true
+is_refused_in (Some units ∷ rest) = is_refused_in rest

@@ -1,0 +1,4 @@
+pub mod Answers
+pub mod G711
+pub mod Pcm
+pub mod SampleCodecs

@@ -1,0 +1,173 @@
+//! Runs one decoder of linear PCM alone, with no script and no registry, to measure what its steps cost: `codec_speed
+//! decodes N` makes so many decodes, each shown before the next one, and `codec_speed flushes N` so many flushes, all of
+//! them called before any is resolved. It prints how many outputs were shown, or how many promises resolved.
+#![tactic(auto)]
+
+ghost use Rattle.std.specs.Prelude.{◌≡◌};
+ghost use Rattle.codec_model.specs.Replay.{State};
+ghost use Rattle.codec_core.specs.Job.{IsJobOf};
+
+use bytes::Bytes;
+use codec_core::{Core, Job};
+use codec_drive::run;
+use codec_model::{Call, Kind, PromiseState, Showing, Task};
+use coder_api::{Coder, SlotBox};
+use sample_coder::{Coding, SampleCoder};
+use sample_conversion::SampleSize;
+use std::alloc::Global;
+use std::process::ExitCode;
+use std::rt::Env;
+use std::{env, io};
+use wc_base::{By, NoMemory, Text, Who};
+use wc_chunk::Chunk;
+use wc_config::{AudioDecoderConfig, Config, Role};
+
+const WHO: Who = Who { caller: 0, step: 0 };
+
+fn configure(alloc: Global) -> Result<Call, NoMemory> {
+    Ok(Call::Configure(Config::AudioDecoder(AudioDecoderConfig {
+        codec: Text::of(String::from_str(alloc, "pcm-s16")?),
+        rate: 8000,
+        channels: 1,
+        description: None,
+    })))
+}
+
+// A chunk of one sample.
+fn chunk(alloc: Global) -> Result<Chunk, NoMemory> {
+    let bytes = match Bytes::from_vec(vec![in alloc; 0_u8; 2]?) {
+        Ok(bytes) => bytes,
+        Err(_) => return Err(NoMemory),
+    };
+    Ok(Chunk {
+        key: true,
+        timestamp: 0,
+        duration: None,
+        bytes,
+    })
+}
+
+fn call(core: &mut Core<SampleCoder>, call: Call) -> Result<(), NoMemory> {
+    match core.call(WHO, call) {
+        Ok(_) => Ok(()),
+        Err(_) => Err(NoMemory),
+    }
+}
+
+// Gives a job the box that it lacks.
+fn with_box(mut job: Job<SampleCoder>) -> Job<SampleCoder>
+    ensures { (s : State) → IsJobOf s job → IsJobOf s result }
+{
+    if job.lacks().is_some() {
+        let _ = job.take_box();
+        let by = By::Codec {
+            codec: 0,
+            place: job.place(),
+        };
+        let coder = SlotBox::new(
+            SampleCoder::new(Role::Decode, Coding::Pcm(SampleSize::Two)),
+            0,
+            by,
+        );
+        if job.lacks() == Some(coder.id()) {
+            job.put_box(coder);
+        }
+    }
+    job
+}
+
+// Starts the front item, does its job and ends it.
+fn work(alloc: Global, core: &mut Core<SampleCoder>, moment: u64) {
+    if let Some(job) = core.start() {
+        let job = with_box(job);
+        if job.lacks().is_some() {
+            core.done(job.no_memory(), moment);
+        } else {
+            core.done(run(alloc, job), moment);
+        }
+    }
+}
+
+fn open(alloc: Global) -> Result<Core<SampleCoder>, NoMemory> {
+    let mut core = Core::open(alloc, Kind::AudioDecoder, 4, 0)?;
+    call(&mut core, configure(alloc)?)?;
+    work(alloc, &mut core, 0);
+    core.turn();
+    core.turn();
+    Ok(core)
+}
+
+// So many decodes, each with its item and its turns; how many outputs were shown.
+fn decodes(alloc: Global, count: u64) -> Result<usize, NoMemory> {
+    let mut core = open(alloc)?;
+    let chunk = chunk(alloc)?;
+    for moment in 0..count {
+        call(&mut core, Call::Decode(chunk.copy()?))?;
+        work(alloc, &mut core, moment);
+        core.turn();
+        core.turn();
+    }
+    Ok(core.shown().iter().filter(|s| is_output(s)).count())
+}
+
+fn is_output(showing: &Showing) -> bool {
+    match showing {
+        Showing::Turn { task, outputs: _ } => matches!(task, Task::Output(_)),
+        _ => false,
+    }
+}
+
+// So many flushes, and then the item and the turn of each; how many promises resolved.
+fn flushes(alloc: Global, count: u64) -> Result<usize, NoMemory> {
+    let mut core = open(alloc)?;
+    let (first, _, _) = core.look();
+    for _flush in 0..count {
+        call(&mut core, Call::Flush)?;
+    }
+    for moment in 0..count {
+        work(alloc, &mut core, moment);
+        core.turn();
+    }
+    let mut resolved = 0_usize;
+    for n in 0..count {
+        let promise = first.saturating_add(n);
+        if core.end_of(promise) == PromiseState::Resolved {
+            resolved = resolved.saturating_add(1);
+        }
+    }
+    Ok(resolved)
+}
+
+fn words(rt: &(impl Env + Alloc<A = Global>)) -> io::Result<Vec<String>> {
+    let mut words = Vec::new(rt.alloc());
+    for word in env::args(rt)?.skip(1) {
+        words.push(word)?;
+    }
+    Ok(words)
+}
+
+// What the words ask for, if they ask for something.
+fn measure(alloc: Global, words: &[String]) -> Result<Option<usize>, NoMemory> {
+    let [work, count] = words else {
+        return Ok(None);
+    };
+    match (work.as_str(), count.as_str().parse::<u64>()) {
+        ("decodes", Ok(count)) => Ok(Some(decodes(alloc, count)?)),
+        ("flushes", Ok(count)) => Ok(Some(flushes(alloc, count)?)),
+        _ => Ok(None),
+    }
+}
+
+fn main(rt: HostRuntime) -> ExitCode {
+    let Ok(words) = words(&rt) else {
+        return ExitCode::from(1);
+    };
+    match measure(rt.alloc(), &words) {
+        Ok(Some(count)) => match println!(rt; "{count}") {
+            Ok(()) => ExitCode::from(0),
+            Err(_) => ExitCode::from(5),
+        },
+        Ok(None) => ExitCode::from(2),
+        Err(NoMemory) => ExitCode::from(6),
+    }
+}

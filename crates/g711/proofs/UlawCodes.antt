@@ -1,0 +1,177 @@
+-- mu-law: each magnitude has one code of each sign.
+use Rattle.std.proofs.Common.{ℕ, zero, suc, ℤ, pos, negsuc, ◌≡◌, ◌≢◌, ◌≤◌, ◌<◌, ◌^◌, ◌*◌, ◌+◌, ◌-◌, nat_le, nat_lt, Bool, true, false, not, ◌&&◌, inl, inr, ap, refl, subst, sym, ◌∙◌, get_or, arith}
+use Rattle.std.proofs.lemmas.Bool.{cases_lt, and_parts, and_from, le-leb, lt-leb, lt-ltb, leb-true, ltb-true, false_from_ne_true}
+use Rattle.std.proofs.lemmas.Nat.{pow_pos}
+use Rattle.std.proofs.lemmas.List.Sums.{position_or_len_is}
+use Rattle.std.proofs.lemmas.List.FromFn.{get_or-range_with_len}
+use Rattle.std.proofs.Math.Nat.{mul-le-mul_left, min-le_right, zero-add}
+use Rattle.std.specs.List.{range_with_len}
+use Rattle.codec_definitions.specs.G711.{exponent_of, mantissa_of, is_negative, signed, is_same_sign, ulaw_bits, ulaw_is_negative, ulaw_low, ulaw_high, ulaw_level, ulaw_value, ulaw_magnitude, IsInUlawInterval, IsUlawCodeOf, IsUlawCode, is_ulaw_code, ulaw_code}
+use Rattle.g711.specs.Segments.{IsInSegment}
+use Rattle.g711.specs.Laws.{UlawIntervalsAreApart, UlawIntervalsCover, UlawEncodes, UlawEncodesOnce, UlawDecodesWithin, UlawComesBack}
+use Rattle.g711.proofs.Bits.{small_exponent, small_mantissa, same_bits}
+use Rattle.g711.proofs.Segments.{grows, one_segment, some_segment}
+
+-- a mu-law interval is a segment, 132 lower
+in_segment : (e m k : ℕ) → ulaw_low e m ≤ k → k < ulaw_high e m → IsInSegment e m (k + 132)
+in_segment e m k low high = record { low = omega (arith, low); high = omega (arith, high) }
+
+low_from : (e m k : ℕ) → IsInSegment e m (k + 132) → ulaw_low e m ≤ k
+low_from e m k s = omega (arith, s.low)
+
+high_from : (e m k : ℕ) → IsInSegment e m (k + 132) → k < ulaw_high e m
+high_from e m k s = omega (arith, s.high)
+
+code_segment : (code k : ℕ) → IsInUlawInterval code k → IsInSegment (exponent_of (ulaw_bits code)) (mantissa_of (ulaw_bits code)) (k + 132)
+code_segment code k i = in_segment (exponent_of (ulaw_bits code)) (mantissa_of (ulaw_bits code)) k i.low i.high
+
+pub ulaw_apart : UlawIntervalsAreApart
+ulaw_apart negative k code other a b =
+    let x = ulaw_bits code in
+    let y = ulaw_bits other in
+    let parts : (exponent_of x ≡ exponent_of y) × (mantissa_of x ≡ mantissa_of y) =
+    one_segment (exponent_of x) (exponent_of y) (mantissa_of x) (mantissa_of y) (k + 132) (small_mantissa x) (small_mantissa y) (code_segment code k a.interval) (code_segment other k b.interval) in
+    let same : x ≡ y = same_bits x y (omega arith) (omega arith) (a.sign ∙ sym b.sign) parts.0 parts.1 in
+    omega (arith, same, a.byte, b.byte)
+
+-- the first bit of a sign
+abbrev pub sign_bit : Bool → ℕ
+sign_bit true = 128
+sign_bit false = 0
+
+sign_of_bits : (negative : Bool) (b : ℕ) → b < 128 → nat_le 128 (b + sign_bit negative) ≡ negative
+sign_of_bits true b small = le-leb 128 (b + 128) (omega arith)
+sign_of_bits false b small = lt-leb 128 (b + 0) (omega (arith, small))
+
+exponent_signed : (negative : Bool) (b : ℕ) → b < 128 → exponent_of (b + sign_bit negative) ≡ exponent_of b
+exponent_signed true b small = omega (arith, small)
+exponent_signed false b small = omega (arith, small)
+
+mantissa_signed : (negative : Bool) (b : ℕ) → mantissa_of (b + sign_bit negative) ≡ mantissa_of b
+mantissa_signed true b = omega arith
+mantissa_signed false b = omega arith
+
+small_sign : (negative : Bool) → sign_bit negative ≤ 128
+small_sign true = omega arith
+small_sign false = omega arith
+
+-- the code that a sign and seven bits make
+pub ulaw_coded : (negative : Bool) (k b code : ℕ) → b < 128 → IsInSegment (exponent_of b) (mantissa_of b) (k + 132) → code ≡ 255 - (b + sign_bit negative) → IsUlawCodeOf negative k code
+ulaw_coded negative k b code small s made =
+    let limit : sign_bit negative ≤ 128 = small_sign negative in
+    let bits : ulaw_bits code ≡ b + sign_bit negative = omega (arith, made, small, limit) in
+    let e : exponent_of (ulaw_bits code) ≡ exponent_of b = ap (λ (x : ℕ). exponent_of x) bits ∙ exponent_signed negative b small in
+    let m : mantissa_of (ulaw_bits code) ≡ mantissa_of b = ap (λ (x : ℕ). mantissa_of x) bits ∙ mantissa_signed negative b in
+    let segment : IsInSegment (exponent_of (ulaw_bits code)) (mantissa_of (ulaw_bits code)) (k + 132) =
+    subst (λ (x : ℕ). IsInSegment x (mantissa_of (ulaw_bits code)) (k + 132)) (sym e) (subst (λ (x : ℕ). IsInSegment (exponent_of b) x (k + 132)) (sym m) s) in
+    record {
+      byte = omega (arith, made);
+      sign = ap (λ (x : ℕ). nat_le 128 x) bits ∙ sign_of_bits negative b small;
+      interval = record { low = low_from (exponent_of (ulaw_bits code)) (mantissa_of (ulaw_bits code)) k segment; high = high_from (exponent_of (ulaw_bits code)) (mantissa_of (ulaw_bits code)) k segment };
+    }
+
+pub ulaw_cover : UlawIntervalsCover
+ulaw_cover negative k clipped =
+    let found : (bits : ℕ) × (bits < 128) × IsInSegment (exponent_of bits) (mantissa_of bits) (k + 132) = some_segment (k + 132) (omega arith) (omega (arith, clipped)) in
+    (255 - (found.0 + sign_bit negative), ulaw_coded negative k found.0 (255 - (found.0 + sign_bit negative)) found.1 found.2 refl)
+
+pub same_sign : (a b : Bool) → is_same_sign a b ≡ true → b ≡ a
+same_sign false false e = refl
+same_sign false true e = sym e
+same_sign true b e = e
+
+pub sign_same : (a b : Bool) → b ≡ a → is_same_sign a b ≡ true
+sign_same false b e = ap not e
+sign_same true b e = e
+
+passes : (value : ℤ) (code : ℕ) → IsUlawCode value code → is_ulaw_code value code ≡ true
+passes value code c =
+    let bits = ulaw_bits code in
+    let low : nat_le (ulaw_low (exponent_of bits) (mantissa_of bits)) (ulaw_magnitude value) ≡ true = le-leb (ulaw_low (exponent_of bits) (mantissa_of bits)) (ulaw_magnitude value) c.interval.low in
+    let high : nat_lt (ulaw_magnitude value) (ulaw_high (exponent_of bits) (mantissa_of bits)) ≡ true = lt-ltb (ulaw_magnitude value) (ulaw_high (exponent_of bits) (mantissa_of bits)) c.interval.high in
+    and_from _ _ (and_from _ _ (sign_same (is_negative value) (ulaw_is_negative code) c.sign) low) high
+
+passed : (value : ℤ) (code : ℕ) → code < 256 → is_ulaw_code value code ≡ true → IsUlawCode value code
+passed value code byte works =
+    let bits = ulaw_bits code in
+    let outer = and_parts (is_same_sign (is_negative value) (ulaw_is_negative code) && nat_le (ulaw_low (exponent_of bits) (mantissa_of bits)) (ulaw_magnitude value)) (nat_lt (ulaw_magnitude value) (ulaw_high (exponent_of bits) (mantissa_of bits))) works in
+    let inner = and_parts (is_same_sign (is_negative value) (ulaw_is_negative code)) (nat_le (ulaw_low (exponent_of bits) (mantissa_of bits)) (ulaw_magnitude value)) outer.0 in
+    record {
+      byte = byte;
+      sign = same_sign (is_negative value) (ulaw_is_negative code) inner.0;
+      interval = record { low = leb-true (ulaw_low (exponent_of bits) (mantissa_of bits)) (ulaw_magnitude value) inner.1; high = ltb-true (ulaw_magnitude value) (ulaw_high (exponent_of bits) (mantissa_of bits)) outer.1 };
+    }
+
+-- the code that passes is the first that passes
+pub ulaw_code_is : (value : ℤ) (code : ℕ) → IsUlawCode value code → ulaw_code value ≡ code
+unfolding ulaw_code
+ulaw_code_is value code c =
+    position_or_len_is (is_ulaw_code value) (range_with_len 0 256) code 0 (omega (arith, c.byte))
+    (λ k less.
+    let here : get_or (range_with_len 0 256) k 0 ≡ k = get_or-range_with_len 0 256 k 0 (omega (arith, less, c.byte)) ∙ zero-add k in
+    ap (is_ulaw_code value) here ∙ false_from_ne_true (is_ulaw_code value k) (λ works. omega (arith, less, ulaw_apart (is_negative value) (ulaw_magnitude value) k code (passed value k (omega (arith, less, c.byte)) works) c)))
+    (λ within. ap (is_ulaw_code value) (get_or-range_with_len 0 256 code 0 c.byte ∙ zero-add code) ∙ passes value code c)
+
+clipped : (value : ℤ) → ulaw_magnitude value ≤ 32635
+clipped (pos n) = min-le_right n 32635
+clipped (negsuc n) = min-le_right (n + 1) 32635
+
+pub ulaw_encodes : UlawEncodes
+ulaw_encodes value =
+    let found : (code : ℕ) × IsUlawCodeOf (is_negative value) (ulaw_magnitude value) code = ulaw_cover (is_negative value) (ulaw_magnitude value) (clipped value) in
+    subst (λ (x : ℕ). IsUlawCode value x) (sym (ulaw_code_is value found.0 found.1)) found.1
+
+pub ulaw_encodes_once : UlawEncodesOnce
+ulaw_encodes_once value code c = sym (ulaw_code_is value code c)
+
+-- the level of an interval
+low_level : (e m : ℕ) → ulaw_low e m ≤ ulaw_level e m
+low_level e m = omega arith
+
+high_level : (e m : ℕ) → ulaw_level e m < ulaw_high e m
+high_level e m = omega (arith, pow_pos e)
+
+pub small_level : (e m : ℕ) → e < 8 → m < 16 → ulaw_level e m ≤ 32124
+small_level e m se sm =
+    let top : 2 ^ e ≤ 2 ^ 7 = grows e 7 (omega (arith, se)) in
+    let all : 2 ^ e * m ≤ 2 ^ e * 15 = mul-le-mul_left (2 ^ e) (omega (arith, sm)) in
+    omega (arith, top, all)
+
+magnitude_signed : (negative : Bool) (n : ℕ) → n ≤ 32635 → ulaw_magnitude (signed negative n) ≡ n
+magnitude_signed false n fits = omega (arith, fits)
+magnitude_signed true zero fits = refl
+magnitude_signed true (suc n) fits = omega (arith, fits)
+
+pub ulaw_decodes_within : UlawDecodesWithin
+ulaw_decodes_within code byte =
+    let bits = ulaw_bits code in
+    let e = exponent_of bits in
+    let m = mantissa_of bits in
+    let small : ulaw_level e m ≤ 32124 = small_level e m (small_exponent bits) (small_mantissa bits) in
+    let same : ulaw_magnitude (ulaw_value code) ≡ ulaw_level e m = magnitude_signed (ulaw_is_negative code) (ulaw_level e m) (omega (arith, small)) in
+    record { low = subst (λ (x : ℕ). ulaw_low e m ≤ x) (sym same) (low_level e m); high = subst (λ (x : ℕ). x < ulaw_high e m) (sym same) (high_level e m) }
+
+-- a level above 0 keeps its sign
+pub keeps_sign : (negative : Bool) (n : ℕ) → 0 < n → is_negative (signed negative n) ≡ negative
+keeps_sign false n some = refl
+keeps_sign true zero some = absurd (omega (arith, some))
+keeps_sign true (suc n) some = refl
+
+some_level : (e m : ℕ) → 0 < e + m → 0 < ulaw_level e m
+some_level zero m some = omega (arith, some)
+some_level (suc e) m some =
+    let two : 2 ^ 1 ≤ 2 ^ suc e = grows 1 (suc e) (omega arith) in
+    omega (arith, two)
+
+sign_kept : (code : ℕ) → code < 256 → code ≢ 0x7F → is_negative (ulaw_value code) ≡ ulaw_is_negative code
+sign_kept code byte other =
+    let bits = ulaw_bits code in
+    elim (cases_lt bits 128) [
+      | inl low ↦ (let plain : ulaw_is_negative code ≡ false = lt-leb 128 bits low in
+          ap (λ (x : Bool). is_negative (signed x (ulaw_level (exponent_of bits) (mantissa_of bits)))) plain ∙ sym plain)
+      | inr high ↦ keeps_sign (ulaw_is_negative code) (ulaw_level (exponent_of bits) (mantissa_of bits))
+          (some_level (exponent_of bits) (mantissa_of bits) (omega (arith, high, byte, other)))
+    ]
+
+pub ulaw_comes_back : UlawComesBack
+ulaw_comes_back code byte other = ulaw_code_is (ulaw_value code) code (record { byte = byte; sign = sym (sign_kept code byte other); interval = ulaw_decodes_within code byte })

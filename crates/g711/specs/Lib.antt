@@ -1,0 +1,4 @@
+pub mod Laws
+pub mod Segments
+pub mod Slices
+pub mod Tables

@@ -1,0 +1,366 @@
+-- Each item of a sound script's order makes a move that fits.
+use Rattle.std.proofs.Common.{ℕ, zero, suc, ◌≡◌, ◌≤◌, ◌<◌, ◌⊎◌, inl, inr, Bool, true, false, cond, List, [], ◌∷◌, take, length, map, Option, Some, None, is_some, refl, ap, sym, subst, ◌∙◌, arith}
+use Rattle.std.proofs.Math.Seq.{take-length}
+use Rattle.std.specs.Prelude.{slice_get, option_map, unwrap_or, ◌==◌}
+use Rattle.std.proofs.lemmas.Option.{slice_get_past, some_pair_parts}
+use Rattle.std.proofs.lemmas.Bool.{cases_Bool}
+use Rattle.wc_base.specs.declared.error.DomError.{DomError}
+use Rattle.wc_base.specs.declared.error.DomError.TheVariants as dom
+use Rattle.wc_base.specs.declared.who.Who.{Who}
+use Rattle.wc_config.specs.declared.codec.CoderId.{CoderId}
+use Rattle.wc_chunk.specs.declared.chunk.Chunk.{Chunk}
+use Rattle.codec_definitions.specs.declared.unit.Unit as media
+use Rattle.wc_config.specs.declared.kind.Kind.TheVariants as kind
+use Rattle.codec_model.specs.declared.entry.Opening.{Opening}
+use Rattle.codec_model.specs.declared.entry.Call.{Call}
+use Rattle.codec_model.specs.declared.entry.Call.TheVariants as call
+use Rattle.codec_model.specs.declared.entry.Entry.{Entry}
+use Rattle.codec_model.specs.declared.entry.Entry.TheVariants as entry
+use Rattle.codec_model.specs.declared.entry.Item.{Item}
+use Rattle.codec_model.specs.declared.entry.Running.{Running}
+use Rattle.codec_model.specs.declared.entry.Task.{Task}
+use Rattle.codec_model.specs.Control.{start_item, may_reclaim}
+use Rattle.codec_model.specs.Replay.{State, step as entry_step, entry_of, call_error, removal_error, answer_to}
+use Rattle.codec_model.specs.Shown.{refusal, rejection, rejections, removal_shows, shows, exception_of}
+use Rattle.codec_accounts.specs.Owed.{at}
+use Rattle.codec_accounts.specs.ListLaws.{get_some, result_kept}
+use Rattle.codec_accounts.specs.Calls.{who_of, reach, call_in}
+use Rattle.codec_accounts.specs.Calls as mark
+use Rattle.codec_accounts.specs.CallsLaws.{MayClimb}
+use Rattle.codec_accounts.specs.Codec.{CodecValue, new_codec, state_after, state_of, codec_at, histories}
+use Rattle.codec_accounts.specs.StartLaws.{EndFits}
+use Rattle.codec_accounts.specs.AccountLaws.{Accounted, EntryFits, history_at}
+use Rattle.script_types.specs.declared.script.CallerItem.{CallerItem}
+use Rattle.script_types.specs.declared.script.CodecItem.{CodecItem}
+use Rattle.script_types.specs.declared.script.OrderItem.{OrderItem}
+use Rattle.script_types.specs.declared.script.OrderItem.TheVariants as item
+use Rattle.script_types.specs.declared.script.ScriptData.{ScriptData}
+use Rattle.script_types.specs.declared.steps.Step.{Step}
+use Rattle.script_types.specs.declared.steps.Step.TheVariants as step
+use Rattle.script_types.specs.declared.steps.Variable.{Variable}
+use Rattle.report_text.specs.declared.result.StepResult.{StepResult}
+use Rattle.report_text.specs.declared.result.StepResult.TheVariants as result
+use Rattle.trace_text.specs.Report.{refusal_in}
+use Rattle.trace_text.specs.Follow.{Recorded, Course, record_of, opening_in, opening_at, promise_after, steps_in, steps_of, chunk_at, source_error, with_result, Move, Idle, Answer, Advance, Ask, start_entry, outcome_by, outcome_for, end_of, done_entry, turn_on, turn_entry, reclaim_entry, item_entry, advance, call_move, decode_move, removal_move, look_of_flush, look_of_state, step_move, next_move, item_move}
+use Rattle.trace_text.specs.Fits.{result_in, step_in, called, mark_of, IsResultOf, LookShows, IsLocalAnswer, HasArguments}
+use Rattle.order_laws.specs.Sound.{IsSound, promise_of, IsFlush}
+use Rattle.order_laws.proofs.Legal.{Steps, MayBeRefused, call_legal, start_legal, done_legal, turn_legal, reclaim_legal}
+use Rattle.order_laws.proofs.Grown.{ResultFits}
+use Rattle.order_laws.proofs.Moves.{Stands, next_who, AnswerFits, AdvanceFits, AskFits, MoveFits}
+
+steps_within : (cs : List CallerItem) (c j : ℕ) (x : Step) → slice_get (steps_in cs c) j ≡ Some x → c < length cs
+steps_within [] c j x h = absurd cc
+steps_within (y ∷ ys) zero j x h = omega arith
+steps_within (y ∷ ys) (suc c) j x h = let lt = steps_within ys c j x h in omega arith
+
+-- the caller's next step
+abbrev IsNext : ScriptData → Course → ℕ → Step → Type 0
+IsNext s v c x = step_in s c (length (at c v.callers)) ≡ Some x
+
+caller_there : (s : ScriptData) (media : List (List Chunk)) (made : List CoderId) (v : Course) (c : ℕ) (x : Step) → Stands s media made v → IsNext s v c x → c < length v.callers
+caller_there s media made v c x st is = let lt = steps_within s.callers c (length (at c v.callers)) x is in let n = st.callers in omega (arith, lt, n)
+
+-- a legal entry has a state after it
+legal_after : (e : Entry) (t : State) → Steps e t → (u : State) × (entry_step e t ≡ Some u)
+legal_after e t steps = by_state (entry_step e t) refl
+  where
+    by_state : (o : Option State) → entry_step e t ≡ o → (u : State) × (entry_step e t ≡ Some u)
+    by_state None is = absurd (let bad = sym (ap is_some is) ∙ steps in cc)
+    by_state (Some u) is = (u, is)
+
+-- ---- calls
+
+refused_by : (o : Option DomError) → o ≡ refusal_in (refusal o)
+refused_by None = refl
+refused_by (Some error) = refl
+
+no_refusal : (place : ℕ) (o : Option DomError) → None ≡ refusal_in (rejection place o)
+no_refusal place None = refl
+no_refusal place (Some error) = refl
+
+no_rejection : (error : DomError) (ps : List ℕ) → None ≡ refusal_in (rejections error ps)
+no_rejection error [] = refl
+no_rejection error (p ∷ ps) = refl
+
+-- the exception of a call is what its entry shows
+call_shows : (who : Who) (x : Call) (s : State) → exception_of x (call_error x s.control) ≡ refusal_in (shows (entry_of who x) s)
+call_shows who (call.Configure config) s = refused_by (call_error (call.Configure config) s.control)
+call_shows who (call.Decode chunk) s = refused_by (call_error (call.Decode chunk) s.control)
+call_shows who call.Flush s = no_refusal s.control.place (call_error call.Flush s.control)
+
+removal_is_shown : (o : Option DomError) (pending : List ℕ) → o ≡ refusal_in (removal_shows o pending)
+removal_is_shown None pending = no_rejection dom.Abort pending
+removal_is_shown (Some error) pending = refl
+
+-- a caller's step on a codec, and its entry
+ask_fits : (s : ScriptData) (media : List (List Chunk)) (made : List CoderId) (v : Course) (c k : ℕ) (x : Step) (e : Entry) (error : Option DomError) → IsSound s → Stands s media made v → IsNext s v c x → called x ≡ Some k → Steps e (state_of (codec_at k v.codecs))
+    → who_of e ≡ Some (next_who v c) → HasArguments s media (next_who v c) e x → error ≡ refusal_in (shows e (state_of (codec_at k v.codecs))) → AskFits s media v c k e error
+ask_fits s media made v c k x e error sound st is calls steps names arguments shown =
+    let after = legal_after e (state_of (codec_at k v.codecs)) steps in
+    record {
+      caller = caller_there s media made v c x st is;
+      codec = (let lt = sound.called c (length (at c v.callers)) k x is calls in let n = st.count in omega (arith, lt, n));
+      step = x;
+      is_step = is;
+      calls = calls;
+      after = after.0;
+      steps = after.1;
+      names = names;
+      arguments = arguments;
+      shown = shown;
+    }
+
+-- ---- steps that make no entry
+
+-- a result that is no call of any codec, and no look beyond what there is
+record Apart (v : Course) (r : StepResult) : Type 0 where
+  climbs : (k : ℕ) → MayClimb (reach k (mark_of r)) (length (at k (histories v.codecs))) (length (at k (histories v.codecs)))
+  no_call : (k : ℕ) (who : Who) → call_in k who (mark_of r) ≡ []
+
+answer_fits : (s : ScriptData) (media : List (List Chunk)) (made : List CoderId) (v : Course) (c : ℕ) (x : Step) (r : StepResult) → Stands s media made v → IsNext s v c x → Apart v r → IsResultOf s (record_of (with_result c r v)) (called x) r
+    → LookShows s (record_of (with_result c r v)) c x r → IsLocalAnswer s media c x r → AnswerFits s media v c r
+answer_fits s media made v c x r st is apart made_of looks answers = record {
+  caller = caller_there s media made v c x st is;
+  fits = record { step = x; is_step = is; made = made_of; shows = looks; answers = answers };
+  climbs = apart.climbs;
+  no_call = apart.no_call;
+}
+
+local_apart : (v : Course) (error : Option DomError) → Apart v (result.Local error)
+local_apart v error = record { climbs = λ k. omega arith; no_call = λ k who. refl }
+
+absent_apart : (v : Course) → Apart v result.Absent
+absent_apart v = record { climbs = λ k. omega arith; no_call = λ k who. refl }
+
+-- a look at a codec sees its whole history
+look_climbs : (v : Course) (on k : ℕ) (b : Bool) → (b ≡ true → on ≡ k) → MayClimb (cond b (Some (length (codec_at on v.codecs).history, length (codec_at on v.codecs).history)) None) (length (at k (histories v.codecs))) (length (at k (histories v.codecs)))
+look_climbs v on k false same = omega arith
+look_climbs v on k true same =
+    let e = ap (λ n. length (codec_at n v.codecs).history) (same refl) in
+    let h = ap length (history_at k v.codecs) in
+    (omega (arith, e, h), omega (arith, e, h))
+
+same_codec : (a b : ℕ) → (a == b) ≡ true → a ≡ b
+same_codec a b h = grind arith
+
+decode_fits : (s : ScriptData) (media : List (List Chunk)) (made : List CoderId) (v : Course) (c k : ℕ) (chunk : Variable) (o : Option Chunk) → IsSound s → Stands s media made v → IsNext s v c (step.Decode k chunk) → chunk_at media (steps_of s c) chunk.step ≡ o
+    → MoveFits s media v (decode_move (next_who v c) k o (codec_at k v.codecs))
+decode_fits s media made v c k chunk None sound st is none = answer_fits s media made v c (step.Decode k chunk) result.Absent st is (absent_apart v) tt tt none
+decode_fits s media made v c k chunk (Some value) sound st is some =
+    ask_fits s media made v c k (step.Decode k chunk) (entry.Decode (next_who v c) value) _ sound st is refl (call_legal (next_who v c) (call.Decode value) (state_of (codec_at k v.codecs))) refl (value, some, refl) (call_shows (next_who v c) (call.Decode value) (state_of (codec_at k v.codecs)))
+
+-- the earlier flush came to a call
+flush_came : (s : ScriptData) (media : List (List Chunk)) (w : Recorded) (c : ℕ) (y : Step) (r : StepResult) → IsFlush y → IsResultOf s w (called y) r → IsLocalAnswer s media c y r → (k : ℕ) × (p : ℕ) × (error : Option DomError) × (r ≡ result.Call k p error)
+flush_came s media w c (step.Flush on bind) (result.Call k p error) flush made answers = (k, p, error, refl)
+flush_came s media w c (step.Flush on bind) result.Absent flush made answers = absurd answers
+flush_came s media w c (step.Flush on bind) (result.Local error) flush made answers = absurd made
+flush_came s media w c (step.Flush on bind) (result.Look k n end) flush made answers = absurd made
+flush_came s media w c (step.Flush on bind) (result.State k n state size) flush made answers = absurd made
+flush_came s media w c (step.Configure on config) r flush made answers = absurd flush
+flush_came s media w c (step.Chunk bind source) r flush made answers = absurd flush
+flush_came s media w c (step.Decode on chunk) r flush made answers = absurd flush
+flush_came s media w c (step.Poll promise) r flush made answers = absurd flush
+flush_came s media w c (step.Await promise) r flush made answers = absurd flush
+flush_came s media w c (step.Reset on) r flush made answers = absurd flush
+flush_came s media w c (step.Close on) r flush made answers = absurd flush
+flush_came s media w c (step.State on) r flush made answers = absurd flush
+flush_came s media w c (step.Media x) r flush made answers = absurd flush
+
+one_step : (a b : Step) → Some a ≡ Some b → a ≡ b
+one_step a b h = cc
+
+-- a step that looks at an earlier promise finds the call of its flush
+promise_call : (s : ScriptData) (media : List (List Chunk)) (made : List CoderId) (v : Course) (c : ℕ) (x : Step) (promise : Variable) → IsSound s → Stands s media made v → IsNext s v c x → promise_of x ≡ Some promise
+    → (k : ℕ) × (p : ℕ) × (error : Option DomError) × (result_in (record_of v) c promise.step ≡ Some (result.Call k p error))
+promise_call s media made v c x promise sound st is looks =
+    let before : promise.step < length (at c v.callers) = sound.earlier c (length (at c v.callers)) x promise is looks in
+    let there = get_some (at c v.callers) promise.step before in
+    let flush = sound.promised c (length (at c v.callers)) x promise is looks in
+    let fits = st.results c promise.step there.0 there.1 in
+    let same : fits.step ≡ flush.0 = one_step fits.step flush.0 (sym fits.is_step ∙ flush.1) in
+    let came = flush_came s media (record_of v) c flush.0 there.0 flush.2 (subst (λ (y : Step). IsResultOf s (record_of v) (called y) there.0) same fits.made) (subst (λ (y : Step). IsLocalAnswer s media c y there.0) same fits.answers) in
+    (came.0, came.1, came.2, there.1 ∙ ap (λ (q : StepResult). Some q) came.3)
+
+-- a codec that is not there is a new one, in the course and in the script
+codec_past : (k : ℕ) (ds : List CodecValue) → length ds ≤ k → codec_at k ds ≡ new_codec (record { kind = kind.AudioDecoder; saturation = 4 })
+codec_past k ds le = ap (λ (o : Option CodecValue). unwrap_or o (new_codec (record { kind = kind.AudioDecoder; saturation = 4 }))) (slice_get_past ds k le)
+
+opening_past : (cs : List CodecItem) (k : ℕ) → length cs ≤ k → opening_in cs k ≡ record { kind = kind.AudioDecoder; saturation = 4 }
+opening_past [] k le = refl
+opening_past (c ∷ cs) zero le = absurd (omega (arith, le))
+opening_past (c ∷ cs) (suc k) le = opening_past cs k (omega (arith, le))
+
+below_or_past : (k n : ℕ) → (k < n) ⊎ (n ≤ k)
+below_or_past k zero = inr (omega arith)
+below_or_past zero (suc n) = inl (omega arith)
+below_or_past (suc k) (suc n) = elim (below_or_past k n) [ inl lt ↦ inl (omega (arith, lt)) | inr le ↦ inr (omega (arith, le)) ]
+
+-- each codec is opened as the script says
+pub opens : (s : ScriptData) (media : List (List Chunk)) (made : List CoderId) (v : Course) (k : ℕ) → Stands s media made v → (codec_at k v.codecs).opening ≡ opening_at s k
+opens s media made v k st = elim (below_or_past k (length v.codecs)) [
+  | inl lt ↦ st.opened k lt
+  | inr le ↦ ap (λ (d : CodecValue). d.opening) (codec_past k v.codecs le) ∙ sym (opening_past s.codecs k (let n = st.count in omega (arith, le, n)))
+]
+
+-- the whole history that a look sees
+all_there : (v : Course) (k : ℕ) → take (length (codec_at k v.codecs).history) (at k (histories v.codecs)) ≡ (codec_at k v.codecs).history
+all_there v k = ap (take (length (codec_at k v.codecs).history)) (history_at k v.codecs) ∙ take-length (codec_at k v.codecs).history
+
+-- what a look at a promise comes to
+promise_shows : (s : ScriptData) (media : List (List Chunk)) (made : List CoderId) (v : Course) (k p : ℕ) → Stands s media made v
+    → promise_after (codec_at k v.codecs).opening (codec_at k v.codecs).history p ≡ promise_after (opening_at s k) (take (length (codec_at k v.codecs).history) (at k (histories v.codecs))) p
+promise_shows s media made v k p st =
+    let h = (codec_at k v.codecs).history in
+    ap (λ (o : Opening). promise_after o h p) (opens s media made v k st)
+    ∙ ap (λ (l : List Entry). promise_after (opening_at s k) l p) (sym (all_there v k))
+
+state_shows : (s : ScriptData) (media : List (List Chunk)) (made : List CoderId) (v : Course) (k : ℕ) → Stands s media made v → state_of (codec_at k v.codecs) ≡ state_after (opening_at s k) (take (length (codec_at k v.codecs).history) (at k (histories v.codecs)))
+state_shows s media made v k st =
+    ap (λ (o : Opening). state_after o (codec_at k v.codecs).history) (opens s media made v k st)
+    ∙ ap (λ (l : List Entry). state_after (opening_at s k) l) (sym (all_there v k))
+
+look_apart : (v : Course) (k : ℕ) (r : StepResult) → mark_of r ≡ mark.Look k (length (codec_at k v.codecs).history) → Apart v r
+look_apart v k r is = record {
+  climbs = λ n. subst (λ m. MayClimb (reach n m) (length (at n (histories v.codecs))) (length (at n (histories v.codecs)))) (sym is) (look_climbs v k n (k == n) (same_codec k n));
+  no_call = λ n who. ap (call_in n who) is;
+}
+
+poll_fits : (s : ScriptData) (media : List (List Chunk)) (made : List CoderId) (v : Course) (c : ℕ) (promise : Variable) → IsSound s → Stands s media made v → IsNext s v c (step.Poll promise) → MoveFits s media v (Answer c (look_of_flush v.codecs (slice_get (at c v.callers) promise.step)))
+poll_fits s media made v c promise sound st is =
+    let found = promise_call s media made v c (step.Poll promise) promise sound st is refl in
+    let d = codec_at found.0 v.codecs in
+    let r = result.Look found.0 (length d.history) (promise_after d.opening d.history found.1) in
+    subst (λ (o : Option StepResult). MoveFits s media v (Answer c (look_of_flush v.codecs o))) (sym found.3)
+    (answer_fits s media made v c (step.Poll promise) r st is (look_apart v found.0 r refl) tt
+    (found.1, found.2, result_kept c c promise.step r (result.Call found.0 found.1 found.2) v.callers found.3, promise_shows s media made v found.0 found.1 st) tt)
+
+await_fits : (s : ScriptData) (media : List (List Chunk)) (made : List CoderId) (v : Course) (c : ℕ) (promise : Variable) → IsSound s → Stands s media made v → IsNext s v c (step.Await promise) → MoveFits s media v (Answer c (look_of_flush v.codecs (slice_get (at c v.callers) promise.step)))
+await_fits s media made v c promise sound st is =
+    let found = promise_call s media made v c (step.Await promise) promise sound st is refl in
+    let d = codec_at found.0 v.codecs in
+    let r = result.Look found.0 (length d.history) (promise_after d.opening d.history found.1) in
+    subst (λ (o : Option StepResult). MoveFits s media v (Answer c (look_of_flush v.codecs o))) (sym found.3)
+    (answer_fits s media made v c (step.Await promise) r st is (look_apart v found.0 r refl) tt
+    (found.1, found.2, result_kept c c promise.step r (result.Call found.0 found.1 found.2) v.callers found.3, promise_shows s media made v found.0 found.1 st) tt)
+
+state_fits : (s : ScriptData) (media : List (List Chunk)) (made : List CoderId) (v : Course) (c k : ℕ) → Stands s media made v → IsNext s v c (step.State k) → MoveFits s media v (Answer c (look_of_state k (codec_at k v.codecs)))
+state_fits s media made v c k st is =
+    let t = state_shows s media made v k st in
+    answer_fits s media made v c (step.State k) (look_of_state k (codec_at k v.codecs)) st is (look_apart v k (look_of_state k (codec_at k v.codecs)) refl) tt
+    (refl, ap (λ (x : State). x.control.phase) t, ap (λ (x : State). x.control.size) t) tt
+
+step_fits : (s : ScriptData) (media : List (List Chunk)) (made : List CoderId) (v : Course) (c : ℕ) (x : Step) → IsSound s → Stands s media made v → IsNext s v c x → MoveFits s media v (step_move s media (next_who v c) x v)
+step_fits s media made v c (step.Configure on config) sound st is =
+    ask_fits s media made v c on (step.Configure on config) (entry.Configure (next_who v c) config) _ sound st is refl (call_legal (next_who v c) (call.Configure config) (state_of (codec_at on v.codecs))) refl refl (call_shows (next_who v c) (call.Configure config) (state_of (codec_at on v.codecs)))
+step_fits s media made v c (step.Chunk bind source) sound st is = answer_fits s media made v c (step.Chunk bind source) (result.Local (source_error source)) st is (local_apart v (source_error source)) tt tt refl
+step_fits s media made v c (step.Decode on chunk) sound st is = decode_fits s media made v c on chunk (chunk_at media (steps_of s c) chunk.step) sound st is refl
+step_fits s media made v c (step.Flush on bind) sound st is =
+    ask_fits s media made v c on (step.Flush on bind) (entry.Flush (next_who v c)) _ sound st is refl (call_legal (next_who v c) call.Flush (state_of (codec_at on v.codecs))) refl refl (call_shows (next_who v c) call.Flush (state_of (codec_at on v.codecs)))
+step_fits s media made v c (step.Poll promise) sound st is = poll_fits s media made v c promise sound st is
+step_fits s media made v c (step.Await promise) sound st is = await_fits s media made v c promise sound st is
+step_fits s media made v c (step.Reset on) sound st is =
+    let t = state_of (codec_at on v.codecs) in
+    ask_fits s media made v c on (step.Reset on) (entry.Reset (next_who v c)) _ sound st is refl refl refl refl (removal_is_shown (removal_error t.control) t.control.pending)
+step_fits s media made v c (step.Close on) sound st is =
+    let t = state_of (codec_at on v.codecs) in
+    ask_fits s media made v c on (step.Close on) (entry.Close (next_who v c)) _ sound st is refl refl refl refl (removal_is_shown (removal_error t.control) t.control.pending)
+step_fits s media made v c (step.State on) sound st is = state_fits s media made v c on st is
+step_fits s media made v c (step.Media x) sound st is = tt
+
+next_fits : (s : ScriptData) (media : List (List Chunk)) (made : List CoderId) (v : Course) (c : ℕ) (o : Option Step) → IsSound s → Stands s media made v → step_in s c (length (at c v.callers)) ≡ o → MoveFits s media v (next_move s media (next_who v c) o v)
+next_fits s media made v c None sound st is = tt
+next_fits s media made v c (Some x) sound st is = step_fits s media made v c x sound st is
+
+-- ---- entries of no caller
+
+-- an entry that an item makes is legal there, of no caller, and says how its start's acquire went
+record Own (t : State) (refusal : Option ℕ) (e : Entry) : Type 0 where
+  legal : Steps e t
+  nobody : who_of e ≡ None
+  fits : EntryFits e refusal
+
+end_says : (wants : Bool) (refusal : Option ℕ) (answer : Option (List media.Unit)) → EndFits refusal (outcome_for wants refusal answer)
+end_says true refusal answer = tt
+end_says false (Some n) answer = refl
+end_says false None None = refl
+end_says false None (Some units) = refl
+
+start_own : (t : State) (refusal : Option ℕ) (o : Option Item) (e : Entry) → start_item t.control ≡ o → option_map (λ (i : Item). entry.Start t.control.epoch i.number) o ≡ Some e → Own t refusal e
+start_own t refusal None e is made = absurd cc
+start_own t refusal (Some i) e is made =
+    let same : entry.Start t.control.epoch i.number ≡ e = cc in
+    subst (Own t refusal) same (record { legal = start_legal t i is; nobody = refl; fits = tt })
+
+done_own : (s : ScriptData) (media : List (List Chunk)) (made : List CoderId) (v : Course) (k : ℕ) (wants : Bool) (moment : ℕ) (o : Option Running) (e : Entry) → Stands s media made v → (state_of (codec_at k v.codecs)).control.running ≡ o
+    → option_map (end_of wants moment (codec_at k v.codecs).holding.refusal (state_of (codec_at k v.codecs)).running_given) o ≡ Some e → Own (state_of (codec_at k v.codecs)) (codec_at k v.codecs).holding.refusal e
+done_own s media made v k wants moment None e st is ends = absurd cc
+done_own s media made v k wants moment (Some r) e st is ends =
+    let d = codec_at k v.codecs in
+    let t = state_of d in
+    let same : end_of wants moment d.holding.refusal t.running_given r ≡ e = cc in
+    subst (Own t d.holding.refusal) same (record {
+      legal = done_legal t r moment wants d.holding.refusal is (may_be d.holding.refusal refl);
+      nobody = refl;
+      fits = end_says wants d.holding.refusal (answer_to r.kind t.running_given);
+    })
+  where
+    one_running : (a b : Running) → Some a ≡ Some b → a ≡ b
+    one_running a b h = cc
+
+    may_be : (q : Option ℕ) → (codec_at k v.codecs).holding.refusal ≡ q → MayBeRefused r (state_of (codec_at k v.codecs)) q
+    may_be None q = tt
+    may_be (Some n) q =
+        let needs = (st.boxes.each k).has.needs n q in
+        let same : needs.running ≡ r = one_running needs.running r (sym needs.is_running ∙ is) in
+        (ap (λ (x : Running). x.kind) (sym same) ∙ needs.configure, needs.supported)
+
+turn_own : (t : State) (refusal : Option ℕ) (ts : List Task) (e : Entry) → t.control.tasks ≡ ts → turn_on ts ≡ Some e → Own t refusal e
+turn_own t refusal [] e is made = absurd cc
+turn_own t refusal (x ∷ ts) e is made =
+    let same : entry.Turn ≡ e = cc in
+    subst (Own t refusal) same (record { legal = turn_legal t x ts is; nobody = refl; fits = tt })
+
+reclaim_own : (t : State) (refusal : Option ℕ) (moment : ℕ) (b : Bool) (e : Entry) → may_reclaim moment t.control ≡ b → cond b (Some (entry.Reclaim moment)) None ≡ Some e → Own t refusal e
+reclaim_own t refusal moment false e is made = absurd cc
+reclaim_own t refusal moment true e is made =
+    let same : entry.Reclaim moment ≡ e = cc in
+    subst (Own t refusal) same (record { legal = reclaim_legal t moment is; nobody = refl; fits = tt })
+
+item_own : (s : ScriptData) (media : List (List Chunk)) (made : List CoderId) (v : Course) (k : ℕ) (wants : Bool) (x : OrderItem) (e : Entry) → Stands s media made v → item_entry wants x (codec_at k v.codecs) ≡ Some e → Own (state_of (codec_at k v.codecs)) (codec_at k v.codecs).holding.refusal e
+item_own s media made v k wants (item.Caller c) e st is = absurd cc
+item_own s media made v k wants (item.Start n) e st is = start_own (state_of (codec_at k v.codecs)) (codec_at k v.codecs).holding.refusal (start_item (state_of (codec_at k v.codecs)).control) e refl is
+item_own s media made v k wants (item.Done n moment) e st is = done_own s media made v k wants moment (state_of (codec_at k v.codecs)).control.running e st refl is
+item_own s media made v k wants (item.Turn n) e st is = turn_own (state_of (codec_at k v.codecs)) (codec_at k v.codecs).holding.refusal (state_of (codec_at k v.codecs)).control.tasks e refl is
+item_own s media made v k wants (item.Reclaim n moment) e st is = reclaim_own (state_of (codec_at k v.codecs)) (codec_at k v.codecs).holding.refusal moment (may_reclaim moment (state_of (codec_at k v.codecs)).control) e refl is
+
+-- a codec that is not there has nothing to do
+none_past : (wants : Bool) (x : OrderItem) (o : Opening) → item_entry wants x (new_codec o) ≡ None
+none_past wants (item.Caller c) o = refl
+none_past wants (item.Start n) o = refl
+none_past wants (item.Done n moment) o = refl
+none_past wants (item.Turn n) o = refl
+none_past wants (item.Reclaim n moment) o = refl
+
+own_fits : (s : ScriptData) (media : List (List Chunk)) (made : List CoderId) (v : Course) (k : ℕ) (wants : Bool) (x : OrderItem) (o : Option Entry) → Stands s media made v → item_entry wants x (codec_at k v.codecs) ≡ o → MoveFits s media v (advance k o)
+own_fits s media made v k wants x None st is = tt
+own_fits s media made v k wants x (Some e) st is =
+    let own = item_own s media made v k wants x e st is in
+    let after = legal_after e (state_of (codec_at k v.codecs)) own.legal in
+    record {
+      codec = elim (below_or_past k (length v.codecs)) [
+        | inl lt ↦ lt
+        | inr le ↦ absurd (let bad = sym (ap (item_entry wants x) (codec_past k v.codecs le) ∙ none_past wants x _) ∙ is in cc)
+      ];
+      after = after.0;
+      steps = after.1;
+      nobody = own.nobody;
+      fits = own.fits;
+    }
+
+-- Each item of a sound script's order makes a move that fits.
+pub item_fits : (s : ScriptData) (media : List (List Chunk)) (made : List CoderId) (v : Course) (wants : Bool) (x : OrderItem) → IsSound s → Stands s media made v → MoveFits s media v (item_move s media wants x v)
+item_fits s media made v wants (item.Caller c) sound st = next_fits s media made v c (step_in s c (length (at c v.callers))) sound st refl
+item_fits s media made v wants (item.Start k) sound st = own_fits s media made v k wants (item.Start k) (item_entry wants (item.Start k) (codec_at k v.codecs)) st refl
+item_fits s media made v wants (item.Done k moment) sound st = own_fits s media made v k wants (item.Done k moment) (item_entry wants (item.Done k moment) (codec_at k v.codecs)) st refl
+item_fits s media made v wants (item.Turn k) sound st = own_fits s media made v k wants (item.Turn k) (item_entry wants (item.Turn k) (codec_at k v.codecs)) st refl
+item_fits s media made v wants (item.Reclaim k moment) sound st = own_fits s media made v k wants (item.Reclaim k moment) (item_entry wants (item.Reclaim k moment) (codec_at k v.codecs)) st refl

@@ -1,0 +1,104 @@
+-- Each entry that following an order makes is legal.
+use Rattle.std.proofs.Common.{ℕ, ◌≡◌, ◌<◌, Bool, true, false, eq-eqb, cond, List, [], ◌∷◌, ◌++◌, length, Option, Some, None, is_some, refl, ap, sym, subst, ◌∙◌, arith}
+use Rattle.std.specs.Prelude.{unwrap_or, slice_get}
+use Rattle.wc_base.specs.declared.who.Who.{Who}
+use Rattle.wc_config.specs.Configs.{is_supported}
+use Rattle.codec_definitions.specs.declared.unit.Unit as media
+use Rattle.codec_model.specs.declared.entry.Opening.{Opening}
+use Rattle.codec_model.specs.declared.entry.Call.{Call}
+use Rattle.codec_model.specs.declared.entry.Call.TheVariants as call
+use Rattle.codec_model.specs.declared.entry.Item.{Item}
+use Rattle.codec_model.specs.declared.entry.Running.{Running}
+use Rattle.codec_model.specs.declared.entry.WorkKind.TheVariants as kind
+use Rattle.codec_model.specs.declared.entry.Task.{Task}
+use Rattle.codec_model.specs.declared.entry.Task.TheVariants as task
+use Rattle.codec_model.specs.declared.entry.Entry.{Entry}
+use Rattle.codec_model.specs.declared.entry.Entry.TheVariants as entry
+use Rattle.codec_model.specs.Control.{may_start, front, start_item, may_reclaim}
+use Rattle.codec_model.specs.Replay.{State, step, opening_state, replay, answer_to, entry_of, start_step, done_step, done_ended, ended_of, IsLegal}
+use Rattle.codec_model.specs.Shown.{shown_at, each_shown, each_shown_from}
+use Rattle.codec_model.proofs.ShownLaws.{replay_append, each_append, each_more, each_length}
+use Rattle.codec_accounts.specs.Codec.{state_after}
+use Rattle.codec_accounts.specs.ListLaws.{get_within, get_end}
+use Rattle.trace_text.specs.Follow.{outcome_by, outcome_for}
+
+-- an entry is legal after a state
+abbrev pub Steps : Entry → State → Type 0
+Steps e s = is_some (step e s) ≡ true
+
+some_is : {X : Type 0} (o : Option X) (d : X) → is_some o ≡ true → o ≡ Some (unwrap_or o d)
+some_is None d h = absurd cc
+some_is (Some x) d h = refl
+
+pub legal_state : (o : Opening) (h : List Entry) → IsLegal o h → replay o h ≡ Some (state_after o h)
+legal_state o h l = some_is (replay o h) (opening_state o) l
+
+-- what the entries of a legal history show stays as it is
+pub shown_kept : (o : Opening) (h more : List Entry) (p : ℕ) → IsLegal o h → p < length h → slice_get (each_shown o (h ++ more)) p ≡ slice_get (each_shown o h) p
+shown_kept o h more p l lt =
+    let r = legal_state o h l in
+    let below : p < length (each_shown o h) = omega (arith, each_length o h (state_after o h) r) in
+    ap (λ xs. slice_get xs p) (each_append o h more (state_after o h) r) ∙ get_within (each_shown o h) (each_shown_from more (state_after o h)) p below
+
+-- what the last entry of a history shows
+pub shown_last : (o : Opening) (h : List Entry) (e : Entry) → IsLegal o h → slice_get (each_shown o (h ++ e ∷ [])) (length h) ≡ Some (shown_at e (state_after o h))
+shown_last o h e l =
+    let r = legal_state o h l in
+    ap (λ xs. slice_get xs (length h)) (each_more o h e (state_after o h) r)
+    ∙ (ap (λ n. slice_get (each_shown o h ++ shown_at e (state_after o h) ∷ []) n) (sym (each_length o h (state_after o h) r)) ∙ get_end (each_shown o h) (shown_at e (state_after o h)))
+
+-- a call is always legal
+pub call_legal : (who : Who) (x : Call) (s : State) → Steps (entry_of who x) s
+call_legal who (call.Configure config) s = refl
+call_legal who (call.Decode chunk) s = refl
+call_legal who call.Flush s = refl
+
+pub cond_some : {X : Type 0} (b : Bool) (o : Option X) (x : X) → cond b o None ≡ Some x → (b ≡ true) × (o ≡ Some x)
+cond_some true o x h = (refl, h)
+cond_some false o x h = absurd cc
+
+start_on : (is : List Item) (i : Item) (s : State) → may_start s.control ≡ true → front is ≡ Some i → is_some (start_step is s.control.epoch i.number s) ≡ true
+start_on [] i s may f = absurd cc
+start_on (j ∷ rest) i s may f =
+    let same : j ≡ i = cc in
+    rw (may, eq-eqb s.control.epoch s.control.epoch refl, eq-eqb i.number j.number (ap (λ (x : Item). x.number) (sym same))) refl
+
+pub start_legal : (s : State) (i : Item) → start_item s.control ≡ Some i → Steps (entry.Start s.control.epoch i.number) s
+start_legal s i h =
+    let may = cond_some (may_start s.control) (front s.control.work) i h in
+    start_on s.control.work i s may.0 may.1
+
+answered : (r : Running) (s : State) (moment : ℕ) (a : Option (List media.Unit)) → answer_to r.kind s.running_given ≡ a → is_some (done_ended r (ended_of r.kind s.running_given (outcome_by a)) moment s) ≡ true
+answered r s moment None e = rw e refl
+answered r s moment (Some us) e = rw (e, eq-eqb (length us) (length us) refl) refl
+
+-- an end by the codec's definition
+answer_legal : (r : Running) (s : State) (moment : ℕ) → is_some (done_ended r (ended_of r.kind s.running_given (outcome_by (answer_to r.kind s.running_given))) moment s) ≡ true
+answer_legal r s moment = answered r s moment (answer_to r.kind s.running_given) refl
+
+-- what is known of the running item where its end says that it was refused a box
+abbrev pub MayBeRefused : Running → State → Option ℕ → Type 0
+MayBeRefused r s None = Unit {0}
+MayBeRefused r s (Some e) = (r.kind ≡ kind.Configure) × (is_supported s.running_given.config ≡ true)
+
+outcome_legal : (r : Running) (s : State) (moment : ℕ) (wants : Bool) (refusal : Option ℕ) → MayBeRefused r s refusal → is_some (done_ended r (ended_of r.kind s.running_given (outcome_for wants refusal (answer_to r.kind s.running_given))) moment s) ≡ true
+outcome_legal r s moment true refusal may = refl
+outcome_legal r s moment false None may = answer_legal r s moment
+outcome_legal r s moment false (Some e) may = rw (may.0, may.1) refl
+
+pub done_legal : (s : State) (r : Running) (moment : ℕ) (wants : Bool) (refusal : Option ℕ) → s.control.running ≡ Some r → MayBeRefused r s refusal → Steps (entry.Done r.epoch r.number moment (outcome_for wants refusal (answer_to r.kind s.running_given))) s
+done_legal s r moment wants refusal h may =
+    subst (λ (o : Option Running). is_some (done_step o r.epoch r.number moment (outcome_for wants refusal (answer_to r.kind s.running_given)) s) ≡ true) (sym h)
+    (rw (eq-eqb r.epoch r.epoch refl, eq-eqb r.number r.number refl) (outcome_legal r s moment wants refusal may))
+
+pub turn_legal : (s : State) (x : Task) (ts : List Task) → s.control.tasks ≡ x ∷ ts → Steps entry.Turn s
+turn_legal s (task.Close error) ts h = rw h refl
+turn_legal s task.Unblock ts h = rw h refl
+turn_legal s task.Process ts h = rw h refl
+turn_legal s task.Desaturate ts h = rw h refl
+turn_legal s (task.Output units) ts h = rw h refl
+turn_legal s (task.Flushed promise units) ts h = rw h refl
+turn_legal s task.Dequeue ts h = rw h refl
+
+pub reclaim_legal : (s : State) (moment : ℕ) → may_reclaim moment s.control ≡ true → Steps (entry.Reclaim moment) s
+reclaim_legal s moment h = rw h refl

@@ -1,0 +1,5 @@
+pub mod Legal
+pub mod Grown
+pub mod Moves
+pub mod Items
+pub mod Orders

@@ -1,0 +1,124 @@
+-- Following a script's order makes a run that fits the script.
+use Rattle.std.proofs.Common.{ℕ, zero, suc, ◌≡◌, ◌<◌, Bool, true, false, List, [], ◌∷◌, length, map, Option, Some, None, is_some, refl, ap, sym, subst, ◌∙◌, arith}
+use Rattle.std.specs.Prelude.{slice_get}
+use Rattle.std.specs.List.{sum_by}
+use Rattle.std.proofs.lemmas.List.{length-map}
+use Rattle.wc_config.specs.declared.codec.CoderId.{CoderId}
+use Rattle.wc_chunk.specs.declared.chunk.Chunk.{Chunk}
+use Rattle.codec_model.specs.declared.entry.Entry.{Entry}
+use Rattle.codec_model.specs.declared.entry.Opening.{Opening}
+use Rattle.codec_model.specs.Replay.{State, IsLegal}
+use Rattle.codec_accounts.specs.Owed.{at}
+use Rattle.codec_accounts.specs.ListLaws.{at_empty}
+use Rattle.codec_accounts.specs.Calls.{Climbs}
+use Rattle.codec_accounts.specs.Calls as mark
+use Rattle.codec_accounts.specs.Codec.{CodecValue, new_codec, codec_at, histories}
+use Rattle.codec_accounts.specs.Registry.{BoxesAccounted}
+use Rattle.codec_accounts.specs.AccountLaws.{Accounted, are_givable}
+use Rattle.codec_accounts.specs.BoxAccounts.{nothing_accounted, boxes_accounted}
+use Rattle.script_types.specs.declared.script.CallerItem.{CallerItem}
+use Rattle.script_types.specs.declared.script.CodecItem.{CodecItem}
+use Rattle.script_types.specs.declared.script.OrderItem.{OrderItem}
+use Rattle.script_types.specs.declared.script.ScriptData.{ScriptData}
+use Rattle.report_text.specs.declared.result.StepResult.{StepResult}
+use Rattle.trace_text.specs.declared.run.Run.{Run}
+use Rattle.trace_text.specs.Follow.{Recorded, Course, record_of, opening_of, opening_in, opening_at, order_items, follow_item, item_move, Follows, nothing_yet}
+use Rattle.trace_text.specs.Fits.{recorded_of, result_in, mark_of, marks_of, CallsAreIn, LooksAreIn, ArgumentsAreIn, LocalsAreIn, LookShows, IsLocalAnswer, FollowsTheOrder, Fits}
+use Rattle.order_laws.specs.Sound.{IsSound}
+use Rattle.order_laws.specs.Course.{IsCourse}
+use Rattle.order_laws.proofs.Grown.{ResultFits}
+use Rattle.order_laws.proofs.Moves.{Stands, legals, move_stands}
+use Rattle.order_laws.proofs.Items.{item_fits, opens}
+
+-- ---- the beginning
+
+new_codecs : (cs : List CodecItem) → map new_codec (map opening_of cs) ≡ map (λ c. new_codec (opening_of c)) cs
+new_codecs [] = refl
+new_codecs (c ∷ cs) = ap (λ (ds : List CodecValue). new_codec (opening_of c) ∷ ds) (new_codecs cs)
+
+new_opening : (cs : List CodecItem) (k : ℕ) → k < length (map (λ c. new_codec (opening_of c)) cs) → (codec_at k (map (λ c. new_codec (opening_of c)) cs)).opening ≡ opening_in cs k
+new_opening [] k lt = absurd (omega (arith, lt))
+new_opening (c ∷ cs) zero lt = refl
+new_opening (c ∷ cs) (suc k) lt = new_opening cs k (omega (arith, lt))
+
+no_history : (cs : List CodecItem) (k : ℕ) → at k (histories (map (λ c. new_codec (opening_of c)) cs)) ≡ []
+no_history [] k = refl
+no_history (c ∷ cs) zero = refl
+no_history (c ∷ cs) (suc k) = no_history cs k
+
+no_calls : (k first : ℕ) (cs : List CallerItem) → mark.all_calls k first (map (λ rs. map mark_of rs) (map (λ c. []) cs)) ≡ []
+no_calls k first [] = refl
+no_calls k first (c ∷ cs) = no_calls k (suc first) cs
+
+nothing_stands : (s : ScriptData) (media : List (List Chunk)) (made : List CoderId) → Stands s media made (nothing_yet s made)
+nothing_stands s media made = record {
+  callers = length-map s.callers _;
+  count = length-map s.codecs _;
+  opened = λ k lt. new_opening s.codecs k lt;
+  same_made = refl;
+  boxes = subst (λ (ds : List CodecValue). Accounted ds (record { made = made; history = [] })) (new_codecs s.codecs) (nothing_accounted (map opening_of s.codecs) made);
+  results = λ c j r is. absurd (let none : None ≡ Some r = sym (ap (λ (xs : List StepResult). slice_get xs j) (at_empty c s.callers)) ∙ is in cc);
+  arguments = λ k p e who is names. absurd (let none : None ≡ Some e = sym (ap (λ (xs : List Entry). slice_get xs p) (no_history s.codecs k)) ∙ is in cc);
+  once = λ k. subst (λ (h : List Entry). mark.CallsAreIn k h (marks_of (record_of (nothing_yet s made)))) (sym (no_history s.codecs k)) (λ t. ap (sum_by t) (sym (no_calls k 0 s.callers)));
+  climbs = λ c k. subst (λ (l : List StepResult). Climbs k 0 (map mark_of l) (length (at k (histories (nothing_yet s made).codecs)))) (sym (at_empty c s.callers)) (omega arith);
+}
+
+-- ---- item after item
+
+order_stands : (s : ScriptData) (media : List (List Chunk)) (made : List CoderId) → IsSound s → (xs : List OrderItem) (v u : Course) → Stands s media made v → Follows s media xs v u → Stands s media made u
+order_stands s media made sound [] v u st follows = subst (Stands s media made) (sym follows) st
+order_stands s media made sound (x ∷ xs) v u st follows =
+    order_stands s media made sound xs (follow_item s media follows.0 x v) u (move_stands s media made v (item_move s media follows.0 x v) st (item_fits s media made v follows.0 x sound st)) follows.1
+
+stands_of : (s : ScriptData) (media : List (List Chunk)) (made : List CoderId) (items : List OrderItem) (v : Course) → IsSound s → Follows s media items (nothing_yet s made) v → Stands s media made v
+stands_of s media made items v sound follows = order_stands s media made sound items (nothing_yet s made) v (nothing_stands s media made) follows
+
+pub course_of : (s : ScriptData) (media : List (List Chunk)) (made : List CoderId) (items : List OrderItem) (v : Course) → IsSound s → Follows s media items (nothing_yet s made) v → IsCourse s made v
+course_of s media made items v sound follows =
+    let st = stands_of s media made items v sound follows in
+    record {
+      callers = st.callers;
+      codecs = st.count;
+      openings = λ k. opens s media made v k st;
+      legal = λ k. ap is_some (st.boxes.each k).replays;
+      boxes = st.same_made;
+      givable = are_givable v.codecs v.slots st.boxes;
+    }
+
+-- ---- a whole run
+
+-- what was recorded fits
+record Fitting (s : ScriptData) (media : List (List Chunk)) (made : List CoderId) (w : Recorded) : Type 0 where
+  calls : CallsAreIn s w
+  looks : LooksAreIn s w
+  arguments : ArgumentsAreIn s media w
+  locals : LocalsAreIn s media w
+  boxes : BoxesAccounted made (opening_at s) w.codecs w.slots
+  legal : (k : ℕ) → IsLegal (opening_at s k) (at k w.codecs)
+
+same_step : {X : Type 0} (a b : X) → Some a ≡ Some b → a ≡ b
+same_step a b h = cc
+
+fitting : (s : ScriptData) (media : List (List Chunk)) (made : List CoderId) (v : Course) → Stands s media made v → Fitting s media made (record_of v)
+fitting s media made v st = record {
+  calls = record { made = λ c j r is. (let f = st.results c j r is in (f.step, f.is_step, f.made)); once = st.once };
+  looks = record {
+    climbs = st.climbs;
+    shows = λ c j x r is at. (let f = st.results c j r at in subst (λ y. LookShows s (record_of v) c y r) (same_step f.step x (sym f.is_step ∙ is)) f.shows);
+  };
+  arguments = st.arguments;
+  locals = λ c j x r is at. (let f = st.results c j r at in subst (λ y. IsLocalAnswer s media c y r) (same_step f.step x (sym f.is_step ∙ is)) f.answers);
+  boxes = subst (λ (l : List CoderId). BoxesAccounted l (opening_at s) (histories v.codecs) v.slots.history) st.same_made (boxes_accounted (opening_at s) v.codecs v.slots st.opened st.boxes);
+  legal = legals s media made v st;
+}
+
+run_fitting : (s : ScriptData) (media : List (List Chunk)) (made : List CoderId) (run : Run) → IsSound s → FollowsTheOrder s media made run → Fitting s media made (recorded_of run)
+run_fitting s media made run sound follows = subst (Fitting s media made) (sym follows.is_recorded) (fitting s media made follows.course (stands_of s media made (order_items s) follows.course sound follows.follows))
+
+pub fits_of : (s : ScriptData) (media : List (List Chunk)) (made : List CoderId) (run : Run) → IsSound s → FollowsTheOrder s media made run → Fits s media made run
+fits_of s media made run sound follows =
+    let f = run_fitting s media made run sound follows in
+    record { calls = f.calls; looks = f.looks; arguments = f.arguments; locals = f.locals; boxes = f.boxes; follows = follows }
+
+pub legal_of : (s : ScriptData) (media : List (List Chunk)) (made : List CoderId) (run : Run) (k : ℕ) → IsSound s → FollowsTheOrder s media made run → IsLegal (opening_at s k) (at k (recorded_of run).codecs)
+legal_of s media made run k sound follows = (run_fitting s media made run sound follows).legal k

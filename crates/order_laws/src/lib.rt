@@ -1,0 +1,6 @@
+//! What following a script's order makes: it fits the script.
+#![tactic(auto)]
+
+mod laws;
+
+pub use laws::{following_fits, following_stands};

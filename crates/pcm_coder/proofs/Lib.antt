@@ -1,4 +1,0 @@
-pub mod Copied
-pub mod Narrowed
-pub mod Served
-pub mod Shared

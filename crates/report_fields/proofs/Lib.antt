@@ -1,3 +1,0 @@
-pub mod WordLaws
-pub mod FieldLaws
-pub mod FitLaws

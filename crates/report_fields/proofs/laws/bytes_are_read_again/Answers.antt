@@ -1,5 +1,0 @@
-use Rattle.report_fields.proofs.FieldLaws.{bytes_again}
-use Rattle.report_fields.proofs.laws.bytes_are_read_again.Goals as goal
-
-pub returns : goal.returns
-returns c = bytes_again

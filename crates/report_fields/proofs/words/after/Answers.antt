@@ -1,6 +1,0 @@
-use Rattle.std.proofs.Common.{arith}
-use Rattle.report_fields.proofs.WordLaws.{after_strips}
-use Rattle.report_fields.proofs.words.after.Goals as goal
-
-pub returns : goal.returns
-returns c = grind (arith, after_strips c.args.prefix.now c.args.bytes.now)

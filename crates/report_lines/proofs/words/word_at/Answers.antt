@@ -1,0 +1,10 @@
+use Rattle.std.proofs.Common.{arith}
+use Rattle.std.proofs.lemmas.Grind.{common_steps}
+use Rattle.report_lines.proofs.WordLaws.{word_at_place}
+use Rattle.report_lines.proofs.words.word_at.Goals as goal
+
+pub returns-in-None : goal.returns-in-None
+returns-in-None c = grind (arith, common_steps, word_at_place c.args.bytes.now)
+
+pub returns-in-Some : goal.returns-in-Some
+returns-in-Some c = grind (arith, common_steps, word_at_place c.args.bytes.now)

@@ -1,0 +1,290 @@
+// The text of a line.
+ghost use Rattle.std.specs.Prelude.{◌≡◌, IfOk, Some};
+ghost use Rattle.report_text.specs.Text as spec;
+ghost use Rattle.report_text.specs.declared.line.Line.TheVariants as line;
+
+use crate::events::event_text;
+use crate::line::{EntryLine, Line};
+use crate::names::{
+    ByText, CoderText, EntryName, ItemName, LookName, StepName, caller_name, codec_name,
+};
+use crate::result::StepResult;
+use crate::words::{answer_text, call_word, error_name, kind_text, state_text};
+use codec_model::{Opening, Outcome, PromiseState, TurnWord};
+use coder_api::{SlotEntry, SlotOp};
+use script_types::{CallerItem, CodecItem, ScriptData};
+use std::alloc::{AllocError, Global};
+use std::fmt;
+
+// How a promise stands.
+#[derive(Drop)]
+struct Standing(PromiseState);
+
+impl fmt::Display for Standing {
+    ghost output = { λ p. Some (spec.promise_text p.0) };
+
+    fn fmt<W: fmt::Write>(&self, f: &mut fmt::Formatter<W>) -> fmt::Result {
+        match self.0 {
+            PromiseState::Pending => write!(f, "pending"),
+            PromiseState::Resolved => write!(f, "resolved"),
+            PromiseState::Rejected(error) => {
+                let error = error_name(error);
+                write!(f, "rejected {error}")
+            }
+        }
+    }
+}
+
+// What a step came to.
+#[derive(Drop)]
+struct ResultText<'a> {
+    codecs: &'a [CodecItem],
+    answer: StepResult,
+}
+
+impl fmt::Display for ResultText<'_> {
+    ghost output = { λ r. Some (spec.result_text r.codecs.now r.answer) };
+
+    fn fmt<W: fmt::Write>(&self, f: &mut fmt::Formatter<W>) -> fmt::Result {
+        let codecs = self.codecs;
+        match self.answer {
+            StepResult::Call {
+                codec,
+                place,
+                error,
+            } => {
+                let entry = EntryName(codecs, codec, place);
+                let answer = answer_text(error);
+                write!(f, "{entry} {answer}")
+            }
+            StepResult::Local { error } => {
+                let answer = answer_text(error);
+                write!(f, "{answer}")
+            }
+            StepResult::Look { codec, length, end } => {
+                let look = LookName(codecs, codec, length);
+                let end = Standing(end);
+                write!(f, "{look} {end}")
+            }
+            StepResult::State {
+                codec,
+                length,
+                state,
+                size,
+            } => {
+                let look = LookName(codecs, codec, length);
+                let state = state_text(state);
+                write!(f, "{look} {state} {size}")
+            }
+            StepResult::Absent => write!(f, "absent"),
+        }
+    }
+}
+
+// How an item ended.
+#[derive(Drop)]
+struct OutcomeText(Outcome);
+
+impl fmt::Display for OutcomeText {
+    ghost output = { λ o. Some (spec.outcome_text o.0) };
+
+    fn fmt<W: fmt::Write>(&self, f: &mut fmt::Formatter<W>) -> fmt::Result {
+        match self.0 {
+            Outcome::Ran { units } => write!(f, "ran {units}"),
+            Outcome::Refused => write!(f, "refused"),
+            Outcome::NoSlot { entry } => write!(f, "no-slot {entry}"),
+            Outcome::NoMemory => write!(f, "no-memory"),
+        }
+    }
+}
+
+// The event task that a turn ran.
+#[derive(Drop)]
+struct TurnText(Option<TurnWord>);
+
+impl fmt::Display for TurnText {
+    ghost output = { λ t. Some (spec.turn_text t.0) };
+
+    fn fmt<W: fmt::Write>(&self, f: &mut fmt::Formatter<W>) -> fmt::Result {
+        match self.0 {
+            None => write!(f, "-"),
+            Some(TurnWord::Unblock) => write!(f, "unblock"),
+            Some(TurnWord::Process) => write!(f, "process"),
+            Some(TurnWord::Desaturate) => write!(f, "desaturate"),
+            Some(TurnWord::Output) => write!(f, "output"),
+            Some(TurnWord::Flushed) => write!(f, "flushed"),
+            Some(TurnWord::Dequeue) => write!(f, "dequeue"),
+            Some(TurnWord::Close(error)) => {
+                let error = error_name(error);
+                write!(f, "close {error}")
+            }
+        }
+    }
+}
+
+// An entry of a codec.
+#[derive(Drop)]
+struct EntryText<'a> {
+    callers: &'a [CallerItem],
+    entry: EntryLine,
+}
+
+impl fmt::Display for EntryText<'_> {
+    ghost output = { λ e. Some (spec.entry_text e.callers.now e.entry) };
+
+    fn fmt<W: fmt::Write>(&self, f: &mut fmt::Formatter<W>) -> fmt::Result {
+        match self.entry {
+            EntryLine::Call { who, call, error } => {
+                let step = StepName {
+                    callers: self.callers,
+                    who,
+                };
+                let call = call_word(call);
+                let answer = answer_text(error);
+                write!(f, "{step} {call} = {answer}")
+            }
+            EntryLine::Start { epoch, item } => {
+                let item = ItemName { epoch, item };
+                write!(f, "start {item}")
+            }
+            EntryLine::Done {
+                epoch,
+                item,
+                moment,
+                outcome,
+            } => {
+                let item = ItemName { epoch, item };
+                let outcome = OutcomeText(outcome);
+                write!(f, "done {item} {moment} {outcome}")
+            }
+            EntryLine::Turn(turn) => {
+                let turn = TurnText(turn);
+                write!(f, "turn {turn}")
+            }
+            EntryLine::Reclaim { moment } => write!(f, "reclaim {moment}"),
+        }
+    }
+}
+
+// What the registry did.
+#[derive(Drop)]
+struct SlotText(SlotOp);
+
+impl fmt::Display for SlotText {
+    ghost output = { λ s. Some (spec.slot_text s.0) };
+
+    fn fmt<W: fmt::Write>(&self, f: &mut fmt::Formatter<W>) -> fmt::Result {
+        match self.0 {
+            SlotOp::Acquire { id, number } => {
+                let id = CoderText(id);
+                write!(f, "acquire {id} {number}")
+            }
+            SlotOp::Refused { id, out, made } => {
+                let id = CoderText(id);
+                write!(f, "acquire {id} none {out} {made}")
+            }
+            SlotOp::Give { id, number } => {
+                let id = CoderText(id);
+                write!(f, "give {id} {number}")
+            }
+        }
+    }
+}
+
+// An entry of the registry.
+#[derive(Drop)]
+struct SlotEntryText<'a> {
+    script: &'a ScriptData,
+    entry: SlotEntry,
+}
+
+impl fmt::Display for SlotEntryText<'_> {
+    ghost output = { λ s. Some (spec.slot_entry_text s.script.now s.entry) };
+
+    fn fmt<W: fmt::Write>(&self, f: &mut fmt::Formatter<W>) -> fmt::Result {
+        let by = ByText {
+            script: self.script,
+            by: self.entry.by,
+        };
+        let op = SlotText(self.entry.op);
+        write!(f, "{by} {op}")
+    }
+}
+
+fn caller_line(alloc: Global, script: &ScriptData, number: u64) -> Result<Vec<u8>, AllocError>
+    ensures { IfOk result (λ v. v.items ≡ spec.line_text script.now (line.Caller number)) }
+{
+    let name = caller_name(script.callers.as_slice(), number);
+    Ok(format!(in alloc; "caller {name}\n")?.into_bytes())
+}
+
+fn result_line(
+    alloc: Global,
+    script: &ScriptData,
+    step: u64,
+    answer: StepResult,
+) -> Result<Vec<u8>, AllocError>
+    ensures { IfOk result (λ v. v.items ≡ spec.line_text script.now (line.Result step answer)) }
+{
+    let codecs = script.codecs.as_slice();
+    let text = ResultText { codecs, answer };
+    Ok(format!(in alloc; "{step} {text}\n")?.into_bytes())
+}
+
+fn codec_line(
+    alloc: Global,
+    script: &ScriptData,
+    codec: u64,
+    opening: Opening,
+) -> Result<Vec<u8>, AllocError>
+    ensures { IfOk result (λ v. v.items ≡ spec.line_text script.now (line.Codec codec opening)) }
+{
+    let name = codec_name(script.codecs.as_slice(), codec);
+    let kind = kind_text(opening.kind);
+    let saturation = opening.saturation;
+    Ok(format!(in alloc; "codec {name} {kind} {saturation}\n")?.into_bytes())
+}
+
+fn entry_line(
+    alloc: Global,
+    script: &ScriptData,
+    place: u64,
+    entry: EntryLine,
+) -> Result<Vec<u8>, AllocError>
+    ensures { IfOk result (λ v. v.items ≡ spec.line_text script.now (line.Entry place entry)) }
+{
+    let callers = script.callers.as_slice();
+    let text = EntryText { callers, entry };
+    Ok(format!(in alloc; "{place} {text}\n")?.into_bytes())
+}
+
+fn slot_line(
+    alloc: Global,
+    script: &ScriptData,
+    place: u64,
+    entry: SlotEntry,
+) -> Result<Vec<u8>, AllocError>
+    ensures { IfOk result (λ v. v.items ≡ spec.line_text script.now (line.Slot place entry)) }
+{
+    let text = SlotEntryText { script, entry };
+    Ok(format!(in alloc; "{place} {text}\n")?.into_bytes())
+}
+
+/// The text of a line in the report of a run of the script.
+pub fn line_text(alloc: Global, script: &ScriptData, line: &Line) -> Result<Vec<u8>, AllocError>
+    ensures { IfOk result (λ v. v.items ≡ spec.line_text script.now line.now) }
+{
+    match line {
+        Line::Header => Ok(String::from_str(alloc, "wcrun report 1\n")?.into_bytes()),
+        Line::Caller(number) => caller_line(alloc, script, *number),
+        Line::Result { step, answer } => result_line(alloc, script, *step, *answer),
+        Line::Codec { codec, opening } => codec_line(alloc, script, *codec, *opening),
+        Line::Entry { place, entry } => entry_line(alloc, script, *place, *entry),
+        Line::Event(event) => event_text(alloc, event),
+        Line::Pool => Ok(String::from_str(alloc, "pool\n")?.into_bytes()),
+        Line::Slots => Ok(String::from_str(alloc, "slots\n")?.into_bytes()),
+        Line::Slot { place, entry } => slot_line(alloc, script, *place, *entry),
+        Line::Held(held) => Ok(format!(in alloc; "held {held}\n")?.into_bytes()),
+        Line::End => Ok(String::from_str(alloc, "end\n")?.into_bytes()),
+    }
+}

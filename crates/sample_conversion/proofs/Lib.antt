@@ -1,0 +1,6 @@
+mod ComesBack
+mod Copied
+mod Narrowed
+mod Samples
+mod Shared
+mod Sizes

@@ -1,0 +1,117 @@
+-- Samples that are spelled by the bytes that spelled them.
+use Rattle.std.proofs.Common.{ℕ, zero, suc, ℤ, pos, negsuc, ◌≡◌, ◌≤◌, ◌<◌, ◌^◌, ◌*◌, ◌+◌, ◌-◌, ◌/◌, ◌%◌, ◌*ℤ◌, nat_lt, cond, true, false, List, [], ◌∷◌, ◌++◌, length, take, drop, ap, subst, sym, ◌∙◌, refl, lit<, arith, add-one, add_comm, zero-add, add-zero, append-nil, append_assoc, ◌+ℤ◌, ◌-ℤ◌, neg_ℤ}
+use Rattle.std.proofs.Math.IntN.{one, *ℤ-one, -ℤ-+ℤ_cancel, pos-*ℤ-pos, negsuc-*ℤ-pos}
+use Rattle.std.proofs.Math.Nat.{pow-suc, mul-suc, mul-zero, mul-add, mul-one, div-add-mod, le_refl, mod-mod_of_dvd, dvd-mul_right, zero-mod}
+use Rattle.std.proofs.Math.Seq.{take-add}
+use Rattle.std.proofs.lemmas.List.{drop-drop, length-drop, length-take-le, take_all}
+use Rattle.std.proofs.lemmas.List.Elements.{All-take, All-drop, All-head, All-tail}
+use Rattle.std.specs.List.{flat_map, range_with_len}
+use Rattle.sample_conversion.specs.Sizes.{AreBytes}
+use Rattle.codec_definitions.specs.Pcm.{little_endian, bytes_of, signed, unsigned, sample_of, spelled, converted, resized_at, resized}
+
+pub low_byte : (b r : ℕ) → b < 256 → (b + 256 * r) % 256 ≡ b
+low_byte b r small = omega (arith, small)
+
+pub high_bytes : (b r : ℕ) → b < 256 → (b + 256 * r) / 256 ≡ r
+high_bytes b r small = omega (arith, small)
+
+pub bytes_of_little : (xs : List ℕ) → AreBytes xs → bytes_of (length xs) (little_endian xs) ≡ xs
+bytes_of_little [] a = refl
+bytes_of_little (b ∷ bs) a =
+    let small : b < 256 = All-head (λ (x : ℕ). x < 256) b bs a in
+    rw (low_byte b (little_endian bs) small, high_bytes b (little_endian bs) small) (ap (λ (l : List ℕ). b ∷ l) (bytes_of_little bs (All-tail (λ (x : ℕ). x < 256) b bs a)))
+
+pub little_bound : (xs : List ℕ) → AreBytes xs → little_endian xs < 256 ^ length xs
+little_bound [] a = lit< tt
+little_bound (b ∷ bs) a =
+    let small : b < 256 = All-head (λ (x : ℕ). x < 256) b bs a in
+    let rest : little_endian bs < 256 ^ length bs = little_bound bs (All-tail (λ (x : ℕ). x < 256) b bs a) in
+    rw (pow-suc 256 (length bs)) (omega (arith, small, rest))
+
+pub unsigned_signed_16 : (n : ℕ) → n < 2 ^ 16 → unsigned 16 (signed 16 n) ≡ n
+unsigned_signed_16 n small = elim (nat_lt n (2 ^ 15)) as (λ v. unsigned 16 (cond v (pos n) (negsuc (2 ^ 16 - 1 - n))) ≡ n) [ true ↦ omega (arith, small) | false ↦ omega (arith, small) ]
+
+pub times_one : (v : ℤ) → v *ℤ pos 1 ≡ v
+unfolding one
+times_one v = *ℤ-one v
+
+-- two bytes
+pub same_2 : (xs : List ℕ) → length xs ≡ 2 → AreBytes xs → spelled 2 (converted 16 16 (sample_of 2 xs)) ≡ xs
+same_2 xs two a =
+    let bound : little_endian xs < 256 ^ 2 = subst (λ (k : ℕ). little_endian xs < 256 ^ k) two (little_bound xs a) in
+    let back : bytes_of 2 (little_endian xs) ≡ xs = subst (λ (k : ℕ). bytes_of k (little_endian xs) ≡ xs) two (bytes_of_little xs a) in
+    ap (bytes_of 2) (ap (unsigned 16) (times_one (signed 16 (little_endian xs))) ∙ unsigned_signed_16 (little_endian xs) bound) ∙ back
+
+abbrev pub IsSame : ℕ → Type 0
+IsSame size = (xs : List ℕ) → length xs ≡ size → AreBytes xs → spelled size (converted (8 * size) (8 * size) (sample_of size xs)) ≡ xs
+
+pub same_front : (size : ℕ) (bytes : List ℕ) → IsSame size → AreBytes bytes → (a n : ℕ) → size * (a + n) ≤ length bytes → flat_map (resized_at size size bytes) (range_with_len a n) ≡ take (size * n) (drop (size * a) bytes)
+same_front size bytes same small a zero room = rw (mul-zero size) refl
+same_front size bytes same small a (suc n) room =
+    let front = drop (size * a) bytes in
+    let next : size * suc n ≡ size + size * n = mul-suc size n ∙ add_comm (size * n) size in
+    let after : size * (a + 1) ≡ size * a + size = mul-add size a 1 ∙ ap (λ (k : ℕ). size * a + k) (mul-one size) in
+    let all : size * (a + suc n) ≡ size * a + size * suc n = mul-add size a (suc n) in
+    let later : size * (a + 1 + n) ≡ size * (a + 1) + size * n = mul-add size (a + 1) n in
+    let long : length front ≡ length bytes - size * a = length-drop (size * a) bytes in
+    let here : resized_at size size bytes a ≡ take size front = same (take size front) (length-take-le size front (omega (arith, next, all, long, room))) (All-take (λ (x : ℕ). x < 256) size front (All-drop (λ (x : ℕ). x < 256) (size * a) bytes small)) in
+    let rest : flat_map (resized_at size size bytes) (range_with_len (a + 1) n) ≡ take (size * n) (drop (size * (a + 1)) bytes) = same_front size bytes same small (a + 1) n (omega (arith, next, all, after, later, room)) in
+    let along : drop size front ≡ drop (size * (a + 1)) bytes = drop-drop size (size * a) bytes ∙ ap (λ (k : ℕ). drop k bytes) (sym after) in
+    let whole : take (size * suc n) front ≡ take size front ++ take (size * n) (drop size front) = ap (λ (k : ℕ). take k front) next ∙ take-add size (size * n) front in
+    rw (here, rest, whole, along) refl
+
+-- what is spelled as it was is the same bytes
+pub resized_same : (size : ℕ) (bytes : List ℕ) → IsSame size → AreBytes bytes → 0 < size → length bytes % size ≡ 0 → resized size size bytes ≡ bytes
+resized_same size bytes same small some whole =
+    let count : size * (length bytes / size) ≡ length bytes = omega (arith, whole, div-add-mod (length bytes) size) in
+    let room : size * (0 + length bytes / size) ≤ length bytes = rw (zero-add (length bytes / size), count) (le_refl (length bytes)) in
+    same_front size bytes same small 0 (length bytes / size) room ∙ rw (count, mul-zero size) (take_all (length bytes) bytes (le_refl (length bytes)))
+
+-- one more of what stands one after another
+pub more : {A : Type 0} (f : ℕ → List A) (a n j : ℕ) → a + n ≡ j → flat_map f (range_with_len a (suc n)) ≡ flat_map f (range_with_len a n) ++ f j
+more f a zero j e = append-nil (f a) ∙ ap f (sym (add-zero a) ∙ e)
+more f a (suc n) j e = ap (λ l. f a ++ l) (more f (a + 1) n j (omega (arith, e))) ∙ sym (append_assoc (f a) (flat_map f (range_with_len (a + 1) n)) (f j))
+
+pub one_more : {A : Type 0} (f : ℕ → List A) (n : ℕ) → flat_map f (range_with_len 0 (n + 1)) ≡ flat_map f (range_with_len 0 n) ++ f n
+one_more f n = ap (λ (k : ℕ). flat_map f (range_with_len 0 k)) (add-one n) ∙ more f 0 n n (zero-add n)
+
+-- a whole number of frames is a whole number of samples
+pub whole_samples : (n size channels : ℕ) → n % (size * channels) ≡ 0 → n % size ≡ 0
+whole_samples n size channels whole = sym (mod-mod_of_dvd size n (dvd-mul_right size channels)) ∙ (ap (λ (k : ℕ). k % size) whole ∙ zero-mod size)
+
+pub unsigned_signed_32 : (n : ℕ) → n < 2 ^ 32 → unsigned 32 (signed 32 n) ≡ n
+unsigned_signed_32 n small = elim (nat_lt n (2 ^ 31)) as (λ v. unsigned 32 (cond v (pos n) (negsuc (2 ^ 32 - 1 - n))) ≡ n) [ true ↦ omega (arith, small) | false ↦ omega (arith, small) ]
+
+pub same_4 : IsSame 4
+same_4 xs four a =
+    let bound : little_endian xs < 256 ^ 4 = subst (λ (k : ℕ). little_endian xs < 256 ^ k) four (little_bound xs a) in
+    let back : bytes_of 4 (little_endian xs) ≡ xs = subst (λ (k : ℕ). bytes_of k (little_endian xs) ≡ xs) four (bytes_of_little xs a) in
+    ap (bytes_of 4) (ap (unsigned 32) (times_one (signed 32 (little_endian xs))) ∙ unsigned_signed_32 (little_endian xs) bound) ∙ back
+
+pub same_1 : IsSame 1
+same_1 xs one a =
+    let n = little_endian xs in
+    let bound : n < 256 ^ 1 = subst (λ (k : ℕ). n < 256 ^ k) one (little_bound xs a) in
+    let back : bytes_of 1 n ≡ xs = subst (λ (k : ℕ). bytes_of k n ≡ xs) one (bytes_of_little xs a) in
+    let middle : (pos n -ℤ pos 128) *ℤ pos 1 +ℤ pos 128 ≡ pos n = ap (λ (v : ℤ). v +ℤ pos 128) (times_one (pos n -ℤ pos 128)) ∙ -ℤ-+ℤ_cancel (pos n) (pos 128) in
+    ap (bytes_of 1) (ap (unsigned 8) middle ∙ omega (arith, bound)) ∙ back
+
+pub negated : (k : ℕ) → 0 < k → neg_ℤ (pos k) ≡ negsuc (k - 1)
+negated zero some = absurd (omega (arith, some))
+negated (suc k) some = ap negsuc (omega arith)
+
+-- 24 bits in 32
+pub unsigned_widened : (n : ℕ) → n < 2 ^ 24 → unsigned 32 (signed 24 n *ℤ pos 256) ≡ n * 256
+unsigned_widened n small = elim (nat_lt n (2 ^ 23)) as (λ v. unsigned 32 (cond v (pos n) (negsuc (2 ^ 24 - 1 - n)) *ℤ pos 256) ≡ n * 256) [
+  | true ↦ ap (unsigned 32) (pos-*ℤ-pos n 256) ∙ omega (arith, small)
+  | false ↦ ap (unsigned 32) (negsuc-*ℤ-pos (2 ^ 24 - 1 - n) 256 ∙ negated (suc (2 ^ 24 - 1 - n) * 256) (omega arith)) ∙ omega (arith, small)
+]
+
+pub widened_sample : (xs : List ℕ) → length xs ≡ 3 → AreBytes xs → spelled 4 (converted 24 32 (sample_of 3 xs)) ≡ 0 ∷ xs
+widened_sample xs three a =
+    let n = little_endian xs in
+    let bound : n < 256 ^ 3 = subst (λ (k : ℕ). n < 256 ^ k) three (little_bound xs a) in
+    let back : bytes_of 3 n ≡ xs = subst (λ (k : ℕ). bytes_of k n ≡ xs) three (bytes_of_little xs a) in
+    let low : n * 256 % 256 ≡ 0 = omega arith in
+    let high : n * 256 / 256 ≡ n = omega arith in
+    ap (bytes_of 4) (unsigned_widened n bound) ∙ rw (low, high, back) refl

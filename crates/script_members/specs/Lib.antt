@@ -1,5 +1,0 @@
-pub mod Members
-pub mod ConfigRead
-pub mod Media
-pub mod CopyOptions
-pub mod Sources

@@ -1,4 +1,0 @@
-mod FileLaws
-mod PlaceLaws
-mod Positions
-mod StepTables

@@ -1,0 +1,184 @@
+// Reads what media are made of.
+ghost use Rattle.std.specs.Prelude.{◌≡◌, IfOk, Some, None, option_and_then, codes};
+ghost use Rattle.serde_json.specs.View.{view};
+ghost use Rattle.serde_json.specs.Find.{get};
+ghost use Rattle.script_steps.specs.Members.{word_of, required};
+ghost use Rattle.script_steps.specs.Media.{data_of_init, data_of_step, timestamp_in, duration_in, content_in, key_of, chunk_of, sample_format_of, sound_of, picture_format_of, picture_of};
+
+use crate::Wrong;
+use crate::members::{
+    as_text, has, optional_duration_member, read_hex, timestamp_member, u32_member,
+};
+use bytes::Bytes;
+use script_types::{ChunkInit, PictureInit, SoundInit};
+use serde_json::Value;
+use std::alloc::Global;
+use wc_base::{NoMemory, PictureFormat, PictureShape, SampleFormat, SoundShape};
+
+/// The bytes of inline data of a step with an init: of its member `init`, the member `data`, where it is hex text.
+pub fn read_step_data(alloc: Global, value: &Value) -> Result<Option<Bytes>, NoMemory>
+    ensures { IfOk result (λ o. o ≡ data_of_step (view value.now)) }
+{
+    match value.get("init").and_then(|init| init.get("data")) {
+        None => Ok(None),
+        Some(data) => read_hex(alloc, data),
+    }
+}
+
+// The data of an init, which was read before. `Shape` where there is another value.
+fn content_member(value: &Value, content: Option<Bytes>) -> Result<Option<Bytes>, Wrong>
+    requires { content ≡ data_of_init (view value.now) }
+    ensures { result ≡ content_in (view value.now) }
+{
+    if content.is_none() && has(value, "data") {
+        return Err(Wrong::Shape);
+    }
+    Ok(content)
+}
+
+fn read_key(text: &str) -> Option<bool>
+    ensures { result ≡ key_of text.now }
+{
+    match text {
+        "key" => Some(true),
+        "delta" => Some(false),
+        _ => None,
+    }
+}
+
+fn type_member(value: &Value) -> Result<Option<bool>, Wrong>
+    ensures { result ≡ required (word_of key_of) (get (codes "type") (view value.now)) }
+{
+    match value.get("type") {
+        None => Ok(None),
+        Some(word) => Ok(read_key(as_text(word)?)),
+    }
+}
+
+/// Reads what a chunk is made of; its content was read before. `None` where a rule of WebIDL is broken, and `Shape` where
+/// a member is of another JSON kind.
+pub fn read_chunk_init(value: &Value, content: Option<Bytes>) -> Result<Option<ChunkInit>, Wrong>
+    requires { content ≡ data_of_init (view value.now) }
+    ensures { result ≡ chunk_of (view value.now) }
+{
+    let key = type_member(value)?;
+    let timestamp = timestamp_member(value, "timestamp")?;
+    let duration = optional_duration_member(value, "duration")?;
+    let content = content_member(value, content)?;
+    match (key, timestamp, duration, content) {
+        (Some(key), Some(timestamp), Some(duration), Some(content)) => Ok(Some(ChunkInit {
+            key,
+            timestamp,
+            duration,
+            content,
+        })),
+        _ => Ok(None),
+    }
+}
+
+fn read_sample_format(text: &str) -> Option<SampleFormat>
+    ensures { result ≡ sample_format_of text.now }
+{
+    match text {
+        "u8" => Some(SampleFormat::U8),
+        "s16" => Some(SampleFormat::S16),
+        "s32" => Some(SampleFormat::S32),
+        "u8-planar" => Some(SampleFormat::U8Planar),
+        "s16-planar" => Some(SampleFormat::S16Planar),
+        "s32-planar" => Some(SampleFormat::S32Planar),
+        _ => None,
+    }
+}
+
+fn sample_format_member(value: &Value) -> Result<Option<SampleFormat>, Wrong>
+    ensures { result ≡ required (word_of sample_format_of) (get (codes "format") (view value.now)) }
+{
+    match value.get("format") {
+        None => Ok(None),
+        Some(word) => Ok(read_sample_format(as_text(word)?)),
+    }
+}
+
+/// Reads what audio data is made of; its content was read before. `None` where a rule of WebIDL is broken, and `Shape`
+/// where a member is of another JSON kind.
+pub fn read_sound_init(value: &Value, content: Option<Bytes>) -> Result<Option<SoundInit>, Wrong>
+    requires { content ≡ data_of_init (view value.now) }
+    ensures { result ≡ sound_of (view value.now) }
+{
+    let format = sample_format_member(value)?;
+    let rate = u32_member(value, "sampleRate")?;
+    let frames = u32_member(value, "numberOfFrames")?;
+    let channels = u32_member(value, "numberOfChannels")?;
+    let timestamp = timestamp_member(value, "timestamp")?;
+    let content = content_member(value, content)?;
+    match (format, rate, frames, channels, timestamp, content) {
+        (Some(format), Some(rate), Some(frames), Some(channels), Some(timestamp), Some(content)) =>
+            {
+                Ok(Some(SoundInit {
+                    shape: SoundShape {
+                        format,
+                        rate,
+                        channels,
+                        frames,
+                        timestamp,
+                    },
+                    content,
+                }))
+            }
+        _ => Ok(None),
+    }
+}
+
+fn read_picture_format(text: &str) -> Option<PictureFormat>
+    ensures { result ≡ picture_format_of text.now }
+{
+    match text {
+        "I420" => Some(PictureFormat::I420),
+        "I422" => Some(PictureFormat::I422),
+        "I444" => Some(PictureFormat::I444),
+        "NV12" => Some(PictureFormat::Nv12),
+        _ => None,
+    }
+}
+
+fn picture_format_member(value: &Value) -> Result<Option<PictureFormat>, Wrong>
+    ensures { result ≡ required (word_of picture_format_of) (get (codes "format") (view value.now)) }
+{
+    match value.get("format") {
+        None => Ok(None),
+        Some(word) => Ok(read_picture_format(as_text(word)?)),
+    }
+}
+
+/// Reads what a frame is made of; its content was read before. `None` where a rule of WebIDL is broken, and `Shape` where
+/// a member is of another JSON kind.
+pub fn read_picture_init(
+    value: &Value,
+    content: Option<Bytes>,
+) -> Result<Option<PictureInit>, Wrong>
+    requires { content ≡ data_of_init (view value.now) }
+    ensures { result ≡ picture_of (view value.now) }
+{
+    let format = picture_format_member(value)?;
+    let width = u32_member(value, "codedWidth")?;
+    let height = u32_member(value, "codedHeight")?;
+    let timestamp = timestamp_member(value, "timestamp")?;
+    let duration = optional_duration_member(value, "duration")?;
+    let content = content_member(value, content)?;
+    match (format, width, height, timestamp, duration, content) {
+        (Some(format), Some(width), Some(height), Some(timestamp), Some(duration), Some(content)) =>
+            {
+                Ok(Some(PictureInit {
+                    shape: PictureShape {
+                        format,
+                        width,
+                        height,
+                        timestamp,
+                        duration,
+                    },
+                    content,
+                }))
+            }
+        _ => Ok(None),
+    }
+}

@@ -1,0 +1,59 @@
+// Reads where a chunk comes from.
+ghost use Rattle.std.specs.Prelude.{◌≡◌, ◌≢◌, IfOk, IfErr};
+ghost use Rattle.serde_json.specs.View.{view};
+ghost use Rattle.script_steps.specs.Media.{data_of_step};
+ghost use Rattle.script_steps.specs.Sources.{index_in, made_of, taken_of, source_of};
+
+use crate::Wrong;
+use crate::media::read_chunk_init;
+use crate::members::{copied, has, natural_member, object_member, text_member};
+use bytes::Bytes;
+use script_types::ChunkInit;
+use serde_json::Value;
+use std::alloc::Global;
+use wc_base::Text;
+
+/// Where a chunk comes from, before chunk files are numbered.
+#[derive(Debug, PartialEq, Drop)]
+pub enum SourceWords {
+    /// It is made; `None` where its init breaks a rule of WebIDL.
+    Init(Option<ChunkInit>),
+    /// It is the chunk of this number, from 0, of the file of this name.
+    File { name: Text, index: u64 },
+}
+
+fn read_made(value: &Value, content: Option<Bytes>) -> Result<SourceWords, Wrong>
+    requires { content ≡ data_of_step (view value.now) }
+    ensures { result ≡ made_of (view value.now) }
+{
+    let init = object_member(value, "init")?;
+    Ok(SourceWords::Init(read_chunk_init(init, content)?))
+}
+
+fn read_taken(alloc: Global, value: &Value) -> Result<SourceWords, Wrong>
+    ensures ok { IfOk result (λ s. taken_of (view value.now) ≡ Ok s) }
+    ensures err { IfErr result (λ e. e ≢ Wrong.NoMemory → taken_of (view value.now) ≡ Err e) }
+{
+    let name = text_member(value, "file").ok_or(Wrong::Shape)?;
+    let index = natural_member(value, "index").ok_or(Wrong::Shape)?;
+    let name = copied(alloc, name)?;
+    Ok(SourceWords::File { name, index })
+}
+
+/// Reads where a chunk comes from; its content was read before. `Shape` unless there is `init` alone, an object, or `file`
+/// with `index`, a text and a number.
+pub fn read_source(
+    alloc: Global,
+    value: &Value,
+    content: Option<Bytes>,
+) -> Result<SourceWords, Wrong>
+    requires { content ≡ data_of_step (view value.now) }
+    ensures ok { IfOk result (λ s. source_of (view value.now) ≡ Ok s) }
+    ensures err { IfErr result (λ e. e ≢ Wrong.NoMemory → source_of (view value.now) ≡ Err e) }
+{
+    match (has(value, "init"), has(value, "file"), has(value, "index")) {
+        (true, false, false) => read_made(value, content),
+        (false, true, true) => read_taken(alloc, value),
+        _ => Err(Wrong::Shape),
+    }
+}

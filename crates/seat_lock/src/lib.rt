@@ -1,0 +1,14 @@
+//! Locks that count their history: a value behind a lock stands for the list of all passages through it, and each thread
+//! knows of its seat what it has seen of that list.
+#![tactic(auto)]
+
+mod held;
+mod lock;
+mod picks;
+mod steps;
+mod told;
+
+pub use held::Held;
+pub use lock::{Seat, SeatLock};
+pub use seat_view::{Passage, Token};
+pub use told::Told;

@@ -1,0 +1,43 @@
+// Items with their numbers, taken one by one.
+ghost use Rattle.std.specs.Prelude.{◌≡◌, ◌≤◌, length, drop};
+ghost use Rattle.std.specs.Option.{option_map};
+ghost use Rattle.trace_text.specs.Numbered.{Left, TakesNumbered};
+
+use std::marker::Model;
+
+// A contract sees the items that are left, and the number of the first of them.
+#[derive(Drop)]
+pub struct Numbered<'a, T> {
+    items: &'a [T],
+    number: usize,
+}
+
+impl<'a, T> Model for Numbered<'a, T> {
+    ghost Value = { Left T };
+
+    ghost view = { λ s. record { number = s.number; items = drop s.number s.items.now } };
+
+    ghost invariant = { λ s. s.number ≤ length s.items.now };
+}
+
+impl<'a, T> Numbered<'a, T> {
+    pub fn of(items: &'a [T]) -> Numbered<'a, T>
+        ensures { result ≡ record { number = 0; items = items.now } }
+    {
+        Numbered { items, number: 0 }
+    }
+
+    pub fn next(&mut self) -> Option<(usize, &'a T)>
+        ensures { TakesNumbered self.old (option_map (λ x. (x.0, x.1.now)) result) self.new }
+    {
+        let items = self.items;
+        let number = self.number;
+        match items.get(number) {
+            None => None,
+            Some(item) => {
+                self.number = number + 1;
+                Some((number, item))
+            }
+        }
+    }
+}

@@ -1,0 +1,61 @@
+#!/usr/bin/env bash
+# Runs the built program where the system itself fails, and compares each status with the one that is stated:
+# tools/edges.sh [PROGRAM]. Ends with 1 where one differs.
+cd "$(dirname "$0")/.." || exit 2
+program=$(realpath "${1:-crates/wcrun/out/wcrun}") || exit 2
+script=$(realpath demo/ordinary.json)
+work=$(mktemp -d) || exit 2
+trap 'rm -rf "$work"' EXIT
+cd "$work" || exit 2
+bad=0
+
+# check NAME WANTED TEXT GOT: the status GOT, and the standard output in `out`, against what is wanted
+check() {
+  local name=$1 wanted=$2 text=$3 got=$4
+  if [ "$got" != "$wanted" ] || [ "$(cat out)" != "$text" ]; then
+    echo "$name: status $got, wanted $wanted; wrote: $(head -c 200 out)"
+    bad=1
+  else
+    echo "$name: $got"
+  fi
+}
+
+"$program" > out
+check "no words" 2 "usage: wcrun replay FILE | run FILE --workers N | load START N | check SCRIPT REPORT" $?
+
+"$program" replay missing.json > out
+check "a missing file" 4 "read fault: missing.json" $?
+
+"$program" replay . > out
+check "a directory" 4 "read fault: ." $?
+
+# Root reads every file, so this one tells nothing to root.
+cp "$script" secret.json && chmod 000 secret.json
+if [ ! -r secret.json ]; then
+  "$program" replay secret.json > out
+  check "an unreadable file" 4 "read fault: secret.json" $?
+else
+  echo "an unreadable file: left out, since this user reads every file"
+fi
+
+head -c 16777217 /dev/zero > long.json
+"$program" replay long.json > out
+check "a file above the limit" 7 "limit: script 16777217" $?
+
+head -c 16777216 /dev/zero > full.json
+"$program" replay full.json > out
+check "a file of the limit that is no JSON" 3 "script: not json" $?
+
+# Where the output cannot be written, nothing is wanted of what was written.
+: > out
+"$program" replay "$script" >&-
+check "a closed output" 5 "" $?
+
+"$program" replay "$script" > /dev/full
+check "a full device" 5 "" $?
+
+# The reader has ended before the program begins to write.
+( trap '' PIPE; mkfifo pipe; { sleep 0.2; "$program" replay "$script"; echo $? > status; } > pipe & head -c 0 < pipe; wait )
+check "a pipe that ended" 5 "" "$(cat status)"
+
+exit "$bad"

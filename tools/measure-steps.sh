@@ -1,0 +1,41 @@
+#!/usr/bin/env bash
+# Replays scripts of many steps, and prints what each costs: tools/measure-steps.sh [PROGRAM]
+# shown: each chunk is decoded and shown before the next comes. queued: all decodes are called before any work begins.
+# flushes: all steps flush, and no work begins before. Wants /usr/bin/time and valgrind.
+cd "$(dirname "$0")/.." || exit 2
+program=$(realpath "${1:-crates/wcrun/out/wcrun}") || exit 2
+work=$(mktemp -d) || exit 2
+trap 'rm -rf "$work"' EXIT
+
+# script KIND STEPS
+script() {
+  awk -v kind="$1" -v n="$2" 'BEGIN {
+    printf "{\"codecs\":[{\"name\":\"d\",\"kind\":\"audio-decoder\"}],\"callers\":[{\"name\":\"a\",\"steps\":["
+    printf "{\"do\":\"configure\",\"on\":\"d\",\"config\":{\"codec\":\"pcm-s16\",\"sampleRate\":8000,\"numberOfChannels\":1}},"
+    printf "{\"do\":\"chunk\",\"as\":\"c\",\"init\":{\"type\":\"key\",\"timestamp\":0,\"data\":\"0100\"}}"
+    for (i = 2; i < n; i++) {
+      if (kind == "flushes") printf ",{\"do\":\"flush\",\"on\":\"d\",\"as\":\"p%d\"}", i
+      else printf ",{\"do\":\"decode\",\"on\":\"d\",\"chunk\":\"c\"}"
+    }
+    printf "]}],\"order\":[\"a\",{\"start\":\"d\"},{\"done\":\"d\",\"at\":1},{\"turn\":\"d\"},{\"turn\":\"d\"},\"a\""
+    if (kind != "shown") for (i = 2; i < n; i++) printf ",\"a\""
+    for (i = 2; i < n; i++) {
+      if (kind == "shown") printf ",\"a\""
+      printf ",{\"start\":\"d\"},{\"done\":\"d\",\"at\":%d},{\"turn\":\"d\"},{\"turn\":\"d\"}", i
+    }
+    if (kind == "queued") for (i = 2; i < n; i++) printf ",{\"turn\":\"d\"}"
+    printf "]}\n"
+  }'
+}
+
+# measure KIND STEPS
+measure() {
+  script "$1" "$2" > "$work/script.json"
+  cost=$(/usr/bin/time -f '%e s, %M KB' "$program" replay "$work/script.json" 2>&1 > "$work/report")
+  count=$(valgrind --tool=callgrind --callgrind-out-file="$work/out" "$program" replay "$work/script.json" 2>&1 > /dev/null | awk '/Collected/ {print $4}')
+  printf '%-8s %7d steps: %s, %s instructions, report of %d bytes\n' "$1" "$2" "$cost" "$count" "$(stat -c %s "$work/report")"
+}
+
+for steps in 25000 50000 100000; do measure shown "$steps"; done
+for steps in 2500 5000 10000; do measure queued "$steps"; done
+for steps in 2500 5000 10000; do measure flushes "$steps"; done
