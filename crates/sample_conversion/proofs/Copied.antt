@@ -21,7 +21,7 @@ both true true e = (refl, refl)
 both true false e = absurd (no e)
 both false b e = absurd (no e)
 
-shifted : (f : ℕ → List ℕ) (b a n : ℕ) → flat_map (λ i. f (b + i)) (range_with_len a n) ≡ flat_map f (range_with_len (b + a) n)
+pub shifted : (f : ℕ → List ℕ) (b a n : ℕ) → flat_map (λ i. f (b + i)) (range_with_len a n) ≡ flat_map f (range_with_len (b + a) n)
 shifted f b a zero = refl
 shifted f b a (suc n) =
     let next : b + (a + 1) ≡ b + a + 1 = omega arith in
@@ -35,7 +35,7 @@ joined f a (suc m) n =
     ap (λ (k : ℕ). flat_map f (range_with_len a k)) count ∙ (ap (λ (l : List ℕ). f a ++ l) (joined f (a + 1) m n) ∙ (sym (append_assoc (f a) (flat_map f (range_with_len (a + 1) m)) (flat_map f (range_with_len (a + 1 + m) n))) ∙ ap (λ (k : ℕ). flat_map f (range_with_len a (suc m)) ++ flat_map f (range_with_len k n)) place))
 
 -- frames of `c` samples are all samples in order
-framed : (f : ℕ → List ℕ) (c a n : ℕ) → flat_map (λ frame. flat_map (λ channel. f (frame * c + channel)) (range_with_len 0 c)) (range_with_len a n) ≡ flat_map f (range_with_len (a * c) (n * c))
+pub framed : (f : ℕ → List ℕ) (c a n : ℕ) → flat_map (λ frame. flat_map (λ channel. f (frame * c + channel)) (range_with_len 0 c)) (range_with_len a n) ≡ flat_map f (range_with_len (a * c) (n * c))
 framed f c a zero = rw (zero-mul c) refl
 framed f c a (suc n) =
     let here : flat_map (λ channel. f (a * c + channel)) (range_with_len 0 c) ≡ flat_map f (range_with_len (a * c) c) = shifted f (a * c) 0 c ∙ ap (λ (k : ℕ). flat_map f (range_with_len k c)) (add-zero (a * c)) in

@@ -1,6 +1,7 @@
 mod ComesBack
 mod Copied
 mod Narrowed
+mod Layouts
 mod Samples
 mod Shared
 mod Sizes

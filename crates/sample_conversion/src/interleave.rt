@@ -55,7 +55,8 @@ fn push_frame(
     requires channels { shape.now.channels ≤ 32 }
     requires whole { is_whole shape.now bytes.now ≡ true }
     requires frame { frame < shape.now.frames }
-    ensures { OnOk result (out.new.items ≡ out.old.items ++ frame_of (size_of size) shape.now bytes.now frame) }
+    ensures { OnOk result
+        (out.new.items ≡ out.old.items ++ frame_of (size_of size) shape.now bytes.now frame) }
 {
     for channel in 0..shape.channels {
         push_sample(size, sample_at(shape, bytes, frame, channel), out)?;
@@ -81,7 +82,12 @@ fn sample_at<'a>(shape: &SoundShape, bytes: &'a [u8], frame: u32, channel: u32) 
 /// Appends a sample in a size.
 fn push_sample(size: SampleSize, sample: &[u8], out: &mut Vec<u8>) -> Result<(), NoMemory>
     requires { is_format_size (length sample.now) ≡ true }
-    ensures { OnOk result (out.new.items ≡ out.old.items ++ spelled (size_of size) (converted (8 * length sample.now) (8 * size_of size) (sample_of (length sample.now) sample.now))) }
+    ensures { OnOk result
+        (out.new.items
+        ≡ out.old.items
+        ++ spelled (size_of size)
+        (converted (8 * length sample.now) (8 * size_of size)
+        (sample_of (length sample.now) sample.now))) }
 {
     let wide = to_middle(size, padded(sample));
     out.extend_from_slice(last(&wide, size.bytes()))?;
@@ -107,7 +113,7 @@ fn to_middle(size: SampleSize, wide: [u8; 4]) -> [u8; 4]
 }
 
 /// A sample's bytes at the end of four. A byte with its middle at 128 becomes one in two's complement.
-fn padded(sample: &[u8]) -> [u8; 4]
+pub(crate) fn padded(sample: &[u8]) -> [u8; 4]
     requires { is_format_size (length sample.now) ≡ true }
     ensures { result ≡ padded_of sample.now }
 {

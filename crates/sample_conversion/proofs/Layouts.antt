@@ -1,0 +1,180 @@
+-- Samples of data, copied in another size and layout.
+use Rattle.std.proofs.Common.{ℕ, zero, suc, ◌≡◌, ◌≤◌, ◌<◌, ◌*◌, ◌+◌, ◌-◌, ◌==◌, ◌⊎◌, Bool, true, false, cond, List, [], ◌∷◌, ◌++◌, length, take, drop, refl, ap, sym, subst, ◌∙◌, arith, inl, inr, add-zero}
+use Rattle.std.specs.List.{flat_map, range_with_len}
+use Rattle.std.proofs.lemmas.Bool.{eqb-true}
+use Rattle.std.proofs.lemmas.Slice.{take-put_mid}
+use Rattle.std.proofs.lemmas.List.{length-drop, length-take-le}
+use Rattle.std.proofs.Math.Nat.{mul-le-mul_left, mul-add, mul-one}
+use borrow.Rule.Slice.PartMut.{put_mid}
+use Rattle.wc_base.specs.declared.media.SoundShape.{SoundShape}
+use Rattle.codec_definitions.specs.Pcm.{format_size, is_planar, is_whole, place_of, resized_at}
+use Rattle.sample_conversion.specs.Sizes.{AreBytes, is_format_size, padded_of}
+use Rattle.sample_conversion.specs.Layouts.{channel_of, frames_of, is_sample_size, last_bytes, resized_sample, strided_samples, plane_frames, frame_step_of}
+use Rattle.sample_conversion.proofs.Copied.{shifted, framed as joined_frames}
+use Rattle.sample_conversion.proofs.Narrowed.{or_cases, size_cases, narrowed_1, narrowed_2, narrowed_3, narrowed_4}
+use Rattle.sample_conversion.proofs.Samples.{IsSame, one_more, same_1, same_2, same_4, same_front}
+
+sample_cases : (n : ℕ) → is_sample_size n ≡ true → (n ≡ 1) ⊎ ((n ≡ 2) ⊎ ((n ≡ 3) ⊎ (n ≡ 4)))
+sample_cases n h = elim (or_cases (is_format_size n) (n == 3) h) [
+  | inl e ↦ elim (size_cases n e) [ inl one ↦ inl one | inr more ↦ elim more [ inl two ↦ inr (inl two) | inr four ↦ inr (inr (inr four)) ] ]
+  | inr three ↦ inr (inr (inl (eqb-true n 3 three)))
+]
+
+pub converted_one : (s : List ℕ) (d : ℕ) → AreBytes s → is_format_size (length s) ≡ true → is_sample_size d ≡ true → last_bytes d (padded_of s) ≡ resized_sample (length s) d s
+converted_one s d a from to =
+    let P : ℕ → Type 0 = λ n. last_bytes n (padded_of s) ≡ resized_sample (length s) n s in
+    elim (sample_cases d to) [
+      | inl one ↦ subst P (sym one) (narrowed_1 s a from)
+      | inr more ↦ elim more [
+        | inl two ↦ subst P (sym two) (narrowed_2 s a from)
+        | inr most ↦ elim most [
+          | inl three ↦ subst P (sym three) (narrowed_3 s a from)
+          | inr four ↦ subst P (sym four) (narrowed_4 s a from)
+        ]
+      ]
+    ]
+
+same_size : (s : ℕ) → is_format_size s ≡ true → IsSame s
+same_size s h = elim (size_cases s h) [
+  | inl one ↦ subst IsSame (sym one) same_1
+  | inr more ↦ elim more [ inl two ↦ subst IsSame (sym two) same_2 | inr four ↦ subst IsSame (sym four) same_4 ]
+]
+
+pub size_some : (n : ℕ) → is_format_size n ≡ true → 1 ≤ n
+size_some n h = elim (size_cases n h) [ inl one ↦ omega (arith, one) | inr more ↦ elim more [ inl two ↦ omega (arith, two) | inr four ↦ omega (arith, four) ] ]
+
+-- one piece more of what a loop has written
+pub one_piece : (f : ℕ → List ℕ) (to piece : List ℕ) (at k m i : ℕ) → take at to ≡ flat_map f (range_with_len 0 i) → piece ≡ f i → m ≡ at + length piece → at ≤ length to → take m (put_mid at k to piece) ≡ flat_map f (range_with_len 0 (i + 1))
+one_piece f to piece at k m i before is end within =
+    take-put_mid at k to piece m end within ∙ (ap (λ (l : List ℕ). l ++ piece) before ∙ (ap (λ (l : List ℕ). flat_map f (range_with_len 0 i) ++ l) is ∙ sym (one_more f i)))
+
+-- the sample that is read
+pub piece_is : (from part new : List ℕ) (s d e n : ℕ) → part ≡ take s (drop (s * n) from) → length part ≡ s → e ≡ d → new ≡ resized_sample (length part) e part → new ≡ resized_at s d from n
+piece_is from part new s d e n is long same here =
+    here ∙ (ap (λ (k : ℕ). resized_sample k e part) long ∙ (ap (λ (k : ℕ). resized_sample s k part) same ∙ ap (λ (l : List ℕ). resized_sample s d l) is))
+
+pub part_len : (xs : List ℕ) (a n m : ℕ) → m ≡ n → a + n ≤ length xs → length (take m (drop a xs)) ≡ n
+part_len xs a n m e within = ap (λ (k : ℕ). length (take k (drop a xs))) e ∙ length-take-le n (drop a xs) (let d = length-drop a xs in omega (arith, d, within))
+
+pub minus : (a n : ℕ) → a + n - a ≡ n
+minus a n = omega arith
+
+-- a place is below the bytes that are read there
+pub place_small : (s x n : ℕ) → 1 ≤ s → s * x + s ≤ n → x ≤ n
+place_small s x n some h = omega (arith, mul-le-mul_left x some, h)
+
+pub none_left : (xs : List ℕ) → length xs ≡ 0 → xs ≡ []
+none_left [] e = refl
+none_left (x ∷ xs) e = absurd (omega (arith, e))
+
+flat_same : (f g : ℕ → List ℕ) → ((i : ℕ) → f i ≡ g i) → (a n : ℕ) → flat_map f (range_with_len a n) ≡ flat_map g (range_with_len a n)
+flat_same f g h a zero = refl
+flat_same f g h a (suc n) = ap (λ l. l ++ flat_map f (range_with_len (a + 1) n)) (h a) ∙ ap (λ l. g a ++ l) (flat_same f g h (a + 1) n)
+
+pub flat_none : (f : ℕ → List ℕ) → ((i : ℕ) → f i ≡ []) → (a n : ℕ) → flat_map f (range_with_len a n) ≡ []
+flat_none f h a zero = refl
+flat_none f h a (suc n) = ap (λ l. l ++ flat_map f (range_with_len (a + 1) n)) (h a) ∙ flat_none f h (a + 1) n
+
+pub no_channels : (s d first step frames channels : ℕ) (bytes to : List ℕ) → channels ≡ 0 → length to ≡ d * channels * frames → to ≡ plane_frames s d bytes first step frames channels
+no_channels s d first step frames channels bytes to none room =
+    let nothing : d * 0 * frames ≡ 0 = omega arith in
+    let short : length to ≡ 0 = room ∙ (ap (λ (k : ℕ). d * k * frames) none ∙ nothing) in
+    none_left to short ∙ sym (ap (λ (k : ℕ). plane_frames s d bytes first step frames k) none ∙ flat_none (λ k. strided_samples s d bytes (first + k) step 0) (λ k. refl) 0 frames)
+
+-- counted from a place on
+from_place : (f : ℕ → List ℕ) (first n : ℕ) → flat_map (λ i. f (first + i)) (range_with_len 0 n) ≡ flat_map f (range_with_len first n)
+from_place f first n = shifted f first 0 n ∙ ap (λ (k : ℕ). flat_map f (range_with_len k n)) (add-zero first)
+
+one_by_one : (f : ℕ → List ℕ) (first n : ℕ) → flat_map (λ i. f (first + i * 1)) (range_with_len 0 n) ≡ flat_map f (range_with_len first n)
+one_by_one f first n = flat_same (λ i. f (first + i * 1)) (λ i. f (first + i)) (λ i. ap (λ (k : ℕ). f (first + k)) (mul-one i)) 0 n ∙ from_place f first n
+
+-- samples that stand one after another and keep their size
+pub straight : (s first count : ℕ) (bytes : List ℕ) → is_format_size s ≡ true → AreBytes bytes → s * first + s * count ≤ length bytes → take (s * first + s * count - s * first) (drop (s * first) bytes) ≡ strided_samples s s bytes first 1 count
+straight s first count bytes h small room =
+    let within : s * (first + count) ≤ length bytes = omega (arith, mul-add s first count, room) in
+    ap (λ (k : ℕ). take k (drop (s * first) bytes)) (minus (s * first) (s * count)) ∙ sym (one_by_one (resized_at s s bytes) first count ∙ same_front s bytes (same_size s h) small first count within)
+
+pub straight_room : (s first m count n : ℕ) → count ≡ m + 1 → s * (first + m * 1) + s ≤ n → s * first + s * count ≤ n
+straight_room s first m count n e h =
+    let at = mul-add s first (m * 1) in
+    let one = ap (λ (k : ℕ). s * k) (mul-one m) in
+    let more : s * count ≡ s * m + s = ap (λ (k : ℕ). s * k) e ∙ (mul-add s m 1 ∙ ap (λ (k : ℕ). s * m + k) (mul-one s)) in
+    omega (arith, h, at, one, more)
+
+-- how many bytes data has
+pub whole_length : (shape : SoundShape) (bytes : List ℕ) → is_whole shape bytes ≡ true → length bytes ≡ shape.frames * shape.channels * format_size shape.format
+whole_length shape bytes whole = eqb-true (length bytes) (shape.frames * shape.channels * format_size shape.format) whole
+
+pub format_some : (shape : SoundShape) (n : ℕ) → n ≡ format_size shape.format → is_format_size n ≡ true → 1 ≤ format_size shape.format
+format_some shape n value size = size_some (format_size shape.format) (subst (λ (k : ℕ). is_format_size k ≡ true) value size)
+
+-- there are no more samples than bytes
+pub samples_few : (shape : SoundShape) (bytes : List ℕ) → is_whole shape bytes ≡ true → 1 ≤ format_size shape.format → shape.frames * shape.channels ≤ length bytes
+samples_few shape bytes whole some =
+    let n : ℕ = shape.frames * shape.channels in
+    omega (arith, mul-le-mul_left n some, mul-one n, whole_length shape bytes whole)
+
+pub part_few : (a b c : ℕ) → a ≤ b → a * c ≤ b * c
+part_few a b c h = omega (arith, mul-le-mul_left c h)
+
+spot : (b : Bool) (frames channels frame ch : ℕ) → frame + 1 ≤ frames → ch + 1 ≤ channels → cond b (ch * frames + frame) (frame * channels + ch) + 1 ≤ frames * channels
+spot true frames channels frame ch f c = omega (arith, mul-le-mul_left frames c, f)
+spot false frames channels frame ch f c = omega (arith, mul-le-mul_left channels f, c)
+
+-- a sample that is copied is there
+pub place_there : (shape : SoundShape) (bytes : List ℕ) (frame ch : ℕ) → is_whole shape bytes ≡ true → frame + 1 ≤ shape.frames → ch + 1 ≤ shape.channels → format_size shape.format * place_of shape frame ch + format_size shape.format ≤ length bytes
+place_there shape bytes frame ch whole f c =
+    let s : ℕ = format_size shape.format in
+    let at = spot (is_planar shape.format) shape.frames shape.channels frame ch f c in
+    omega (arith, mul-le-mul_left s at, whole_length shape bytes whole)
+
+plane_at : (b : Bool) (frames channels o i ch : ℕ) → cond b (ch * frames + (o + i)) ((o + i) * channels + ch) ≡ cond b (ch * frames + o) (o * channels + ch) + i * cond b 1 channels
+plane_at true frames channels o i ch = omega arith
+plane_at false frames channels o i ch = omega arith
+
+-- one channel
+pub channel_copied : (shape : SoundShape) (bytes : List ℕ) (d first count ch : ℕ) → strided_samples (format_size shape.format) d bytes (place_of shape first ch) (frame_step_of shape) count ≡ channel_of d shape bytes ch first count
+channel_copied shape bytes d first count ch =
+    let f : ℕ → List ℕ = resized_at (format_size shape.format) d bytes in
+    flat_same (λ i. f (place_of shape first ch + i * frame_step_of shape)) (λ i. f (place_of shape (first + i) ch)) (λ i. ap f (sym (plane_at (is_planar shape.format) shape.frames shape.channels first i ch))) 0 count ∙ from_place (λ frame. f (place_of shape frame ch)) first count
+
+pub channel_there : (shape : SoundShape) (bytes : List ℕ) (first i ch : ℕ) → is_whole shape bytes ≡ true → first + i + 1 ≤ shape.frames → ch + 1 ≤ shape.channels → format_size shape.format * (place_of shape first ch + i * frame_step_of shape) + format_size shape.format ≤ length bytes
+channel_there shape bytes first i ch whole f c =
+    let P : ℕ → Type 0 = λ n. format_size shape.format * n + format_size shape.format ≤ length bytes in
+    subst P (plane_at (is_planar shape.format) shape.frames shape.channels first i ch) (place_there shape bytes (first + i) ch whole f c)
+
+-- all channels of planes
+planes_in : (b : Bool) (s d frames channels first count : ℕ) (bytes : List ℕ) → b ≡ true → plane_frames s d bytes first frames count channels ≡ flat_map (λ frame. flat_map (λ ch. resized_at s d bytes (cond b (ch * frames + frame) (frame * channels + ch))) (range_with_len 0 channels)) (range_with_len first count)
+planes_in b s d frames channels first count bytes planar =
+    let f : ℕ → List ℕ = resized_at s d bytes in
+    let g : ℕ → List ℕ = λ frame. flat_map (λ ch. f (ch * frames + frame)) (range_with_len 0 channels) in
+    let one : (k : ℕ) → strided_samples s d bytes (first + k) frames channels ≡ g (first + k) = λ k. flat_same (λ i. f (first + k + i * frames)) (λ ch. f (ch * frames + (first + k))) (λ i. ap f (omega arith)) 0 channels in
+    let whole = flat_same (λ k. strided_samples s d bytes (first + k) frames channels) (λ k. g (first + k)) one 0 count ∙ from_place g first count in
+    whole ∙ ap (λ (c : Bool). flat_map (λ frame. flat_map (λ ch. f (cond c (ch * frames + frame) (frame * channels + ch))) (range_with_len 0 channels)) (range_with_len first count)) (sym planar)
+
+pub planes_copied : (shape : SoundShape) (bytes : List ℕ) (d first count : ℕ) → is_planar shape.format ≡ true → plane_frames (format_size shape.format) d bytes first shape.frames count shape.channels ≡ frames_of d shape bytes first count
+planes_copied shape bytes d first count planar = planes_in (is_planar shape.format) (format_size shape.format) d shape.frames shape.channels first count bytes planar
+
+pub planes_there : (shape : SoundShape) (bytes : List ℕ) (first k i : ℕ) → is_planar shape.format ≡ true → is_whole shape bytes ≡ true → first + k + 1 ≤ shape.frames → i + 1 ≤ shape.channels → format_size shape.format * (first + k + i * shape.frames) + format_size shape.format ≤ length bytes
+planes_there shape bytes first k i planar whole f c =
+    let s : ℕ = format_size shape.format in
+    let at : place_of shape (first + k) i ≡ first + k + i * shape.frames = ap (λ (b : Bool). cond b (i * shape.frames + (first + k)) ((first + k) * shape.channels + i)) planar ∙ omega arith in
+    subst (λ (n : ℕ). s * n + s ≤ length bytes) at (place_there shape bytes (first + k) i whole f c)
+
+-- all channels of interleaved data
+rows_in : (b : Bool) (s d frames channels first count : ℕ) (bytes : List ℕ) → b ≡ false → strided_samples s d bytes (first * channels) 1 (count * channels) ≡ flat_map (λ frame. flat_map (λ ch. resized_at s d bytes (cond b (ch * frames + frame) (frame * channels + ch))) (range_with_len 0 channels)) (range_with_len first count)
+rows_in b s d frames channels first count bytes rows =
+    let f : ℕ → List ℕ = resized_at s d bytes in
+    let whole = one_by_one f (first * channels) (count * channels) ∙ sym (joined_frames f channels first count) in
+    whole ∙ ap (λ (c : Bool). flat_map (λ frame. flat_map (λ ch. f (cond c (ch * frames + frame) (frame * channels + ch))) (range_with_len 0 channels)) (range_with_len first count)) (sym rows)
+
+pub rows_copied : (shape : SoundShape) (bytes : List ℕ) (d first count : ℕ) → is_planar shape.format ≡ false → strided_samples (format_size shape.format) d bytes (first * shape.channels) 1 (count * shape.channels) ≡ frames_of d shape bytes first count
+rows_copied shape bytes d first count rows = rows_in (is_planar shape.format) (format_size shape.format) d shape.frames shape.channels first count bytes rows
+
+pub rows_there : (shape : SoundShape) (bytes : List ℕ) (first count i : ℕ) → is_whole shape bytes ≡ true → first + count ≤ shape.frames → i < count * shape.channels → format_size shape.format * (first * shape.channels + i * 1) + format_size shape.format ≤ length bytes
+rows_there shape bytes first count i whole within below =
+    let s : ℕ = format_size shape.format in
+    let c : ℕ = shape.channels in
+    let all : (first + count) * c ≤ shape.frames * c = part_few (first + count) shape.frames c within in
+    let at : first * c + i * 1 + 1 ≤ shape.frames * c = omega (arith, all, below) in
+    omega (arith, mul-le-mul_left s at, whole_length shape bytes whole)

@@ -1,0 +1,4 @@
+pub mod Bag
+pub mod Pools
+pub mod Laws
+pub mod Shared
