@@ -1,0 +1,6 @@
+use Rattle.std.proofs.Common.{◌≡◌, drop}
+use Rattle.flac_bits.specs.ByteSums.{after_bytes}
+use Rattle.flac_bits.proofs.sums.few_8.Given as goal
+
+abbrev pub invariant-loop-byte : goal.invariant-loop-byte
+invariant-loop-byte l = after_bytes 8 0x07 l.sum (drop l.byte-index l.bytes) ≡ after_bytes 8 0x07 l.before l.bytes

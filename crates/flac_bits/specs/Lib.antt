@@ -1,0 +1,4 @@
+pub mod ByteSums
+pub mod Reader
+pub mod Window
+pub mod WindowLaws

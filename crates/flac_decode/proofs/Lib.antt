@@ -1,0 +1,4 @@
+pub mod ProductLaws
+pub mod RestoreLaws
+pub mod FrameLaws
+pub mod FrameEndLaws

@@ -1,0 +1,4 @@
+pub mod Bounds
+pub mod FrameEnd
+pub mod Output
+pub mod Reading

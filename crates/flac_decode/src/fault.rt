@@ -1,0 +1,11 @@
+// Faults of a frame.
+
+/// Why a frame is not decoded.
+#[derive(Clone, Copy, Debug, PartialEq, Eq)]
+pub enum FrameFault {
+    /// The bytes are no frame of the described stream (RFC 9639, section 9), or a sample does not fit its depth (our
+    /// choice).
+    Refused,
+    /// Memory for the samples or their bytes is wanting.
+    NoMemory,
+}

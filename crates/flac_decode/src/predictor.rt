@@ -1,0 +1,208 @@
+// Predicted subframes.
+ghost use Rattle.std.specs.Prelude.{◌≡◌, ◌+◌, ◌-◌, ◌*◌, ◌^◌, ◌<◌, ◌≤◌, length, take, reverse, pos, true, IfOk, OnOk, unsigned_abs};
+ghost use Rattle.flac_definitions.specs.Residual.{residual_at};
+ghost use Rattle.flac_decode.specs.Bounds.{AreSmall};
+ghost use Rattle.flac_decode.specs.Reading.{RestoresBehind};
+ghost use Rattle.flac_definitions.specs.Prediction.{samples_behind};
+ghost use Rattle.flac_decode.specs.Reading.{Fills, FillsWith};
+ghost use Rattle.flac_definitions.specs.Subframe.{samples_at, predictor_at, fixed_at, coefficients_at, linear_at};
+ghost use Rattle.flac_definitions.specs.Results.{without_fault};
+ghost use Rattle.flac_definitions.specs.Prediction.{fixed_coefficients};
+
+use crate::fault::FrameFault;
+use crate::fields::{read_bits, read_samples};
+use crate::prediction::{restore, restore_any_order};
+use flac_bits::BitReader;
+use flac_rice::{ResidualFault, read_residual};
+
+/// The residual of a block.
+fn read_block_residual(
+    r: &mut BitReader<'_>,
+    block: u32,
+    order: u32,
+    residual: &mut Vec<i32>,
+) -> Result<(), FrameFault>
+    ensures read { Fills (without_fault (residual_at block order r.old)) result r.new residual.new.items }
+    ensures length { OnOk result (length residual.new.items ≡ block - order) }
+    ensures bytes { r.new.bytes ≡ r.old.bytes }
+{
+    residual.clear();
+    match read_residual(r, block, order, residual) {
+        Ok(()) => Ok(()),
+        Err(ResidualFault::NoMemory) => Err(FrameFault::NoMemory),
+        Err(_) => Err(FrameFault::Refused),
+    }
+}
+
+/// Fills in the samples behind those that are there, one for each coefficient.
+fn predict(
+    coefficients: &[i64],
+    shift: u32,
+    depth: u32,
+    residual: &[i32],
+    samples: &mut [i64],
+) -> bool
+    requires count { length coefficients.now ≤ 32 }
+    requires coefficients { AreSmall 14 coefficients.now }
+    requires shift { shift < 16 }
+    requires depth { depth ≤ 33 }
+    requires some { 0 < depth }
+    requires residual { length residual.now + length coefficients.now ≡ length samples.old }
+    requires warm { AreSmall 32 (take (length coefficients.now) samples.old) }
+    requires narrow { AreSmall (depth - 1) (take (length coefficients.now) samples.old) }
+    ensures narrow { result ≡ true → AreSmall (depth - 1) samples.new }
+    ensures samples { RestoresBehind (length coefficients.now) coefficients.now shift depth residual.now result samples.old samples.new }
+{
+    let c = coefficients;
+    match c.len() {
+        0 => restore::<0>(c, shift, depth, residual, samples),
+        1 => restore::<1>(c, shift, depth, residual, samples),
+        2 => restore::<2>(c, shift, depth, residual, samples),
+        3 => restore::<3>(c, shift, depth, residual, samples),
+        4 => restore::<4>(c, shift, depth, residual, samples),
+        5 => restore::<5>(c, shift, depth, residual, samples),
+        6 => restore::<6>(c, shift, depth, residual, samples),
+        7 => restore::<7>(c, shift, depth, residual, samples),
+        8 => restore::<8>(c, shift, depth, residual, samples),
+        9 => restore::<9>(c, shift, depth, residual, samples),
+        10 => restore::<10>(c, shift, depth, residual, samples),
+        11 => restore::<11>(c, shift, depth, residual, samples),
+        12 => restore::<12>(c, shift, depth, residual, samples),
+        _ => restore_any_order(c, shift, depth, residual, samples),
+    }
+}
+
+/// Reads a residual, and fills in the samples behind those that are there.
+fn read_predicted_samples(
+    r: &mut BitReader<'_>,
+    coefficients: &[i64],
+    shift: u32,
+    depth: u32,
+    residual: &mut Vec<i32>,
+    samples: &mut [i64],
+) -> Result<(), FrameFault>
+    requires count { length coefficients.now ≤ 32 }
+    requires coefficients { AreSmall 14 coefficients.now }
+    requires shift { shift < 16 }
+    requires depth { depth ≤ 33 }
+    requires some { 0 < depth }
+    requires block { length samples.old < 2 ^ 32 }
+    requires order { length coefficients.now ≤ length samples.old }
+    requires warm { AreSmall 32 (take (length coefficients.now) samples.old) }
+    requires narrow { AreSmall (depth - 1) (take (length coefficients.now) samples.old) }
+    ensures narrow { OnOk result (AreSmall (depth - 1) samples.new) }
+    ensures read { Fills (predictor_at coefficients.now shift depth (length samples.old) (take (length coefficients.now) samples.old) r.old) result r.new samples.new }
+    ensures bytes { r.new.bytes ≡ r.old.bytes }
+{
+    if let Err(e) = read_block_residual(
+        r,
+        samples.len() as u32,
+        coefficients.len() as u32,
+        residual,
+    ) {
+        return Err(e);
+    }
+    if predict(coefficients, shift, depth, residual.as_slice(), samples) {
+        Ok(())
+    } else {
+        Err(FrameFault::Refused)
+    }
+}
+
+fn fixed_coefficients(order: u32) -> &'static [i64]
+    requires { order ≤ 4 }
+    ensures values { result.now ≡ fixed_coefficients order }
+    ensures length { length result.now ≡ order }
+    ensures small { AreSmall 14 result.now }
+{
+    match order {
+        0 => &[],
+        1 => &[1],
+        2 => &[2, -1],
+        3 => &[3, -3, 1],
+        _ => &[4, -6, 4, -1],
+    }
+}
+
+/// A subframe with a fixed predictor.
+#[tactic(auto, unfolding(flac_definitions::specs::Subframe::fixed_at))]
+pub fn read_fixed(
+    r: &mut BitReader<'_>,
+    order: u32,
+    depth: u32,
+    residual: &mut Vec<i32>,
+    samples: &mut [i64],
+) -> Result<(), FrameFault>
+    requires order { order ≤ 4 }
+    requires depth { depth ≤ 33 }
+    requires some { 0 < depth }
+    requires block { length samples.old < 2 ^ 32 }
+    ensures narrow { OnOk result (AreSmall (depth - 1) samples.new) }
+    ensures read { Fills (fixed_at order depth (length samples.old) r.old) result r.new samples.new }
+    ensures bytes { r.new.bytes ≡ r.old.bytes }
+{
+    if samples.len() < order as usize {
+        return Err(FrameFault::Refused);
+    }
+    if let Err(e) = read_samples(r, depth, &mut samples[..order as usize]) {
+        return Err(e);
+    }
+    read_predicted_samples(r, fixed_coefficients(order), 0, depth, residual, samples)
+}
+
+/// Coefficients and a shift.
+fn read_coefficients(r: &mut BitReader<'_>, coefficients: &mut [i64]) -> Result<u32, FrameFault>
+    ensures read { FillsWith (coefficients_at (length coefficients.old) r.old) result r.new coefficients.new }
+    ensures shift { IfOk result (λ x. x < 16) }
+    ensures small { OnOk result (AreSmall 14 coefficients.new) }
+    ensures bytes { r.new.bytes ≡ r.old.bytes }
+{
+    let precision = match read_bits(r, 4) {
+        Ok(x) => x as u32,
+        Err(e) => return Err(e),
+    };
+    let shift = match read_bits(r, 5) {
+        Ok(x) => x as u32,
+        Err(e) => return Err(e),
+    };
+    if precision < 15 && shift < 16 {
+        match read_samples(r, precision + 1, coefficients) {
+            Ok(()) => Ok(shift),
+            Err(e) => Err(e),
+        }
+    } else {
+        Err(FrameFault::Refused)
+    }
+}
+
+/// A subframe with a linear predictor.
+#[tactic(auto, unfolding(flac_definitions::specs::Subframe::linear_at))]
+pub fn read_linear(
+    r: &mut BitReader<'_>,
+    order: u32,
+    depth: u32,
+    residual: &mut Vec<i32>,
+    samples: &mut [i64],
+) -> Result<(), FrameFault>
+    requires order { order ≤ 32 }
+    requires depth { depth ≤ 33 }
+    requires some { 0 < depth }
+    requires block { length samples.old < 2 ^ 32 }
+    ensures narrow { OnOk result (AreSmall (depth - 1) samples.new) }
+    ensures read { Fills (linear_at order depth (length samples.old) r.old) result r.new samples.new }
+    ensures bytes { r.new.bytes ≡ r.old.bytes }
+{
+    if samples.len() < order as usize {
+        return Err(FrameFault::Refused);
+    }
+    if let Err(e) = read_samples(r, depth, &mut samples[..order as usize]) {
+        return Err(e);
+    }
+    let mut places = [0i64; 32];
+    let c = &mut places[..order as usize];
+    let shift = match read_coefficients(r, c) {
+        Ok(x) => x,
+        Err(e) => return Err(e),
+    };
+    read_predicted_samples(r, c, shift, depth, residual, samples)
+}

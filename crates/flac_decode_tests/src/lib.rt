@@ -1,0 +1,7 @@
+//! Tests of decoded FLAC frames.
+#![tactic(auto)]
+
+#[cfg(test)]
+mod frames;
+#[cfg(test)]
+mod row_tests;

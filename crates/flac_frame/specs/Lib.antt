@@ -1,0 +1,4 @@
+pub mod HeaderLaws
+pub mod HeaderSums
+pub mod Reading
+pub mod WholeHeaderLaws

@@ -1,0 +1,2 @@
+pub mod SubframeLaws
+pub mod FrameLaws

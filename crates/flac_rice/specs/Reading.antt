@@ -1,0 +1,31 @@
+-- What calls that read values answer.
+use Rattle.std.specs.Prelude.{ℕ, ℤ, ◌≡◌, List, ◌++◌, Result, Ok, Err}
+use Rattle.flac_definitions.specs.Bits.{Place}
+use Rattle.flac_definitions.specs.declared.fault.ResidualFault.{ResidualFault}
+use Rattle.flac_definitions.specs.declared.fault.ResidualFault.TheVariants as fault
+
+-- the place of a bit of some bytes
+abbrev pub place_in : List ℕ → ℕ → Place
+place_in bytes at = record { bytes = bytes; at = at }
+
+-- what was filled in, and the place behind it
+abbrev pub Fills : Result (List ℤ × Place) ResidualFault → Result ℕ ResidualFault → List ℕ → List ℤ → Type 0
+Fills read (Ok at) bytes values = read ≡ Ok (values, record { bytes = bytes; at = at })
+Fills read (Err e) bytes values = read ≡ Err e
+
+-- a value, and the place behind it
+abbrev pub ReadsValue : Result (ℤ × Place) ResidualFault → Result (ℤ × ℕ) ResidualFault → List ℕ → Type 0
+ReadsValue read (Ok x) bytes = read ≡ Ok (x.0, record { bytes = bytes; at = x.1 })
+ReadsValue read (Err e) bytes = read ≡ Err e
+
+-- what was appended, and the place behind it; a fault appends nothing
+abbrev pub Appends : Result (List ℤ × Place) ResidualFault → Result (Unit {0}) ResidualFault → List ℤ → List ℤ → Place → Type 0
+Appends read (Ok t) old new p = (values : List ℤ) × (read ≡ Ok (values, p)) × (new ≡ old ++ values)
+Appends read (Err fault.NoMemory) old new p = new ≡ old
+Appends read (Err e) old new p = (read ≡ Err e) × (new ≡ old)
+
+-- what was appended, and the number of the place behind it
+abbrev pub Places : Result (List ℤ × Place) ResidualFault → Result ℕ ResidualFault → List ℕ → List ℤ → List ℤ → Type 0
+Places read (Ok at) bytes old new = (values : List ℤ) × (read ≡ Ok (values, record { bytes = bytes; at = at })) × (new ≡ old ++ values)
+Places read (Err fault.NoMemory) bytes old new = Unit {0}
+Places read (Err e) bytes old new = read ≡ Err e

@@ -1,0 +1,122 @@
+// A subframe's residual.
+ghost use Rattle.std.specs.Prelude.{◌≡◌, ◌+◌, ◌-◌, ◌*◌, ◌/◌, ◌%◌, ◌^◌, ◌<◌, ◌≤◌, length, take, ◌++◌, IfOk, OnOk, OnErr};
+ghost use Rattle.flac_definitions.specs.Bits.{Place};
+ghost use Rattle.flac_rice.specs.Reading.{place_in, Fills, Appends, Places};
+ghost use Rattle.flac_definitions.specs.Residual.{residual_at, behind_partition_order, behind_coding_method, can_be_partitioned, parameter_size, all_partitions_at};
+
+use crate::partition::all_partitions_into;
+use flac_bits::{BitReader, number_at};
+use flac_definitions::ResidualFault;
+
+/// Appends the residual of a block behind a predictor of an order. A fault appends nothing.
+pub fn read_residual(
+    r: &mut BitReader<'_>,
+    block: u32,
+    order: u32,
+    out: &mut Vec<i32>,
+) -> Result<(), ResidualFault>
+    ensures length { OnOk result (length out.new.items ≡ length out.old.items + (block - order)) }
+    ensures appended { Appends (residual_at block order r.old) result out.old.items out.new.items r.new }
+    ensures bytes { r.new.bytes ≡ r.old.bytes }
+{
+    let old = out.len();
+    match cut_into(r.bytes(), r.at(), block, order, out) {
+        Ok(at) => {
+            r.move_to(at);
+            Ok(())
+        }
+        Err(e) => {
+            out.truncate(old);
+            Err(e)
+        }
+    }
+}
+
+/// Appends the residual, and gives the place behind it. A fault keeps what was there in front.
+fn cut_into(
+    bytes: &[u8],
+    at: u64,
+    block: u32,
+    order: u32,
+    out: &mut Vec<i32>,
+) -> Result<u64, ResidualFault>
+    requires few { length bytes.now < 2 ^ 61 }
+    requires there { at ≤ 8 * length bytes.now }
+    ensures length { OnOk result (length out.new.items ≡ length out.old.items + (block - order)) }
+    ensures read { Places (residual_at block order (place_in bytes.now at)) result bytes.now out.old.items out.new.items }
+    ensures there { IfOk result (λ at. at ≤ 8 * length bytes.now) }
+    ensures kept { OnErr result (take (length out.old.items) out.new.items ≡ out.old.items) }
+{
+    let left = bytes.len() as u64 * 8 - at;
+    if left < 2 {
+        return Err(ResidualFault::Short { bit: at });
+    }
+    let method = number_at(bytes, at, 2) as u32;
+    if method >= 2 {
+        return Err(ResidualFault::Reserved { bit: at });
+    }
+    if left < 6 {
+        return Err(ResidualFault::Short { bit: at + 2 });
+    }
+    let parts = number_at(bytes, at + 2, 4) as u32;
+    if !can_be_partitioned(block, order, parts) {
+        return Err(ResidualFault::Reserved { bit: at + 2 });
+    }
+    let each = (block >> parts) as usize;
+    let size = parameter_size(method);
+    parts_into(
+        bytes,
+        at + 6,
+        size,
+        each,
+        order as usize,
+        (1 << parts) - 1,
+        out,
+    )
+}
+
+fn parameter_size(method: u32) -> u32
+    ensures size { result ≡ parameter_size method }
+    ensures few { result ≤ 5 }
+{
+    if method == 0 { 4 } else { 5 }
+}
+
+fn can_be_partitioned(block: u32, order: u32, parts: u32) -> bool
+    requires { parts < 32 }
+    ensures { result ≡ can_be_partitioned block order parts }
+{
+    block % (1 << parts) == 0 && order < block >> parts
+}
+
+/// Appends the values of all partitions.
+fn parts_into(
+    bytes: &[u8],
+    at: u64,
+    size: u32,
+    each: usize,
+    order: usize,
+    rest: u32,
+    out: &mut Vec<i32>,
+) -> Result<u64, ResidualFault>
+    requires few { length bytes.now < 2 ^ 61 }
+    requires there { at ≤ 8 * length bytes.now }
+    requires size { size ≤ 5 }
+    requires order { order < each }
+    requires block { each < 2 ^ 32 }
+    ensures length { OnOk result (length out.new.items ≡ length out.old.items + (each - order + rest * each)) }
+    ensures read { Places (all_partitions_at size (each - order) each rest (place_in bytes.now at)) result bytes.now out.old.items out.new.items }
+    ensures there { IfOk result (λ at. at ≤ 8 * length bytes.now) }
+    ensures kept { OnErr result (take (length out.old.items) out.new.items ≡ out.old.items) }
+{
+    let old = out.len();
+    let first = each - order;
+    let count = first + rest as usize * each;
+    if out.reserve(count).is_err() {
+        return Err(ResidualFault::NoMemory);
+    }
+    if out.resize(old + count, 0).is_err() {
+        return Err(ResidualFault::NoMemory);
+    }
+    all_partitions_into(bytes, at, size, first, each, rest, &mut out[old..])
+}

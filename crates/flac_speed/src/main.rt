@@ -1,0 +1,146 @@
+//! Decodes the FLAC frames of a file in memory, to measure what a sample costs and to compare the samples with another
+//! decoder's: `flac_speed decode FILE` prints how many samples a channel came out, `flac_speed write FILE` writes their
+//! bytes, and `flac_speed read FILE` only counts the frames. The file has the description of a FLAC decoder's config (42
+//! bytes), and then each frame behind its size in four bytes, the most significant first.
+#![tactic(auto)]
+
+ghost use Rattle.std.specs.Prelude.{◌<◌, ◌≤◌};
+
+use flac_decode::decode_frame;
+use std::alloc::Global;
+use std::io::{BufWriter, Write};
+use std::process::ExitCode;
+use std::rt::Env;
+use std::{env, fs, io};
+use wc_config::{StreamInfo, read_streaminfo};
+
+/// What is done with each frame.
+#[derive(Clone, Copy, PartialEq, Eq)]
+enum Work {
+    Read,
+    Decode,
+    Write,
+}
+
+fn work_of(word: &str) -> Option<Work> {
+    match word {
+        "read" => Some(Work::Read),
+        "decode" => Some(Work::Decode),
+        "write" => Some(Work::Write),
+        _ => None,
+    }
+}
+
+/// The buffers of a decoder.
+#[derive(Drop)]
+struct Buffers {
+    residual: Vec<i32>,
+    samples: Vec<i64>,
+    out: Vec<u8>,
+}
+
+/// Works on one frame: how much is counted for it, if it is not refused.
+fn work_on<W: Write>(
+    work: Work,
+    frame: &[u8],
+    info: &StreamInfo,
+    buffers: &mut Buffers,
+    writer: &mut W,
+) -> io::Result<Option<u64>>
+    requires some { 0 < info.now.depth }
+    requires depth { info.now.depth ≤ 32 }
+{
+    if work == Work::Read {
+        return Ok(Some(1));
+    }
+    match decode_frame(
+        frame,
+        info,
+        &mut buffers.residual,
+        &mut buffers.samples,
+        &mut buffers.out,
+    ) {
+        Ok(block) => {
+            if work == Work::Write {
+                writer.write_all(&buffers.out)?;
+            }
+            Ok(Some(u64::from(block)))
+        }
+        Err(_) => Ok(None),
+    }
+}
+
+/// Works on all frames; nothing where the file is no such file or a frame is refused.
+fn work_on_all<W: Write>(
+    alloc: Global,
+    work: Work,
+    file: &[u8],
+    writer: &mut W,
+) -> io::Result<Option<u64>> {
+    let (Some(info), Some(mut rest)) = (read_streaminfo(file), file.get(42..)) else {
+        return Ok(None);
+    };
+    if info.depth == 0 || info.depth > 32 {
+        return Ok(None);
+    }
+    let mut buffers = Buffers {
+        residual: Vec::new(alloc),
+        samples: Vec::new(alloc),
+        out: Vec::new(alloc),
+    };
+    let mut count = 0u64;
+    while let [a, b, c, d, more @ ..] = rest {
+        let size = u32::from_be_bytes([*a, *b, *c, *d]) as usize;
+        if size > more.len() {
+            return Ok(None);
+        }
+        let Some(counted) = work_on(work, &more[..size], &info, &mut buffers, writer)? else {
+            return Ok(None);
+        };
+        count = count.wrapping_add(counted);
+        rest = &more[size..];
+    }
+    Ok(Some(count))
+}
+
+fn words(rt: &(impl Env + Alloc<A = Global>)) -> io::Result<Vec<String>> {
+    let mut words = Vec::new(rt.alloc());
+    for word in env::args(rt)?.skip(1) {
+        words.push(word)?;
+    }
+    Ok(words)
+}
+
+/// What the words ask for: how much was counted, if they ask for something and no frame is refused.
+fn run(rt: &HostRuntime, words: &[String]) -> io::Result<Option<u64>> {
+    let [work, file] = words else {
+        return Ok(None);
+    };
+    let Some(work) = work_of(work.as_str()) else {
+        return Ok(None);
+    };
+    let bytes = fs::read(rt, file.as_str())?;
+    let mut writer = BufWriter::new(rt.alloc(), io::writer(rt))?;
+    let counted = work_on_all(rt.alloc(), work, &bytes, &mut writer)?;
+    writer.flush()?;
+    Ok(if work == Work::Write {
+        Some(0)
+    } else {
+        counted
+    })
+}
+
+fn main(rt: HostRuntime) -> ExitCode {
+    let Ok(words) = words(&rt) else {
+        return ExitCode::from(1);
+    };
+    match run(&rt, &words) {
+        Ok(Some(0)) => ExitCode::from(0),
+        Ok(Some(count)) => match println!(rt; "{count}") {
+            Ok(()) => ExitCode::from(0),
+            Err(_) => ExitCode::from(5),
+        },
+        Ok(None) => ExitCode::from(2),
+        Err(_) => ExitCode::from(5),
+    }
+}

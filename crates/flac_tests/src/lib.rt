@@ -1,0 +1,9 @@
+//! Tests of FLAC's bits, sums, frame headers and coded residuals.
+#![tactic(auto)]
+
+#[cfg(test)]
+mod bits_tests;
+#[cfg(test)]
+mod header_tests;
+#[cfg(test)]
+mod residual_tests;
