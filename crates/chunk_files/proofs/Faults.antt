@@ -58,23 +58,22 @@ whole_has_no_fault place bytes h =
 pub fault_ends : (place : ℕ) (bytes : List ℕ) (found : ChunkFault) → chunk_fault place bytes ≡ Some found → IsEnd bytes
 fault_ends place bytes found e = record { none = λ chunk rest p. let none = whole_has_no_fault place bytes (begun_is_whole chunk bytes rest p) in cc }
 
--- a chunk's fault is none of the mark, and no want of memory
+-- a chunk's fault is none of the mark
 record IsOfChunk (fault_of : Option ChunkFault) : Type 0 where
   mark : (at : ℕ) → fault_of ≡ Some (fault.BadMark at) → ⊥
-  memory : fault_of ≡ Some fault.NoMemory → ⊥
 
 tested : (b : Bool) (x y : Option ChunkFault) → IsOfChunk x → IsOfChunk y → IsOfChunk (if b then x else y)
 tested true x y p q = p
 tested false x y p q = q
 
 no_fault : IsOfChunk None
-no_fault = record { mark = λ at e. absurd cc; memory = λ e. absurd cc }
+no_fault = record { mark = λ at e. absurd cc }
 
 kind : (at found : ℕ) → IsOfChunk (Some (fault.BadKind at found))
-kind at found = record { mark = λ at e. absurd cc; memory = λ e. absurd cc }
+kind at found = record { mark = λ at e. absurd cc }
 
 short : (at : ℕ) → IsOfChunk (Some (fault.Short at))
-short at = record { mark = λ at e. absurd cc; memory = λ e. absurd cc }
+short at = record { mark = λ at e. absurd cc }
 
 of_chunk : (place : ℕ) (bytes : List ℕ) → IsOfChunk (chunk_fault place bytes)
 of_chunk place bytes =
@@ -93,7 +92,6 @@ fault_is_first bytes chunks at (fault.BadKind p x) mark le before e =
     record { mark = mark; chunks = chunks; rest = drop at bytes; before = before; place = at; is_place = omega (arith, length-drop at bytes); fault = e }
 fault_is_first bytes chunks at (fault.Short p) mark le before e =
     record { mark = mark; chunks = chunks; rest = drop at bytes; before = before; place = at; is_place = omega (arith, length-drop at bytes); fault = e }
-fault_is_first bytes chunks at fault.NoMemory mark le before e = absurd ((of_chunk at (drop at bytes)).memory e)
 
 pub type_back : (n : ℕ) → n ≤ 1 → n ≡ type_byte (n == 0)
 type_back zero h = refl

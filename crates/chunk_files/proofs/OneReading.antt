@@ -3,6 +3,9 @@ use Rattle.std.proofs.Common.{Result, Ok, Err, IfOk, IfErr, IsErr, ◌≢◌, �
 use Rattle.wc_chunk.specs.declared.chunk.Chunk.{Chunk}
 use Rattle.chunk_files.specs.declared.fault.ChunkFault.{ChunkFault}
 use Rattle.chunk_files.specs.declared.fault.ChunkFault.TheVariants as fault
+use Rattle.chunk_files.specs.declared.fault.Stop.{Stop}
+use Rattle.chunk_files.specs.declared.fault.Stop.TheVariants as stop
+use Rattle.chunk_files.specs.Stops.{IfFault}
 use Rattle.chunk_files.specs.Grammar.{IsChunkFile, FollowsChunks, IsFirstFault, chunk_fault}
 use Rattle.chunk_files.proofs.Chunks.{empty_ends, same_chunks}
 use Rattle.chunk_files.proofs.Faults.{fault_ends}
@@ -28,8 +31,6 @@ one_fault bytes (fault.BadKind a x) (fault.Short b) p q = one_follows bytes _ _ 
 one_fault bytes (fault.Short a) (fault.BadMark b) p q = absurd (omega (arith, q.0, q.1, p.mark))
 one_fault bytes (fault.Short a) (fault.BadKind b y) p q = one_follows bytes _ _ p q
 one_fault bytes (fault.Short a) (fault.Short b) p q = one_follows bytes _ _ p q
-one_fault bytes fault.NoMemory f p q = absurd p
-one_fault bytes e fault.NoMemory p q = absurd q
 
 not_following : (bytes : List ℕ) (cs : List Chunk) (e : ChunkFault) → IsChunkFile cs bytes → FollowsChunks bytes e → ⊥
 not_following bytes cs e p q =
@@ -41,31 +42,26 @@ pub not_both : (bytes : List ℕ) (cs : List Chunk) (e : ChunkFault) → IsChunk
 not_both bytes cs (fault.BadMark a) p q = absurd (omega (arith, q.0, q.1, p.mark))
 not_both bytes cs (fault.BadKind a x) p q = not_following bytes cs _ p q
 not_both bytes cs (fault.Short a) p q = not_following bytes cs _ p q
-not_both bytes cs fault.NoMemory p q = q
 
 -- an answer that tells a file's chunks or its first fault, or wants memory, is the only one
-pub record Answers {A : Type 0} (items : A → List Chunk) (bytes : List ℕ) (answer : Result A ChunkFault) : Type 0 where
+pub record Answers {A : Type 0} (items : A → List Chunk) (bytes : List ℕ) (answer : Result A (Stop ChunkFault)) : Type 0 where
   pub chunks : IfOk answer (λ v. IsChunkFile (items v) bytes)
-  pub fault : IfErr answer (λ e. e ≢ fault.NoMemory → IsFirstFault bytes e)
+  pub fault : IfErr answer (λ e. IfFault e (IsFirstFault bytes))
 
-memory_alone : (e : ChunkFault) → (e ≢ fault.NoMemory → ⊥) → e ≡ fault.NoMemory
-memory_alone (fault.BadMark at) h = absurd (h (λ x. absurd cc))
-memory_alone (fault.BadKind at found) h = absurd (h (λ x. absurd cc))
-memory_alone (fault.Short at) h = absurd (h (λ x. absurd cc))
-memory_alone fault.NoMemory h = refl
-
-pub file_is_read : {A : Type 0} (items : A → List Chunk) (bytes : List ℕ) (answer : Result A ChunkFault) → Answers items bytes answer → (chunks : List Chunk) → IsChunkFile chunks bytes → IfErr answer (λ e. e ≡ fault.NoMemory)
+pub file_is_read : {A : Type 0} (items : A → List Chunk) (bytes : List ℕ) (answer : Result A (Stop ChunkFault)) → Answers items bytes answer → (chunks : List Chunk) → IsChunkFile chunks bytes → IfErr answer (λ e. e ≡ stop.NoMemory)
 file_is_read items bytes (Ok v) a chunks h = tt
-file_is_read items bytes (Err e) a chunks h = memory_alone e (λ n. not_both bytes chunks e h (a.fault n))
+file_is_read items bytes (Err (stop.Fault e)) a chunks h = absurd (not_both bytes chunks e h a.fault)
+file_is_read items bytes (Err stop.NoMemory) a chunks h = refl
 
-pub fault_is_told : {A : Type 0} (items : A → List Chunk) (bytes : List ℕ) (answer : Result A ChunkFault) → Answers items bytes answer → (e : ChunkFault) → IsFirstFault bytes e → IfErr answer (λ f. f ≢ fault.NoMemory → f ≡ e)
+pub fault_is_told : {A : Type 0} (items : A → List Chunk) (bytes : List ℕ) (answer : Result A (Stop ChunkFault)) → Answers items bytes answer → (e : ChunkFault) → IsFirstFault bytes e → IfErr answer (λ f. IfFault f (λ x. x ≡ e))
 fault_is_told items bytes (Ok v) a e h = tt
-fault_is_told items bytes (Err f) a e h = λ n. one_fault bytes f e (a.fault n) h
+fault_is_told items bytes (Err (stop.Fault f)) a e h = one_fault bytes f e a.fault h
+fault_is_told items bytes (Err stop.NoMemory) a e h = tt
 
-pub faulty_is_refused : {A : Type 0} (items : A → List Chunk) (bytes : List ℕ) (answer : Result A ChunkFault) → Answers items bytes answer → (e : ChunkFault) → IsFirstFault bytes e → IsErr answer
+pub faulty_is_refused : {A : Type 0} (items : A → List Chunk) (bytes : List ℕ) (answer : Result A (Stop ChunkFault)) → Answers items bytes answer → (e : ChunkFault) → IsFirstFault bytes e → IsErr answer
 faulty_is_refused items bytes (Ok v) a e h = absurd (not_both bytes (items v) e a.chunks h)
 faulty_is_refused items bytes (Err f) a e h = refl
 
-pub same_items : {A : Type 0} (items : A → List Chunk) (bytes : List ℕ) (answer : Result A ChunkFault) → Answers items bytes answer → (chunks : List Chunk) → IsChunkFile chunks bytes → IfOk answer (λ v. items v ≡ chunks)
+pub same_items : {A : Type 0} (items : A → List Chunk) (bytes : List ℕ) (answer : Result A (Stop ChunkFault)) → Answers items bytes answer → (chunks : List Chunk) → IsChunkFile chunks bytes → IfOk answer (λ v. items v ≡ chunks)
 same_items items bytes (Ok v) a chunks h = one_list bytes (items v) chunks a.chunks h
 same_items items bytes (Err f) a chunks h = tt

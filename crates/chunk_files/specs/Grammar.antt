@@ -55,4 +55,3 @@ abbrev pub IsFirstFault : List ℕ → ChunkFault → Type 0
 IsFirstFault bytes (fault.BadMark at) = (at < 4) × (at ≡ marked bytes)
 IsFirstFault bytes (fault.BadKind at found) = FollowsChunks bytes (fault.BadKind at found)
 IsFirstFault bytes (fault.Short at) = FollowsChunks bytes (fault.Short at)
-IsFirstFault bytes fault.NoMemory = ⊥

@@ -1,3 +1,4 @@
 pub mod Layout
 pub mod Grammar
+pub mod Stops
 pub mod Written

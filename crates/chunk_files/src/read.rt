@@ -2,12 +2,13 @@
 ghost use Rattle.std.specs.Prelude.{◌≡◌, ◌≢◌, ◌<◌, ◌≤◌, ◌+◌, ◌^◌, None, List, IfOk, IfErr, IsErr, length, drop, slice_index};
 ghost use Rattle.byteorder.specs.Endian.{big_number};
 ghost use Rattle.chunk_files.specs.Layout.{BeginsWith, IsDuration};
+ghost use Rattle.chunk_files.specs.Stops.{IfFault};
 ghost use Rattle.chunk_files.specs.Grammar.{IsChunkFile, IsFirstFault, chunk_fault, marked};
 ghost use Rattle.chunk_files.specs.declared.fault.ChunkFault.{ChunkFault};
-ghost use Rattle.chunk_files.specs.declared.fault.ChunkFault.TheVariants as fault;
+ghost use Rattle.chunk_files.specs.declared.fault.Stop.TheVariants as stop;
 ghost use Rattle.wc_chunk.specs.declared.chunk.Chunk.{Chunk};
 
-use crate::ChunkFault;
+use crate::{ChunkFault, Stop};
 use byteorder::{BigEndian, ByteOrder};
 use bytes::Bytes;
 use std::alloc::Global;
@@ -15,34 +16,37 @@ use wc_base::NoMemory;
 use wc_chunk::Chunk;
 
 /// The chunks whose file the bytes are. Where they are no chunk file, its first fault in the order of the file.
-pub fn read_chunks(alloc: Global, bytes: &[u8]) -> Result<Vec<Chunk>, ChunkFault>
+pub fn read_chunks(alloc: Global, bytes: &[u8]) -> Result<Vec<Chunk>, Stop<ChunkFault>>
     ensures chunks { IfOk result (λ v. IsChunkFile v.items bytes.now) }
-    ensures fault { IfErr result (λ e. e ≢ fault.NoMemory → IsFirstFault bytes.now e) }
-    ensures file_is_read { (chunks : List Chunk) → IsChunkFile chunks bytes.now → IfErr result (λ e. e ≡ fault.NoMemory) }
-    ensures fault_is_told { (e : ChunkFault) → IsFirstFault bytes.now e → IfErr result (λ f. f ≢ fault.NoMemory → f ≡ e) }
+    ensures fault { IfErr result (λ e. IfFault e (IsFirstFault bytes.now)) }
+    ensures file_is_read { (chunks : List Chunk) → IsChunkFile chunks bytes.now
+        → IfErr result (λ e. e ≡ stop.NoMemory) }
+    ensures fault_is_told { (e : ChunkFault) → IsFirstFault bytes.now e
+        → IfErr result (λ f. IfFault f (λ x. x ≡ e)) }
     ensures faulty_is_refused { (e : ChunkFault) → IsFirstFault bytes.now e → IsErr result }
-    ensures same_chunks { (chunks : List Chunk) → IsChunkFile chunks bytes.now → IfOk result (λ v. v.items ≡ chunks) }
+    ensures same_chunks { (chunks : List Chunk) → IsChunkFile chunks bytes.now
+        → IfOk result (λ v. v.items ≡ chunks) }
 {
     read_all(alloc, bytes)
 }
 
 /// The same, told by its answer alone.
-fn read_all(alloc: Global, bytes: &[u8]) -> Result<Vec<Chunk>, ChunkFault>
+fn read_all(alloc: Global, bytes: &[u8]) -> Result<Vec<Chunk>, Stop<ChunkFault>>
     ensures chunks { IfOk result (λ v. IsChunkFile v.items bytes.now) }
-    ensures fault { IfErr result (λ e. e ≢ fault.NoMemory → IsFirstFault bytes.now e) }
+    ensures fault { IfErr result (λ e. IfFault e (IsFirstFault bytes.now)) }
 {
     let agreeing = agreeing(bytes);
     if agreeing < 4 {
-        return Err(ChunkFault::BadMark {
+        return Err(Stop::Fault(ChunkFault::BadMark {
             at: agreeing as u64,
-        });
+        }));
     }
     let mut chunks = Vec::new(alloc);
     let mut at = 4;
     while at < bytes.len() {
         let rest = tail(bytes, at);
         if let Some(fault) = chunk_fault(at as u64, rest) {
-            return Err(fault);
+            return Err(Stop::Fault(fault));
         }
         let chunk = read_chunk(alloc, rest)?;
         at += 22 + chunk.bytes.len();

@@ -30,7 +30,8 @@ pub fn write_chunks(alloc: Global, chunks: &[Chunk]) -> Result<Vec<u8>, NoMemory
 fn write_chunk(chunk: &Chunk, out: &mut Vec<u8>) -> io::Result<()>
     requires { length chunk.now.bytes < 2 ^ 32 }
     ensures bytes { OnOk result (out.new.items ≡ out.old.items ++ written_chunk chunk.now) }
-    ensures begun { OnOk result ((rest : List ℕ) → BeginsWith chunk.now (written_chunk chunk.now ++ rest) rest) }
+    ensures begun { OnOk result
+        ((rest : List ℕ) → BeginsWith chunk.now (written_chunk chunk.now ++ rest) rest) }
 {
     let bytes = chunk.bytes.as_slice();
     out.write_u8(if chunk.key { 0 } else { 1 })?;

@@ -1,6 +1,6 @@
 -- The boxes of all codecs are accounted for, entry after entry.
-use Rattle.std.proofs.Common.{ℕ, zero, suc, ◌+◌, ◌≡◌, ◌≢◌, ◌≤◌, ◌<◌, ◌==◌, ◌&&◌, ◌⊎◌, inl, inr, Bool, true, false, cond, List, [], ◌∷◌, ◌++◌, map, length, take, Option, Some, None, is_some, refl, ap, sym, subst, ◌∙◌, arith, append-nil, eq-eqb}
-use Rattle.std.specs.Prelude.{slice_get, slice_set, unwrap_or}
+use Rattle.std.proofs.Common.{ℕ, zero, suc, ◌+◌, ◌≡◌, ◌≢◌, ◌≤◌, ◌<◌, ◌==◌, ◌&&◌, inl, inr, Bool, true, false, cond, List, [], ◌∷◌, ◌++◌, map, length, take, Option, Some, None, is_some, refl, ap, sym, subst, ◌∙◌, arith, append-nil, eq-eqb}
+use Rattle.std.specs.Prelude.{slice_get, slice_set}
 use Rattle.std.specs.List.{sum_by}
 use Rattle.std.proofs.lemmas.Bool.{cases_eq, ne_eqb}
 use Rattle.std.proofs.lemmas.List.{take-append-le}
@@ -10,29 +10,25 @@ use Rattle.wc_base.specs.declared.who.By.{By}
 use Rattle.wc_base.specs.declared.who.By.TheVariants as by
 use Rattle.wc_config.specs.declared.codec.CoderId.{CoderId}
 use Rattle.coder_api.specs.declared.slot.SlotEntry.{SlotEntry}
-use Rattle.coder_api.specs.declared.slot.SlotOp.{SlotOp}
 use Rattle.coder_api.specs.declared.slot.SlotOp.TheVariants as slot
 use Rattle.slot_registry.specs.Slots.{SlotsValue, is_legal_slots, is_later}
-use Rattle.codec_model.specs.declared.entry.Opening.{Opening}
 use Rattle.codec_model.specs.declared.entry.Outcome.{Outcome}
 use Rattle.codec_model.specs.declared.entry.Entry.{Entry}
 use Rattle.codec_model.specs.declared.entry.Entry.TheVariants as entry
-use Rattle.codec_model.specs.declared.entry.Running.{Running}
 use Rattle.codec_model.specs.Replay.{State, step}
 use Rattle.codec_accounts.specs.Bags.{SameBag}
-use Rattle.codec_accounts.specs.Owed.{at, append_at, owed_from}
+use Rattle.codec_accounts.specs.Owed.{at, append_at}
 use Rattle.codec_accounts.specs.OwedLaws.{paid_next}
-use Rattle.codec_accounts.specs.ListLaws.{Same, Longer, growth, at_same, at_other, append_at_length, get_more, get_kept, there}
-use Rattle.codec_accounts.specs.Boxes.{Act, act_of, acts_of, asks_of, asks_in, start_in, Event, Holds, holds_nothing, holds_after, gets, lets_go, gets_since, box_with, lets_go_by, acts_in, Legal}
+use Rattle.codec_accounts.specs.ListLaws.{Same, Longer, growth, at_same, at_other, append_at_length, get_more}
+use Rattle.codec_accounts.specs.Boxes.{Act, act_of, acts_of, asks_of, asks_in, start_in, Event, holds_nothing, holds_after, gets_since, box_with, lets_go_by, acts_in}
 use Rattle.codec_accounts.specs.BoxesLaws.{now, place_is, before_is}
-use Rattle.codec_accounts.specs.Registry.{BoxOut, Return, Box, is_cause, acquire_of, acquires_by, in_list, asks_by, AcquiresAreAsked, outs, returns, BoxesAreBack, IsRefusedAt, EndSays, EndsAsStarted, EndsAreTrue, acts_at, BoxesAccounted, out_at, back_at, gets_due, lets_go_due, all_out, all_back, AreOf}
-use Rattle.codec_accounts.specs.RegistryLaws.{boxes_are_back}
-use Rattle.codec_accounts.specs.Codec.{CodecValue, Holding, state_of, next_by, after_give, after_entry, slots_by, codec_at, codecs_after, histories, new_codec, IsGivable, AreGivable}
+use Rattle.codec_accounts.specs.Registry.{BoxOut, Return, Box, is_cause, acquire_of, acquires_by, in_list, asks_by, AcquiresAreAsked, outs, returns, IsRefusedAt, EndsAsStarted, EndsAreTrue, out_at, back_at, gets_due, lets_go_due, all_out, all_back}
+use Rattle.codec_accounts.specs.Codec.{CodecValue, state_of, next_by, after_give, after_entry, slots_by, codec_at, codecs_after, histories, IsGivable, AreGivable}
 use Rattle.codec_accounts.specs.SlotLaws.{Moves}
 use Rattle.codec_accounts.specs.ActLaws.{act_makes}
 use Rattle.codec_accounts.specs.HoldingLaws.{may_give}
-use Rattle.codec_accounts.specs.StartLaws.{Started, StartAt, EndFits, says_more, says_now, start_within}
-use Rattle.codec_accounts.specs.CodecLaws.{Keeps, KeepsMore, keeps_more, keeps_others, acts_next}
+use Rattle.codec_accounts.specs.StartLaws.{EndFits, says_more, says_now, start_within}
+use Rattle.codec_accounts.specs.CodecLaws.{Keeps, keeps_more, keeps_others, acts_next}
 
 -- ---- lists
 

@@ -4,14 +4,11 @@ use Rattle.std.specs.Prelude.{◌||◌, max, unwrap_or}
 use Rattle.std.proofs.lemmas.Bool.{and_parts}
 use Rattle.wc_base.specs.declared.error.DomError.{DomError}
 use Rattle.wc_config.specs.declared.codec.CoderId.{CoderId}
-use Rattle.wc_config.specs.declared.config.Config.{Config}
 use Rattle.wc_config.specs.Configs.{is_supported, coder_id_of}
-use Rattle.codec_definitions.specs.declared.unit.Unit as media
 use Rattle.codec_model.specs.declared.entry.Call.{Call}
 use Rattle.codec_model.specs.declared.entry.Call.TheVariants as call
 use Rattle.codec_model.specs.declared.entry.CodecState.TheVariants.{Configured}
 use Rattle.codec_model.specs.declared.entry.Ended.{Ended}
-use Rattle.codec_model.specs.declared.entry.Ended.TheVariants as ended
 use Rattle.codec_model.specs.declared.entry.Entry.{Entry}
 use Rattle.codec_model.specs.declared.entry.Entry.TheVariants as entry
 use Rattle.codec_model.specs.declared.entry.Item.{Item}
@@ -24,10 +21,9 @@ use Rattle.codec_model.specs.declared.entry.Task.{Task}
 use Rattle.codec_model.specs.declared.entry.Task.TheVariants as task
 use Rattle.codec_model.specs.declared.entry.Work.{Work}
 use Rattle.codec_model.specs.declared.entry.Work.TheVariants as work
-use Rattle.codec_model.specs.declared.entry.WorkKind.{WorkKind}
 use Rattle.codec_model.specs.declared.entry.WorkKind.TheVariants as kind
 use Rattle.codec_model.specs.Control.{Control, at_next_place, is_decoder, is_taken, with_message, after_message, process_queue, run_task, is_close, kind_of, may_start, may_reclaim, front, start_item, start_front, start_first, after_end, done_running, after_removal, after_close, run_front, run_first}
-use Rattle.codec_model.specs.Replay.{State, Given, given_more, step, missing_coder, serves_too, removal_error, call_error, after_call, entry_of, start_step, done_step, done_ended, ended_of, turn_step, remove_or_refuse, call_step, with_control, removed}
+use Rattle.codec_model.specs.Replay.{State, Given, given_more, step, missing_coder, serves_too, removal_error, call_error, after_call, start_step, done_step, done_ended, ended_of, turn_step, remove_or_refuse, call_step, with_control, removed}
 use Rattle.codec_accounts.specs.Boxes.{Act, Asks, Begins, Ends, Removes, Other, lacking, start_act, removal_act, closes_codec, act_of}
 
 -- the running item and the epoch stay

@@ -1,26 +1,18 @@
 -- From what codecs keep to what their histories call for, and back to single entries of the registry.
-use Rattle.std.proofs.Common.{ℕ, zero, suc, ◌+◌, ◌≡◌, ◌≤◌, ◌<◌, ◌⊎◌, inl, inr, Bool, true, false, cond, List, [], ◌∷◌, ◌++◌, map, take, length, length-append, Option, Some, None, refl, ap, sym, subst, ◌∙◌, arith}
-use Rattle.std.specs.Prelude.{slice_get, option_map, is_some, nat_lt}
+use Rattle.std.proofs.Common.{ℕ, zero, suc, ◌+◌, ◌≡◌, ◌<◌, inl, inr, List, [], ◌∷◌, map, take, length, refl, ap, sym, subst, ◌∙◌, arith}
+use Rattle.std.specs.Prelude.{slice_get}
 use Rattle.std.specs.List.{sum_by, flat_map}
-use Rattle.std.proofs.lemmas.Bool.{and_parts, cases_Bool}
-use Rattle.std.proofs.lemmas.List.Sums.{sum_by-cons}
 use Rattle.wc_base.specs.declared.who.By.{By}
 use Rattle.wc_base.specs.declared.who.By.TheVariants as by
 use Rattle.wc_config.specs.declared.codec.CoderId.{CoderId}
-use Rattle.coder_api.specs.declared.slot.SlotEntry.{SlotEntry}
-use Rattle.coder_api.specs.declared.slot.SlotOp.{SlotOp}
-use Rattle.coder_api.specs.declared.slot.SlotOp.TheVariants as slot
-use Rattle.slot_registry.specs.Boxes.{holder_of}
-use Rattle.slot_registry.specs.Slots.{SlotsValue, is_legal_next, is_legal_from, may_give}
+use Rattle.slot_registry.specs.Slots.{SlotsValue}
 use Rattle.codec_model.specs.declared.entry.Opening.{Opening}
 use Rattle.codec_model.specs.declared.entry.Entry.{Entry}
-use Rattle.codec_model.specs.Replay.{opening_state, IsLegal}
-use Rattle.codec_accounts.specs.Owed.{at, owed, owed_from}
-use Rattle.codec_accounts.specs.BagsLaws.{weigh_append, sum_flat_map}
+use Rattle.codec_accounts.specs.Owed.{at, owed_from}
 use Rattle.codec_accounts.specs.ListLaws.{there}
-use Rattle.codec_accounts.specs.Boxes.{Act, Event, Holds, holds_nothing, holds_after, acts_of, acts_in, asks_in, start_in, stays, lets_in, Legal, Nothing}
+use Rattle.codec_accounts.specs.Boxes.{Act, Event, Holds, holds_nothing, holds_after, acts_of, acts_in, asks_in, start_in, Legal, Nothing}
 use Rattle.codec_accounts.specs.RegistryLaws.{boxes_are_back}
-use Rattle.codec_accounts.specs.Registry.{BoxOut, Return, Box, is_cause, acquire_of, acquires_by, in_list, asks_by, outs, return_by, return_from, with_slot, returns, lets_by, return_at, return_of, acts_at, BoxesAccounted, gets_due, lets_go_due, all_out, all_back, AreOf}
+use Rattle.codec_accounts.specs.Registry.{Return, Box, in_list, asks_by, outs, returns, return_of, acts_at, BoxesAccounted, gets_due, lets_go_due, AreOf}
 use Rattle.codec_accounts.specs.Codec.{CodecValue, new_codec, codec_at, histories}
 use Rattle.codec_accounts.specs.CodecLaws.{Keeps}
 use Rattle.codec_accounts.specs.AccountLaws.{acts_on, Accounted, history_at, histories_count}

@@ -1,10 +1,9 @@
 -- The boxes of one codec: which entries ask for one, and by which it goes back (our choice).
-use Rattle.std.specs.Prelude.{ℕ, suc, ◌≡◌, ◌==◌, not, nat_le, Bool, true, false, cond, List, [], ◌∷◌, ◌++◌, map, slice_get, Option, Some, None, is_some, is_none, option_and_then, unwrap_or}
+use Rattle.std.specs.Prelude.{ℕ, suc, ◌≡◌, nat_le, Bool, true, false, cond, List, [], ◌∷◌, ◌++◌, map, slice_get, Option, Some, None, is_some, is_none, option_and_then, unwrap_or}
 use Rattle.std.specs.List.{flat_map}
 use Rattle.wc_config.specs.declared.codec.CoderId.{CoderId}
 use Rattle.codec_model.specs.declared.entry.Opening.{Opening}
 use Rattle.codec_model.specs.declared.entry.Item.{Item}
-use Rattle.codec_model.specs.declared.entry.Running.{Running}
 use Rattle.codec_model.specs.declared.entry.Task.{Task}
 use Rattle.codec_model.specs.declared.entry.Entry.{Entry}
 use Rattle.codec_model.specs.declared.entry.Entry.TheVariants as entry

@@ -2,7 +2,6 @@
 use Rattle.std.proofs.Common.{ℕ, suc, ◌+◌, ◌<◌, ◌≤◌, ◌≡◌, Bool, true, false, cond, List, [], ◌∷◌, ◌++◌, length, map, Option, Some, None, is_some, refl, ap, sym, subst, ◌∙◌, arith, append_assoc, append-nil, leb, length-append}
 use Rattle.std.proofs.lemmas.Bool.{le-leb, lt-leb}
 use Rattle.std.proofs.lemmas.List.Concat.{flat_map-append}
-use Rattle.wc_config.specs.declared.codec.CoderId.{CoderId}
 use Rattle.codec_accounts.specs.Owed.{state_on}
 use Rattle.codec_accounts.specs.Boxes.{Act, Asks, Begins, Ends, Removes, Other, Stay, Kept, Leaving, Left, runs_after, stay_at, stays, left_by, lets_in, Event, Holds, holds_nothing, newer, holds_after_end, holds_removed, holds_by, holds_after, box_with, lets_go_by, lets_go, gets, all_let_go, all_gets, gets_since, acts_in, goes_at, returns_of, MayCome, Legal, Nothing, More}
 use Rattle.codec_accounts.specs.OwedLaws.{state_append, owed_more}

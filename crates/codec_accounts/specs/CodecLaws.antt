@@ -1,5 +1,5 @@
 -- A codec's history and the registry's, entry after entry.
-use Rattle.std.proofs.Common.{ℕ, zero, suc, ◌+◌, ◌≡◌, ◌≢◌, ◌≤◌, ◌<◌, ◌==◌, ◌⊎◌, inl, inr, Bool, true, false, cond, List, [], ◌∷◌, ◌++◌, map, length, length-append, Option, Some, None, is_some, refl, ap, sym, subst, ◌∙◌, arith}
+use Rattle.std.proofs.Common.{ℕ, suc, ◌≡◌, ◌≢◌, List, [], ◌∷◌, ◌++◌, map, length, length-append, Option, Some, None, refl, ap, sym, subst, ◌∙◌, arith}
 use Rattle.std.specs.Prelude.{unwrap_or, option_and_then}
 use Rattle.wc_base.specs.declared.who.By.{By}
 use Rattle.wc_base.specs.declared.who.By.TheVariants as by
@@ -8,18 +8,17 @@ use Rattle.coder_api.specs.declared.slot.SlotEntry.{SlotEntry}
 use Rattle.slot_registry.specs.Slots.{SlotsValue}
 use Rattle.codec_model.specs.declared.entry.Opening.{Opening}
 use Rattle.codec_model.specs.declared.entry.Entry.{Entry}
-use Rattle.codec_model.specs.declared.entry.Running.{Running}
 use Rattle.codec_model.specs.Replay.{State, step, opening_state, replay, replay_from}
 use Rattle.codec_accounts.specs.Owed.{state_on}
 use Rattle.codec_accounts.specs.OwedLaws.{owed_more, state_append}
-use Rattle.codec_accounts.specs.Boxes.{Act, after, act_of, acts_of, asks_of, Event, Holds, holds_nothing, holds_after, holds_by, box_with, lets_go_by, gets_since, acts_in, MayCome, Legal, More}
+use Rattle.codec_accounts.specs.Boxes.{Act, after, act_of, acts_of, asks_of, Event, Holds, holds_nothing, holds_after, holds_by, box_with, lets_go_by, gets_since, acts_in, Legal, More}
 use Rattle.codec_accounts.specs.BoxesLaws.{now, acts_more, place_is, before_is}
 use Rattle.codec_accounts.specs.Registry.{BoxOut, Return, Box, IsRefusedAt, in_list, out_at, back_at}
-use Rattle.codec_accounts.specs.Codec.{CodecValue, Holding, state_after, state_of, next_by, step_by, box_step, after_entry, slots_by, after_give, holding_after, slots_after}
+use Rattle.codec_accounts.specs.Codec.{CodecValue, state_of, next_by, box_step, after_entry, slots_by, after_give, holding_after, slots_after}
 use Rattle.codec_accounts.specs.ActLaws.{act_makes}
 use Rattle.codec_accounts.specs.SlotLaws.{Moves}
-use Rattle.codec_accounts.specs.HoldingLaws.{Has, HasMore, has_more, place_of}
-use Rattle.codec_accounts.specs.StartLaws.{Started, StartAt, RefusalIs, starts_more, refusal_stays}
+use Rattle.codec_accounts.specs.HoldingLaws.{Has, has_more, place_of}
+use Rattle.codec_accounts.specs.StartLaws.{Started, starts_more, refusal_stays}
 
 -- ---- states
 

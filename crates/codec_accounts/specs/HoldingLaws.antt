@@ -1,6 +1,6 @@
 -- What a codec holds of the registry, entry after entry, and what the registry's history has of it.
-use Rattle.std.proofs.Common.{ℕ, zero, suc, ◌+◌, ◌≡◌, ◌≢◌, ◌≤◌, ◌<◌, ◌==◌, ◌&&◌, ◌⊎◌, inl, inr, not, Bool, true, false, eq-eqb, cond, List, [], ◌∷◌, ◌++◌, map, length, Option, Some, None, is_some, refl, ap, sym, subst, ◌∙◌, arith, append-nil}
-use Rattle.std.specs.Prelude.{nat_lt, ◌||◌, option_map}
+use Rattle.std.proofs.Common.{ℕ, suc, ◌≡◌, ◌≤◌, ◌<◌, ◌==◌, not, Bool, true, false, eq-eqb, cond, List, [], ◌∷◌, ◌++◌, map, length, Option, Some, None, is_some, refl, ap, sym, subst, ◌∙◌, arith, append-nil}
+use Rattle.std.specs.Prelude.{nat_lt, ◌||◌}
 use Rattle.std.proofs.lemmas.Bool.{and_from, lt-ltb, ne_eqb}
 use Rattle.wc_base.specs.declared.who.By.{By}
 use Rattle.wc_base.specs.declared.who.By.TheVariants as by
@@ -8,14 +8,14 @@ use Rattle.wc_config.specs.declared.codec.CoderId.{CoderId}
 use Rattle.wc_config.specs.Configs.{is_supported}
 use Rattle.coder_api.specs.declared.slot.SlotEntry.{SlotEntry}
 use Rattle.coder_api.specs.declared.slot.SlotOp.TheVariants as slot
-use Rattle.slot_registry.specs.Boxes.{holder_of, holder_after, least_free}
+use Rattle.slot_registry.specs.Boxes.{holder_of, least_free}
 use Rattle.slot_registry.specs.Slots.{SlotsValue, is_later, acquired, acquire_op}
 use Rattle.slot_registry.specs.HistoryLaws.{holder_more, box_same}
 use Rattle.codec_model.specs.declared.entry.Running.{Running}
 use Rattle.codec_model.specs.Replay.{State}
-use Rattle.codec_accounts.specs.Boxes.{Act, Asks, Begins, Ends, Removes, Other, asks_of, Event, Holds, newer, holds_after_end, holds_removed, holds_by, box_with, lets_go_by, gets_since, MayCome}
+use Rattle.codec_accounts.specs.Boxes.{Act, Asks, Begins, Ends, Removes, Other, asks_of, Holds, holds_after_end, holds_removed, holds_by, box_with, lets_go_by, gets_since, MayCome}
 use Rattle.codec_accounts.specs.Registry.{BoxOut, Return, Box, in_list, out_at, back_at}
-use Rattle.codec_accounts.specs.Codec.{Holding, nothing_held, BoxStep, Keep, Give, Renew, is_old, box_step, after_give, holding_by, after_ask, slots_after, holding_after}
+use Rattle.codec_accounts.specs.Codec.{Holding, nothing_held, BoxStep, Keep, Give, is_old, box_step, after_give, holding_by, after_ask, slots_after, holding_after}
 use Rattle.codec_accounts.specs.ActLaws.{NeedsBox, Starts, KeepsItem, ActMakes}
 use Rattle.codec_accounts.specs.SlotLaws.{Moves, moves_none, moves_give, moves_ask, moves_then, out_for}
 

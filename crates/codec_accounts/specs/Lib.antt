@@ -19,3 +19,4 @@ pub mod Codec
 pub mod Calls
 pub mod CallsLaws
 pub mod PlaceLaws
+pub mod Places

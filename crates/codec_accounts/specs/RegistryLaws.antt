@@ -6,7 +6,7 @@ use Rattle.coder_api.specs.declared.slot.SlotEntry.{SlotEntry}
 use Rattle.codec_accounts.specs.Bags.{SameBag}
 use Rattle.codec_accounts.specs.Owed.{owed, owed_from}
 use Rattle.codec_accounts.specs.Boxes.{Act, lets_in, Event, holds_nothing, holds_after, gets, lets_go, all_gets, goes_at, returns_of}
-use Rattle.codec_accounts.specs.Registry.{BoxOut, Return, Box, outs, returns, return_at, return_of, BoxesAreBack, out_at, back_at, gets_due, lets_go_due, all_out, all_back, AreOf}
+use Rattle.codec_accounts.specs.Registry.{Return, Box, outs, returns, return_of, BoxesAreBack, out_at, back_at, gets_due, lets_go_due, all_out, all_back, AreOf}
 use Rattle.codec_accounts.specs.BagsLaws.{same_flat_map}
 use Rattle.codec_accounts.specs.BoxesLaws.{boxes_return}
 

@@ -1,8 +1,7 @@
 -- What the registry's history has after a box came back, and after one was asked for.
-use Rattle.std.proofs.Common.{ℕ, zero, suc, ◌+◌, ◌≡◌, ◌≢◌, ◌<◌, ◌==◌, ◌&&◌, ◌⊎◌, inl, inr, not, Bool, true, false, cond, List, [], ◌∷◌, ◌++◌, length, Option, Some, None, is_some, refl, ap, sym, subst, ◌∙◌, arith, append_assoc, append-nil}
-use Rattle.std.specs.Prelude.{slice_get}
-use Rattle.std.specs.List.{flat_map, find, count_by, range_with_len}
-use Rattle.std.proofs.lemmas.Bool.{and_parts, cases_Bool, eqb-true}
+use Rattle.std.proofs.Common.{ℕ, zero, suc, ◌+◌, ◌≡◌, ◌≢◌, ◌==◌, ◌⊎◌, inl, inr, not, Bool, true, false, cond, List, [], ◌∷◌, ◌++◌, Option, Some, None, is_some, refl, ap, sym, subst, ◌∙◌, arith, append_assoc, append-nil}
+use Rattle.std.specs.List.{find, count_by, range_with_len}
+use Rattle.std.proofs.lemmas.Bool.{and_parts, eqb-true}
 use Rattle.std.proofs.lemmas.List.Concat.{flat_map-append}
 use Rattle.std.proofs.lemmas.List.Sums.{sum_by-cons}
 use Rattle.wc_base.specs.declared.who.By.{By}
@@ -10,18 +9,17 @@ use Rattle.wc_base.specs.declared.who.By.TheVariants as by
 use Rattle.wc_config.specs.declared.codec.CoderId.{CoderId}
 use Rattle.coder_api.specs.Meaning.{is_id}
 use Rattle.coder_api.specs.declared.slot.SlotEntry.{SlotEntry}
-use Rattle.coder_api.specs.declared.slot.SlotOp.{SlotOp}
 use Rattle.coder_api.specs.declared.slot.SlotOp.TheVariants as slot
-use Rattle.slot_registry.specs.Boxes.{is_box, holder_after, holder_of, is_out, made_of, out_of, least_free}
+use Rattle.slot_registry.specs.Boxes.{is_box, holder_of, is_out, made_of, out_of, least_free}
 use Rattle.slot_registry.specs.Slots.{SlotsValue, is_legal_slots, is_later, acquire_op, acquire_entry, acquired}
 use Rattle.slot_registry.specs.IdLaws.{id_is}
 use Rattle.slot_registry.specs.NumberLaws.{find_fails}
-use Rattle.slot_registry.specs.HistoryLaws.{legal_more, holder_more, acquire_is_legal, refusal_is_legal, give_is_legal, box_same}
-use Rattle.codec_accounts.specs.Owed.{state_on, owed}
-use Rattle.codec_accounts.specs.Registry.{BoxOut, Return, is_cause, acquire_of, acquires_by, in_list, out_by, outs, return_from, return_by, with_slot, returns, IsRefusedAt}
-use Rattle.codec_accounts.specs.Codec.{BoxStep, Keep, Give, Renew, give_of, after_give, holding_by, after_ask, slots_after, holding_after, Holding}
+use Rattle.slot_registry.specs.HistoryLaws.{legal_more, holder_more, acquire_is_legal, refusal_is_legal, give_is_legal}
+use Rattle.codec_accounts.specs.Owed.{state_on}
+use Rattle.codec_accounts.specs.Registry.{BoxOut, Return, is_cause, acquire_of, acquires_by, out_by, outs, return_from, return_by, with_slot, returns, IsRefusedAt}
+use Rattle.codec_accounts.specs.Codec.{after_give}
 use Rattle.codec_accounts.specs.OwedLaws.{owed_more}
-use Rattle.codec_accounts.specs.ListLaws.{get_more, get_kept}
+use Rattle.codec_accounts.specs.ListLaws.{get_more}
 
 -- The registry's history is longer: these boxes went out, these came back, and the cause acquired, or was refused, boxes of
 -- these coders.

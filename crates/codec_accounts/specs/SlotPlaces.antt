@@ -1,9 +1,8 @@
 -- Each entry of the registry was made by an entry of one of the codecs.
-use Rattle.std.proofs.Common.{ℕ, zero, suc, ◌+◌, ◌≡◌, ◌≤◌, ◌<◌, inl, inr, Bool, true, false, cond, List, [], ◌∷◌, ◌++◌, length, Option, Some, None, refl, ap, sym, subst, ◌∙◌, arith, eq-eqb}
+use Rattle.std.proofs.Common.{ℕ, zero, suc, ◌+◌, ◌≡◌, ◌<◌, inl, inr, Bool, true, false, cond, List, [], ◌∷◌, ◌++◌, length, Option, Some, None, refl, ap, sym, subst, ◌∙◌, arith, eq-eqb}
 use Rattle.std.specs.Prelude.{slice_get, option_map, nat_lt}
 use Rattle.std.specs.List.{sum_by, flat_map}
 use Rattle.std.proofs.lemmas.Bool.{and_parts, cases_Bool, ltb-true, lt-ltb}
-use Rattle.std.proofs.lemmas.List.Sums.{sum_by-cons}
 use Rattle.wc_base.specs.declared.who.By.{By}
 use Rattle.wc_base.specs.declared.who.By.TheVariants as by
 use Rattle.wc_config.specs.declared.codec.CoderId.{CoderId}
@@ -14,11 +13,11 @@ use Rattle.slot_registry.specs.Boxes.{holder_of}
 use Rattle.slot_registry.specs.Slots.{is_legal_next, is_legal_from, may_give}
 use Rattle.codec_model.specs.declared.entry.Opening.{Opening}
 use Rattle.codec_model.specs.declared.entry.Entry.{Entry}
-use Rattle.codec_accounts.specs.Owed.{at, owed}
-use Rattle.codec_accounts.specs.BagsLaws.{weigh_append, sum_flat_map}
+use Rattle.codec_accounts.specs.Owed.{owed}
+use Rattle.codec_accounts.specs.BagsLaws.{weigh_append}
 use Rattle.codec_accounts.specs.ListLaws.{there}
 use Rattle.codec_accounts.specs.Boxes.{Act, acts_of, asks_in, lets_in}
-use Rattle.codec_accounts.specs.Registry.{BoxOut, Return, is_cause, acquire_of, acquires_by, in_list, asks_by, outs, return_by, return_from, with_slot, returns, lets_by, return_at, return_of, acts_at, BoxesAccounted}
+use Rattle.codec_accounts.specs.Registry.{BoxOut, Return, is_cause, acquire_of, acquires_by, in_list, asks_by, outs, return_by, return_from, with_slot, lets_by, return_at, return_of, acts_at, BoxesAccounted}
 
 -- the cause is an entry of one of so many codecs
 abbrev pub IsOfCodec : ℕ → By → Type 0

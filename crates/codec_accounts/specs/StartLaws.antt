@@ -1,21 +1,20 @@
 -- The start whose item is at work, and how its acquire went.
-use Rattle.std.proofs.Common.{ℕ, zero, suc, ◌+◌, ◌≡◌, ◌≤◌, ◌<◌, ◌⊎◌, inl, inr, Bool, true, false, cond, List, [], ◌∷◌, ◌++◌, length, take, Option, Some, None, is_some, refl, ap, sym, subst, ◌∙◌, arith}
+use Rattle.std.proofs.Common.{ℕ, suc, ◌+◌, ◌≡◌, ◌<◌, inl, inr, Bool, true, cond, List, [], ◌∷◌, ◌++◌, length, Option, Some, None, is_some, refl, ap, sym, subst, ◌∙◌, arith}
 use Rattle.std.specs.Prelude.{slice_get}
 use Rattle.wc_base.specs.declared.who.By.{By}
 use Rattle.wc_base.specs.declared.who.By.TheVariants as by
 use Rattle.wc_config.specs.declared.codec.CoderId.{CoderId}
 use Rattle.coder_api.specs.declared.slot.SlotEntry.{SlotEntry}
-use Rattle.coder_api.specs.declared.slot.SlotOp.TheVariants as slot
 use Rattle.slot_registry.specs.Boxes.{least_free, out_of, made_of}
-use Rattle.slot_registry.specs.Slots.{SlotsValue, acquired, acquire_op}
+use Rattle.slot_registry.specs.Slots.{SlotsValue, acquire_op}
 use Rattle.codec_model.specs.declared.entry.Outcome.{Outcome}
 use Rattle.codec_model.specs.declared.entry.Outcome.TheVariants as outcome
 use Rattle.codec_model.specs.declared.entry.Running.{Running}
 use Rattle.codec_model.specs.Replay.{State}
 use Rattle.codec_accounts.specs.Boxes.{Act, Asks, Begins, Ends, Removes, Other, start_after, start_from, start_in, Holds}
 use Rattle.codec_accounts.specs.Registry.{BoxOut, Return, Box, IsRefusedAt, EndSays}
-use Rattle.codec_accounts.specs.Codec.{Holding, nothing_held, BoxStep, Keep, Give, Renew, box_step, after_give, holding_by, after_ask, slots_after, holding_after}
-use Rattle.codec_accounts.specs.ActLaws.{NeedsBox, Starts, KeepsItem, ActMakes}
+use Rattle.codec_accounts.specs.Codec.{Holding, BoxStep, Keep, Give, box_step, after_give, holding_by, slots_after, holding_after}
+use Rattle.codec_accounts.specs.ActLaws.{ActMakes}
 use Rattle.codec_accounts.specs.ListLaws.{get_end, get_more, get_kept}
 use Rattle.codec_accounts.specs.SlotLaws.{Moves}
 use Rattle.codec_accounts.specs.HoldingLaws.{Has}

@@ -19,7 +19,7 @@ use Rattle.codec_model.specs.declared.entry.Task.TheVariants as task
 use Rattle.codec_model.specs.Control.{Control, at_next_place, after_close, after_removal, may_reclaim, run_front, done_running}
 use Rattle.codec_model.specs.Replay.{State, opening_state, step, replay, with_control, removed, remove_or_refuse, removal_entry, removal_error, turn_step, done_step, done_ended, ended_of, entry_of, call_error}
 use Rattle.codec_model.specs.Shown.{shown_at, each_shown}
-use Rattle.codec_model.proofs.ShownLaws.{replay_more, each_more}
+use Rattle.codec_model.specs.ShownLaws.{replay_more, each_more}
 use Rattle.codec_core.specs.Job.{JobValue, DoneValue, IsJobOf, IsEndOf}
 use Rattle.codec_core.specs.Codec.{Codec, state_at, Makes, KeepsRunning}
 use Rattle.codec_core.proofs.Steps.{call_keeps, call_steps, removal_steps, run_keeps, done_leaves}

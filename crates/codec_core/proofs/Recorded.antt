@@ -21,10 +21,10 @@ use Rattle.codec_model.specs.declared.entry.Task.TheVariants as task
 use Rattle.codec_model.specs.declared.entry.PromiseEnd.{PromiseEnd}
 use Rattle.codec_model.specs.Control.{Control, left}
 use Rattle.codec_model.specs.Replay.{State, call_error, removal_error, entry_of, removal_entry}
-use Rattle.codec_model.specs.Facts.{NamesEarlier}
+use Rattle.codec_model.specs.Facts.{Always, IsNeverStuck, NamesEarlier}
 use Rattle.codec_model.specs.Shown.{shown_at, shown_of, each_shown, ends_of, call_shows, removal_shows, reclaim_shows, close_shows, rejections, outputs_from, task_shows, turn_shows, turn_word}
-use Rattle.codec_model.proofs.ShownLaws.{each_more}
-use Rattle.codec_model.proofs.FactLaws.{all_facts, pending_below, resolved_below}
+use Rattle.codec_model.specs.ShownLaws.{each_more}
+use Rattle.codec_model.specs.Earlier.{pending_below, resolved_below}
 use Rattle.codec_core.specs.Codec.{IsKept, IsCore, reclaims}
 use Rattle.codec_core.specs.Trace.{TraceValue, EndsBelow}
 use Rattle.codec_core.proofs.Steps.{Moved, kept_more}
@@ -68,8 +68,8 @@ turn_shows_it h slot k y kept is = is ∙ ap (λ (c : Control). record { turn = 
 
 -- ---- the promises that an entry ends are named by entries up to it
 
-names_of : (h : List Entry) (slot : Option Lent) (k : Control) → IsKept h slot k → NamesEarlier k
-names_of h slot k kept = rw (← kept.is_control) (all_facts k.opening h kept.state kept.some_saturate kept.replays).names
+names_of : Always IsNeverStuck → (h : List Entry) (slot : Option Lent) (k : Control) → IsKept h slot k → NamesEarlier k
+names_of always h slot k kept = rw (← kept.is_control) (always k.opening h kept.state kept.some_saturate kept.replays).names
 
 rejected_below : (error : DomError) (n : ℕ) (ps : List ℕ) (more : List Event) → EndsBelow n more → AllByRecursion (λ p. p < n) ps → EndsBelow n (rejections error ps ++ more)
 rejected_below error n [] more rest h = rest
@@ -105,15 +105,15 @@ removal_below (Some error) n ps h = tt
 close_below : (error : DomError) (n : ℕ) (ps : List ℕ) → AllByRecursion (λ p. p < n) ps → EndsBelow n (close_shows error ps)
 close_below error n ps h = rejected_below error n ps (event.ErrorCall error ∷ []) tt h
 
-pub removal_ends : (h : List Entry) (slot : Option Lent) (k : Control) (y : Shown) → IsKept h slot k → y ≡ record { turn = None; events = removal_shows (removal_error k) k.pending } → EndsBelow (length h + 1) y.events
-removal_ends h slot k y kept is =
+pub removal_ends : Always IsNeverStuck → (h : List Entry) (slot : Option Lent) (k : Control) (y : Shown) → IsKept h slot k → y ≡ record { turn = None; events = removal_shows (removal_error k) k.pending } → EndsBelow (length h + 1) y.events
+removal_ends always h slot k y kept is =
     by_place h slot k y (removal_shows (removal_error k) k.pending) kept (ap (λ (z : Shown). z.events) is)
-    (higher k.place (k.place + 1) _ (omega arith) (removal_below (removal_error k) k.place k.pending (pending_below k (names_of h slot k kept))))
+    (higher k.place (k.place + 1) _ (omega arith) (removal_below (removal_error k) k.place k.pending (pending_below k (names_of always h slot k kept))))
 
-pub reclaim_ends : (h : List Entry) (slot : Option Lent) (k : Control) (y : Shown) → IsKept h slot k → y ≡ record { turn = None; events = reclaim_shows k.pending } → EndsBelow (length h + 1) y.events
-reclaim_ends h slot k y kept is =
+pub reclaim_ends : Always IsNeverStuck → (h : List Entry) (slot : Option Lent) (k : Control) (y : Shown) → IsKept h slot k → y ≡ record { turn = None; events = reclaim_shows k.pending } → EndsBelow (length h + 1) y.events
+reclaim_ends always h slot k y kept is =
     by_place h slot k y (reclaim_shows k.pending) kept (ap (λ (z : Shown). z.events) is)
-    (higher k.place (k.place + 1) _ (omega arith) (close_below QuotaExceeded k.place k.pending (pending_below k (names_of h slot k kept))))
+    (higher k.place (k.place + 1) _ (omega arith) (close_below QuotaExceeded k.place k.pending (pending_below k (names_of always h slot k kept))))
 
 turn_below : (ts : List Task) (k : Control) → k.tasks ≡ ts → NamesEarlier k → EndsBelow k.place (turn_shows ts k)
 turn_below [] k is names = tt
@@ -125,7 +125,7 @@ turn_below (task.Flushed p units ∷ ts) k is names = outputs_below k.place k.sh
 turn_below (task.Dequeue ∷ ts) k is names = tt
 turn_below (task.Close x ∷ ts) k is names = close_below x k.place k.pending (pending_below k names)
 
-pub turn_ends : (h : List Entry) (slot : Option Lent) (k : Control) (y : Shown) → IsKept h slot k → y ≡ record { turn = turn_word k.tasks; events = turn_shows k.tasks k } → EndsBelow (length h + 1) y.events
-turn_ends h slot k y kept is =
+pub turn_ends : Always IsNeverStuck → (h : List Entry) (slot : Option Lent) (k : Control) (y : Shown) → IsKept h slot k → y ≡ record { turn = turn_word k.tasks; events = turn_shows k.tasks k } → EndsBelow (length h + 1) y.events
+turn_ends always h slot k y kept is =
     by_place h slot k y (turn_shows k.tasks k) kept (ap (λ (z : Shown). z.events) is)
-    (higher k.place (k.place + 1) _ (omega arith) (turn_below k.tasks k refl (names_of h slot k kept)))
+    (higher k.place (k.place + 1) _ (omega arith) (turn_below k.tasks k refl (names_of always h slot k kept)))

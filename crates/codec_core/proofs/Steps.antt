@@ -29,7 +29,7 @@ use Rattle.codec_model.specs.declared.entry.Ended.{Ended}
 use Rattle.codec_model.specs.declared.entry.Ended.TheVariants as ended
 use Rattle.codec_model.specs.Control.{Control, is_decoder, is_taken, after_message, process_queue, at_next_place, is_close, turn_closes, run_task, run_front, kind_of, after_done, done_running, after_end, after_turn, after_close, after_removal, may_reclaim, front, may_start, start_item, after_start}
 use Rattle.codec_model.specs.Replay.{State, Given, given_more, missing_coder, opening_state, step, replay_from, with_control, removed, accepted, after_call, call_error, entry_of, removal_error, removal_entry, remove_or_refuse}
-use Rattle.codec_model.proofs.ShownLaws.{replay_more}
+use Rattle.codec_model.specs.ShownLaws.{replay_more}
 use Rattle.codec_core.specs.Job.{JobValue, DoneValue, missing_for, CoderAt, CoderFor, IsReady, IsReadyBox, StillAt, IsEndOf, IsJobOf, outcome_of}
 use Rattle.codec_core.specs.Codec.{state_at, Makes, CoderHome, IsKept, kept_box, reclaims}
 

@@ -13,7 +13,9 @@ use crate::parts::{entry_of_call, hand_back, more_places, promise, removal_entry
 use crate::reply::{Back, CallFault, Removed, Reply, Turned};
 use crate::trace::Trace;
 use crate::work::outcome_of_end;
-use codec_model::{Call, CodecState, Entry, Kind, Opening, PromiseState, Removal, Showing};
+use codec_model::{
+    Call, CodecState, Entry, Kind, Opening, PromiseState, Removal, Showing, never_stuck,
+};
 use codec_queues::Machine;
 use coder_api::{Coder, SlotBox};
 use std::alloc::Global;
@@ -46,7 +48,8 @@ impl<C: Coder> Core<C> {
     pub fn open(alloc: Global, kind: Kind, saturation: u32, calls: u64) -> Result<Core<C>, NoMemory>
         requires low { 1 ≤ saturation }
         requires high { saturation ≤ 64 }
-        ensures opening { IfOk result (λ c. c.opening ≡ record { kind = kind; saturation = saturation }) }
+        ensures opening { IfOk result
+            (λ c. c.opening ≡ record { kind = kind; saturation = saturation }) }
         ensures history { IfOk result (λ c. c.history ≡ []) }
         ensures slot { IfOk result (λ c. c.slot ≡ None) }
         ensures spare { IfOk result (λ c. calls ≤ c.spare) }
@@ -96,6 +99,7 @@ impl<C: Coder> Core<C> {
         ensures place { (state_at self.now).control.place ≡ length self.now.history }
         ensures facts { IsNeverStuck (state_at self.now).control }
     {
+        never_stuck();
         self.trace.entries()
     }
 
@@ -117,7 +121,8 @@ impl<C: Coder> Core<C> {
 
     /// What became of the promise of a flush, by its entry's place.
     pub fn end_of(&self, promise: u64) -> PromiseState
-        ensures { result ≡ promise_state (ends_in (shown self.now.opening self.now.history)) promise }
+        ensures { result
+            ≡ promise_state (ends_in (shown self.now.opening self.now.history)) promise }
     {
         self.trace.end_of(promise)
     }
@@ -171,7 +176,8 @@ impl<C: Coder> Core<C> {
     fn make(&mut self, who: Who, call: Call) -> Result<(u64, Option<DomError>), NoMemory>
         ensures made { OnOk result (Makes self.old self.new (entry_of who call)) }
         ensures place { IfOk result (λ a. a.0 ≡ length self.old.history) }
-        ensures exception { IfOk result (λ a. a.1 ≡ exception_of call (call_error call (state_at self.old).control)) }
+        ensures exception { IfOk result
+            (λ a. a.1 ≡ exception_of call (call_error call (state_at self.old).control)) }
         ensures err { OnErr result (self.new ≡ self.old) }
         ensures running { KeepsRunning (state_at self.old) (state_at self.new) }
         ensures slot { self.new.slot ≡ self.old.slot }
@@ -190,13 +196,17 @@ impl<C: Coder> Core<C> {
     pub fn start(&mut self) -> Option<Job<C>>
         ensures none { IfNone result (start_item (state_at self.old).control ≡ None) }
         ensures same { IfNone result (self.new ≡ self.old) }
-        ensures some { IfSome result (λ job. Makes self.old self.new (entry.Start job.epoch job.number)) }
+        ensures some { IfSome result
+            (λ job. Makes self.old self.new (entry.Start job.epoch job.number)) }
         ensures job { IfSome result (IsJobOf (state_at self.new)) }
         ensures epoch { IfSome result (λ job. job.epoch ≡ (state_at self.old).control.epoch) }
-        ensures item { IfSome result (λ job. option_map item_parts (start_item (state_at self.old).control) ≡ Some (job.number, job.work)) }
+        ensures item { IfSome result
+            (λ job. option_map item_parts (start_item (state_at self.old).control)
+            ≡ Some (job.number, job.work)) }
         ensures place { IfSome result (λ job. job.place ≡ length self.old.history) }
         ensures coder { IfSome result (λ job. job.coder ≡ self.old.slot) }
-        ensures lacks { IfSome result (λ job. missing_id job ≡ missing_coder (state_at self.old).given job.work) }
+        ensures lacks { IfSome result
+            (λ job. missing_id job ≡ missing_coder (state_at self.old).given job.work) }
         ensures slot { OnSome result (self.new.slot ≡ None) }
         ensures spare { self.new.spare ≡ self.old.spare }
     {
@@ -224,11 +234,14 @@ impl<C: Coder> Core<C> {
     /// reset or closed since the item began.
     pub fn done(&mut self, d: DoneJob<C>, moment: u64) -> Back<C>
         requires { IsEndOf (state_at self.old) d }
-        ensures made { Makes self.old self.new (entry.Done d.epoch d.number moment (outcome_of d.ended)) }
+        ensures made { Makes self.old self.new
+            (entry.Done d.epoch d.number moment (outcome_of d.ended)) }
         ensures idle { (state_at self.new).control.running ≡ None }
         ensures place { result.place ≡ length self.old.history }
-        ensures slot { self.new.slot ≡ kept_box (d.epoch == (state_at self.old).control.epoch) d.coder }
-        ensures back { result.coder ≡ handed_back (d.epoch == (state_at self.old).control.epoch) d.coder }
+        ensures slot { self.new.slot
+            ≡ kept_box (d.epoch == (state_at self.old).control.epoch) d.coder }
+        ensures back { result.coder
+            ≡ handed_back (d.epoch == (state_at self.old).control.epoch) d.coder }
         ensures spare { self.new.spare ≡ self.old.spare }
     {
         let place = self.machine.place();
@@ -260,11 +273,16 @@ impl<C: Coder> Core<C> {
         ensures same { IfNone result (self.new ≡ self.old) }
         ensures some { OnSome result (Makes self.old self.new entry.Turn) }
         ensures place { IfSome result (λ t. t.place ≡ length self.old.history) }
-        ensures removed { IfSome result (λ t. t.removed ≡ removed_if (closes_now (state_at self.old).control) t.place (stopped_box self.old.slot)) }
-        ensures slot { self.new.slot ≡ kept_box (not (closes_now (state_at self.old).control)) self.old.slot }
+        ensures removed { IfSome result
+            (λ t. t.removed
+            ≡ removed_if (closes_now (state_at self.old).control) t.place
+            (stopped_box self.old.slot)) }
+        ensures slot { self.new.slot
+            ≡ kept_box (not (closes_now (state_at self.old).control)) self.old.slot }
         ensures running { KeepsRunning (state_at self.old) (state_at self.new) }
         ensures spare { self.new.spare ≡ self.old.spare }
     {
+        never_stuck();
         let answer = self.machine.turn()?;
         let place = answer.place;
         let closes = answer.showing.closes();
@@ -281,10 +299,13 @@ impl<C: Coder> Core<C> {
         requires { 1 ≤ self.old.spare }
         ensures made { Makes self.old self.new (the_removal_entry who removal) }
         ensures ok { IfOk result (λ r. removal_error (state_at self.old).control ≡ None) }
-        ensures removed { IfOk result (λ r. r ≡ record { place = length self.old.history; coder = stopped_box self.old.slot }) }
+        ensures removed { IfOk result
+            (λ r. r
+            ≡ record { place = length self.old.history; coder = stopped_box self.old.slot }) }
         ensures err { IfErr result (λ e. removal_error (state_at self.old).control ≡ Some e.0) }
         ensures place { IfErr result (λ e. e.1 ≡ length self.old.history) }
-        ensures slot { self.new.slot ≡ kept_box (is_some (removal_error (state_at self.old).control)) self.old.slot }
+        ensures slot { self.new.slot
+            ≡ kept_box (is_some (removal_error (state_at self.old).control)) self.old.slot }
         ensures running { KeepsRunning (state_at self.old) (state_at self.new) }
         ensures spare { self.new.spare + 1 ≡ self.old.spare }
     {
@@ -306,6 +327,7 @@ impl<C: Coder> Core<C> {
         ensures running { KeepsRunning (state_at self.old) (state_at self.new) }
         ensures spare { self.new.spare + 1 ≡ self.old.spare }
     {
+        never_stuck();
         let answer = self.machine.remove(removal);
         let coder = hand_back(&mut self.slot, answer.exception.is_some());
         self.spare -= 1;
@@ -322,11 +344,14 @@ impl<C: Coder> Core<C> {
         ensures none { IfNone result (may_reclaim now (state_at self.old).control ≡ false) }
         ensures same { IfNone result (self.new ≡ self.old) }
         ensures made { OnSome result (Makes self.old self.new (entry.Reclaim now)) }
-        ensures removed { IfSome result (λ r. r ≡ record { place = length self.old.history; coder = stopped_box self.old.slot }) }
+        ensures removed { IfSome result
+            (λ r. r
+            ≡ record { place = length self.old.history; coder = stopped_box self.old.slot }) }
         ensures slot { OnSome result (self.new.slot ≡ None) }
         ensures running { KeepsRunning (state_at self.old) (state_at self.new) }
         ensures spare { self.new.spare ≡ self.old.spare }
     {
+        never_stuck();
         let answer = self.machine.reclaim(now)?;
         let coder = hand_back(&mut self.slot, false);
         self.trace

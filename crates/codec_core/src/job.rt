@@ -132,7 +132,8 @@ impl<C: Coder> Job<C> {
     pub fn perform(self, alloc: Global) -> DoneJob<C>
         requires { missing_id self ≡ None }
         ensures end { (s : State) → IsJobOf s self → IsEndOf s result }
-        ensures answer { (g : Given) → IsJob g self → EndsBy (answer_to (kind_of self.work) g) result.ended }
+        ensures answer { (g : Given) → IsJob g self
+            → EndsBy (answer_to (kind_of self.work) g) result.ended }
         ensures epoch { result.epoch ≡ self.epoch }
         ensures number { result.number ≡ self.number }
         ensures kind { result.kind ≡ kind_of self.work }

@@ -65,7 +65,12 @@ impl Trace {
     pub(crate) fn push(&mut self, entry: Entry, showing: Showing)
         requires place { 1 ≤ self.old.free }
         requires ends { EndsBelow (length self.old.entries + 1) (shown_of showing).events }
-        ensures { self.new ≡ record { entries = self.old.entries ++ entry ∷ []; shown = self.old.shown ++ shown_of showing ∷ []; free = self.old.free - 1 } }
+        ensures { self.new
+            ≡ record {
+              entries = self.old.entries ++ entry ∷ [];
+              shown = self.old.shown ++ shown_of showing ∷ [];
+              free = self.old.free - 1;
+            } }
     {
         self.free -= 1;
         self.promises.push_reserved(PromiseState::Pending);
@@ -119,7 +124,8 @@ fn state_of(error: Option<DomError>) -> PromiseState
 /// A promise ends, with an error or resolved, where it is still pending.
 fn end_promise(states: &mut Vec<PromiseState>, promise: u64, error: Option<DomError>)
     requires { promise < vec_len states.old }
-    ensures states { (ends : List PromiseEnd) → AreStates states.old.items ends → AreStates states.new.items (ends ++ record { promise = promise; error = error } ∷ []) }
+    ensures states { (ends : List PromiseEnd) → AreStates states.old.items ends
+        → AreStates states.new.items (ends ++ record { promise = promise; error = error } ∷ []) }
     ensures len { vec_len states.new ≡ vec_len states.old }
     ensures capacity { vec_capacity states.new ≡ vec_capacity states.old }
 {
@@ -136,7 +142,8 @@ fn end_promise(states: &mut Vec<PromiseState>, promise: u64, error: Option<DomEr
 /// Each of these promises is rejected, where it is still pending.
 fn reject_promises(states: &mut Vec<PromiseState>, error: DomError, promises: &[u64])
     requires { All (λ p. p < vec_len states.old) promises.now }
-    ensures states { (ends : List PromiseEnd) → AreStates states.old.items ends → AreStates states.new.items (ends ++ map (rejected error) promises.now) }
+    ensures states { (ends : List PromiseEnd) → AreStates states.old.items ends
+        → AreStates states.new.items (ends ++ map (rejected error) promises.now) }
     ensures len { vec_len states.new ≡ vec_len states.old }
     ensures capacity { vec_capacity states.new ≡ vec_capacity states.old }
 {
@@ -148,7 +155,8 @@ fn reject_promises(states: &mut Vec<PromiseState>, error: DomError, promises: &[
 /// The promises end that an entry ends.
 fn end_promises(states: &mut Vec<PromiseState>, showing: &Showing)
     requires { EndsBelow (vec_len states.old) (shown_of showing.now).events }
-    ensures states { (ends : List PromiseEnd) → AreStates states.old.items ends → AreStates states.new.items (ends ++ ends_of (shown_of showing.now).events) }
+    ensures states { (ends : List PromiseEnd) → AreStates states.old.items ends
+        → AreStates states.new.items (ends ++ ends_of (shown_of showing.now).events) }
     ensures len { vec_len states.new ≡ vec_len states.old }
     ensures capacity { vec_capacity states.new ≡ vec_capacity states.old }
 {
@@ -170,7 +178,8 @@ fn end_promises(states: &mut Vec<PromiseState>, showing: &Showing)
 /// The promise is resolved that a task resolves which does not close the codec.
 fn resolve_promise(states: &mut Vec<PromiseState>, task: &Task)
     requires { AllByRecursion (λ e. e.promise < vec_len states.old) (resolved_by task.now) }
-    ensures states { (ends : List PromiseEnd) → AreStates states.old.items ends → AreStates states.new.items (ends ++ resolved_by task.now) }
+    ensures states { (ends : List PromiseEnd) → AreStates states.old.items ends
+        → AreStates states.new.items (ends ++ resolved_by task.now) }
     ensures len { vec_len states.new ≡ vec_len states.old }
     ensures capacity { vec_capacity states.new ≡ vec_capacity states.old }
 {

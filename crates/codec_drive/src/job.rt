@@ -14,7 +14,8 @@ use std::alloc::Global;
 pub fn run<C: Coder>(alloc: Global, job: Job<C>) -> DoneJob<C>
     requires { missing_id job ≡ None }
     ensures end { (s : State) → IsJobOf s job → IsEndOf s result }
-    ensures answer { (g : Given) → IsJob g job → EndsBy (answer_to (kind_of job.work) g) result.ended }
+    ensures answer { (g : Given) → IsJob g job
+        → EndsBy (answer_to (kind_of job.work) g) result.ended }
     ensures epoch { result.epoch ≡ job.epoch }
     ensures number { result.number ≡ job.number }
     ensures kind { result.kind ≡ kind_of job.work }

@@ -37,7 +37,7 @@ use Rattle.codec_model.specs.declared.entry.Outcome.{Outcome}
 use Rattle.codec_model.specs.declared.entry.Outcome.TheVariants as outcome
 use Rattle.codec_model.specs.Control.{Control, kind_of, is_taken, after_message, process_queue, at_next_place, run_task, done_running, after_end, after_reset, after_close, may_reclaim, may_start}
 use Rattle.codec_model.specs.Replay.{State, Given, given_more, answer_to, answers_to, opening_state, step, replay, replay_from, done_ended, ended_of, ended_run, decode_error, flush_error, configure_error, removal_error, after_call, call_error, call_step, accepted, remove_or_refuse, removed, start_step, done_step, with_control, turn_step}
-use Rattle.codec_model.proofs.FactLaws.{cond_is, some_same}
+use Rattle.wc_base.specs.Options.{cond_is, some_same}
 use Rattle.codec_follow.specs.Follow.{answers_drain}
 
 -- the answers of a coder that refused nothing so far

@@ -5,7 +5,7 @@ use Rattle.codec_model.specs.declared.entry.Entry.{Entry}
 use Rattle.codec_model.specs.declared.entry.Shown.{Shown}
 use Rattle.codec_model.specs.Replay.{State}
 use Rattle.codec_model.specs.Shown.{shown_at}
-use Rattle.codec_model.proofs.FactLaws.{some_same}
+use Rattle.wc_base.specs.Options.{some_same}
 use Rattle.codec_follow.specs.Follow.{follow_step}
 use Rattle.codec_follow.specs.Followed.{FollowerValue, follower_of, Follows}
 

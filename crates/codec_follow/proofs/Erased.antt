@@ -30,7 +30,8 @@ use Rattle.codec_model.specs.declared.entry.Outcome.{Outcome}
 use Rattle.codec_model.specs.declared.entry.Outcome.TheVariants as outcome
 use Rattle.codec_model.specs.Control.{Control, is_decoder, is_dequeue, is_desaturate, is_taken, after_message, process_queue, at_next_place, run_task, done_running, after_end, after_reset, after_close, after_removal, may_reclaim, may_start}
 use Rattle.codec_model.specs.Replay.{State, Given, step, done_ended, ended_of, ended_run, ended_refused, answer_to, start_step, done_step, turn_step, removed, accepted, after_call, call_error, call_step, removal_error, remove_or_refuse, with_control}
-use Rattle.codec_model.proofs.FactLaws.{cond_is, some_same, with_event}
+use Rattle.wc_base.specs.Options.{cond_is, some_same}
+use Rattle.codec_model.specs.Facts.{with_event}
 use Rattle.codec_follow.specs.Follow.{blank, blanks, answers_drain, known_of, ran_as, refused_as, ended_as, follow_done, follow_step}
 use Rattle.codec_follow.proofs.Answered.{Sound}
 

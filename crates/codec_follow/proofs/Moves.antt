@@ -11,7 +11,7 @@ use Rattle.codec_model.specs.declared.entry.Work.{Work}
 use Rattle.codec_model.specs.declared.entry.Work.TheVariants as work
 use Rattle.codec_model.specs.Control.{Control, may_start, front, start_item, after_start, start_front, at_next_place}
 use Rattle.codec_model.specs.Replay.{State, Given, given_more, after_call, call_error, entry_of, start_step}
-use Rattle.codec_model.proofs.FactLaws.{cond_is, some_same}
+use Rattle.wc_base.specs.Options.{cond_is, some_same}
 use Rattle.codec_follow.specs.declared.known.Known.{Known}
 use Rattle.codec_follow.specs.Follow.{known_of}
 use Rattle.codec_model.specs.Shown.{call_shows}

@@ -48,7 +48,7 @@ use Rattle.codec_model.specs.declared.entry.Outcome.{Outcome}
 use Rattle.codec_model.specs.Control.{Control, is_taken, after_message, process_queue, at_next_place, run_task, done_running, after_end, start_first, is_dequeue, is_desaturate, with_desaturate, after_reset, after_close, may_reclaim, may_start}
 use Rattle.codec_model.specs.Replay.{State, Given, given_more, answer_to, answers_by, opening_state, step, done_ended, ended_of, configure_error, decode_error, flush_error, removal_error, after_call, call_error, accepted, remove_or_refuse, removed, start_step, done_step, with_control, turn_step}
 use Rattle.codec_model.specs.Shown.{refusal, rejection, rejections, outputs_from, turn_shows, removal_shows, shows, event_units, units_in, each_shown_from}
-use Rattle.codec_model.proofs.FactLaws.{cond_is, some_same}
+use Rattle.wc_base.specs.Options.{cond_is, some_same}
 use Rattle.codec_follow.specs.Follow.{units_shown}
 use Rattle.codec_follow.specs.Outputs.{IsOutputOf, IsConfigOf, ConfiguresAs}
 use Rattle.codec_follow.specs.Laws.{OutputsAreOfKind}

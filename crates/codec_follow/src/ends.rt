@@ -86,8 +86,10 @@ pub(crate) fn ended_as(
 
 // Whether this audio codec has a definition that answers a drain.
 fn has_drain(codec: CodecId) -> bool
-    ensures decoder { (c : AudioDecoderConfig) → result ≡ is_some (audio_decoder_answer codec c Command.Drain) }
-    ensures encoder { (c : AudioEncoderConfig) → result ≡ is_some (audio_encoder_answer codec c Command.Drain) }
+    ensures decoder { (c : AudioDecoderConfig)
+        → result ≡ is_some (audio_decoder_answer codec c Command.Drain) }
+    ensures encoder { (c : AudioEncoderConfig)
+        → result ≡ is_some (audio_encoder_answer codec c Command.Drain) }
 {
     match codec {
         CodecId::PcmU8 => true,

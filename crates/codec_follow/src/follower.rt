@@ -79,7 +79,8 @@ impl Follower {
     // A configure, decode or flush, refused or made.
     fn call(&mut self, call: Call) -> Result<Option<Shown>, NoMemory>
         requires { self.old.control.place + 1 < 2 ^ 64 }
-        ensures follows { IfOk result (λ shown. (who : Who) → Follows (entry_of who call) self.old shown self.new) }
+        ensures follows { IfOk result
+            (λ shown. (who : Who) → Follows (entry_of who call) self.old shown self.new) }
         ensures same { IfOk result (λ shown. IfNone shown (self.new ≡ self.old)) }
     {
         let answer = self.machine.call(call)?;
@@ -90,7 +91,8 @@ impl Follower {
     // A reset or close, refused or made.
     fn remove(&mut self, removal: Removal) -> Result<Option<Shown>, NoMemory>
         requires { self.old.control.place + 1 < 2 ^ 64 }
-        ensures follows { IfOk result (λ shown. (who : Who) → Follows (removal_entry who removal) self.old shown self.new) }
+        ensures follows { IfOk result
+            (λ shown. (who : Who) → Follows (removal_entry who removal) self.old shown self.new) }
         ensures same { IfOk result (λ shown. IfNone shown (self.new ≡ self.old)) }
     {
         let answer = self.machine.remove(removal);
@@ -101,7 +103,8 @@ impl Follower {
     // A start of the item with this number, in this epoch.
     fn start(&mut self, epoch: u64, item: u64) -> Result<Option<Shown>, NoMemory>
         requires { self.old.control.place + 1 < 2 ^ 64 }
-        ensures follows { IfOk result (λ shown. Follows (entry.Start epoch item) self.old shown self.new) }
+        ensures follows { IfOk result
+            (λ shown. Follows (entry.Start epoch item) self.old shown self.new) }
         ensures same { IfOk result (λ shown. IfNone shown (self.new ≡ self.old)) }
     {
         let Some(next) = self.machine.start_item() else {
@@ -126,7 +129,8 @@ impl Follower {
         outcome: Outcome,
     ) -> Result<Option<Shown>, NoMemory>
         requires { self.old.control.place + 1 < 2 ^ 64 }
-        ensures follows { IfOk result (λ shown. Follows (entry.Done epoch item moment outcome) self.old shown self.new) }
+        ensures follows { IfOk result
+            (λ shown. Follows (entry.Done epoch item moment outcome) self.old shown self.new) }
         ensures same { IfOk result (λ shown. IfNone shown (self.new ≡ self.old)) }
     {
         let Some(running) = self.machine.running() else {
@@ -161,7 +165,8 @@ impl Follower {
     // A reclaim at a moment in microseconds.
     fn reclaim(&mut self, moment: u64) -> Result<Option<Shown>, NoMemory>
         requires { self.old.control.place + 1 < 2 ^ 64 }
-        ensures follows { IfOk result (λ shown. Follows (entry.Reclaim moment) self.old shown self.new) }
+        ensures follows { IfOk result
+            (λ shown. Follows (entry.Reclaim moment) self.old shown self.new) }
         ensures same { IfOk result (λ shown. IfNone shown (self.new ≡ self.old)) }
     {
         let Some(answer) = self.machine.reclaim(moment) else {

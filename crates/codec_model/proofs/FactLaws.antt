@@ -5,6 +5,7 @@ use Rattle.std.proofs.lemmas.Bool.{cases_lt, eqb-true}
 use Rattle.std.proofs.lemmas.Bool.Decides.{nat_tests}
 use Rattle.std.specs.List.{AllByRecursion}
 use Rattle.std.proofs.lemmas.List.Sums.{sum_by-cons, sum_by-append}
+use Rattle.wc_base.specs.Options.{some_same, cond_is}
 use Rattle.wc_base.specs.declared.error.DomError.{DomError}
 use Rattle.wc_base.specs.declared.error.DomError.TheVariants as dom
 use Rattle.codec_definitions.specs.declared.unit.Unit as media
@@ -30,7 +31,7 @@ use Rattle.codec_model.specs.declared.entry.Ended.TheVariants as ended
 use Rattle.codec_model.specs.declared.entry.Outcome.{Outcome}
 use Rattle.codec_model.specs.Control.{Control, is_coded, kind_of, is_decoder, is_close, is_dequeue, is_desaturate, coded_running, coded_out, is_taken, after_message, takes_front, process_queue, at_next_place, run_front, run_task, done_running, after_end, refusal_of, after_reset, after_close, after_removal, may_reclaim, may_start, start_front}
 use Rattle.codec_model.specs.Replay.{State, opening_state, step, replay, replay_from, done_ended, ended_of, removal_error, after_call, call_error, call_step, accepted, removal_step, remove_or_refuse, start_step, done_step, with_control, turn_step}
-use Rattle.codec_model.specs.Facts.{bit, is_unblock, is_process, resolves, is_configure, flushes, configures_now, flushes_now, CountsMessages, HaltsForClose, IsNumbered, IsBefore, NumbersItems, BlocksForConfigure, SaturatesForCoded, KeepsSaturation, ProcessesSoon, OwesPromises, NamesEarlier, IsNeverStuck, IsQuiet, OwesNothing, EndsQuiet}
+use Rattle.codec_model.specs.Facts.{bit, with_event, is_unblock, is_process, resolves, is_configure, flushes, configures_now, flushes_now, CountsMessages, HaltsForClose, IsNumbered, IsBefore, NumbersItems, BlocksForConfigure, SaturatesForCoded, KeepsSaturation, ProcessesSoon, OwesPromises, NamesEarlier, IsNeverStuck, IsQuiet, OwesNothing, EndsQuiet}
 
 -- counts of one more at the end and at the front
 push : {X : Type 0} (p : X → Bool) (xs : List X) (x : X) → count_by p (xs ++ x ∷ []) ≡ count_by p xs + bit (p x)
@@ -83,10 +84,6 @@ Sound c = Mostly c.messages c × Soon c
 numbered_push : (first next : ℕ) (is : List Item) (i : Item) → IsNumbered first is next → i.number ≡ next → IsNumbered first (is ++ i ∷ []) (next + 1)
 numbered_push first next [] i h e = (e ∙ sym h, ap (λ n. n + 1) h)
 numbered_push first next (j ∷ is) i h e = (h.0, numbered_push (first + 1) next is i h.1 e)
-
--- a dequeue event is queued where none is
-abbrev pub with_event : Bool → Bool → List Task → List Task
-with_event wanted later ts = cond (wanted && not later) (ts ++ task.Dequeue ∷ []) ts
 
 event_dequeues : (wanted later : Bool) (ts : List Task) → count_by is_dequeue ts ≡ bit later → count_by is_dequeue (with_event wanted later ts) ≡ bit (wanted || later)
 event_dequeues true true ts h = h
@@ -789,13 +786,6 @@ call_sound (Some error) x c h = (entered_kept c.messages c h.0, h.1)
 sound_at : (s t : State) → s ≡ t → Sound s.control → Sound t.control
 sound_at s t e h = subst (λ (x : State). Sound x.control) e h
 
-pub some_same : {X : Type 0} (a t : X) → Some a ≡ Some t → a ≡ t
-some_same a t h = cc
-
-pub cond_is : {X : Type 0} (b : Bool) (o : Option X) (t : X) → cond b o None ≡ Some t → (b ≡ true) × (o ≡ Some t)
-cond_is true o t h = (refl, h)
-cond_is false o t h = absurd cc
-
 first_of : (a b d : Bool) → (a && b && d) ≡ true → a ≡ true
 first_of true b d h = refl
 first_of false b d h = absurd cc
@@ -961,19 +951,3 @@ all_facts o h s some legal = record {
   promises = promises o h s some legal;
   names = names o h s some legal;
 }
-
--- pending promises are named by earlier entries
-names_below : (n : ℕ) (ps : List ℕ) → ((p : ℕ) → n ≤ p → count_by (λ q. eqb q p) ps ≡ 0) → AllByRecursion (λ p. p < n) ps
-names_below n [] h = tt
-names_below n (q ∷ qs) h = (
-  elim (cases_lt q n) [ inl lt ↦ lt | inr le ↦ absurd (omega (arith, h q le, first_of_all (λ (x : ℕ). eqb x q) q qs, ap bit (same_epoch q))) ],
-  names_below n qs (λ p new. omega (arith, h p new, first_of_all (λ (x : ℕ). eqb x p) q qs)),
-)
-
-pub pending_below : (c : Control) → NamesEarlier c → AllByRecursion (λ p. p < c.place) c.pending
-pending_below c h = names_below c.place c.pending h.pending
-
-pub resolved_below : (c : Control) (p : ℕ) (units : List media.Unit) (ts : List Task) → NamesEarlier c → c.tasks ≡ task.Flushed p units ∷ ts → p < c.place
-resolved_below c p units ts h is =
-    let none : c.place ≤ p → count_by (resolves p) (task.Flushed p units ∷ ts) ≡ 0 = λ new. rw is at (h.resolving p new) in
-    elim (cases_lt p c.place) [ inl lt ↦ lt | inr le ↦ absurd (omega (arith, none le, first_of_all (resolves p) (task.Flushed p units) ts, ap bit (same_epoch p))) ]

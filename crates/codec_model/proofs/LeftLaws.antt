@@ -22,8 +22,9 @@ use Rattle.codec_model.specs.declared.entry.Ended.TheVariants as ended
 use Rattle.codec_model.specs.declared.entry.Outcome.{Outcome}
 use Rattle.codec_model.specs.Control.{Control, is_coded, is_dequeue, is_desaturate, is_taken, after_message, process_queue, at_next_place, run_task, done_running, after_end, after_close, refusal_of, start_front, task_weight, running_weight, left}
 use Rattle.codec_model.specs.Replay.{State, step, done_ended, ended_of, start_step, done_step, turn_step, with_control}
-use Rattle.codec_model.specs.Facts.{is_step, CountsMessages, LeavesFewer}
-use Rattle.codec_model.proofs.FactLaws.{counts, cond_is, some_same, turned_control, with_event}
+use Rattle.codec_model.specs.Facts.{with_event, is_step, CountsMessages, LeavesFewer}
+use Rattle.wc_base.specs.Options.{some_same, cond_is}
+use Rattle.codec_model.proofs.FactLaws.{counts, turned_control}
 
 abbrev weight : List Task → ℕ
 weight ts = sum_by task_weight ts

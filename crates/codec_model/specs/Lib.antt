@@ -3,3 +3,5 @@ pub mod Replay
 pub mod Shown
 pub mod Rows
 pub mod Facts
+pub mod ShownLaws
+pub mod Earlier

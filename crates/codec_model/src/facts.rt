@@ -1,17 +1,9 @@
 // What holds of a codec after every legal history.
-ghost use Rattle.codec_model.specs.Facts.{Always, CountsMessages, HaltsForClose, NumbersItems, BlocksForConfigure, SaturatesForCoded, KeepsSaturation, ProcessesSoon, OwesPromises, NamesEarlier, EndsQuiet, LeavesFewer};
+ghost use Rattle.codec_model.specs.Facts.{Always, IsNeverStuck, EndsQuiet, LeavesFewer};
 
 /// The facts that keep a codec from being stuck, after every legal history of a codec that some coded items saturate.
 pub fn never_stuck()
-    ensures counts { Always CountsMessages }
-    ensures halts { Always HaltsForClose }
-    ensures numbers { Always NumbersItems }
-    ensures blocks { Always BlocksForConfigure }
-    ensures saturates { Always SaturatesForCoded }
-    ensures saturation { Always KeepsSaturation }
-    ensures processes { Always ProcessesSoon }
-    ensures promises { Always OwesPromises }
-    ensures names { Always NamesEarlier }
+    ensures facts { Always IsNeverStuck }
     ensures quiet { Always EndsQuiet }
 {}
 

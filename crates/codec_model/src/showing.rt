@@ -54,7 +54,8 @@ fn push_rejections(
     promises: &[u64],
     events: &mut Vec<Event>,
 ) -> Result<(), NoMemory>
-    ensures { IfOk result (λ x. events.new.items ≡ events.old.items ++ rejections error promises.now) }
+    ensures { IfOk result
+        (λ x. events.new.items ≡ events.old.items ++ rejections error promises.now) }
 {
     for promise in promises {
         let promise = *promise;
@@ -116,7 +117,8 @@ fn rejection_events(alloc: Global, promises: &[u64]) -> Result<List<Event>, NoMe
 impl Showing {
     /// What a call at this place shows, refused with this error or not.
     pub fn of_call(call: &Call, place: u64, error: Option<DomError>) -> Showing
-        ensures { shown_of result ≡ record { turn = None; events = call_shows call.now place error } }
+        ensures { shown_of result
+            ≡ record { turn = None; events = call_shows call.now place error } }
     {
         match error {
             None => Showing::Nothing,

@@ -276,7 +276,8 @@ impl Machine {
     /// Queues a configure message, and processes.
     fn configure(&mut self, config: Config) -> Result<(), NoMemory>
         requires { self.old.place + 1 < 2 ^ 64 }
-        ensures ok { OnOk result (self.new ≡ after_configure self.old.place config (at_next_place self.old)) }
+        ensures ok { OnOk result
+            (self.new ≡ after_configure self.old.place config (at_next_place self.old)) }
         ensures left { left self.new ≤ left self.old + 7 }
         ensures err { OnErr result (self.new ≡ self.old) }
     {
@@ -304,7 +305,8 @@ impl Machine {
     /// Queues a coded message, and processes.
     fn decode(&mut self, chunk: Chunk) -> Result<(), NoMemory>
         requires { self.old.place + 1 < 2 ^ 64 }
-        ensures ok { OnOk result (self.new ≡ after_decode self.old.place chunk (at_next_place self.old)) }
+        ensures ok { OnOk result
+            (self.new ≡ after_decode self.old.place chunk (at_next_place self.old)) }
         ensures left { left self.new ≤ left self.old + 7 }
         ensures err { OnErr result (self.new ≡ self.old) }
     {
@@ -506,7 +508,8 @@ impl Machine {
     /// A reset or close, refused or made.
     pub fn remove(&mut self, removal: Removal) -> Answer
         requires { self.old.place + 1 < 2 ^ 64 }
-        ensures made { IfNone (removal_error self.old) (self.new ≡ after_removal removal (at_next_place self.old)) }
+        ensures made { IfNone (removal_error self.old)
+            (self.new ≡ after_removal removal (at_next_place self.old)) }
         ensures refused { OnSome (removal_error self.old) (self.new ≡ at_next_place self.old) }
         ensures answer { IsAnswer self.old.place (removal_error self.old)
             (record { turn = None; events = removal_shows (removal_error self.old) self.old.pending }) result }
@@ -533,7 +536,9 @@ impl Machine {
         ensures kept { IfNone result (self.new ≡ self.old) }
         ensures may { OnSome result (may_reclaim now self.old ≡ true) }
         ensures made { OnSome result (self.new ≡ after_close (at_next_place self.old)) }
-        ensures answer { IfSome result (IsAnswer self.old.place None (record { turn = None; events = reclaim_shows self.old.pending })) }
+        ensures answer { IfSome result
+            (IsAnswer self.old.place None
+            (record { turn = None; events = reclaim_shows self.old.pending })) }
         ensures left { left self.new ≤ left self.old }
     {
         if !self.may_reclaim(now) {
@@ -554,7 +559,12 @@ impl Machine {
         requires { self.old.place + 1 < 2 ^ 64 }
         ensures closes { option_map (λ a. closes a.showing) result ≡ turn_closes self.old.tasks }
         ensures after { self.new ≡ after_turn self.old }
-        ensures answer { IfSome result (IsAnswer self.old.place None (record { turn = turn_word self.old.tasks; events = turn_shows self.old.tasks self.old })) }
+        ensures answer { IfSome result
+            (IsAnswer self.old.place None
+            (record {
+              turn = turn_word self.old.tasks;
+              events = turn_shows self.old.tasks self.old;
+            })) }
         ensures left { OnSome result (left self.new + 1 ≤ left self.old) }
     {
         let task = self.tasks.pop_front()?;

@@ -70,7 +70,10 @@ pub fn desaturates(tasks: &VecDeque<Task>) -> usize
 /// Queues a dequeue event where it is wanted and none is scheduled.
 pub fn schedule_dequeue(tasks: &mut VecDeque<Task>, scheduled: &mut bool, wanted: bool)
     requires { deque_len tasks.old < deque_capacity tasks.old }
-    ensures items { tasks.new.items ≡ (if wanted && not scheduled.old then tasks.old.items ++ Task.Dequeue ∷ [] else tasks.old.items) }
+    ensures items { tasks.new.items
+        ≡
+        (if wanted && not scheduled.old then tasks.old.items
+        ++ Task.Dequeue ∷ [] else tasks.old.items) }
     ensures scheduled { scheduled.new ≡ (wanted || scheduled.old) }
     ensures capacity { deque_capacity tasks.new ≡ deque_capacity tasks.old }
 {
@@ -186,7 +189,8 @@ pub fn later(progress: Option<u64>, moment: u64) -> u64
 
 /// The answer of the turn of a task that does not close the codec, after so many outputs.
 pub fn turn_answer(place: u64, task: Task, outputs: u128) -> Answer
-    ensures answer { IsAnswer place None (record { turn = Some (word_of_task task); events = task_shows task outputs [] }) result }
+    ensures answer { IsAnswer place None
+        (record { turn = Some (word_of_task task); events = task_shows task outputs [] }) result }
     ensures closes { closes result.showing ≡ false }
 {
     Answer {
@@ -198,7 +202,11 @@ pub fn turn_answer(place: u64, task: Task, outputs: u128) -> Answer
 
 /// The answer of the turn that closed the codec with an error.
 pub fn close_answer(place: u64, error: DomError, promises: List<u64>) -> Answer
-    ensures answer { IsAnswer place None (record { turn = Some (TurnWord.Close error); events = close_shows error promises }) result }
+    ensures answer { IsAnswer place None
+        (record {
+          turn = Some (TurnWord.Close error);
+          events = close_shows error promises;
+        }) result }
     ensures closes { closes result.showing ≡ true }
 {
     Answer {

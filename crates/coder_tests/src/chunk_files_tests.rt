@@ -2,7 +2,7 @@
 ghost use Rattle.std.specs.Prelude.{◌<◌, ◌^◌, All, IfOk, length};
 
 use bytes::Bytes;
-use chunk_files::{ChunkFault, read_chunks, write_chunks, written_chunks_are_read};
+use chunk_files::{ChunkFault, Stop, read_chunks, write_chunks, written_chunks_are_read};
 use std::alloc::Global;
 use std::test::Fail;
 use wc_base::NoMemory;
@@ -58,9 +58,9 @@ fn cut_files(rt: HostRuntime) -> Result<(), Fail> {
     for n in 0..27 {
         let fault = match read_chunks(alloc, &EMPTY_CHUNK[..n]) {
             Ok(_) => None,
-            Err(fault) => Some(fault),
+            Err(stop) => Some(stop),
         };
-        assert_eq!(rt; fault, cut_answer(n as u64));
+        assert_eq!(rt; fault, cut_answer(n as u64).map(Stop::Fault));
     }
     let empty = match read_chunks(alloc, &EMPTY_CHUNK) {
         Ok(chunks) => chunks.len() == 1 && chunks[0].bytes.is_empty(),
@@ -88,10 +88,10 @@ fn with_byte(at: usize, byte: u8) -> [u8; 52] {
     file
 }
 
-fn fault_of(alloc: Global, bytes: &[u8]) -> Option<ChunkFault> {
+fn fault_of(alloc: Global, bytes: &[u8]) -> Option<Stop<ChunkFault>> {
     match read_chunks(alloc, bytes) {
         Ok(_) => None,
-        Err(fault) => Some(fault),
+        Err(stop) => Some(stop),
     }
 }
 
@@ -100,19 +100,19 @@ fn faulty_files(rt: HostRuntime) -> Result<(), Fail> {
     let alloc = rt.alloc();
     assert_eq!(rt;
         fault_of(alloc, &with_byte(2, 99)),
-        Some(ChunkFault::BadMark { at: 2 })
+        Some(Stop::Fault(ChunkFault::BadMark { at: 2 }))
     );
     assert_eq!(rt;
         fault_of(alloc, &with_byte(29, 2)),
-        Some(ChunkFault::BadKind { at: 29, found: 2 })
+        Some(Stop::Fault(ChunkFault::BadKind { at: 29, found: 2 }))
     );
     assert_eq!(rt;
         fault_of(alloc, &with_byte(38, 255)),
-        Some(ChunkFault::BadKind { at: 38, found: 255 })
+        Some(Stop::Fault(ChunkFault::BadKind { at: 38, found: 255 }))
     );
     assert_eq!(rt;
         fault_of(alloc, &with_byte(50, 2)),
-        Some(ChunkFault::Short { at: 51 })
+        Some(Stop::Fault(ChunkFault::Short { at: 51 }))
     );
     // The field of a duration that is not there is not looked at.
     assert!(rt; read_chunks(alloc, &with_byte(14, 9))? == two_chunks(alloc)?);

@@ -1,7 +1,7 @@
 -- Passages of which nothing is told.
 use Rattle.std.specs.Prelude.{◌≡◌, ℕ, Bool, false, List, Option, None}
 use Rattle.atomic_table.specs.declared.shared.Seat.{Seat}
-use Rattle.seat_view.specs.declared.view.View.{View}
+use Rattle.wc_base.specs.declared.seat.View.{View}
 use Rattle.seat_lock.specs.Seats.{IsIdleAt}
 
 abbrev pub mints_none : {E : Type 0} → E → Bool

@@ -8,13 +8,14 @@ ghost use Rattle.seat_lock.specs.Seats.{IsIdleAt, HasView, first_view};
 ghost use Rattle.lock_speed.specs.Passing.{mints_none, spends_none, Rests};
 
 use seat_lock::{Passage, Seat, SeatLock, Told};
-use std::alloc::{AllocError, Global};
+use std::alloc::Global;
 use std::process::ExitCode;
 use std::rt::Env;
 use std::sync::{Barrier, Wait};
 use std::thread::Threads;
 use std::time::{Clock, Instant};
 use std::{env, io, thread};
+use wc_base::NoMemory;
 
 // How many passages were made. Nothing is told of it.
 #[derive(Drop)]
@@ -99,7 +100,7 @@ fn measure<R: Threads + Wait + Clock + Sync>(
     alloc: Global,
     with_two: bool,
     passes: u32,
-) -> Result<Option<(u64, u128)>, AllocError> {
+) -> Result<Option<(u64, u128)>, NoMemory> {
     let (lock, seat) = SeatLock::open(alloc, Counter { count: 0 }, &())?;
     let start = Instant::now(rt);
     let seat = if with_two {

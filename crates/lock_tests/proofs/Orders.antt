@@ -1,11 +1,11 @@
 -- How many claims were minted after one passage more.
 use Rattle.std.proofs.Common.{◌≡◌, ℕ, ◌+◌, List, [], ◌∷◌, ◌++◌, sym, ap, ◌∙◌, subst, arith, Option, Some, None, MatchOption, inl, inr, refl}
-use Rattle.seat_view.specs.Views.{Log, token_view}
-use Rattle.seat_view.specs.declared.view.Passage.{Passage}
-use Rattle.seat_view.specs.declared.view.Passage.TheVariants.{Made, Look}
+use Rattle.wc_base.specs.Views.{Log, token_view}
+use Rattle.wc_base.specs.declared.seat.Passage.{Passage}
+use Rattle.wc_base.specs.declared.seat.Passage.TheVariants.{Made, Look}
 use Rattle.seat_lock.specs.Claims.{HasClaim, mint_count, spends_in}
 use Rattle.atomic_table.specs.declared.shared.Seat.{Seat}
-use Rattle.seat_view.specs.declared.view.View.{View}
+use Rattle.wc_base.specs.declared.seat.View.{View}
 use Rattle.seat_lock.specs.Own.{mint_count-append, claims_of, view_of_passage}
 use Rattle.seat_lock.specs.Passages.{Enters, GoesIn, IsUnion, Leaves, Passes}
 use Rattle.seat_lock.specs.Logs.{Has}

@@ -1,10 +1,10 @@
 -- Passages that add marks to a list.
 use Rattle.std.specs.Prelude.{◌≡◌, ℕ, ◌+◌, Bool, true, false, List, [], ◌∷◌, ◌++◌, length, Option, None}
 use Rattle.atomic_table.specs.declared.shared.Seat.{Seat}
-use Rattle.seat_view.specs.Views.{Log}
-use Rattle.seat_view.specs.declared.view.Passage.{Passage}
-use Rattle.seat_view.specs.declared.view.Passage.TheVariants.{Made, Look}
-use Rattle.seat_view.specs.declared.view.View.{View}
+use Rattle.wc_base.specs.Views.{Log}
+use Rattle.wc_base.specs.declared.seat.Passage.{Passage}
+use Rattle.wc_base.specs.declared.seat.Passage.TheVariants.{Made, Look}
+use Rattle.wc_base.specs.declared.seat.View.{View}
 use Rattle.seat_lock.specs.Logs.{AllBy, entries_of}
 use Rattle.seat_lock.specs.Own.{own}
 use Rattle.seat_lock.specs.Seats.{IsIdleAt}

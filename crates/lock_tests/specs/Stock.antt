@@ -1,13 +1,13 @@
 -- Claims that are minted and spent.
 use Rattle.std.specs.Prelude.{◌≡◌, ℕ, Bool, true, false, List, [], ◌∷◌, ◌++◌, MatchOption, Option, Some, None}
 use Rattle.atomic_table.specs.declared.shared.Seat.{Seat}
-use Rattle.seat_view.specs.declared.view.Passage.{Passage}
-use Rattle.seat_view.specs.declared.view.Passage.TheVariants.{Made, Look}
-use Rattle.seat_view.specs.declared.view.View.{View}
+use Rattle.wc_base.specs.declared.seat.Passage.{Passage}
+use Rattle.wc_base.specs.declared.seat.Passage.TheVariants.{Made, Look}
+use Rattle.wc_base.specs.declared.seat.View.{View}
 use Rattle.seat_lock.specs.Claims.{mint_count}
 use Rattle.seat_lock.specs.Passages.{Passes}
 use Rattle.seat_lock.specs.Seats.{IsIdleAt}
-use Rattle.seat_view.specs.Views.{Log}
+use Rattle.wc_base.specs.Views.{Log}
 use Rattle.lock_tests.specs.declared.stock.Order.{Order}
 use Rattle.lock_tests.specs.declared.stock.Order.TheVariants.{Mint, Spend}
 

@@ -1,6 +1,6 @@
 //! A plain list behind a lock, to which two threads add.
 ghost use Rattle.std.specs.Prelude.{◌≡◌, ℕ, ◌≤◌, List, [], ◌∷◌, ◌++◌, vec_len, vec_capacity, IfOk, MatchBool};
-ghost use Rattle.seat_view.specs.declared.view.Passage.TheVariants.{Look};
+ghost use Rattle.wc_base.specs.declared.seat.Passage.TheVariants.{Look};
 ghost use Rattle.seat_lock.specs.Logs.{entries_of};
 ghost use Rattle.seat_lock.specs.Passages.{Passes, passage_of};
 ghost use Rattle.seat_lock.specs.Seats.{IsSameSeat, IsIdleAt, HasView, first_view};

@@ -1,12 +1,12 @@
 //! A stock of claims behind a lock: each is minted, goes from seat to seat, and is spent once.
 ghost use Rattle.std.specs.Prelude.{◌≡◌, ℕ, List, MatchBool, IsTrue, cond};
-ghost use Rattle.seat_view.specs.declared.view.Passage.TheVariants.{Made};
+ghost use Rattle.wc_base.specs.declared.seat.Passage.TheVariants.{Made};
 ghost use Rattle.seat_lock.specs.Claims.{mint_count};
 ghost use Rattle.seat_lock.specs.Logs.{Has};
 ghost use Rattle.seat_lock.specs.Passages.{IsUnion, TakesIn};
 ghost use Rattle.seat_lock.specs.Seats.{IsSameSeat, IsIdleAt, Becomes, less_claim};
-ghost use Rattle.seat_view.specs.Views.{IsTokenWith, token_view};
-ghost use Rattle.seat_view.specs.declared.view.View.{View};
+ghost use Rattle.wc_base.specs.Views.{IsTokenWith, token_view};
+ghost use Rattle.wc_base.specs.declared.seat.View.{View};
 ghost use Rattle.lock_tests.specs.declared.stock.Order.{Order};
 ghost use Rattle.lock_tests.specs.declared.stock.Order.TheVariants.{Mint, Spend};
 ghost use Rattle.lock_tests.specs.Stock.{mints_claim, claim_spent, MintsOrLooks, Passed, EndsInSpend, Rests};

@@ -3,9 +3,12 @@ use Rattle.std.proofs.Common.{ℕ, ◌≡◌, ◌+◌, ◌-◌, ◌<◌, ◌≤�
 use Rattle.wc_chunk.specs.declared.chunk.Chunk.{Chunk}
 use Rattle.chunk_files.specs.declared.fault.ChunkFault.{ChunkFault}
 use Rattle.chunk_files.specs.Grammar.{IsChunkFile, IsFirstFault}
-use Rattle.media_files.specs.declared.fault.MediaFault.{MediaFault}
-use Rattle.media_files.specs.declared.fault.MediaFault.TheVariants as fault
-use Rattle.media_files.specs.Media.{media_of, are_small, AreChunks, FileGives, FilesGive}
+use Rattle.script_types.specs.declared.fault.Counted.TheVariants as counted
+use Rattle.script_types.specs.declared.fault.Fault.{Fault}
+use Rattle.script_types.specs.declared.fault.Fault.TheVariants as fault
+use Rattle.chunk_files.specs.declared.fault.Stop.{Stop}
+use Rattle.chunk_files.specs.declared.fault.Stop.TheVariants as stop
+use Rattle.media_files.specs.Media.{Answer, Answers, media_of, are_small, AreChunks, FileGives, FilesGive}
 
 abbrev pub OneFile : Type 0
 OneFile = (bytes : List ℕ) (one other : List Chunk) → IsChunkFile one bytes → IsChunkFile other bytes → one ≡ other
@@ -22,9 +25,6 @@ pub record OneOfEach : Type 0 where
   pub fault : OneFault
   pub apart : Apart
 
-abbrev Answer : Type 0
-Answer = Result (List Chunk) MediaFault
-
 -- chunks that are small, and the same chunks that are not
 not_both : (a b : List Chunk) → a ≡ b → are_small a ≡ true → are_small b ≡ false → ⊥
 not_both a b is t f = let e : true ≡ false = sym t ∙ (ap are_small is ∙ f) in absurd cc
@@ -36,101 +36,82 @@ same : (k : OneOfEach) (bytes : List ℕ) (a b : List Chunk) → AreChunks bytes
 same k bytes a b p q = k.file bytes a b p.file q.file
 
 -- a file gives one answer
-pub one_answer : (k : OneOfEach) (room n : ℕ) (bytes : Option (List ℕ)) (a b : Answer) → FileGives room n bytes a → FileGives room n bytes b → a ≡ b
-one_answer k room n None (Ok cs) b p q = elim p [ ]
-one_answer k room n None (Err (fault.Unread x)) (Ok cs) p q = elim q [ ]
-one_answer k room n None (Err (fault.Unread x)) (Err fault.LongFile) p q = elim q [ ]
-one_answer k room n None (Err (fault.Unread x)) (Err (fault.Chunks y f)) p q = elim q [ ]
-one_answer k room n None (Err (fault.Unread x)) (Err fault.LongChunk) p q = elim q [ ]
-one_answer k room n None (Err (fault.Unread x)) (Err fault.MuchMedia) p q = elim q [ ]
-one_answer k room n None (Err (fault.Unread x)) (Err fault.NoMemory) p q = elim q [ ]
-one_answer k room n None (Err fault.LongFile) b p q = elim p [ ]
-one_answer k room n None (Err (fault.Chunks x e)) b p q = elim p [ ]
-one_answer k room n None (Err fault.LongChunk) b p q = elim p [ ]
-one_answer k room n None (Err fault.MuchMedia) b p q = elim p [ ]
-one_answer k room n None (Err fault.NoMemory) b p q = elim p [ ]
-one_answer k room n (Some bytes) (Ok cs) (Err (fault.Unread y)) p q = elim q [ ]
-one_answer k room n (Some bytes) (Ok cs) (Err fault.NoMemory) p q = elim q [ ]
-one_answer k room n (Some bytes) (Err (fault.Unread x)) b p q = elim p [ ]
-one_answer k room n (Some bytes) (Err fault.LongFile) (Err (fault.Unread y)) p q = elim q [ ]
-one_answer k room n (Some bytes) (Err fault.LongFile) (Err fault.NoMemory) p q = elim q [ ]
-one_answer k room n (Some bytes) (Err (fault.Chunks x e)) (Err (fault.Unread y)) p q = elim q [ ]
-one_answer k room n (Some bytes) (Err (fault.Chunks x e)) (Err fault.NoMemory) p q = elim q [ ]
-one_answer k room n (Some bytes) (Err fault.LongChunk) (Err (fault.Unread y)) p q = elim q [ ]
-one_answer k room n (Some bytes) (Err fault.LongChunk) (Err fault.NoMemory) p q = elim q [ ]
-one_answer k room n (Some bytes) (Err fault.MuchMedia) (Err (fault.Unread y)) p q = elim q [ ]
-one_answer k room n (Some bytes) (Err fault.MuchMedia) (Err fault.NoMemory) p q = elim q [ ]
-one_answer k room n (Some bytes) (Err fault.NoMemory) b p q = elim p [ ]
-one_answer k room n None (Err (fault.Unread x)) (Err (fault.Unread y)) p q = ap (λ m. Err (fault.Unread m)) (p ∙ sym q)
-one_answer k room n (Some bytes) (Err fault.LongFile) (Err fault.LongFile) p q = refl
-one_answer k room n (Some bytes) (Err fault.LongFile) (Err (fault.Chunks y f)) p (is, le, h) = absurd (omega arith)
-one_answer k room n (Some bytes) (Err fault.LongFile) (Err fault.LongChunk) p (cs, h, small) = absurd (omega (arith, h.short))
-one_answer k room n (Some bytes) (Err fault.LongFile) (Err fault.MuchMedia) p (cs, h, small, lt) = absurd (omega (arith, h.short))
-one_answer k room n (Some bytes) (Err fault.LongFile) (Ok cs) p (h, small, le) = absurd (omega (arith, h.short))
-one_answer k room n (Some bytes) (Err (fault.Chunks x e)) (Err fault.LongFile) (is, le, h) q = absurd (omega arith)
-one_answer k room n (Some bytes) (Err (fault.Chunks x e)) (Err (fault.Chunks y f)) (is, le, h) (js, le', g) = same_chunks x y e f (is ∙ sym js) (k.fault bytes e f h g)
+pub one_answer : (k : OneOfEach) (room : ℕ) (name : List ℕ) (bytes : Option (List ℕ)) (a b : Answer) → FileGives room name bytes a → FileGives room name bytes b → a ≡ b
+one_answer k room name None (Err (stop.Fault (fault.Unread x))) (Err (stop.Fault (fault.Unread y))) p q = ap (λ m. Err (stop.Fault (fault.Unread m))) (p ∙ sym q)
+one_answer k room name None (Err (stop.Fault (fault.Unread x))) b p q = elim q [ ]
+one_answer k room name None a b p q = elim p [ ]
+one_answer k room name (Some bytes) (Err (stop.Fault (fault.TooMany counted.File))) (Err (stop.Fault (fault.TooMany counted.File))) p q = refl
+one_answer k room name (Some bytes) (Err (stop.Fault (fault.TooMany counted.File))) (Err (stop.Fault (fault.Chunks y f))) p (is, le, h) = absurd (omega arith)
+one_answer k room name (Some bytes) (Err (stop.Fault (fault.TooMany counted.File))) (Err (stop.Fault (fault.TooMany counted.Chunk))) p (cs, h, small) = absurd (omega (arith, h.short))
+one_answer k room name (Some bytes) (Err (stop.Fault (fault.TooMany counted.File))) (Err (stop.Fault (fault.TooMany counted.Media))) p (cs, h, small, lt) = absurd (omega (arith, h.short))
+one_answer k room name (Some bytes) (Err (stop.Fault (fault.TooMany counted.File))) (Ok cs) p (h, small, le) = absurd (omega (arith, h.short))
+one_answer k room name (Some bytes) (Err (stop.Fault (fault.TooMany counted.File))) b p q = elim q [ ]
+one_answer k room name (Some bytes) (Err (stop.Fault (fault.Chunks x e))) (Err (stop.Fault (fault.TooMany counted.File))) (is, le, h) q = absurd (omega arith)
+one_answer k room name (Some bytes) (Err (stop.Fault (fault.Chunks x e))) (Err (stop.Fault (fault.Chunks y f))) (is, le, h) (js, le', g) = same_chunks x y e f (is ∙ sym js) (k.fault bytes e f h g)
   where
-    same_chunks : (x y : ℕ) (e f : ChunkFault) → x ≡ y → e ≡ f → ◌≡◌ {A = Answer} (Err (fault.Chunks x e)) (Err (fault.Chunks y f))
+    same_chunks : (x y : List ℕ) (e f : ChunkFault) → x ≡ y → e ≡ f → ◌≡◌ {A = Answer} (Err (stop.Fault (fault.Chunks x e))) (Err (stop.Fault (fault.Chunks y f)))
     same_chunks x y e f p q = cc
-one_answer k room n (Some bytes) (Err (fault.Chunks x e)) (Err fault.LongChunk) (is, le, h) (cs, g, small) = absurd (k.apart bytes cs e g.file h)
-one_answer k room n (Some bytes) (Err (fault.Chunks x e)) (Err fault.MuchMedia) (is, le, h) (cs, g, small, lt) = absurd (k.apart bytes cs e g.file h)
-one_answer k room n (Some bytes) (Err (fault.Chunks x e)) (Ok cs) (is, le, h) (g, small, fits) = absurd (k.apart bytes cs e g.file h)
-one_answer k room n (Some bytes) (Err fault.LongChunk) (Err fault.LongFile) (cs, h, small) q = absurd (omega (arith, h.short))
-one_answer k room n (Some bytes) (Err fault.LongChunk) (Err (fault.Chunks y f)) (cs, h, small) (is, le, g) = absurd (k.apart bytes cs f h.file g)
-one_answer k room n (Some bytes) (Err fault.LongChunk) (Err fault.LongChunk) p q = refl
-one_answer k room n (Some bytes) (Err fault.LongChunk) (Err fault.MuchMedia) (cs, h, small) (ds, g, small', lt) = absurd (not_both ds cs (same k bytes ds cs g h) small' small)
-one_answer k room n (Some bytes) (Err fault.LongChunk) (Ok ds) (cs, h, small) (g, small', le) = absurd (not_both ds cs (same k bytes ds cs g h) small' small)
-one_answer k room n (Some bytes) (Err fault.MuchMedia) (Err fault.LongFile) (cs, h, small, lt) q = absurd (omega (arith, h.short))
-one_answer k room n (Some bytes) (Err fault.MuchMedia) (Err (fault.Chunks y f)) (cs, h, small, lt) (is, le, g) = absurd (k.apart bytes cs f h.file g)
-one_answer k room n (Some bytes) (Err fault.MuchMedia) (Err fault.LongChunk) (cs, h, small, lt) (ds, g, small') = absurd (not_both cs ds (same k bytes cs ds h g) small small')
-one_answer k room n (Some bytes) (Err fault.MuchMedia) (Err fault.MuchMedia) p q = refl
-one_answer k room n (Some bytes) (Err fault.MuchMedia) (Ok ds) (cs, h, small, lt) (g, small', le) = absurd (too_many room ds cs (same k bytes ds cs g h) le lt)
-one_answer k room n (Some bytes) (Ok cs) (Err fault.LongFile) (h, small, le) q = absurd (omega (arith, h.short))
-one_answer k room n (Some bytes) (Ok cs) (Err (fault.Chunks y f)) (h, small, le) (is, le', g) = absurd (k.apart bytes cs f h.file g)
-one_answer k room n (Some bytes) (Ok cs) (Err fault.LongChunk) (h, small, le) (ds, g, small') = absurd (not_both cs ds (same k bytes cs ds h g) small small')
-one_answer k room n (Some bytes) (Ok cs) (Err fault.MuchMedia) (h, small, le) (ds, g, small', lt) = absurd (too_many room cs ds (same k bytes cs ds h g) le lt)
-one_answer k room n (Some bytes) (Ok cs) (Ok ds) (h, small, le) (g, small', le') = ap Ok (same k bytes cs ds h g)
+one_answer k room name (Some bytes) (Err (stop.Fault (fault.Chunks x e))) (Err (stop.Fault (fault.TooMany counted.Chunk))) (is, le, h) (cs, g, small) = absurd (k.apart bytes cs e g.file h)
+one_answer k room name (Some bytes) (Err (stop.Fault (fault.Chunks x e))) (Err (stop.Fault (fault.TooMany counted.Media))) (is, le, h) (cs, g, small, lt) = absurd (k.apart bytes cs e g.file h)
+one_answer k room name (Some bytes) (Err (stop.Fault (fault.Chunks x e))) (Ok cs) (is, le, h) (g, small, fits) = absurd (k.apart bytes cs e g.file h)
+one_answer k room name (Some bytes) (Err (stop.Fault (fault.Chunks x e))) b p q = elim q [ ]
+one_answer k room name (Some bytes) (Err (stop.Fault (fault.TooMany counted.Chunk))) (Err (stop.Fault (fault.TooMany counted.File))) (cs, h, small) q = absurd (omega (arith, h.short))
+one_answer k room name (Some bytes) (Err (stop.Fault (fault.TooMany counted.Chunk))) (Err (stop.Fault (fault.Chunks y f))) (cs, h, small) (is, le, g) = absurd (k.apart bytes cs f h.file g)
+one_answer k room name (Some bytes) (Err (stop.Fault (fault.TooMany counted.Chunk))) (Err (stop.Fault (fault.TooMany counted.Chunk))) p q = refl
+one_answer k room name (Some bytes) (Err (stop.Fault (fault.TooMany counted.Chunk))) (Err (stop.Fault (fault.TooMany counted.Media))) (cs, h, small) (ds, g, small', lt) = absurd (not_both ds cs (same k bytes ds cs g h) small' small)
+one_answer k room name (Some bytes) (Err (stop.Fault (fault.TooMany counted.Chunk))) (Ok ds) (cs, h, small) (g, small', le) = absurd (not_both ds cs (same k bytes ds cs g h) small' small)
+one_answer k room name (Some bytes) (Err (stop.Fault (fault.TooMany counted.Chunk))) b p q = elim q [ ]
+one_answer k room name (Some bytes) (Err (stop.Fault (fault.TooMany counted.Media))) (Err (stop.Fault (fault.TooMany counted.File))) (cs, h, small, lt) q = absurd (omega (arith, h.short))
+one_answer k room name (Some bytes) (Err (stop.Fault (fault.TooMany counted.Media))) (Err (stop.Fault (fault.Chunks y f))) (cs, h, small, lt) (is, le, g) = absurd (k.apart bytes cs f h.file g)
+one_answer k room name (Some bytes) (Err (stop.Fault (fault.TooMany counted.Media))) (Err (stop.Fault (fault.TooMany counted.Chunk))) (cs, h, small, lt) (ds, g, small') = absurd (not_both cs ds (same k bytes cs ds h g) small small')
+one_answer k room name (Some bytes) (Err (stop.Fault (fault.TooMany counted.Media))) (Err (stop.Fault (fault.TooMany counted.Media))) p q = refl
+one_answer k room name (Some bytes) (Err (stop.Fault (fault.TooMany counted.Media))) (Ok ds) (cs, h, small, lt) (g, small', le) = absurd (too_many room ds cs (same k bytes ds cs g h) le lt)
+one_answer k room name (Some bytes) (Err (stop.Fault (fault.TooMany counted.Media))) b p q = elim q [ ]
+one_answer k room name (Some bytes) (Ok cs) (Err (stop.Fault (fault.TooMany counted.File))) (h, small, le) q = absurd (omega (arith, h.short))
+one_answer k room name (Some bytes) (Ok cs) (Err (stop.Fault (fault.Chunks y f))) (h, small, le) (is, le', g) = absurd (k.apart bytes cs f h.file g)
+one_answer k room name (Some bytes) (Ok cs) (Err (stop.Fault (fault.TooMany counted.Chunk))) (h, small, le) (ds, g, small') = absurd (not_both cs ds (same k bytes cs ds h g) small small')
+one_answer k room name (Some bytes) (Ok cs) (Err (stop.Fault (fault.TooMany counted.Media))) (h, small, le) (ds, g, small', lt) = absurd (too_many room cs ds (same k bytes cs ds h g) le lt)
+one_answer k room name (Some bytes) (Ok cs) (Ok ds) (h, small, le) (g, small', le') = ap Ok (same k bytes cs ds h g)
+one_answer k room name (Some bytes) (Ok cs) b p q = elim q [ ]
+one_answer k room name (Some bytes) a b p q = elim p [ ]
 
 -- two answers that are chunks, or a fault and chunks
-chunks_of : (k : OneOfEach) (room n : ℕ) (bytes : Option (List ℕ)) (cs ds : List Chunk) → FileGives room n bytes (Ok cs) → FileGives room n bytes (Ok ds) → cs ≡ ds
-chunks_of k room n None cs ds p q = elim p [ ]
-chunks_of k room n (Some bytes) cs ds (h, small, le) (g, small', le') = same k bytes cs ds h g
+chunks_of : (k : OneOfEach) (room : ℕ) (name : List ℕ) (bytes : Option (List ℕ)) (cs ds : List Chunk) → FileGives room name bytes (Ok cs) → FileGives room name bytes (Ok ds) → cs ≡ ds
+chunks_of k room name None cs ds p q = elim p [ ]
+chunks_of k room name (Some bytes) cs ds (h, small, le) (g, small', le') = same k bytes cs ds h g
 
-not_a_fault : (k : OneOfEach) (room n : ℕ) (bytes : Option (List ℕ)) (cs : List Chunk) (e : MediaFault) → FileGives room n bytes (Ok cs) → FileGives room n bytes (Err e) → ⊥
-not_a_fault k room n bytes cs e p q = let is = one_answer k room n bytes (Ok cs) (Err e) p q in absurd cc
+not_a_fault : (k : OneOfEach) (room : ℕ) (name : List ℕ) (bytes : Option (List ℕ)) (cs : List Chunk) (e : Stop Fault) → FileGives room name bytes (Ok cs) → FileGives room name bytes (Err e) → ⊥
+not_a_fault k room name bytes cs e p q = let is = one_answer k room name bytes (Ok cs) (Err e) p q in absurd cc
 
-abbrev Media : Type 0
-Media = Result (List (List Chunk)) MediaFault
-
-pub one_media : (k : OneOfEach) (files : List ℕ → Option (List ℕ)) (names : List (List ℕ)) (room n : ℕ) (a b : Media) → FilesGive files room n names a → FilesGive files room n names b → a ≡ b
-one_media k files [] room n (Ok x) (Err e) p q = elim q [ ]
-one_media k files [] room n (Err e) b p q = elim p [ ]
-one_media k files (name ∷ names) room n (Ok []) b p q = elim p [ ]
-one_media k files (name ∷ names) room n (Ok (x ∷ xs)) (Ok []) p q = elim q [ ]
-one_media k files (name ∷ names) room n (Err e) (Ok []) p q = elim q [ ]
-one_media k files [] room n (Ok x) (Ok y) p q = ap Ok (p ∙ sym q)
-one_media k files (name ∷ names) room n (Ok (x ∷ xs)) (Ok (y ∷ ys)) (p, ps) (q, qs) =
-    let is = chunks_of k room n (files name) x y p q in
-    both x y xs ys is (one_media k files names (room - media_of y) (n + 1) (Ok xs) (Ok ys) (subst (λ c. FilesGive files (room - media_of c) (n + 1) names (Ok xs)) is ps) qs)
+pub one_media : (k : OneOfEach) (files : List ℕ → Option (List ℕ)) (names : List (List ℕ)) (room : ℕ) (a b : Answers) → FilesGive files room names a → FilesGive files room names b → a ≡ b
+one_media k files [] room (Ok x) (Err e) p q = elim q [ ]
+one_media k files [] room (Err e) b p q = elim p [ ]
+one_media k files (name ∷ names) room (Ok []) b p q = elim p [ ]
+one_media k files (name ∷ names) room (Ok (x ∷ xs)) (Ok []) p q = elim q [ ]
+one_media k files (name ∷ names) room (Err e) (Ok []) p q = elim q [ ]
+one_media k files [] room (Ok x) (Ok y) p q = ap Ok (p ∙ sym q)
+one_media k files (name ∷ names) room (Ok (x ∷ xs)) (Ok (y ∷ ys)) (p, ps) (q, qs) =
+    let is = chunks_of k room name (files name) x y p q in
+    both x y xs ys is (one_media k files names (room - media_of y) (Ok xs) (Ok ys) (subst (λ c. FilesGive files (room - media_of c) names (Ok xs)) is ps) qs)
   where
-    both : (x y : List Chunk) (xs ys : List (List Chunk)) → x ≡ y → ◌≡◌ {A = Media} (Ok xs) (Ok ys) → ◌≡◌ {A = Media} (Ok (x ∷ xs)) (Ok (y ∷ ys))
+    both : (x y : List Chunk) (xs ys : List (List Chunk)) → x ≡ y → ◌≡◌ {A = Answers} (Ok xs) (Ok ys) → ◌≡◌ {A = Answers} (Ok (x ∷ xs)) (Ok (y ∷ ys))
     both x y xs ys p q = cc
-one_media k files (name ∷ names) room n (Ok (x ∷ xs)) (Err e) (p, ps) (inl q) = absurd (not_a_fault k room n (files name) x e p q)
-one_media k files (name ∷ names) room n (Ok (x ∷ xs)) (Err e) (p, ps) (inr (y, q, qs)) =
-    let is = chunks_of k room n (files name) x y p q in
-    let no = one_media k files names (room - media_of y) (n + 1) (Ok xs) (Err e) (subst (λ c. FilesGive files (room - media_of c) (n + 1) names (Ok xs)) is ps) qs in
+one_media k files (name ∷ names) room (Ok (x ∷ xs)) (Err e) (p, ps) (inl q) = absurd (not_a_fault k room name (files name) x e p q)
+one_media k files (name ∷ names) room (Ok (x ∷ xs)) (Err e) (p, ps) (inr (y, q, qs)) =
+    let is = chunks_of k room name (files name) x y p q in
+    let no = one_media k files names (room - media_of y) (Ok xs) (Err e) (subst (λ c. FilesGive files (room - media_of c) names (Ok xs)) is ps) qs in
     absurd cc
-one_media k files (name ∷ names) room n (Err e) (Ok (x ∷ xs)) (inl q) (p, ps) = absurd (not_a_fault k room n (files name) x e p q)
-one_media k files (name ∷ names) room n (Err e) (Ok (x ∷ xs)) (inr (y, q, qs)) (p, ps) =
-    let is = chunks_of k room n (files name) x y p q in
-    let no = one_media k files names (room - media_of y) (n + 1) (Ok xs) (Err e) (subst (λ c. FilesGive files (room - media_of c) (n + 1) names (Ok xs)) is ps) qs in
+one_media k files (name ∷ names) room (Err e) (Ok (x ∷ xs)) (inl q) (p, ps) = absurd (not_a_fault k room name (files name) x e p q)
+one_media k files (name ∷ names) room (Err e) (Ok (x ∷ xs)) (inr (y, q, qs)) (p, ps) =
+    let is = chunks_of k room name (files name) x y p q in
+    let no = one_media k files names (room - media_of y) (Ok xs) (Err e) (subst (λ c. FilesGive files (room - media_of c) names (Ok xs)) is ps) qs in
     absurd cc
-one_media k files (name ∷ names) room n (Err e) (Err f) (inl p) (inl q) = again (one_answer k room n (files name) (Err e) (Err f) p q)
+one_media k files (name ∷ names) room (Err e) (Err f) (inl p) (inl q) = again (one_answer k room name (files name) (Err e) (Err f) p q)
   where
-    again : ◌≡◌ {A = Answer} (Err e) (Err f) → ◌≡◌ {A = Media} (Err e) (Err f)
+    again : ◌≡◌ {A = Answer} (Err e) (Err f) → ◌≡◌ {A = Answers} (Err e) (Err f)
     again is = cc
-one_media k files (name ∷ names) room n (Err e) (Err f) (inl p) (inr (y, q, qs)) = absurd (not_a_fault k room n (files name) y e q p)
-one_media k files (name ∷ names) room n (Err e) (Err f) (inr (x, p, ps)) (inl q) = absurd (not_a_fault k room n (files name) x f p q)
-one_media k files (name ∷ names) room n (Err e) (Err f) (inr (x, p, ps)) (inr (y, q, qs)) =
-    let is = chunks_of k room n (files name) x y p q in
-    one_media k files names (room - media_of y) (n + 1) (Err e) (Err f) (subst (λ c. FilesGive files (room - media_of c) (n + 1) names (Err e)) is ps) qs
+one_media k files (name ∷ names) room (Err e) (Err f) (inl p) (inr (y, q, qs)) = absurd (not_a_fault k room name (files name) y e q p)
+one_media k files (name ∷ names) room (Err e) (Err f) (inr (x, p, ps)) (inl q) = absurd (not_a_fault k room name (files name) x f p q)
+one_media k files (name ∷ names) room (Err e) (Err f) (inr (x, p, ps)) (inr (y, q, qs)) =
+    let is = chunks_of k room name (files name) x y p q in
+    one_media k files names (room - media_of y) (Err e) (Err f) (subst (λ c. FilesGive files (room - media_of c) names (Err e)) is ps) qs

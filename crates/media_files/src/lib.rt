@@ -1,10 +1,8 @@
 //! The chunk files that a script mentions, read in order of first mention, each within its limits.
 #![tactic(auto)]
 
-mod fault;
 mod laws;
 mod read;
 
-pub use fault::MediaFault;
 pub use laws::media_have_one_reading;
 pub use read::read_media;

@@ -1,13 +1,12 @@
 // Reads the chunk files of a script.
-ghost use Rattle.std.specs.Prelude.{◌≡◌, ◌≢◌, ◌≤◌, ◌<◌, ◌+◌, true, ◌-◌, IfOk, IfErr, IfSome, IfNone, Some, Ok, Err, length};
+ghost use Rattle.std.specs.Prelude.{◌≡◌, ◌≢◌, ◌⊎◌, ◌≤◌, ◌<◌, ◌+◌, true, ◌-◌, IfOk, IfErr, IfSome, IfNone, Some, Ok, Err, length};
 ghost use Rattle.wc_base.specs.Causes.{Rose, RoseBy};
 ghost use Rattle.media_files.specs.Media.{are_small, media_of, FileGives, FilesGive, GivesMedia, MayFail, MayFailAt};
 ghost use Rattle.media_files.specs.Media as spec;
 ghost use Rattle.script_types.specs.Sound.{most_media};
 
-use crate::MediaFault;
 use chunk_files::{ChunkFault, read_chunks};
-use script_types::Script;
+use script_types::{Counted, Fault, Script, Stop, copied, unread};
 use std::alloc::Global;
 use wc_base::{FileFault, Files, List, Text};
 use wc_chunk::Chunk;
@@ -41,82 +40,96 @@ fn room_after(chunks: &[Chunk], room: u64) -> Option<u64>
     Some(left)
 }
 
+// Why there are no chunks, where the bytes of the file of this name are no chunk file.
+fn no_chunks(alloc: Global, name: &str, fault: ChunkFault) -> Stop<Fault>
+    ensures { result ≡ Stop.NoMemory ⊎ result ≡ Stop.Fault (Fault.Chunks name.now fault) }
+{
+    match copied(alloc, name) {
+        Ok(name) => Stop::Fault(Fault::Chunks { name, fault }),
+        Err(_) => Stop::NoMemory,
+    }
+}
+
 // The chunks of one file's bytes, which are no more than a file may have, and the bytes of media that may come after.
 fn read_bytes(
     alloc: Global,
-    n: u64,
+    name: &str,
     bytes: &[u8],
     room: u64,
-) -> Result<(List<Chunk>, u64), MediaFault>
+) -> Result<(List<Chunk>, u64), Stop<Fault>>
     requires { length bytes.now ≤ 268435456 }
-    ensures ok { IfOk result (λ r. FileGives room n (Some bytes.now) (Ok r.0)) }
+    ensures ok { IfOk result (λ r. FileGives room name.now (Some bytes.now) (Ok r.0)) }
     ensures left { IfOk result (λ r. r.1 ≡ room - media_of r.0) }
-    ensures err { IfErr result (λ e. e ≢ MediaFault.NoMemory → FileGives room n (Some bytes.now) (Err e)) }
+    ensures err { IfErr result
+        (λ e. e ≢ Stop.NoMemory → FileGives room name.now (Some bytes.now) (Err e)) }
 {
     let chunks = match read_chunks(alloc, bytes) {
         Ok(chunks) => chunks,
-        Err(ChunkFault::NoMemory) => return Err(MediaFault::NoMemory),
-        Err(fault) => return Err(MediaFault::Chunks { file: n, fault }),
+        Err(Stop::NoMemory) => return Err(Stop::NoMemory),
+        Err(Stop::Fault(fault)) => return Err(no_chunks(alloc, name, fault)),
     };
     if !are_small(&chunks) {
-        return Err(MediaFault::LongChunk);
+        return Err(Stop::Fault(Fault::TooMany(Counted::Chunk)));
     }
     match room_after(&chunks, room) {
         Some(left) => Ok((List::of(chunks), left)),
-        None => Err(MediaFault::MuchMedia),
+        None => Err(Stop::Fault(Fault::TooMany(Counted::Media))),
     }
 }
 
 // The chunks of one file, and the bytes of media that may come after.
 fn read_file<F: Files>(
     alloc: Global,
-    n: u64,
     name: &str,
     room: u64,
     files: &mut F,
-) -> Result<(List<Chunk>, u64), MediaFault>
+) -> Result<(List<Chunk>, u64), Stop<Fault>>
     ensures kept { F.content files.new ≡ F.content files.old }
     ensures faults { F.faults files.old ≤ F.faults files.new }
     ensures bytes { F.bytes_read files.old ≤ F.bytes_read files.new }
-    ensures ok { IfOk result (λ r. IfSome (F.content files.old) (λ c. FileGives room n (c name.now) (Ok r.0))) }
+    ensures ok { IfOk result
+        (λ r. IfSome (F.content files.old) (λ c. FileGives room name.now (c name.now) (Ok r.0))) }
     ensures left { IfOk result (λ r. r.1 ≡ room - media_of r.0) }
-    ensures err { IfErr result (λ e. MayFailAt (F.content files.old) room n name.now (F.faults files.old) (F.faults files.new) (F.bytes_read files.old) (F.bytes_read files.new) e) }
+    ensures err { IfErr result (λ e. MayFailAt (F.content files.old) room name.now
+        (F.faults files.old) (F.faults files.new) (F.bytes_read files.old) (F.bytes_read files.new) e) }
 {
     match files.read_all(alloc, name, MOST_FILE) {
-        Ok(bytes) => read_bytes(alloc, n, &bytes, room),
-        Err(FileFault::Failed) => Err(MediaFault::Unread { file: n }),
-        Err(FileFault::TooLong) => Err(MediaFault::LongFile),
-        Err(FileFault::NoMemory) => Err(MediaFault::NoMemory),
+        Ok(bytes) => read_bytes(alloc, name, &bytes, room),
+        Err(FileFault::Failed) => Err(unread(alloc, name)),
+        Err(FileFault::TooLong) => Err(Stop::Fault(Fault::TooMany(Counted::File))),
+        Err(FileFault::NoMemory) => Err(Stop::NoMemory),
     }
 }
 
 /// Reads the chunk files that the script mentions, in order of first mention: the chunks of each.
 ///
-/// `Unread` where a file is not there or a read of it failed. `LongFile` for a file of more than 268,435,456 bytes,
-/// `Chunks` for one that is no chunk file, `LongChunk` for a chunk of more than 16,777,216 bytes, and `MuchMedia` where
-/// the chunks read so far and all inline data have together more than 268,435,456 bytes; the first that applies, file
-/// after file.
+/// `Unread` where a file is not there or a read of it failed. `TooMany` bytes of a `File` where it has more than
+/// 268,435,456, `Chunks` for one that is no chunk file, `TooMany` of a `Chunk` of more than 16,777,216 bytes, and of
+/// `Media` where the chunks read so far and all inline data have together more than 268,435,456 bytes; the first that
+/// applies, file after file.
 pub fn read_media<F: Files>(
     alloc: Global,
     script: &Script,
     files: &mut F,
-) -> Result<Vec<List<Chunk>>, MediaFault>
+) -> Result<Vec<List<Chunk>>, Stop<Fault>>
     ensures kept { F.content files.new ≡ F.content files.old }
     ensures faults { F.faults files.old ≤ F.faults files.new }
     ensures bytes { F.bytes_read files.old ≤ F.bytes_read files.new }
-    ensures ok { IfOk result (λ m. IfSome (F.content files.old) (λ c. GivesMedia c script.now (Ok m.items))) }
+    ensures ok { IfOk result
+        (λ m. IfSome (F.content files.old) (λ c. GivesMedia c script.now (Ok m.items))) }
     ensures each { IfOk result (λ m. length m.items ≡ length script.now.chunk_files) }
-    ensures err { IfErr result (λ e. MayFail (F.content files.old) script.now (F.faults files.old) (F.faults files.new) (F.bytes_read files.old) (F.bytes_read files.new) e) }
+    ensures err { IfErr result (λ e. MayFail (F.content files.old) script.now
+        (F.faults files.old) (F.faults files.new) (F.bytes_read files.old) (F.bytes_read files.new) e) }
 {
     let mut made = Vec::new(alloc);
     let mut room = room_for_files(script);
     for (n, name) in script.files().iter().enumerate() {
-        match read_file(alloc, n as u64, name.as_str(), room, files) {
+        match read_file(alloc, name.as_str(), room, files) {
             Ok((chunks, left)) => {
                 made.push(chunks)?;
                 room = left;
             }
-            Err(fault) => return Err(fault),
+            Err(stop) => return Err(stop),
         }
     }
     Ok(made)

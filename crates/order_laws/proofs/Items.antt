@@ -1,9 +1,8 @@
 -- Each item of a sound script's order makes a move that fits.
-use Rattle.std.proofs.Common.{ℕ, zero, suc, ◌≡◌, ◌≤◌, ◌<◌, ◌⊎◌, inl, inr, Bool, true, false, cond, List, [], ◌∷◌, take, length, map, Option, Some, None, is_some, refl, ap, sym, subst, ◌∙◌, arith}
+use Rattle.std.proofs.Common.{ℕ, zero, suc, ◌≡◌, ◌≤◌, ◌<◌, ◌⊎◌, inl, inr, Bool, true, false, cond, List, [], ◌∷◌, take, length, Option, Some, None, is_some, refl, ap, sym, subst, ◌∙◌, arith}
 use Rattle.std.proofs.Math.Seq.{take-length}
 use Rattle.std.specs.Prelude.{slice_get, option_map, unwrap_or, ◌==◌}
-use Rattle.std.proofs.lemmas.Option.{slice_get_past, some_pair_parts}
-use Rattle.std.proofs.lemmas.Bool.{cases_Bool}
+use Rattle.std.proofs.lemmas.Option.{slice_get_past}
 use Rattle.wc_base.specs.declared.error.DomError.{DomError}
 use Rattle.wc_base.specs.declared.error.DomError.TheVariants as dom
 use Rattle.wc_base.specs.declared.who.Who.{Who}
@@ -29,7 +28,7 @@ use Rattle.codec_accounts.specs.Calls as mark
 use Rattle.codec_accounts.specs.CallsLaws.{MayClimb}
 use Rattle.codec_accounts.specs.Codec.{CodecValue, new_codec, state_after, state_of, codec_at, histories}
 use Rattle.codec_accounts.specs.StartLaws.{EndFits}
-use Rattle.codec_accounts.specs.AccountLaws.{Accounted, EntryFits, history_at}
+use Rattle.codec_accounts.specs.AccountLaws.{EntryFits, history_at}
 use Rattle.script_types.specs.declared.script.CallerItem.{CallerItem}
 use Rattle.script_types.specs.declared.script.CodecItem.{CodecItem}
 use Rattle.script_types.specs.declared.script.OrderItem.{OrderItem}
@@ -41,12 +40,11 @@ use Rattle.script_types.specs.declared.steps.Variable.{Variable}
 use Rattle.report_text.specs.declared.result.StepResult.{StepResult}
 use Rattle.report_text.specs.declared.result.StepResult.TheVariants as result
 use Rattle.trace_text.specs.Report.{refusal_in}
-use Rattle.trace_text.specs.Follow.{Recorded, Course, record_of, opening_in, opening_at, promise_after, steps_in, steps_of, chunk_at, source_error, with_result, Move, Idle, Answer, Advance, Ask, start_entry, outcome_by, outcome_for, end_of, done_entry, turn_on, turn_entry, reclaim_entry, item_entry, advance, call_move, decode_move, removal_move, look_of_flush, look_of_state, step_move, next_move, item_move}
+use Rattle.trace_text.specs.Follow.{Recorded, Course, record_of, opening_in, opening_at, promise_after, steps_in, steps_of, chunk_at, source_error, with_result, Answer, outcome_for, end_of, turn_on, item_entry, advance, decode_move, look_of_flush, look_of_state, step_move, next_move, item_move}
 use Rattle.trace_text.specs.Fits.{result_in, step_in, called, mark_of, IsResultOf, LookShows, IsLocalAnswer, HasArguments}
 use Rattle.order_laws.specs.Sound.{IsSound, promise_of, IsFlush}
 use Rattle.order_laws.proofs.Legal.{Steps, MayBeRefused, call_legal, start_legal, done_legal, turn_legal, reclaim_legal}
-use Rattle.order_laws.proofs.Grown.{ResultFits}
-use Rattle.order_laws.proofs.Moves.{Stands, next_who, AnswerFits, AdvanceFits, AskFits, MoveFits}
+use Rattle.order_laws.proofs.Moves.{Stands, next_who, AnswerFits, AskFits, MoveFits}
 
 steps_within : (cs : List CallerItem) (c j : ℕ) (x : Step) → slice_get (steps_in cs c) j ≡ Some x → c < length cs
 steps_within [] c j x h = absurd cc

@@ -17,7 +17,7 @@ use Rattle.codec_model.specs.declared.entry.Entry.TheVariants as entry
 use Rattle.codec_model.specs.Control.{may_start, front, start_item, may_reclaim}
 use Rattle.codec_model.specs.Replay.{State, step, opening_state, replay, answer_to, entry_of, start_step, done_step, done_ended, ended_of, IsLegal}
 use Rattle.codec_model.specs.Shown.{shown_at, each_shown, each_shown_from}
-use Rattle.codec_model.proofs.ShownLaws.{replay_append, each_append, each_more, each_length}
+use Rattle.codec_model.specs.ShownLaws.{each_append, each_more, each_length}
 use Rattle.codec_accounts.specs.Codec.{state_after}
 use Rattle.codec_accounts.specs.ListLaws.{get_within, get_end}
 use Rattle.trace_text.specs.Follow.{outcome_by, outcome_for}

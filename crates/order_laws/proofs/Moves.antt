@@ -1,6 +1,6 @@
 -- What stands of a course stands after each kind of move.
 use Rattle.std.proofs.Common.{ℕ, zero, suc, ◌≡◌, ◌≢◌, ◌≤◌, ◌<◌, ◌++◌, ◌⊎◌, inl, inr, Bool, true, false, cond, eq-eqb, List, [], ◌∷◌, length, length-append, map, Option, Some, None, refl, ap, sym, subst, ◌∙◌, arith, append-nil}
-use Rattle.std.specs.Prelude.{slice_get, slice_set, option_and_then, ◌==◌}
+use Rattle.std.specs.Prelude.{slice_get, option_and_then, ◌==◌}
 use Rattle.std.specs.List.{sum_by}
 use Rattle.std.proofs.lemmas.Bool.{cases_eq}
 use Rattle.wc_base.specs.declared.error.DomError.{DomError}
@@ -11,15 +11,14 @@ use Rattle.codec_model.specs.declared.entry.Entry.{Entry}
 use Rattle.codec_model.specs.declared.entry.Entry.TheVariants as entry
 use Rattle.codec_model.specs.declared.entry.Opening.{Opening}
 use Rattle.codec_model.specs.declared.entry.Shown.{Shown}
-use Rattle.codec_model.specs.Replay.{State, step as entry_step, replay, IsLegal}
+use Rattle.codec_model.specs.Replay.{State, step as entry_step, IsLegal}
 use Rattle.codec_model.specs.Shown.{shows}
-use Rattle.codec_accounts.specs.Bags.{SameBag}
 use Rattle.codec_accounts.specs.Owed.{at, append_at}
-use Rattle.codec_accounts.specs.ListLaws.{IsNew, append_at_length, at_same, at_other, at_grows, result_kept, result_more, result_new, there}
+use Rattle.codec_accounts.specs.ListLaws.{IsNew, append_at_length, at_same, at_other, at_grows, result_kept, result_more, there}
 use Rattle.codec_accounts.specs.Calls.{who_of, Mark, reach, named_at, named, call_in, all_calls, Climbs}
 use Rattle.codec_accounts.specs.Calls as mark
 use Rattle.codec_accounts.specs.CallsLaws.{named_more, calls_in_more, climbs_on, climbs_add, MayClimb}
-use Rattle.codec_accounts.specs.Codec.{CodecValue, state_after, state_of, codec_at, codecs_after, histories, after_entry, slots_by, slots_after, next_by, step_by, BoxStep, Keep, Give, Renew}
+use Rattle.codec_accounts.specs.Codec.{CodecValue, state_after, state_of, codec_at, histories, after_entry, slots_after, next_by, step_by, BoxStep, Keep, Give, Renew}
 use Rattle.codec_accounts.specs.AccountLaws.{Accounted, EntryFits, accounted_more, histories_more, history_at, histories_count, set_here, set_other, set_count}
 use Rattle.script_types.specs.declared.script.ScriptData.{ScriptData}
 use Rattle.script_types.specs.declared.steps.Step.{Step}
@@ -28,8 +27,7 @@ use Rattle.report_text.specs.declared.result.StepResult.{StepResult}
 use Rattle.report_text.specs.declared.result.StepResult.TheVariants as result
 use Rattle.trace_text.specs.Report.{refusal_in}
 use Rattle.trace_text.specs.Follow.{Recorded, Course, record_of, opening_at, with_result, with_entry, Move, Idle, Answer, Advance, Ask, after_move}
-use Rattle.trace_text.specs.Fits.{result_in, entry_in, step_in, called, exception_at, mark_of, marks_of, IsResultOf, LookShows, IsLocalAnswer, HasArguments, ArgumentsAreIn, MarksClimb}
-use Rattle.trace_text.specs.FitsLaws.{look_of}
+use Rattle.trace_text.specs.Fits.{result_in, step_in, called, exception_at, mark_of, marks_of, IsResultOf, LookShows, IsLocalAnswer, HasArguments, ArgumentsAreIn, MarksClimb}
 use Rattle.order_laws.proofs.Legal.{shown_last}
 use Rattle.order_laws.proofs.Grown.{Legals, Grows, ResultFits, result_stays}
 

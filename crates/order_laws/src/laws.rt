@@ -15,12 +15,20 @@ ghost use Rattle.script_types.specs.declared.script.ScriptData.{ScriptData};
 /// A law: a run that follows the order of a sound script, with these chunks of its chunk files, fits the script, and each
 /// codec's history in such a run is legal.
 pub fn following_fits()
-    ensures fits { (script : ScriptData) (media : List (List Chunk)) (made : List CoderId) (run : Run) → IsSound script → FollowsTheOrder script media made run → Fits script media made run }
-    ensures legal { (script : ScriptData) (media : List (List Chunk)) (made : List CoderId) (run : Run) (k : ℕ) → IsSound script → FollowsTheOrder script media made run → IsLegal (opening_at script k) (at k (recorded_of run).codecs) }
+    ensures fits { (script : ScriptData) (media : List (List Chunk)) (made : List CoderId)
+        (run : Run)
+        → IsSound script → FollowsTheOrder script media made run → Fits script media made run }
+    ensures legal { (script : ScriptData) (media : List (List Chunk)) (made : List CoderId)
+        (run : Run) (k : ℕ)
+        → IsSound script → FollowsTheOrder script media made run
+        → IsLegal (opening_at script k) (at k (recorded_of run).codecs) }
 {}
 
 /// A law: a course that follows some items from the beginning of a sound script on has the script's codecs, with legal
 /// histories, and boxes that may be given back.
 pub fn following_stands()
-    ensures { (script : ScriptData) (media : List (List Chunk)) (made : List CoderId) (items : List OrderItem) (course : Course) → IsSound script → Follows script media items (nothing_yet script made) course → IsCourse script made course }
+    ensures { (script : ScriptData) (media : List (List Chunk)) (made : List CoderId)
+        (items : List OrderItem) (course : Course)
+        → IsSound script → Follows script media items (nothing_yet script made) course
+        → IsCourse script made course }
 {}

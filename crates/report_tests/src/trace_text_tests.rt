@@ -113,7 +113,7 @@ fn quiet(alloc: Global) -> Shown {
     }
 }
 
-fn turned(alloc: Global, word: TurnWord) -> Shown {
+fn turn_shown(alloc: Global, word: TurnWord) -> Shown {
     Shown {
         turn: Some(word),
         events: List::empty(alloc),
@@ -159,8 +159,8 @@ fn shown(alloc: Global) -> Result<Vec<Shown>, Fail> {
     for _ in 0..5 {
         shown.push(quiet(alloc))?;
     }
-    shown.push(turned(alloc, TurnWord::Unblock))?;
-    shown.push(turned(alloc, TurnWord::Process))?;
+    shown.push(turn_shown(alloc, TurnWord::Unblock))?;
+    shown.push(turn_shown(alloc, TurnWord::Process))?;
     shown.push(quiet(alloc))?;
     shown.push(quiet(alloc))?;
     shown.push(showing(alloc, TurnWord::Dequeue, Event::Dequeue)?)?;
@@ -301,7 +301,7 @@ fn coded(alloc: Global) -> Result<Event, Fail> {
     Ok(Event::Output { number: 1, unit })
 }
 
-fn unturned(alloc: Global, event: Event) -> Result<Shown, Fail> {
+fn shown_alone(alloc: Global, event: Event) -> Result<Shown, Fail> {
     Ok(Shown {
         turn: None,
         events: List::of(vec![in alloc; event]?),
@@ -320,12 +320,12 @@ fn closed(alloc: Global) -> Result<Shown, Fail> {
 
 fn other_shown(alloc: Global) -> Result<Vec<Shown>, Fail> {
     let mut shown = Vec::new(alloc);
-    shown.push(unturned(alloc, Event::Refusal(DomError::InvalidState))?)?;
+    shown.push(shown_alone(alloc, Event::Refusal(DomError::InvalidState))?)?;
     let rejected = Event::Reject {
         promise: 1,
         error: DomError::Abort,
     };
-    shown.push(unturned(alloc, rejected)?)?;
+    shown.push(shown_alone(alloc, rejected)?)?;
     for _ in 0..3 {
         shown.push(quiet(alloc))?;
     }

@@ -46,7 +46,8 @@ impl Model for SampleCoder {
 impl SampleCoder {
     /// A stopped decoder or encoder, with no memory.
     pub fn new(role: Role, coding: Coding) -> SampleCoder
-        ensures { result ≡ record { id = record { role = role; codec = id_of coding }; meaning = Stopped } }
+        ensures { result
+            ≡ record { id = record { role = role; codec = id_of coding }; meaning = Stopped } }
     {
         SampleCoder {
             role,
@@ -141,7 +142,8 @@ fn answer(
     out: &mut Vec<Unit>,
 ) -> Result<(), CoderFault>
     requires { IsInRange setting.now }
-    ensures { Answers (answer_in coding setting.now (command_of input.now)) result out.old.items out.new.items }
+    ensures { Answers
+        (answer_in coding setting.now (command_of input.now)) result out.old.items out.new.items }
 {
     match (setting, input) {
         (Setting::Decoder(c), Input::Chunk(chunk)) => decode(alloc, coding, c, chunk, out),

@@ -103,7 +103,8 @@ fn format_of(size: SampleSize) -> SampleFormat
 /// given 32.
 fn samples(alloc: Global, size: SampleSize, bytes: &Bytes) -> Result<Bytes, NoMemory>
     requires { length bytes.now % size_of size ≡ 0 }
-    ensures { IfOk result (λ b. b ≡ resized (size_of size) (format_size (format_of size)) bytes.now) }
+    ensures { IfOk result
+        (λ b. b ≡ resized (size_of size) (format_size (format_of size)) bytes.now) }
 {
     match size {
         SampleSize::Three => shared(widened(alloc, bytes.as_slice())?),

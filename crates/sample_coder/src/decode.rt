@@ -21,7 +21,8 @@ pub fn decode(
     out: &mut Vec<Unit>,
 ) -> Result<(), CoderFault>
     requires { 0 < config.now.channels }
-    ensures { Answers (sample_units (definition coding) config.now chunk.now) result out.old.items out.new.items }
+    ensures { Answers
+        (sample_units (definition coding) config.now chunk.now) result out.old.items out.new.items }
 {
     let frame = coding.size() * config.channels as usize;
     let len = chunk.bytes.len();

@@ -24,7 +24,9 @@ pub fn encode(
 ) -> Result<(), CoderFault>
     requires rate { 0 < config.now.rate }
     requires channels { config.now.channels ≤ 32 }
-    ensures { Answers (sample_chunk (definition coding) config.now (record { shape = shape.now; bytes = bytes.now })) result out.old.items out.new.items }
+    ensures { Answers
+        (sample_chunk (definition coding) config.now
+        (record { shape = shape.now; bytes = bytes.now })) result out.old.items out.new.items }
 {
     if shape.rate != config.rate || shape.channels != config.channels || !is_whole(shape, bytes) {
         return Err(CoderFault::Refused);

@@ -8,7 +8,7 @@ use Rattle.wc_config.specs.declared.kind.Kind.{Kind}
 use Rattle.wc_config.specs.declared.kind.Kind.TheVariants as kind
 use Rattle.script_types.specs.Sound.{suits}
 use Rattle.script_steps.specs.ConfigRead.{codec_in, rate_in, channels_in, flac_in, flac_number, pixels_in, audio_decoder_with, audio_encoder_with, video_decoder_with, config_of}
-use Rattle.script_steps.proofs.Chains.{same_Ok, chain}
+use Rattle.script_steps.specs.Chains.{same_Ok, chain}
 
 audio_decoder_suits : (codec : Option (List ℕ)) (rate channels : Option ℕ) (description : Option (List ℕ))
     → suits (audio_decoder_with codec rate channels description) kind.AudioDecoder ≡ true

@@ -1,7 +1,5 @@
-pub mod Chains
 mod ConfigLaws
 mod FileLaws
-pub mod NameLaws
 mod OptionLaws
 mod ReferenceLaws
 mod SourceLaws

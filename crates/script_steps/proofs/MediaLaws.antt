@@ -19,8 +19,8 @@ use Rattle.script_steps.specs.declared.references.Needed.TheVariants as needed
 use Rattle.script_steps.specs.Words.{data_of_word, byte_count}
 use Rattle.script_steps.specs.References.{unused, variable_if, variable_in, bound_on, given_to, bound_from}
 use Rattle.script_steps.specs.MediaSteps.{checked_size, size_in, options_in, media_by}
-use Rattle.script_steps.proofs.Chains.{same_Ok, chain, needed_some, all_true}
-use Rattle.script_steps.proofs.NameLaws.{name_is_name, name_is_free, variable_is_right}
+use Rattle.script_steps.specs.Chains.{same_Ok, chain, needed_some, all_true}
+use Rattle.script_steps.specs.NameLaws.{name_is_name, name_is_free, variable_is_right}
 use Rattle.script_steps.proofs.ReferenceLaws.{variable_sound, bound_on_sound, given_to_sound, bound_from_sound}
 use Rattle.script_steps.proofs.OptionLaws.{medium_is_copied, options_of_found}
 use Rattle.script_steps.proofs.SourceLaws.{sound_bytes, picture_bytes, step_data}

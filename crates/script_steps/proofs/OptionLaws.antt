@@ -11,7 +11,7 @@ use Rattle.script_types.specs.Sound.{are_options_of}
 use Rattle.script_steps.specs.Members.{known, object_if_there}
 use Rattle.script_steps.specs.CopyOptions.{audio_options_of, frame_options_of, options_by, options_for}
 use Rattle.script_steps.specs.MediaSteps.{options_in}
-use Rattle.script_steps.proofs.Chains.{same_Ok, chain}
+use Rattle.script_steps.specs.Chains.{same_Ok, chain}
 
 by_kind : (kind : VariableKind) (d : Option Data) (o : Options) → is_copied kind ≡ true → options_by kind d ≡ Ok o → are_options_of o kind ≡ true
 by_kind holds.Audio d o k h =

@@ -12,8 +12,8 @@ use Rattle.script_steps.specs.Members.{known, name_in}
 use Rattle.script_steps.specs.declared.references.Needed.{Needed}
 use Rattle.script_steps.specs.declared.references.Needed.TheVariants as needed
 use Rattle.script_steps.specs.References.{is_right, unused, codec_if, variable_if, variable_in, on_of, bound_on, given_to, bound_from}
-use Rattle.script_steps.proofs.Chains.{same_Ok, chain}
-use Rattle.script_steps.proofs.NameLaws.{name_is_name, name_is_free, codec_is_there, codec_is_right, variable_is_right}
+use Rattle.script_steps.specs.Chains.{same_Ok, chain}
+use Rattle.script_steps.specs.NameLaws.{name_is_name, name_is_free, codec_is_there, codec_is_right, variable_is_right}
 
 pub variable_sound : (key : List ℕ) (kind : Needed) (before : List Step) (d : Data) (v : Variable) → variable_in key kind before d ≡ Ok v
     → is_variable before (is_right kind) v ≡ true

@@ -15,7 +15,7 @@ use Rattle.script_steps.specs.Media.{data_value, data_of_init, data_of_step, tim
 use Rattle.script_steps.specs.Sources.{has, index_in, made_of, taken_of, source_by, source_of}
 use Rattle.script_steps.specs.Words.{byte_count}
 use Rattle.script_steps.specs.Steps.{numbered}
-use Rattle.script_steps.proofs.Chains.{same_Ok, chain, needed_some}
+use Rattle.script_steps.specs.Chains.{same_Ok, chain, needed_some}
 
 -- ---- the content of an init
 

@@ -9,7 +9,8 @@ use Rattle.script_types.specs.Names.{codec_named, decodes, is_promise}
 use Rattle.script_types.specs.Sound.{suits, is_variable, is_sound_step, bytes_of_step, file_after, source_after, are_apart}
 use Rattle.script_steps.specs.declared.source.SourceWords.{SourceWords}
 use Rattle.script_steps.specs.declared.source.SourceWords.TheVariants as words
-use Rattle.script_steps.specs.declared.wrong.Wrong.{Wrong}
+use Rattle.chunk_files.specs.declared.fault.Stop.{Stop}
+use Rattle.script_types.specs.declared.fault.Wrong.{Wrong}
 use Rattle.script_steps.specs.Members.{and_then, needed as there, known, name_in, object_in}
 use Rattle.script_steps.specs.ConfigRead.{config_of}
 use Rattle.script_steps.specs.Sources.{source_of}
@@ -22,11 +23,11 @@ use Rattle.script_steps.specs.References.{unused, on_of, bound_on, given_to}
 use Rattle.script_steps.specs.MediaSteps.{media_by}
 use Rattle.script_steps.specs.Steps.{configure_of, decode_of, flush_of, promise_in, numbered, chunk_step_of, no_file, step_by}
 use Rattle.script_steps.specs.Soundness.{StepsAreSound}
-use Rattle.script_steps.proofs.Chains.{same_Ok, chain, needed_some, all_true}
+use Rattle.script_steps.specs.Chains.{same_Ok, chain, needed_some, all_true}
 use Rattle.script_steps.proofs.ConfigLaws.{config_suits}
 use Rattle.script_steps.proofs.FileLaws.{file_is_counted, files_are_apart}
 use Rattle.script_steps.proofs.MediaLaws.{media_sound}
-use Rattle.script_steps.proofs.NameLaws.{name_is_name, name_is_free, codec_is_there}
+use Rattle.script_steps.specs.NameLaws.{name_is_name, name_is_free, codec_is_there}
 use Rattle.script_steps.proofs.ReferenceLaws.{variable_sound, on_sound, bound_on_sound, given_to_sound}
 use Rattle.script_steps.proofs.SourceLaws.{source_bytes}
 
@@ -104,7 +105,7 @@ record SoundBy (codecs : List CodecItem) (files : List (List ℕ)) (before : Lis
   pub count : file_after (length files) r.0 ≡ Some (length r.1)
   pub apart : are_apart [] files ≡ true → are_apart [] r.1 ≡ true
 
-plain : (codecs : List CodecItem) (files : List (List ℕ)) (before : List Step) (d : Data) (w : StepWord) (t : Result Step Wrong) (r : Step × List (List ℕ))
+plain : (codecs : List CodecItem) (files : List (List ℕ)) (before : List Step) (d : Data) (w : StepWord) (t : Result Step (Stop Wrong)) (r : Step × List (List ℕ))
     → ((s : Step) → t ≡ Ok s → Plain codecs before d w s) → no_file files t ≡ Ok r → SoundBy codecs files before d w r
 plain codecs files before d w t r k h =
     let s = chain t _ r h in

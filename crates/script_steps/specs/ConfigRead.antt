@@ -5,19 +5,20 @@ use Rattle.serde_json.specs.Data.{Data}
 use Rattle.serde_json.specs.Find.{get}
 use Rattle.wc_config.specs.declared.config.Config.{Config}
 use Rattle.wc_config.specs.declared.config.Config.TheVariants as config
-use Rattle.script_steps.specs.declared.wrong.Wrong.{Wrong}
+use Rattle.chunk_files.specs.declared.fault.Stop.{Stop}
+use Rattle.script_types.specs.declared.fault.Wrong.{Wrong}
 use Rattle.wc_config.specs.declared.kind.Kind.{Kind}
 use Rattle.wc_config.specs.declared.kind.Kind.TheVariants as kind
 use Rattle.script_steps.specs.Members.{and_then, object_if_there, text_of, u32_of, required, defaulted, optional, hex_if_there}
 
 -- the members that audio configs share
-abbrev pub codec_in : Data → Result (Option (List ℕ)) Wrong
+abbrev pub codec_in : Data → Result (Option (List ℕ)) (Stop Wrong)
 codec_in d = required text_of (get (codes "codec") d)
 
-abbrev pub rate_in : Data → Result (Option ℕ) Wrong
+abbrev pub rate_in : Data → Result (Option ℕ) (Stop Wrong)
 rate_in d = required u32_of (get (codes "sampleRate") d)
 
-abbrev pub channels_in : Data → Result (Option ℕ) Wrong
+abbrev pub channels_in : Data → Result (Option ℕ) (Stop Wrong)
 channels_in d = required u32_of (get (codes "numberOfChannels") d)
 
 -- a config where each member has a value
@@ -26,17 +27,17 @@ audio_decoder_with (Some codec) (Some rate) (Some channels) description =
     config.AudioDecoder (record { codec = codec; rate = rate; channels = channels; description = description })
 audio_decoder_with _ _ _ _ = config.Bad
 
-abbrev pub audio_decoder_of : Data → Result Config Wrong
+abbrev pub audio_decoder_of : Data → Result Config (Stop Wrong)
 audio_decoder_of d =
     and_then (codec_in d) (λ codec. and_then (rate_in d) (λ rate. and_then (channels_in d) (λ channels.
     and_then (hex_if_there (get (codes "description") d)) (λ description. Ok (audio_decoder_with codec rate channels description)))))
 
 -- the object `flac`, which may be absent
-abbrev pub flac_in : Data → Result (Option Data) Wrong
+abbrev pub flac_in : Data → Result (Option Data) (Stop Wrong)
 flac_in d = object_if_there (get (codes "flac") d)
 
 -- one of its numbers
-abbrev pub flac_number : List ℕ → ℕ → Option Data → Result (Option ℕ) Wrong
+abbrev pub flac_number : List ℕ → ℕ → Option Data → Result (Option ℕ) (Stop Wrong)
 flac_number key default flac = defaulted default u32_of (option_and_then (get key) flac)
 
 abbrev pub audio_encoder_with : Option (List ℕ) → Option ℕ → Option ℕ → Option ℕ → Option ℕ → Option ℕ → Config
@@ -51,7 +52,7 @@ audio_encoder_with (Some codec) (Some rate) (Some channels) (Some block_size) (S
     })
 audio_encoder_with _ _ _ _ _ _ = config.Bad
 
-abbrev pub audio_encoder_of : Data → Result Config Wrong
+abbrev pub audio_encoder_of : Data → Result Config (Stop Wrong)
 audio_encoder_of d =
     and_then (codec_in d) (λ codec. and_then (rate_in d) (λ rate. and_then (channels_in d) (λ channels.
     and_then (flac_in d) (λ flac.
@@ -61,7 +62,7 @@ audio_encoder_of d =
     Ok (audio_encoder_with codec rate channels block_size level depth))))))))
 
 -- a size in pixels, which may be absent
-abbrev pub pixels_in : List ℕ → Data → Result (Option (Option ℕ)) Wrong
+abbrev pub pixels_in : List ℕ → Data → Result (Option (Option ℕ)) (Stop Wrong)
 pixels_in key d = optional u32_of (get key d)
 
 abbrev pub video_decoder_with : Option (List ℕ) → Option (Option ℕ) → Option (Option ℕ) → Option (Option ℕ) → Option (Option ℕ) → Config
@@ -75,7 +76,7 @@ video_decoder_with (Some codec) (Some width) (Some height) (Some aspect_width) (
     })
 video_decoder_with _ _ _ _ _ = config.Bad
 
-abbrev pub video_decoder_of : Data → Result Config Wrong
+abbrev pub video_decoder_of : Data → Result Config (Stop Wrong)
 video_decoder_of d =
     and_then (codec_in d) (λ codec.
     and_then (pixels_in (codes "codedWidth") d) (λ width.
@@ -84,7 +85,7 @@ video_decoder_of d =
     and_then (pixels_in (codes "displayAspectHeight") d) (λ aspect_height.
     Ok (video_decoder_with codec width height aspect_width aspect_height))))))
 
-abbrev pub config_of : Kind → Data → Result Config Wrong
+abbrev pub config_of : Kind → Data → Result Config (Stop Wrong)
 config_of kind.AudioDecoder d = audio_decoder_of d
 config_of kind.AudioEncoder d = audio_encoder_of d
 config_of kind.VideoDecoder d = video_decoder_of d

@@ -13,7 +13,8 @@ use Rattle.script_types.specs.declared.options.Options.{Options}
 use Rattle.script_types.specs.declared.options.Options.TheVariants as options
 use Rattle.script_types.specs.declared.steps.VariableKind.{VariableKind}
 use Rattle.script_types.specs.declared.steps.VariableKind.TheVariants as holds
-use Rattle.script_steps.specs.declared.wrong.Wrong.{Wrong}
+use Rattle.chunk_files.specs.declared.fault.Stop.{Stop}
+use Rattle.script_types.specs.declared.fault.Wrong.{Wrong}
 use Rattle.script_steps.specs.Members.{and_then, needed, checked_object, object_if_there, word_of, u32_of, required, defaulted, optional}
 
 -- a member of an object that may be absent
@@ -40,7 +41,7 @@ audio_options_with (Some plane) (Some offset) (Some count) (Some format) =
     Some (record { plane = plane; offset = offset; count = count; format = format })
 audio_options_with _ _ _ _ = None
 
-abbrev pub audio_options_of : Option Data → Result (Option AudioOptions) Wrong
+abbrev pub audio_options_of : Option Data → Result (Option AudioOptions) (Stop Wrong)
 audio_options_of object =
     and_then (required u32_of (member_of (codes "planeIndex") object)) (λ plane.
     and_then (defaulted 0 u32_of (member_of (codes "frameOffset") object)) (λ offset.
@@ -54,7 +55,7 @@ abbrev pub rect_with : Option ℕ → Option ℕ → Option ℕ → Option ℕ �
 rect_with (Some x) (Some y) (Some width) (Some height) = Some (record { x = x; y = y; width = width; height = height })
 rect_with _ _ _ _ = None
 
-abbrev pub rect_of : Data → Result (Option RectWords) Wrong
+abbrev pub rect_of : Data → Result (Option RectWords) (Stop Wrong)
 rect_of d =
     and_then (needed (checked_object d)) (λ object.
     and_then (defaulted 0 u32_of (get (codes "x") object)) (λ x.
@@ -68,7 +69,7 @@ layout_with (Some offset) (Some stride) = Some (record { offset = offset; stride
 layout_with _ _ = None
 
 -- the layout of one plane
-abbrev pub plane_of : Data → Result (Option LayoutWords) Wrong
+abbrev pub plane_of : Data → Result (Option LayoutWords) (Stop Wrong)
 plane_of d =
     and_then (needed (checked_object d)) (λ object.
     and_then (required u32_of (get (codes "offset") object)) (λ offset.
@@ -80,11 +81,11 @@ with_plane (Some before) (Some plane) = Some (before ++ plane ∷ [])
 with_plane _ _ = None
 
 -- all planes, where those before are given
-abbrev pub planes_of : Option (List LayoutWords) → Items → Result (Option (List LayoutWords)) Wrong
+abbrev pub planes_of : Option (List LayoutWords) → Items → Result (Option (List LayoutWords)) (Stop Wrong)
 planes_of before no_items = Ok before
 planes_of before (item d ds) = and_then (plane_of d) (λ plane. planes_of (with_plane before plane) ds)
 
-abbrev pub layout_of : Data → Result (Option (List LayoutWords)) Wrong
+abbrev pub layout_of : Data → Result (Option (List LayoutWords)) (Stop Wrong)
 layout_of d = and_then (needed (as_array d)) (λ planes. planes_of (Some []) planes)
 
 -- options where each member has a value
@@ -92,7 +93,7 @@ abbrev pub frame_options_with : Option (Option RectWords) → Option (Option (Li
 frame_options_with (Some rect) (Some layout) = Some (record { rect = rect; layout = layout })
 frame_options_with _ _ = None
 
-abbrev pub frame_options_of : Option Data → Result (Option FrameOptions) Wrong
+abbrev pub frame_options_of : Option Data → Result (Option FrameOptions) (Stop Wrong)
 frame_options_of object =
     and_then (optional rect_of (member_of (codes "rect") object)) (λ rect.
     and_then (optional layout_of (member_of (codes "layout") object)) (λ layout. Ok (frame_options_with rect layout)))
@@ -100,11 +101,11 @@ frame_options_of object =
 -- ---- by the kind of what is copied
 
 -- the members of a chunk's options are not looked at, and a promise is never copied
-abbrev pub options_by : VariableKind → Option Data → Result Options Wrong
+abbrev pub options_by : VariableKind → Option Data → Result Options (Stop Wrong)
 options_by holds.Audio object = and_then (audio_options_of object) (λ o. Ok (options.Audio o))
 options_by holds.Frame object = and_then (frame_options_of object) (λ o. Ok (options.Frame o))
 options_by holds.Chunk object = Ok options.Nothing
 options_by holds.Promise object = Ok options.Nothing
 
-abbrev pub options_for : VariableKind → Option Data → Result Options Wrong
+abbrev pub options_for : VariableKind → Option Data → Result Options (Stop Wrong)
 options_for kind d = and_then (object_if_there d) (options_by kind)

@@ -10,3 +10,5 @@ pub mod References
 pub mod MediaSteps
 pub mod Steps
 pub mod Soundness
+pub mod Chains
+pub mod NameLaws

@@ -10,7 +10,8 @@ use Rattle.wc_base.specs.declared.media.PictureFormat.TheVariants as picture
 use Rattle.script_types.specs.declared.steps.ChunkInit.{ChunkInit}
 use Rattle.script_types.specs.declared.steps.SoundInit.{SoundInit}
 use Rattle.script_types.specs.declared.steps.PictureInit.{PictureInit}
-use Rattle.script_steps.specs.declared.wrong.Wrong.{Wrong}
+use Rattle.chunk_files.specs.declared.fault.Stop.{Stop}
+use Rattle.script_types.specs.declared.fault.Wrong.{Wrong}
 use Rattle.script_steps.specs.Members.{and_then, needed, word_of, u32_of, timestamp_of, duration_of, hex_of, required, optional}
 
 -- ---- inline data
@@ -23,17 +24,17 @@ data_of_init init = option_and_then hex_of (get (codes "data") init)
 abbrev pub data_of_step : Data → Option (List ℕ)
 data_of_step d = option_and_then data_of_init (get (codes "init") d)
 
-abbrev pub data_value : Data → Result (Option (List ℕ)) Wrong
+abbrev pub data_value : Data → Result (Option (List ℕ)) (Stop Wrong)
 data_value d = and_then (needed (hex_of d)) (λ bytes. Ok (Some bytes))
 
 -- the members that inits share
-abbrev pub timestamp_in : Data → Result (Option ℤ) Wrong
+abbrev pub timestamp_in : Data → Result (Option ℤ) (Stop Wrong)
 timestamp_in d = required timestamp_of (get (codes "timestamp") d)
 
-abbrev pub duration_in : Data → Result (Option (Option ℕ)) Wrong
+abbrev pub duration_in : Data → Result (Option (Option ℕ)) (Stop Wrong)
 duration_in d = optional duration_of (get (codes "duration") d)
 
-abbrev pub content_in : Data → Result (Option (List ℕ)) Wrong
+abbrev pub content_in : Data → Result (Option (List ℕ)) (Stop Wrong)
 content_in d = required data_value (get (codes "data") d)
 
 -- ---- chunks
@@ -48,7 +49,7 @@ chunk_with (Some key) (Some timestamp) (Some duration) (Some content) =
     Some (record { key = key; timestamp = timestamp; duration = duration; content = content })
 chunk_with _ _ _ _ = None
 
-abbrev pub chunk_of : Data → Result (Option ChunkInit) Wrong
+abbrev pub chunk_of : Data → Result (Option ChunkInit) (Stop Wrong)
 chunk_of d =
     and_then (required (word_of key_of) (get (codes "type") d)) (λ key.
     and_then (timestamp_in d) (λ timestamp. and_then (duration_in d) (λ duration.
@@ -76,7 +77,7 @@ sound_with (Some format) (Some rate) (Some frames) (Some channels) (Some timesta
     })
 sound_with _ _ _ _ _ _ = None
 
-abbrev pub sound_of : Data → Result (Option SoundInit) Wrong
+abbrev pub sound_of : Data → Result (Option SoundInit) (Stop Wrong)
 sound_of d =
     and_then (required (word_of sample_format_of) (get (codes "format") d)) (λ format.
     and_then (required u32_of (get (codes "sampleRate") d)) (λ rate.
@@ -105,7 +106,7 @@ picture_with (Some format) (Some width) (Some height) (Some timestamp) (Some dur
     })
 picture_with _ _ _ _ _ _ = None
 
-abbrev pub picture_of : Data → Result (Option PictureInit) Wrong
+abbrev pub picture_of : Data → Result (Option PictureInit) (Stop Wrong)
 picture_of d =
     and_then (required (word_of picture_format_of) (get (codes "format") d)) (λ format.
     and_then (required u32_of (get (codes "codedWidth") d)) (λ width.

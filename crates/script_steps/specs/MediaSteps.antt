@@ -11,7 +11,8 @@ use Rattle.script_types.specs.declared.steps.MediaStep.{MediaStep}
 use Rattle.script_types.specs.declared.steps.MediaStep.TheVariants as media
 use Rattle.script_types.specs.Names.{outputs_of}
 use Rattle.script_types.specs.Sound.{most_chunk, encodes}
-use Rattle.script_steps.specs.declared.wrong.Wrong.{Wrong}
+use Rattle.chunk_files.specs.declared.fault.Stop.{Stop}
+use Rattle.script_types.specs.declared.fault.Wrong.{Wrong}
 use Rattle.script_steps.specs.Members.{and_then, needed as there, known, name_in, object_in, object_if_there, natural_of}
 use Rattle.script_steps.specs.Media.{sound_of, picture_of}
 use Rattle.script_steps.specs.CopyOptions.{options_for}
@@ -20,29 +21,29 @@ use Rattle.script_steps.specs.declared.words.MediaWord.TheVariants as medium
 use Rattle.script_steps.specs.declared.references.Needed.TheVariants as needed
 use Rattle.script_steps.specs.References.{unused, variable_if, variable_of, variable_in, bound_on, given_to, bound_from}
 
-abbrev pub audio_of : List Step → Data → Result MediaStep Wrong
+abbrev pub audio_of : List Step → Data → Result MediaStep (Stop Wrong)
 audio_of before d =
     and_then (name_in (codes "as") d) (λ name. and_then (object_in (codes "init") d) (λ object.
     and_then (sound_of object) (λ init. and_then (unused before name) (λ bind. Ok (media.Audio bind init)))))
 
-abbrev pub frame_of : List Step → Data → Result MediaStep Wrong
+abbrev pub frame_of : List Step → Data → Result MediaStep (Stop Wrong)
 frame_of before d =
     and_then (name_in (codes "as") d) (λ name. and_then (object_in (codes "init") d) (λ object.
     and_then (picture_of object) (λ init. and_then (unused before name) (λ bind. Ok (media.Frame bind init)))))
 
-abbrev pub encode_of : List CodecItem → List Step → Data → Result MediaStep Wrong
+abbrev pub encode_of : List CodecItem → List Step → Data → Result MediaStep (Stop Wrong)
 encode_of codecs before d = and_then (given_to encodes (codes "data") needed.Audio codecs before d) (λ g. Ok (media.Encode g.0 g.1))
 
-abbrev pub take_of : List CodecItem → List Step → Data → Result MediaStep Wrong
+abbrev pub take_of : List CodecItem → List Step → Data → Result MediaStep (Stop Wrong)
 take_of codecs before d = and_then (bound_on codecs before d) (λ b. Ok (media.Take b.0.number b.1 (outputs_of b.0.kind)))
 
-abbrev pub clone_of : List Step → Data → Result MediaStep Wrong
+abbrev pub clone_of : List Step → Data → Result MediaStep (Stop Wrong)
 clone_of before d = and_then (bound_from before d) (λ b. Ok (media.Clone b.0 b.1))
 
-abbrev pub transfer_of : List Step → Data → Result MediaStep Wrong
+abbrev pub transfer_of : List Step → Data → Result MediaStep (Stop Wrong)
 transfer_of before d = and_then (bound_from before d) (λ b. Ok (media.Transfer b.0 b.1))
 
-abbrev pub close_data_of : List Step → Data → Result MediaStep Wrong
+abbrev pub close_data_of : List Step → Data → Result MediaStep (Stop Wrong)
 close_data_of before d = and_then (variable_in (codes "of") needed.Medium before d) (λ v. Ok (media.CloseData v))
 
 -- ---- copies
@@ -51,21 +52,21 @@ close_data_of before d = and_then (variable_in (codes "of") needed.Medium before
 abbrev pub checked_size : ℕ → Option ℕ
 checked_size n = if nat_le n most_chunk then Some n else None
 
-abbrev pub size_in : Data → Result ℕ Wrong
+abbrev pub size_in : Data → Result ℕ (Stop Wrong)
 size_in d = there (option_and_then checked_size (option_and_then natural_of (get (codes "size") d)))
 
 -- the options of a variable that was found; for another they have to be an object, if they are there
-abbrev pub options_in : Option FoundVariable → Data → Result Options Wrong
+abbrev pub options_in : Option FoundVariable → Data → Result Options (Stop Wrong)
 options_in None d = and_then (object_if_there (get (codes "options") d)) (λ o. Ok options.Nothing)
 options_in (Some found) d = options_for found.kind (get (codes "options") d)
 
-abbrev pub copy_of : List Step → Data → Result MediaStep Wrong
+abbrev pub copy_of : List Step → Data → Result MediaStep (Stop Wrong)
 copy_of before d =
     and_then (name_in (codes "of") d) (λ of. and_then (size_in d) (λ size.
     and_then (variable_if needed.Copied before of) (λ maybe_variable. and_then (options_in maybe_variable d) (λ options.
     and_then (known maybe_variable) (λ found. Ok (media.Copy (variable_of of found) options size))))))
 
-abbrev pub size_of : List Step → Data → Result MediaStep Wrong
+abbrev pub size_of : List Step → Data → Result MediaStep (Stop Wrong)
 size_of before d =
     and_then (name_in (codes "of") d) (λ of.
     and_then (variable_if needed.Medium before of) (λ maybe_variable. and_then (options_in maybe_variable d) (λ options.
@@ -73,7 +74,7 @@ size_of before d =
 
 -- ---- by the word
 
-abbrev pub media_by : List CodecItem → List Step → Data → MediaWord → Result MediaStep Wrong
+abbrev pub media_by : List CodecItem → List Step → Data → MediaWord → Result MediaStep (Stop Wrong)
 media_by codecs before d medium.Audio = audio_of before d
 media_by codecs before d medium.Frame = frame_of before d
 media_by codecs before d medium.Encode = encode_of codecs before d

@@ -9,8 +9,10 @@ use Rattle.script_types.specs.declared.steps.Step.{Step}
 use Rattle.script_types.specs.declared.steps.Variable.{Variable}
 use Rattle.script_types.specs.declared.steps.VariableKind.{VariableKind}
 use Rattle.script_types.specs.Names.{codec_named, variable_named, is_variable_name, is_chunk, is_audio, is_medium, is_copied, is_promise}
-use Rattle.script_steps.specs.declared.wrong.Wrong.{Wrong}
-use Rattle.script_steps.specs.declared.wrong.Wrong.TheVariants as wrong
+use Rattle.chunk_files.specs.declared.fault.Stop.{Stop}
+use Rattle.script_types.specs.declared.fault.Wrong.{Wrong}
+use Rattle.chunk_files.specs.declared.fault.Stop.TheVariants as stop
+use Rattle.script_types.specs.declared.fault.Wrong.TheVariants as wrong
 use Rattle.script_steps.specs.Members.{and_then, known, expected, name_in}
 use Rattle.script_steps.specs.declared.references.Needed.{Needed}
 use Rattle.script_steps.specs.declared.references.Needed.TheVariants as needed
@@ -24,38 +26,38 @@ is_right needed.Copied = is_copied
 is_right needed.Promise = is_promise
 
 -- a name that no step before defines
-abbrev pub unused : List Step → List ℕ → Result (List ℕ) Wrong
-unused before name = if is_variable_name before name then Err wrong.Twice else Ok name
+abbrev pub unused : List Step → List ℕ → Result (List ℕ) (Stop Wrong)
+unused before name = if is_variable_name before name then Err (stop.Fault wrong.Twice) else Ok name
 
 -- the codec of this name, if there is one; another kind than the one that is needed is a fault of shape
-abbrev pub codec_if : (Kind → Bool) → List CodecItem → List ℕ → Result (Option FoundCodec) Wrong
+abbrev pub codec_if : (Kind → Bool) → List CodecItem → List ℕ → Result (Option FoundCodec) (Stop Wrong)
 codec_if right codecs name = expected (λ c. right c.kind) (codec_named codecs name)
 
 -- the variable of this name, if there is one; another kind than the one that is needed is a fault of shape
-abbrev pub variable_if : Needed → List Step → List ℕ → Result (Option FoundVariable) Wrong
+abbrev pub variable_if : Needed → List Step → List ℕ → Result (Option FoundVariable) (Stop Wrong)
 variable_if kind before name = expected (λ v. is_right kind v.kind) (variable_named before name)
 
 abbrev pub variable_of : List ℕ → FoundVariable → Variable
 variable_of name found = record { name = name; step = found.step; kind = found.kind }
 
 -- the variable that a step names, where it names nothing else
-abbrev pub variable_in : List ℕ → Needed → List Step → Data → Result Variable Wrong
+abbrev pub variable_in : List ℕ → Needed → List Step → Data → Result Variable (Stop Wrong)
 variable_in key kind before d =
     and_then (name_in key d) (λ name. and_then (variable_if kind before name) (λ maybe_variable.
     and_then (known maybe_variable) (λ found. Ok (variable_of name found))))
 
 -- the codec that a step names, where it names nothing else
-abbrev pub on_of : List CodecItem → Data → Result ℕ Wrong
+abbrev pub on_of : List CodecItem → Data → Result ℕ (Stop Wrong)
 on_of codecs d = and_then (name_in (codes "on") d) (λ on. and_then (known (codec_named codecs on)) (λ codec. Ok codec.number))
 
 -- a codec of any kind, and a new name
-abbrev pub bound_on : List CodecItem → List Step → Data → Result (FoundCodec × List ℕ) Wrong
+abbrev pub bound_on : List CodecItem → List Step → Data → Result (FoundCodec × List ℕ) (Stop Wrong)
 bound_on codecs before d =
     and_then (name_in (codes "on") d) (λ on. and_then (name_in (codes "as") d) (λ name.
     and_then (unused before name) (λ bind. and_then (known (codec_named codecs on)) (λ codec. Ok (codec, bind)))))
 
 -- a codec of the kind that is needed, and what it is given
-abbrev pub given_to : (Kind → Bool) → List ℕ → Needed → List CodecItem → List Step → Data → Result (ℕ × Variable) Wrong
+abbrev pub given_to : (Kind → Bool) → List ℕ → Needed → List CodecItem → List Step → Data → Result (ℕ × Variable) (Stop Wrong)
 given_to right key kind codecs before d =
     and_then (name_in (codes "on") d) (λ on. and_then (name_in key d) (λ name.
     and_then (codec_if right codecs on) (λ maybe_codec. and_then (variable_if kind before name) (λ maybe_variable.
@@ -63,7 +65,7 @@ given_to right key kind codecs before d =
     Ok (codec.number, variable_of name found)))))))
 
 -- a medium, and a new name
-abbrev pub bound_from : List Step → Data → Result (Variable × List ℕ) Wrong
+abbrev pub bound_from : List Step → Data → Result (Variable × List ℕ) (Stop Wrong)
 bound_from before d =
     and_then (name_in (codes "of") d) (λ of. and_then (name_in (codes "as") d) (λ name.
     and_then (variable_if needed.Medium before of) (λ maybe_variable. and_then (unused before name) (λ bind.

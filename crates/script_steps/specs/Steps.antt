@@ -11,7 +11,8 @@ use Rattle.script_types.specs.declared.steps.Variable.{Variable}
 use Rattle.script_types.specs.Names.{codec_named, decodes}
 use Rattle.script_steps.specs.declared.source.SourceWords.{SourceWords}
 use Rattle.script_steps.specs.declared.source.SourceWords.TheVariants as words
-use Rattle.script_steps.specs.declared.wrong.Wrong.{Wrong}
+use Rattle.chunk_files.specs.declared.fault.Stop.{Stop}
+use Rattle.script_types.specs.declared.fault.Wrong.{Wrong}
 use Rattle.script_steps.specs.Members.{and_then, needed as there, known, name_in, object_in}
 use Rattle.script_steps.specs.ConfigRead.{config_of}
 use Rattle.script_steps.specs.Sources.{source_of}
@@ -23,20 +24,20 @@ use Rattle.script_steps.specs.Words.{word_in}
 use Rattle.script_steps.specs.References.{unused, variable_in, on_of, bound_on, given_to}
 use Rattle.script_steps.specs.MediaSteps.{media_by}
 
-abbrev pub configure_of : List CodecItem → Data → Result Step Wrong
+abbrev pub configure_of : List CodecItem → Data → Result Step (Stop Wrong)
 configure_of codecs d =
     and_then (name_in (codes "on") d) (λ on. and_then (object_in (codes "config") d) (λ object.
     and_then (known (codec_named codecs on)) (λ codec.
     and_then (config_of codec.kind object) (λ config. Ok (step.Configure codec.number config)))))
 
-abbrev pub decode_of : List CodecItem → List Step → Data → Result Step Wrong
+abbrev pub decode_of : List CodecItem → List Step → Data → Result Step (Stop Wrong)
 decode_of codecs before d = and_then (given_to decodes (codes "chunk") needed.Chunk codecs before d) (λ g. Ok (step.Decode g.0 g.1))
 
-abbrev pub flush_of : List CodecItem → List Step → Data → Result Step Wrong
+abbrev pub flush_of : List CodecItem → List Step → Data → Result Step (Stop Wrong)
 flush_of codecs before d = and_then (bound_on codecs before d) (λ b. Ok (step.Flush b.0.number b.1))
 
 -- the promise that a step names
-abbrev pub promise_in : List Step → Data → Result Variable Wrong
+abbrev pub promise_in : List Step → Data → Result Variable (Stop Wrong)
 promise_in before d = variable_in (codes "promise") needed.Promise before d
 
 -- ---- chunks
@@ -46,7 +47,7 @@ abbrev pub numbered : List (List ℕ) → SourceWords → ChunkSource × List (L
 numbered files (words.Init init) = (source.Init init, files)
 numbered files (words.File name index) = (source.File (file_number files name) index, with_file files name)
 
-abbrev pub chunk_step_of : List (List ℕ) → List Step → Data → Result (Step × List (List ℕ)) Wrong
+abbrev pub chunk_step_of : List (List ℕ) → List Step → Data → Result (Step × List (List ℕ)) (Stop Wrong)
 chunk_step_of files before d =
     and_then (name_in (codes "as") d) (λ name. and_then (source_of d) (λ source. and_then (unused before name) (λ bind.
     Ok (step.Chunk bind (numbered files source).0, (numbered files source).1))))
@@ -54,10 +55,10 @@ chunk_step_of files before d =
 -- ---- by the word
 
 -- a step that mentions no file
-abbrev pub no_file : List (List ℕ) → Result Step Wrong → Result (Step × List (List ℕ)) Wrong
+abbrev pub no_file : List (List ℕ) → Result Step (Stop Wrong) → Result (Step × List (List ℕ)) (Stop Wrong)
 no_file files r = and_then r (λ s. Ok (s, files))
 
-abbrev pub step_by : List CodecItem → List (List ℕ) → List Step → Data → StepWord → Result (Step × List (List ℕ)) Wrong
+abbrev pub step_by : List CodecItem → List (List ℕ) → List Step → Data → StepWord → Result (Step × List (List ℕ)) (Stop Wrong)
 step_by codecs files before d word.Configure = no_file files (configure_of codecs d)
 step_by codecs files before d word.Chunk = chunk_step_of files before d
 step_by codecs files before d word.Decode = no_file files (decode_of codecs before d)
@@ -69,5 +70,5 @@ step_by codecs files before d word.Close = no_file files (and_then (on_of codecs
 step_by codecs files before d word.State = no_file files (and_then (on_of codecs d) (λ on. Ok (step.State on)))
 step_by codecs files before d (word.Media m) = no_file files (and_then (media_by codecs before d m) (λ s. Ok (step.Media s)))
 
-abbrev pub step_of : List CodecItem → List (List ℕ) → List Step → Data → Result (Step × List (List ℕ)) Wrong
+abbrev pub step_of : List CodecItem → List (List ℕ) → List Step → Data → Result (Step × List (List ℕ)) (Stop Wrong)
 step_of codecs files before d = and_then (there (word_in d)) (step_by codecs files before d)

@@ -2,20 +2,20 @@
 ghost use Rattle.std.specs.Prelude.{◌≡◌, ◌≢◌, IfOk, IfErr};
 ghost use Rattle.serde_json.specs.View.{view};
 ghost use Rattle.script_steps.specs.ConfigRead.{audio_decoder_of, audio_encoder_of, video_decoder_of, config_of};
+ghost use Rattle.script_types.specs.Reading.{Gives};
 
-use crate::Wrong;
 use crate::members::{
     optional_hex_member, optional_object, optional_u32_member, text_value, u32_member,
     u32_member_or,
 };
+use crate::{Stop, Wrong};
 use script_types::Kind;
 use serde_json::Value;
 use std::alloc::Global;
 use wc_config::{AudioDecoderConfig, AudioEncoderConfig, Config, VideoDecoderConfig};
 
-fn read_audio_decoder(alloc: Global, value: &Value) -> Result<Config, Wrong>
-    ensures ok { IfOk result (λ c. audio_decoder_of (view value.now) ≡ Ok c) }
-    ensures err { IfErr result (λ e. e ≢ Wrong.NoMemory → audio_decoder_of (view value.now) ≡ Err e) }
+fn read_audio_decoder(alloc: Global, value: &Value) -> Result<Config, Stop<Wrong>>
+    ensures { Gives result (audio_decoder_of (view value.now)) }
 {
     let codec = text_value(alloc, value, "codec")?;
     let rate = u32_member(value, "sampleRate")?;
@@ -32,9 +32,8 @@ fn read_audio_decoder(alloc: Global, value: &Value) -> Result<Config, Wrong>
     }
 }
 
-fn read_audio_encoder(alloc: Global, value: &Value) -> Result<Config, Wrong>
-    ensures ok { IfOk result (λ c. audio_encoder_of (view value.now) ≡ Ok c) }
-    ensures err { IfErr result (λ e. e ≢ Wrong.NoMemory → audio_encoder_of (view value.now) ≡ Err e) }
+fn read_audio_encoder(alloc: Global, value: &Value) -> Result<Config, Stop<Wrong>>
+    ensures { Gives result (audio_encoder_of (view value.now)) }
 {
     let codec = text_value(alloc, value, "codec")?;
     let rate = u32_member(value, "sampleRate")?;
@@ -58,9 +57,8 @@ fn read_audio_encoder(alloc: Global, value: &Value) -> Result<Config, Wrong>
     }
 }
 
-fn read_video_decoder(alloc: Global, value: &Value) -> Result<Config, Wrong>
-    ensures ok { IfOk result (λ c. video_decoder_of (view value.now) ≡ Ok c) }
-    ensures err { IfErr result (λ e. e ≢ Wrong.NoMemory → video_decoder_of (view value.now) ≡ Err e) }
+fn read_video_decoder(alloc: Global, value: &Value) -> Result<Config, Stop<Wrong>>
+    ensures { Gives result (video_decoder_of (view value.now)) }
 {
     let codec = text_value(alloc, value, "codec")?;
     let width = optional_u32_member(value, "codedWidth")?;
@@ -82,9 +80,8 @@ fn read_video_decoder(alloc: Global, value: &Value) -> Result<Config, Wrong>
 }
 
 /// Reads the config of a codec of this kind. `Shape` where a member is of another JSON kind.
-pub fn read_config(alloc: Global, kind: Kind, value: &Value) -> Result<Config, Wrong>
-    ensures ok { IfOk result (λ c. config_of kind (view value.now) ≡ Ok c) }
-    ensures err { IfErr result (λ e. e ≢ Wrong.NoMemory → config_of kind (view value.now) ≡ Err e) }
+pub fn read_config(alloc: Global, kind: Kind, value: &Value) -> Result<Config, Stop<Wrong>>
+    ensures { Gives result (config_of kind (view value.now)) }
 {
     match kind {
         Kind::AudioDecoder => read_audio_decoder(alloc, value),

@@ -40,7 +40,8 @@ fn note(
 ) -> Result<(), NoMemory>
     requires table { IsTable places.old (λ q. position (λ f. bytes_eq f q) names.now) }
     requires new { position (λ f. bytes_eq f name.now) names.now ≡ None }
-    ensures ok { OnOk result (IsTable places.new (λ q. position (λ f. bytes_eq f q) (names.now ++ name.now ∷ []))) }
+    ensures ok { OnOk result
+        (IsTable places.new (λ q. position (λ f. bytes_eq f q) (names.now ++ name.now ∷ []))) }
     ensures err { OnErr result (IsTable places.new (λ q. position (λ f. bytes_eq f q) names.now)) }
 {
     put(alloc, places, name, names.len())

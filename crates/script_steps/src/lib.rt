@@ -17,7 +17,6 @@ mod source;
 mod steps;
 mod variables;
 mod words;
-mod wrong;
 
 pub use config::read_config;
 pub use files::Files;
@@ -26,12 +25,12 @@ pub use inline::{read_inline_data, word_member};
 pub use laws::steps_are_sound;
 pub use media::{read_chunk_init, read_picture_init, read_sound_init, read_step_data};
 pub use members::{
-    array_member, as_name, copied, has, name_member, natural_member, object_member,
-    optional_object, text_member,
+    array_member, as_name, has, name_member, natural_member, object_member, optional_object,
+    text_member,
 };
 pub use options::read_options;
+pub use script_types::{Stop, Wrong, copied};
 pub use source::{SourceWords, read_source};
 pub use steps::read_step;
 pub use variables::Variables;
 pub use words::{MediaWord, StepWord};
-pub use wrong::Wrong;

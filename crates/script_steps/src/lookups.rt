@@ -6,9 +6,10 @@ ghost use Rattle.script_types.specs.Sound.{encodes};
 ghost use Rattle.script_steps.specs.References.{unused, codec_if, variable_if, variable_of, variable_in, on_of, bound_on, given_to, bound_from};
 ghost use Rattle.script_steps.specs.References as spec;
 ghost use Rattle.script_steps.specs.declared.references.Needed.TheVariants as needed;
+ghost use Rattle.script_types.specs.Reading.{Gives};
 
 use crate::references::Needed;
-use crate::{Variables, Wrong, copied, find_codec, name_member};
+use crate::{Stop, Variables, Wrong, copied, find_codec, name_member};
 use script_types::{CodecItem, FoundCodec, FoundVariable, Kind, Variable, VariableKind};
 use serde_json::Value;
 use std::alloc::Global;
@@ -36,36 +37,35 @@ fn decodes(kind: Kind) -> bool
 }
 
 /// A name that no step before defines, copied. `Twice` for another.
-pub fn read_unused(alloc: Global, before: &Variables, name: &str) -> Result<Text, Wrong>
-    ensures ok { IfOk result (λ t. unused before.now name.now ≡ Ok t) }
-    ensures err { IfErr result (λ e. e ≢ Wrong.NoMemory → unused before.now name.now ≡ Err e) }
+pub fn read_unused(alloc: Global, before: &Variables, name: &str) -> Result<Text, Stop<Wrong>>
+    ensures { Gives result (unused before.now name.now) }
 {
     if before.defines(name) {
-        return Err(Wrong::Twice);
+        return Err(Stop::Fault(Wrong::Twice));
     }
     Ok(copied(alloc, name)?)
 }
 
 // The decoder of this name. `Shape` for a codec of another kind.
-fn find_decoder(codecs: &[CodecItem], name: &str) -> Result<Option<FoundCodec>, Wrong>
+fn find_decoder(codecs: &[CodecItem], name: &str) -> Result<Option<FoundCodec>, Stop<Wrong>>
     requires { length codecs.now ≤ 64 }
     ensures { result ≡ codec_if names.decodes codecs.now name.now }
 {
     match find_codec(codecs, name) {
         None => Ok(None),
         Some(codec) if decodes(codec.kind) => Ok(Some(codec)),
-        Some(_) => Err(Wrong::Shape),
+        Some(_) => Err(Stop::Fault(Wrong::Shape)),
     }
 }
 
 // The encoder of this name. `Shape` for a codec of another kind.
-fn find_encoder(codecs: &[CodecItem], name: &str) -> Result<Option<FoundCodec>, Wrong>
+fn find_encoder(codecs: &[CodecItem], name: &str) -> Result<Option<FoundCodec>, Stop<Wrong>>
     requires { length codecs.now ≤ 64 }
     ensures { result ≡ codec_if encodes codecs.now name.now }
 {
     match find_codec(codecs, name) {
         None => Ok(None),
-        Some(codec) if decodes(codec.kind) => Err(Wrong::Shape),
+        Some(codec) if decodes(codec.kind) => Err(Stop::Fault(Wrong::Shape)),
         Some(codec) => Ok(Some(codec)),
     }
 }
@@ -75,14 +75,14 @@ pub fn find_variable(
     before: &Variables,
     name: &str,
     needed: Needed,
-) -> Result<Option<FoundVariable>, Wrong>
+) -> Result<Option<FoundVariable>, Stop<Wrong>>
     requires { length before.now ≤ 100000 }
     ensures { result ≡ variable_if needed before.now name.now }
 {
     match before.find(name) {
         None => Ok(None),
         Some(variable) if is_right(needed, variable.kind) => Ok(Some(variable)),
-        Some(_) => Err(Wrong::Shape),
+        Some(_) => Err(Stop::Fault(Wrong::Shape)),
     }
 }
 
@@ -105,25 +105,24 @@ pub fn read_variable(
     value: &Value,
     key: &str,
     needed: Needed,
-) -> Result<Variable, Wrong>
+) -> Result<Variable, Stop<Wrong>>
     requires { length before.now ≤ 100000 }
-    ensures ok { IfOk result (λ v. variable_in key.now needed before.now (view value.now) ≡ Ok v) }
-    ensures err { IfErr result (λ e. e ≢ Wrong.NoMemory → variable_in key.now needed before.now (view value.now) ≡ Err e) }
+    ensures { Gives result (variable_in key.now needed before.now (view value.now)) }
 {
     let name = name_member(value, key)?;
-    let found = find_variable(before, name, needed)?.ok_or(Wrong::UnknownName)?;
+    let found = find_variable(before, name, needed)?.ok_or(Stop::Fault(Wrong::UnknownName))?;
     Ok(variable_of(alloc, name, found)?)
 }
 
 /// The codec that a step names, where it names nothing else.
-pub fn read_on(codecs: &[CodecItem], value: &Value) -> Result<u32, Wrong>
+pub fn read_on(codecs: &[CodecItem], value: &Value) -> Result<u32, Stop<Wrong>>
     requires { length codecs.now ≤ 64 }
     ensures { result ≡ on_of codecs.now (view value.now) }
 {
     let on = name_member(value, "on")?;
     match find_codec(codecs, on) {
         Some(codec) => Ok(codec.number),
-        None => Err(Wrong::UnknownName),
+        None => Err(Stop::Fault(Wrong::UnknownName)),
     }
 }
 
@@ -133,17 +132,16 @@ pub fn read_bound_on(
     codecs: &[CodecItem],
     before: &Variables,
     value: &Value,
-) -> Result<(FoundCodec, Text), Wrong>
+) -> Result<(FoundCodec, Text), Stop<Wrong>>
     requires { length codecs.now ≤ 64 }
-    ensures ok { IfOk result (λ b. bound_on codecs.now before.now (view value.now) ≡ Ok b) }
-    ensures err { IfErr result (λ e. e ≢ Wrong.NoMemory → bound_on codecs.now before.now (view value.now) ≡ Err e) }
+    ensures { Gives result (bound_on codecs.now before.now (view value.now)) }
 {
     let on = name_member(value, "on")?;
     let name = name_member(value, "as")?;
     let bind = read_unused(alloc, before, name)?;
     match find_codec(codecs, on) {
         Some(codec) => Ok((codec, bind)),
-        None => Err(Wrong::UnknownName),
+        None => Err(Stop::Fault(Wrong::UnknownName)),
     }
 }
 
@@ -153,18 +151,19 @@ pub fn read_decoder_chunk(
     codecs: &[CodecItem],
     before: &Variables,
     value: &Value,
-) -> Result<(u32, Variable), Wrong>
+) -> Result<(u32, Variable), Stop<Wrong>>
     requires codecs { length codecs.now ≤ 64 }
     requires steps { length before.now ≤ 100000 }
-    ensures ok { IfOk result (λ g. given_to names.decodes (codes "chunk") needed.Chunk codecs.now before.now (view value.now) ≡ Ok g) }
-    ensures err { IfErr result (λ e. e ≢ Wrong.NoMemory → given_to names.decodes (codes "chunk") needed.Chunk codecs.now before.now (view value.now) ≡ Err e) }
+    ensures { Gives result
+        (given_to names.decodes (codes "chunk") needed.Chunk codecs.now before.now
+        (view value.now)) }
 {
     let on = name_member(value, "on")?;
     let name = name_member(value, "chunk")?;
     let codec = find_decoder(codecs, on)?;
     let variable = find_variable(before, name, Needed::Chunk)?;
     let (Some(codec), Some(found)) = (codec, variable) else {
-        return Err(Wrong::UnknownName);
+        return Err(Stop::Fault(Wrong::UnknownName));
     };
     Ok((codec.number, variable_of(alloc, name, found)?))
 }
@@ -175,18 +174,18 @@ pub fn read_encoder_data(
     codecs: &[CodecItem],
     before: &Variables,
     value: &Value,
-) -> Result<(u32, Variable), Wrong>
+) -> Result<(u32, Variable), Stop<Wrong>>
     requires codecs { length codecs.now ≤ 64 }
     requires steps { length before.now ≤ 100000 }
-    ensures ok { IfOk result (λ g. given_to encodes (codes "data") needed.Audio codecs.now before.now (view value.now) ≡ Ok g) }
-    ensures err { IfErr result (λ e. e ≢ Wrong.NoMemory → given_to encodes (codes "data") needed.Audio codecs.now before.now (view value.now) ≡ Err e) }
+    ensures { Gives result
+        (given_to encodes (codes "data") needed.Audio codecs.now before.now (view value.now)) }
 {
     let on = name_member(value, "on")?;
     let name = name_member(value, "data")?;
     let codec = find_encoder(codecs, on)?;
     let variable = find_variable(before, name, Needed::Audio)?;
     let (Some(codec), Some(found)) = (codec, variable) else {
-        return Err(Wrong::UnknownName);
+        return Err(Stop::Fault(Wrong::UnknownName));
     };
     Ok((codec.number, variable_of(alloc, name, found)?))
 }
@@ -196,15 +195,14 @@ pub fn read_bound_from(
     alloc: Global,
     before: &Variables,
     value: &Value,
-) -> Result<(Variable, Text), Wrong>
+) -> Result<(Variable, Text), Stop<Wrong>>
     requires { length before.now ≤ 100000 }
-    ensures ok { IfOk result (λ b. bound_from before.now (view value.now) ≡ Ok b) }
-    ensures err { IfErr result (λ e. e ≢ Wrong.NoMemory → bound_from before.now (view value.now) ≡ Err e) }
+    ensures { Gives result (bound_from before.now (view value.now)) }
 {
     let of = name_member(value, "of")?;
     let name = name_member(value, "as")?;
     let variable = find_variable(before, of, Needed::Medium)?;
     let bind = read_unused(alloc, before, name)?;
-    let found = variable.ok_or(Wrong::UnknownName)?;
+    let found = variable.ok_or(Stop::Fault(Wrong::UnknownName))?;
     Ok((variable_of(alloc, of, found)?, bind))
 }

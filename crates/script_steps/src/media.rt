@@ -5,10 +5,10 @@ ghost use Rattle.serde_json.specs.Find.{get};
 ghost use Rattle.script_steps.specs.Members.{word_of, required};
 ghost use Rattle.script_steps.specs.Media.{data_of_init, data_of_step, timestamp_in, duration_in, content_in, key_of, chunk_of, sample_format_of, sound_of, picture_format_of, picture_of};
 
-use crate::Wrong;
 use crate::members::{
     as_text, has, optional_duration_member, read_hex, timestamp_member, u32_member,
 };
+use crate::{Stop, Wrong};
 use bytes::Bytes;
 use script_types::{ChunkInit, PictureInit, SoundInit};
 use serde_json::Value;
@@ -26,12 +26,12 @@ pub fn read_step_data(alloc: Global, value: &Value) -> Result<Option<Bytes>, NoM
 }
 
 // The data of an init, which was read before. `Shape` where there is another value.
-fn content_member(value: &Value, content: Option<Bytes>) -> Result<Option<Bytes>, Wrong>
+fn content_member(value: &Value, content: Option<Bytes>) -> Result<Option<Bytes>, Stop<Wrong>>
     requires { content ≡ data_of_init (view value.now) }
     ensures { result ≡ content_in (view value.now) }
 {
     if content.is_none() && has(value, "data") {
-        return Err(Wrong::Shape);
+        return Err(Stop::Fault(Wrong::Shape));
     }
     Ok(content)
 }
@@ -46,7 +46,7 @@ fn read_key(text: &str) -> Option<bool>
     }
 }
 
-fn type_member(value: &Value) -> Result<Option<bool>, Wrong>
+fn type_member(value: &Value) -> Result<Option<bool>, Stop<Wrong>>
     ensures { result ≡ required (word_of key_of) (get (codes "type") (view value.now)) }
 {
     match value.get("type") {
@@ -57,7 +57,10 @@ fn type_member(value: &Value) -> Result<Option<bool>, Wrong>
 
 /// Reads what a chunk is made of; its content was read before. `None` where a rule of WebIDL is broken, and `Shape` where
 /// a member is of another JSON kind.
-pub fn read_chunk_init(value: &Value, content: Option<Bytes>) -> Result<Option<ChunkInit>, Wrong>
+pub fn read_chunk_init(
+    value: &Value,
+    content: Option<Bytes>,
+) -> Result<Option<ChunkInit>, Stop<Wrong>>
     requires { content ≡ data_of_init (view value.now) }
     ensures { result ≡ chunk_of (view value.now) }
 {
@@ -90,7 +93,7 @@ fn read_sample_format(text: &str) -> Option<SampleFormat>
     }
 }
 
-fn sample_format_member(value: &Value) -> Result<Option<SampleFormat>, Wrong>
+fn sample_format_member(value: &Value) -> Result<Option<SampleFormat>, Stop<Wrong>>
     ensures { result ≡ required (word_of sample_format_of) (get (codes "format") (view value.now)) }
 {
     match value.get("format") {
@@ -101,7 +104,10 @@ fn sample_format_member(value: &Value) -> Result<Option<SampleFormat>, Wrong>
 
 /// Reads what audio data is made of; its content was read before. `None` where a rule of WebIDL is broken, and `Shape`
 /// where a member is of another JSON kind.
-pub fn read_sound_init(value: &Value, content: Option<Bytes>) -> Result<Option<SoundInit>, Wrong>
+pub fn read_sound_init(
+    value: &Value,
+    content: Option<Bytes>,
+) -> Result<Option<SoundInit>, Stop<Wrong>>
     requires { content ≡ data_of_init (view value.now) }
     ensures { result ≡ sound_of (view value.now) }
 {
@@ -141,8 +147,9 @@ fn read_picture_format(text: &str) -> Option<PictureFormat>
     }
 }
 
-fn picture_format_member(value: &Value) -> Result<Option<PictureFormat>, Wrong>
-    ensures { result ≡ required (word_of picture_format_of) (get (codes "format") (view value.now)) }
+fn picture_format_member(value: &Value) -> Result<Option<PictureFormat>, Stop<Wrong>>
+    ensures { result
+        ≡ required (word_of picture_format_of) (get (codes "format") (view value.now)) }
 {
     match value.get("format") {
         None => Ok(None),
@@ -155,7 +162,7 @@ fn picture_format_member(value: &Value) -> Result<Option<PictureFormat>, Wrong>
 pub fn read_picture_init(
     value: &Value,
     content: Option<Bytes>,
-) -> Result<Option<PictureInit>, Wrong>
+) -> Result<Option<PictureInit>, Stop<Wrong>>
     requires { content ≡ data_of_init (view value.now) }
     ensures { result ≡ picture_of (view value.now) }
 {

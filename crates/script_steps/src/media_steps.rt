@@ -6,6 +6,7 @@ ghost use Rattle.script_steps.specs.Media.{data_of_step};
 ghost use Rattle.script_steps.specs.declared.words.StepWord.TheVariants as step_word;
 ghost use Rattle.script_steps.specs.Words.{data_of_word};
 ghost use Rattle.script_steps.specs.MediaSteps.{audio_of, frame_of, take_of, size_in, options_in, copy_of, size_of, media_by};
+ghost use Rattle.script_types.specs.Reading.{Gives};
 
 use crate::lookups::{
     find_variable, read_bound_from, read_bound_on, read_encoder_data, read_unused, read_variable,
@@ -13,7 +14,7 @@ use crate::lookups::{
 };
 use crate::references::Needed;
 use crate::{
-    MediaWord, Variables, Wrong, name_member, natural_member, object_member, optional_object,
+    MediaWord, Stop, Variables, Wrong, name_member, natural_member, object_member, optional_object,
     read_options, read_picture_init, read_sound_init,
 };
 use bytes::Bytes;
@@ -28,10 +29,9 @@ fn read_audio(
     before: &Variables,
     value: &Value,
     content: Option<Bytes>,
-) -> Result<MediaStep, Wrong>
+) -> Result<MediaStep, Stop<Wrong>>
     requires { content ≡ data_of_step (view value.now) }
-    ensures ok { IfOk result (λ s. audio_of before.now (view value.now) ≡ Ok s) }
-    ensures err { IfErr result (λ e. e ≢ Wrong.NoMemory → audio_of before.now (view value.now) ≡ Err e) }
+    ensures { Gives result (audio_of before.now (view value.now)) }
 {
     let name = name_member(value, "as")?;
     let init = read_sound_init(object_member(value, "init")?, content)?;
@@ -44,10 +44,9 @@ fn read_frame(
     before: &Variables,
     value: &Value,
     content: Option<Bytes>,
-) -> Result<MediaStep, Wrong>
+) -> Result<MediaStep, Stop<Wrong>>
     requires { content ≡ data_of_step (view value.now) }
-    ensures ok { IfOk result (λ s. frame_of before.now (view value.now) ≡ Ok s) }
-    ensures err { IfErr result (λ e. e ≢ Wrong.NoMemory → frame_of before.now (view value.now) ≡ Err e) }
+    ensures { Gives result (frame_of before.now (view value.now)) }
 {
     let name = name_member(value, "as")?;
     let init = read_picture_init(object_member(value, "init")?, content)?;
@@ -71,10 +70,9 @@ fn read_take(
     codecs: &[CodecItem],
     before: &Variables,
     value: &Value,
-) -> Result<MediaStep, Wrong>
+) -> Result<MediaStep, Stop<Wrong>>
     requires { length codecs.now ≤ 64 }
-    ensures ok { IfOk result (λ s. take_of codecs.now before.now (view value.now) ≡ Ok s) }
-    ensures err { IfErr result (λ e. e ≢ Wrong.NoMemory → take_of codecs.now before.now (view value.now) ≡ Err e) }
+    ensures { Gives result (take_of codecs.now before.now (view value.now)) }
 {
     let (codec, bind) = read_bound_on(alloc, codecs, before, value)?;
     Ok(MediaStep::Take {
@@ -85,12 +83,12 @@ fn read_take(
 }
 
 // A count of bytes within the limit. `Shape` for anything else.
-fn size_member(value: &Value) -> Result<u64, Wrong>
+fn size_member(value: &Value) -> Result<u64, Stop<Wrong>>
     ensures { result ≡ size_in (view value.now) }
 {
     match natural_member(value, "size") {
         Some(size) if size <= MOST_CHUNK => Ok(size),
-        _ => Err(Wrong::Shape),
+        _ => Err(Stop::Fault(Wrong::Shape)),
     }
 }
 
@@ -99,9 +97,8 @@ fn options_member(
     alloc: Global,
     variable: Option<FoundVariable>,
     value: &Value,
-) -> Result<Options, Wrong>
-    ensures ok { IfOk result (λ o. options_in variable (view value.now) ≡ Ok o) }
-    ensures err { IfErr result (λ e. e ≢ Wrong.NoMemory → options_in variable (view value.now) ≡ Err e) }
+) -> Result<Options, Stop<Wrong>>
+    ensures { Gives result (options_in variable (view value.now)) }
 {
     let options = value.get("options");
     match variable {
@@ -113,29 +110,27 @@ fn options_member(
     }
 }
 
-fn read_copy(alloc: Global, before: &Variables, value: &Value) -> Result<MediaStep, Wrong>
+fn read_copy(alloc: Global, before: &Variables, value: &Value) -> Result<MediaStep, Stop<Wrong>>
     requires { length before.now ≤ 100000 }
-    ensures ok { IfOk result (λ s. copy_of before.now (view value.now) ≡ Ok s) }
-    ensures err { IfErr result (λ e. e ≢ Wrong.NoMemory → copy_of before.now (view value.now) ≡ Err e) }
+    ensures { Gives result (copy_of before.now (view value.now)) }
 {
     let of = name_member(value, "of")?;
     let size = size_member(value)?;
     let variable = find_variable(before, of, Needed::Copied)?;
     let options = options_member(alloc, variable, value)?;
-    let found = variable.ok_or(Wrong::UnknownName)?;
+    let found = variable.ok_or(Stop::Fault(Wrong::UnknownName))?;
     let of = variable_of(alloc, of, found)?;
     Ok(MediaStep::Copy { of, options, size })
 }
 
-fn read_size(alloc: Global, before: &Variables, value: &Value) -> Result<MediaStep, Wrong>
+fn read_size(alloc: Global, before: &Variables, value: &Value) -> Result<MediaStep, Stop<Wrong>>
     requires { length before.now ≤ 100000 }
-    ensures ok { IfOk result (λ s. size_of before.now (view value.now) ≡ Ok s) }
-    ensures err { IfErr result (λ e. e ≢ Wrong.NoMemory → size_of before.now (view value.now) ≡ Err e) }
+    ensures { Gives result (size_of before.now (view value.now)) }
 {
     let of = name_member(value, "of")?;
     let variable = find_variable(before, of, Needed::Medium)?;
     let options = options_member(alloc, variable, value)?;
-    let found = variable.ok_or(Wrong::UnknownName)?;
+    let found = variable.ok_or(Stop::Fault(Wrong::UnknownName))?;
     let of = variable_of(alloc, of, found)?;
     Ok(MediaStep::Size { of, options })
 }
@@ -148,12 +143,11 @@ pub fn read_media_step(
     value: &Value,
     word: MediaWord,
     content: Option<Bytes>,
-) -> Result<MediaStep, Wrong>
+) -> Result<MediaStep, Stop<Wrong>>
     requires codecs { length codecs.now ≤ 64 }
     requires steps { length before.now ≤ 100000 }
     requires content { content ≡ data_of_word (Some (step_word.Media word)) (view value.now) }
-    ensures ok { IfOk result (λ s. media_by codecs.now before.now (view value.now) word ≡ Ok s) }
-    ensures err { IfErr result (λ e. e ≢ Wrong.NoMemory → media_by codecs.now before.now (view value.now) word ≡ Err e) }
+    ensures { Gives result (media_by codecs.now before.now (view value.now) word) }
 {
     match word {
         MediaWord::Audio => read_audio(alloc, before, value, content),

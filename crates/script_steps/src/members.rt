@@ -7,8 +7,9 @@ ghost use Rattle.script_types.specs.Names as names;
 ghost use Rattle.script_steps.specs.Members.{needed, checked_name, checked_object, text_in, name_in, array_in, object_in, object_if_there, natural_of, u32_of, duration_of, timestamp_of, text_of, hex_of, required, defaulted, optional, hex_if_there};
 ghost use Rattle.script_steps.specs.Members as spec;
 ghost use Rattle.script_steps.specs.Sources as sources;
+ghost use Rattle.script_types.specs.Reading.{Gives};
 
-use crate::Wrong;
+use crate::{Stop, Wrong, copied};
 use bytes::Bytes;
 use serde_json::Value;
 use std::alloc::Global;
@@ -50,14 +51,14 @@ pub fn text_member<'v>(value: &'v Value, key: &str) -> Option<&'v str>
 }
 
 /// A member that is a name. `Shape` for any other.
-pub fn name_member<'v>(value: &'v Value, key: &str) -> Result<&'v str, Wrong>
+pub fn name_member<'v>(value: &'v Value, key: &str) -> Result<&'v str, Stop<Wrong>>
     ensures ok { IfOk result (λ s. name_in key.now (view value.now) ≡ Ok s.now) }
     ensures err { IfErr result (λ e. name_in key.now (view value.now) ≡ Err e) }
 {
     let Some(text) = text_member(value, key) else {
-        return Err(Wrong::Shape);
+        return Err(Stop::Fault(Wrong::Shape));
     };
-    as_name(text).ok_or(Wrong::Shape)
+    as_name(text).ok_or(Stop::Fault(Wrong::Shape))
 }
 
 /// A member that is an array.
@@ -69,46 +70,49 @@ pub fn array_member<'v>(value: &'v Value, key: &str) -> Option<&'v [Value]>
 }
 
 /// A member that is an object. `Shape` for any other.
-pub fn object_member<'v>(value: &'v Value, key: &str) -> Result<&'v Value, Wrong>
+pub fn object_member<'v>(value: &'v Value, key: &str) -> Result<&'v Value, Stop<Wrong>>
     ensures ok { IfOk result (λ v. object_in key.now (view value.now) ≡ Ok (view v.now)) }
     ensures err { IfErr result (λ e. object_in key.now (view value.now) ≡ Err e) }
 {
     match value.get(key) {
         Some(object) if object.is_object() => Ok(object),
-        _ => Err(Wrong::Shape),
+        _ => Err(Stop::Fault(Wrong::Shape)),
     }
 }
 
 /// An object that may be absent. `Shape` for any other value.
-pub fn optional_object(value: Option<&Value>) -> Result<Option<&Value>, Wrong>
-    ensures ok { IfOk result (λ o. object_if_there (option_map (λ v. view v.now) value.entry) ≡ Ok (option_map (λ v. view v.now) o)) }
-    ensures err { IfErr result (λ e. object_if_there (option_map (λ v. view v.now) value.entry) ≡ Err e) }
+pub fn optional_object(value: Option<&Value>) -> Result<Option<&Value>, Stop<Wrong>>
+    ensures ok { IfOk result
+        (λ o. object_if_there (option_map (λ v. view v.now) value.entry)
+        ≡ Ok (option_map (λ v. view v.now) o)) }
+    ensures err { IfErr result
+        (λ e. object_if_there (option_map (λ v. view v.now) value.entry) ≡ Err e) }
 {
     match value {
         None => Ok(None),
         Some(object) if object.is_object() => Ok(Some(object)),
-        Some(_) => Err(Wrong::Shape),
+        Some(_) => Err(Stop::Fault(Wrong::Shape)),
     }
 }
 
 /// The value as an object. `Shape` for any other.
-pub fn as_checked_object(value: &Value) -> Result<&Value, Wrong>
+pub fn as_checked_object(value: &Value) -> Result<&Value, Stop<Wrong>>
     ensures ok { IfOk result (λ o. needed (checked_object (view value.now)) ≡ Ok (view o.now)) }
     ensures err { IfErr result (λ e. needed (checked_object (view value.now)) ≡ Err e) }
 {
     if value.is_object() {
         Ok(value)
     } else {
-        Err(Wrong::Shape)
+        Err(Stop::Fault(Wrong::Shape))
     }
 }
 
 /// The text of a value. `Shape` for any other.
-pub fn as_text(value: &Value) -> Result<&str, Wrong>
+pub fn as_text(value: &Value) -> Result<&str, Stop<Wrong>>
     ensures ok { IfOk result (λ s. needed (as_str (view value.now)) ≡ Ok s.now) }
     ensures err { IfErr result (λ e. needed (as_str (view value.now)) ≡ Err e) }
 {
-    value.as_str().ok_or(Wrong::Shape)
+    value.as_str().ok_or(Stop::Fault(Wrong::Shape))
 }
 
 /// Whether the object has a member of this name.
@@ -124,34 +128,34 @@ fn is_integer(value: &Value) -> bool
     value.is_u64() || value.is_i64()
 }
 
-fn read_u32(value: &Value) -> Result<Option<u32>, Wrong>
+fn read_u32(value: &Value) -> Result<Option<u32>, Stop<Wrong>>
     ensures { result ≡ u32_of (view value.now) }
 {
     match value.as_u64() {
         Some(n) => Ok(if n < 1 << 32 { Some(n as u32) } else { None }),
         None if is_integer(value) => Ok(None),
-        None => Err(Wrong::Shape),
+        None => Err(Stop::Fault(Wrong::Shape)),
     }
 }
 
-fn read_duration(value: &Value) -> Result<Option<u64>, Wrong>
+fn read_duration(value: &Value) -> Result<Option<u64>, Stop<Wrong>>
     ensures { result ≡ duration_of (view value.now) }
 {
     match value.as_u64() {
         Some(n) => Ok(if n < 1 << 53 { Some(n) } else { None }),
         None if is_integer(value) => Ok(None),
-        None => Err(Wrong::Shape),
+        None => Err(Stop::Fault(Wrong::Shape)),
     }
 }
 
-fn read_timestamp(value: &Value) -> Result<Option<i64>, Wrong>
+fn read_timestamp(value: &Value) -> Result<Option<i64>, Stop<Wrong>>
     ensures { result ≡ timestamp_of (view value.now) }
 {
     let range = -((1 << 53) - 1)..=(1 << 53) - 1;
     match value.as_i64() {
         Some(n) => Ok(if range.contains(&n) { Some(n) } else { None }),
         None if is_integer(value) => Ok(None),
-        None => Err(Wrong::Shape),
+        None => Err(Stop::Fault(Wrong::Shape)),
     }
 }
 
@@ -163,7 +167,7 @@ pub fn natural_member(value: &Value, key: &str) -> Option<u64>
 }
 
 /// A required number of 32 bits: no value where it is missing or outside.
-pub fn u32_member(value: &Value, key: &str) -> Result<Option<u32>, Wrong>
+pub fn u32_member(value: &Value, key: &str) -> Result<Option<u32>, Stop<Wrong>>
     ensures { result ≡ required u32_of (get key.now (view value.now)) }
 {
     match value.get(key) {
@@ -173,7 +177,7 @@ pub fn u32_member(value: &Value, key: &str) -> Result<Option<u32>, Wrong>
 }
 
 /// A number of 32 bits that may be absent.
-pub fn optional_u32_member(value: &Value, key: &str) -> Result<Option<Option<u32>>, Wrong>
+pub fn optional_u32_member(value: &Value, key: &str) -> Result<Option<Option<u32>>, Stop<Wrong>>
     ensures { result ≡ optional u32_of (get key.now (view value.now)) }
 {
     match value.get(key) {
@@ -183,8 +187,14 @@ pub fn optional_u32_member(value: &Value, key: &str) -> Result<Option<Option<u32
 }
 
 /// A number of 32 bits with a default, in an object that may be absent.
-pub fn u32_member_or(value: Option<&Value>, key: &str, default: u32) -> Result<Option<u32>, Wrong>
-    ensures { result ≡ defaulted default u32_of (option_and_then (get key.now) (option_map (λ v. view v.now) value.entry)) }
+pub fn u32_member_or(
+    value: Option<&Value>,
+    key: &str,
+    default: u32,
+) -> Result<Option<u32>, Stop<Wrong>>
+    ensures { result
+        ≡ defaulted default u32_of
+        (option_and_then (get key.now) (option_map (λ v. view v.now) value.entry)) }
 {
     match value.and_then(|v| v.get(key)) {
         None => Ok(Some(default)),
@@ -193,7 +203,7 @@ pub fn u32_member_or(value: Option<&Value>, key: &str, default: u32) -> Result<O
 }
 
 /// A required timestamp in microseconds: no value where it is missing or outside.
-pub fn timestamp_member(value: &Value, key: &str) -> Result<Option<i64>, Wrong>
+pub fn timestamp_member(value: &Value, key: &str) -> Result<Option<i64>, Stop<Wrong>>
     ensures { result ≡ required timestamp_of (get key.now (view value.now)) }
 {
     match value.get(key) {
@@ -203,7 +213,10 @@ pub fn timestamp_member(value: &Value, key: &str) -> Result<Option<i64>, Wrong>
 }
 
 /// A duration in microseconds that may be absent.
-pub fn optional_duration_member(value: &Value, key: &str) -> Result<Option<Option<u64>>, Wrong>
+pub fn optional_duration_member(
+    value: &Value,
+    key: &str,
+) -> Result<Option<Option<u64>>, Stop<Wrong>>
     ensures { result ≡ optional duration_of (get key.now (view value.now)) }
 {
     match value.get(key) {
@@ -212,26 +225,15 @@ pub fn optional_duration_member(value: &Value, key: &str) -> Result<Option<Optio
     }
 }
 
-/// A name or another text, copied.
-pub fn copied(alloc: Global, text: &str) -> Result<Text, NoMemory>
-    ensures { IfOk result (λ t. t ≡ text.now) }
-{
-    match String::from_str(alloc, text) {
-        Ok(text) => Ok(Text::of(text)),
-        Err(_) => Err(NoMemory),
-    }
-}
-
 /// A required text: no value where it is missing.
-pub fn text_value(alloc: Global, value: &Value, key: &str) -> Result<Option<Text>, Wrong>
-    ensures ok { IfOk result (λ t. required text_of (get key.now (view value.now)) ≡ Ok t) }
-    ensures err { IfErr result (λ e. e ≢ Wrong.NoMemory → required text_of (get key.now (view value.now)) ≡ Err e) }
+pub fn text_value(alloc: Global, value: &Value, key: &str) -> Result<Option<Text>, Stop<Wrong>>
+    ensures { Gives result (required text_of (get key.now (view value.now))) }
 {
     match value.get(key) {
         None => Ok(None),
         Some(text) => match text.as_str() {
             Some(text) => Ok(Some(copied(alloc, text)?)),
-            None => Err(Wrong::Shape),
+            None => Err(Stop::Fault(Wrong::Shape)),
         },
     }
 }
@@ -254,15 +256,18 @@ pub fn read_hex(alloc: Global, value: &Value) -> Result<Option<Bytes>, NoMemory>
 }
 
 /// Bytes as hex text that may be absent.
-pub fn optional_hex_member(alloc: Global, value: &Value, key: &str) -> Result<Option<Bytes>, Wrong>
-    ensures ok { IfOk result (λ o. hex_if_there (get key.now (view value.now)) ≡ Ok o) }
-    ensures err { IfErr result (λ e. e ≢ Wrong.NoMemory → hex_if_there (get key.now (view value.now)) ≡ Err e) }
+pub fn optional_hex_member(
+    alloc: Global,
+    value: &Value,
+    key: &str,
+) -> Result<Option<Bytes>, Stop<Wrong>>
+    ensures { Gives result (hex_if_there (get key.now (view value.now))) }
 {
     let Some(text) = value.get(key) else {
         return Ok(None);
     };
     match read_hex(alloc, text)? {
         Some(bytes) => Ok(Some(bytes)),
-        None => Err(Wrong::Shape),
+        None => Err(Stop::Fault(Wrong::Shape)),
     }
 }

@@ -4,11 +4,12 @@ ghost use Rattle.serde_json.specs.View.{view, items_view};
 ghost use Rattle.serde_json.specs.Find.{get};
 ghost use Rattle.script_steps.specs.Members.{word_of, optional};
 ghost use Rattle.script_steps.specs.CopyOptions.{format_of, audio_options_of, rect_of, plane_of, planes_of, layout_of, frame_options_of, options_by, options_for};
+ghost use Rattle.script_types.specs.Reading.{Gives};
 
-use crate::Wrong;
 use crate::members::{
     as_checked_object, as_text, optional_object, optional_u32_member, u32_member, u32_member_or,
 };
+use crate::{Stop, Wrong};
 use script_types::{
     AudioOptions, FormatWord, FrameOptions, LayoutWords, Options, RectWords, VariableKind,
 };
@@ -32,7 +33,7 @@ fn read_format(text: &str) -> Option<FormatWord>
     }
 }
 
-fn format_member(value: &Value) -> Result<Option<Option<FormatWord>>, Wrong>
+fn format_member(value: &Value) -> Result<Option<Option<FormatWord>>, Stop<Wrong>>
     ensures { result ≡ optional (word_of format_of) (get (codes "format") (view value.now)) }
 {
     match value.get("format") {
@@ -41,7 +42,7 @@ fn format_member(value: &Value) -> Result<Option<Option<FormatWord>>, Wrong>
     }
 }
 
-fn read_audio_options(object: Option<&Value>) -> Result<Option<AudioOptions>, Wrong>
+fn read_audio_options(object: Option<&Value>) -> Result<Option<AudioOptions>, Stop<Wrong>>
     ensures { result ≡ audio_options_of (option_map (λ v. view v.now) object.entry) }
 {
     let Some(object) = object else {
@@ -62,7 +63,7 @@ fn read_audio_options(object: Option<&Value>) -> Result<Option<AudioOptions>, Wr
     }
 }
 
-fn read_rect(value: &Value) -> Result<Option<RectWords>, Wrong>
+fn read_rect(value: &Value) -> Result<Option<RectWords>, Stop<Wrong>>
     ensures { result ≡ rect_of (view value.now) }
 {
     let object = as_checked_object(value)?;
@@ -81,7 +82,7 @@ fn read_rect(value: &Value) -> Result<Option<RectWords>, Wrong>
     }
 }
 
-fn rect_member(value: &Value) -> Result<Option<Option<RectWords>>, Wrong>
+fn rect_member(value: &Value) -> Result<Option<Option<RectWords>>, Stop<Wrong>>
     ensures { result ≡ optional rect_of (get (codes "rect") (view value.now)) }
 {
     match value.get("rect") {
@@ -90,7 +91,7 @@ fn rect_member(value: &Value) -> Result<Option<Option<RectWords>>, Wrong>
     }
 }
 
-fn read_plane(value: &Value) -> Result<Option<LayoutWords>, Wrong>
+fn read_plane(value: &Value) -> Result<Option<LayoutWords>, Stop<Wrong>>
     ensures { result ≡ plane_of (view value.now) }
 {
     let object = as_checked_object(value)?;
@@ -102,9 +103,8 @@ fn read_plane(value: &Value) -> Result<Option<LayoutWords>, Wrong>
     }
 }
 
-fn read_planes(alloc: Global, items: &[Value]) -> Result<Option<List<LayoutWords>>, Wrong>
-    ensures ok { IfOk result (λ o. planes_of (Some []) (items_view items.now) ≡ Ok o) }
-    ensures err { IfErr result (λ e. e ≢ Wrong.NoMemory → planes_of (Some []) (items_view items.now) ≡ Err e) }
+fn read_planes(alloc: Global, items: &[Value]) -> Result<Option<List<LayoutWords>>, Stop<Wrong>>
+    ensures { Gives result (planes_of (Some []) (items_view items.now)) }
 {
     let mut planes = Vec::new(alloc);
     let mut all_right = true;
@@ -121,19 +121,20 @@ fn read_planes(alloc: Global, items: &[Value]) -> Result<Option<List<LayoutWords
     })
 }
 
-fn read_layout(alloc: Global, value: &Value) -> Result<Option<List<LayoutWords>>, Wrong>
-    ensures ok { IfOk result (λ o. layout_of (view value.now) ≡ Ok o) }
-    ensures err { IfErr result (λ e. e ≢ Wrong.NoMemory → layout_of (view value.now) ≡ Err e) }
+fn read_layout(alloc: Global, value: &Value) -> Result<Option<List<LayoutWords>>, Stop<Wrong>>
+    ensures { Gives result (layout_of (view value.now)) }
 {
     match value.as_array() {
         Some(items) => read_planes(alloc, items),
-        None => Err(Wrong::Shape),
+        None => Err(Stop::Fault(Wrong::Shape)),
     }
 }
 
-fn layout_member(alloc: Global, value: &Value) -> Result<Option<Option<List<LayoutWords>>>, Wrong>
-    ensures ok { IfOk result (λ o. optional layout_of (get (codes "layout") (view value.now)) ≡ Ok o) }
-    ensures err { IfErr result (λ e. e ≢ Wrong.NoMemory → optional layout_of (get (codes "layout") (view value.now)) ≡ Err e) }
+fn layout_member(
+    alloc: Global,
+    value: &Value,
+) -> Result<Option<Option<List<LayoutWords>>>, Stop<Wrong>>
+    ensures { Gives result (optional layout_of (get (codes "layout") (view value.now))) }
 {
     match value.get("layout") {
         None => Ok(Some(None)),
@@ -141,9 +142,11 @@ fn layout_member(alloc: Global, value: &Value) -> Result<Option<Option<List<Layo
     }
 }
 
-fn read_frame_options(alloc: Global, object: Option<&Value>) -> Result<Option<FrameOptions>, Wrong>
-    ensures ok { IfOk result (λ o. frame_options_of (option_map (λ v. view v.now) object.entry) ≡ Ok o) }
-    ensures err { IfErr result (λ e. e ≢ Wrong.NoMemory → frame_options_of (option_map (λ v. view v.now) object.entry) ≡ Err e) }
+fn read_frame_options(
+    alloc: Global,
+    object: Option<&Value>,
+) -> Result<Option<FrameOptions>, Stop<Wrong>>
+    ensures { Gives result (frame_options_of (option_map (λ v. view v.now) object.entry)) }
 {
     let Some(object) = object else {
         return Ok(Some(FrameOptions {
@@ -165,9 +168,8 @@ pub fn read_options(
     alloc: Global,
     kind: VariableKind,
     value: Option<&Value>,
-) -> Result<Options, Wrong>
-    ensures ok { IfOk result (λ o. options_for kind (option_map (λ v. view v.now) value.entry) ≡ Ok o) }
-    ensures err { IfErr result (λ e. e ≢ Wrong.NoMemory → options_for kind (option_map (λ v. view v.now) value.entry) ≡ Err e) }
+) -> Result<Options, Stop<Wrong>>
+    ensures { Gives result (options_for kind (option_map (λ v. view v.now) value.entry)) }
 {
     let object = optional_object(value)?;
     match kind {

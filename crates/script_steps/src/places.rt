@@ -23,7 +23,8 @@ pub fn put(
     name: &str,
     place: usize,
 ) -> Result<(), NoMemory>
-    ensures ok { OnOk result (IsTable places.new (update bytes_eq (get_by_text places.old) name.now (Some place))) }
+    ensures ok { OnOk result
+        (IsTable places.new (update bytes_eq (get_by_text places.old) name.now (Some place))) }
     ensures err { OnErr result (IsTable places.new (get_by_text places.old)) }
 {
     let Ok(name) = String::from_str(alloc, name) else {

@@ -3,10 +3,11 @@ ghost use Rattle.std.specs.Prelude.{◌≡◌, ◌≢◌, IfOk, IfErr};
 ghost use Rattle.serde_json.specs.View.{view};
 ghost use Rattle.script_steps.specs.Media.{data_of_step};
 ghost use Rattle.script_steps.specs.Sources.{index_in, made_of, taken_of, source_of};
+ghost use Rattle.script_types.specs.Reading.{Gives};
 
-use crate::Wrong;
 use crate::media::read_chunk_init;
-use crate::members::{copied, has, natural_member, object_member, text_member};
+use crate::members::{has, natural_member, object_member, text_member};
+use crate::{Stop, Wrong, copied};
 use bytes::Bytes;
 use script_types::ChunkInit;
 use serde_json::Value;
@@ -22,7 +23,7 @@ pub enum SourceWords {
     File { name: Text, index: u64 },
 }
 
-fn read_made(value: &Value, content: Option<Bytes>) -> Result<SourceWords, Wrong>
+fn read_made(value: &Value, content: Option<Bytes>) -> Result<SourceWords, Stop<Wrong>>
     requires { content ≡ data_of_step (view value.now) }
     ensures { result ≡ made_of (view value.now) }
 {
@@ -30,12 +31,11 @@ fn read_made(value: &Value, content: Option<Bytes>) -> Result<SourceWords, Wrong
     Ok(SourceWords::Init(read_chunk_init(init, content)?))
 }
 
-fn read_taken(alloc: Global, value: &Value) -> Result<SourceWords, Wrong>
-    ensures ok { IfOk result (λ s. taken_of (view value.now) ≡ Ok s) }
-    ensures err { IfErr result (λ e. e ≢ Wrong.NoMemory → taken_of (view value.now) ≡ Err e) }
+fn read_taken(alloc: Global, value: &Value) -> Result<SourceWords, Stop<Wrong>>
+    ensures { Gives result (taken_of (view value.now)) }
 {
-    let name = text_member(value, "file").ok_or(Wrong::Shape)?;
-    let index = natural_member(value, "index").ok_or(Wrong::Shape)?;
+    let name = text_member(value, "file").ok_or(Stop::Fault(Wrong::Shape))?;
+    let index = natural_member(value, "index").ok_or(Stop::Fault(Wrong::Shape))?;
     let name = copied(alloc, name)?;
     Ok(SourceWords::File { name, index })
 }
@@ -46,14 +46,13 @@ pub fn read_source(
     alloc: Global,
     value: &Value,
     content: Option<Bytes>,
-) -> Result<SourceWords, Wrong>
+) -> Result<SourceWords, Stop<Wrong>>
     requires { content ≡ data_of_step (view value.now) }
-    ensures ok { IfOk result (λ s. source_of (view value.now) ≡ Ok s) }
-    ensures err { IfErr result (λ e. e ≢ Wrong.NoMemory → source_of (view value.now) ≡ Err e) }
+    ensures { Gives result (source_of (view value.now)) }
 {
     match (has(value, "init"), has(value, "file"), has(value, "index")) {
         (true, false, false) => read_made(value, content),
         (false, true, true) => read_taken(alloc, value),
-        _ => Err(Wrong::Shape),
+        _ => Err(Stop::Fault(Wrong::Shape)),
     }
 }

@@ -4,12 +4,13 @@ ghost use Rattle.serde_json.specs.View.{view};
 ghost use Rattle.script_steps.specs.Media.{data_of_step};
 ghost use Rattle.script_steps.specs.Words.{data_of_word};
 ghost use Rattle.script_steps.specs.Steps.{configure_of, numbered, chunk_step_of, step_by};
+ghost use Rattle.script_types.specs.Reading.{Gives, GivesAs};
 
 use crate::lookups::{read_bound_on, read_decoder_chunk, read_on, read_unused, read_variable};
 use crate::media_steps::read_media_step;
 use crate::references::Needed;
 use crate::{
-    Files, SourceWords, StepWord, Variables, Wrong, find_codec, name_member, object_member,
+    Files, SourceWords, StepWord, Stop, Variables, Wrong, find_codec, name_member, object_member,
     read_config, read_source,
 };
 use bytes::Bytes;
@@ -18,15 +19,14 @@ use serde_json::Value;
 use std::alloc::Global;
 use wc_base::NoMemory;
 
-fn read_configure(alloc: Global, codecs: &[CodecItem], value: &Value) -> Result<Step, Wrong>
+fn read_configure(alloc: Global, codecs: &[CodecItem], value: &Value) -> Result<Step, Stop<Wrong>>
     requires { length codecs.now ≤ 64 }
-    ensures ok { IfOk result (λ s. configure_of codecs.now (view value.now) ≡ Ok s) }
-    ensures err { IfErr result (λ e. e ≢ Wrong.NoMemory → configure_of codecs.now (view value.now) ≡ Err e) }
+    ensures { Gives result (configure_of codecs.now (view value.now)) }
 {
     let on = name_member(value, "on")?;
     let object = object_member(value, "config")?;
     let Some(codec) = find_codec(codecs, on) else {
-        return Err(Wrong::UnknownName);
+        return Err(Stop::Fault(Wrong::UnknownName));
     };
     let config = read_config(alloc, codec.kind, object)?;
     Ok(Step::Configure {
@@ -56,11 +56,11 @@ fn read_chunk_step(
     before: &Variables,
     value: &Value,
     content: Option<Bytes>,
-) -> Result<Step, Wrong>
+) -> Result<Step, Stop<Wrong>>
     requires files { length files.old ≤ 100000 }
     requires content { content ≡ data_of_step (view value.now) }
-    ensures ok { IfOk result (λ s. chunk_step_of files.old before.now (view value.now) ≡ Ok (s, files.new)) }
-    ensures err { IfErr result (λ e. e ≢ Wrong.NoMemory → chunk_step_of files.old before.now (view value.now) ≡ Err e) }
+    ensures given { GivesAs
+        (λ s. (s, files.new)) result (chunk_step_of files.old before.now (view value.now)) }
     ensures kept { OnErr result (files.new ≡ files.old) }
 {
     let name = name_member(value, "as")?;
@@ -83,13 +83,14 @@ pub fn read_step(
     value: &Value,
     word: StepWord,
     content: Option<Bytes>,
-) -> Result<Step, Wrong>
+) -> Result<Step, Stop<Wrong>>
     requires codecs { length codecs.now ≤ 64 }
     requires files { length files.old ≤ 100000 }
     requires steps { length before.now ≤ 100000 }
     requires content { content ≡ data_of_word (Some word) (view value.now) }
-    ensures ok { IfOk result (λ s. step_by codecs.now files.old before.now (view value.now) word ≡ Ok (s, files.new)) }
-    ensures err { IfErr result (λ e. e ≢ Wrong.NoMemory → step_by codecs.now files.old before.now (view value.now) word ≡ Err e) }
+    ensures given { GivesAs
+        (λ s. (s, files.new)) result
+        (step_by codecs.now files.old before.now (view value.now) word) }
     ensures kept { OnErr result (files.new ≡ files.old) }
 {
     match word {

@@ -87,8 +87,10 @@ fn note(
     step: &Step,
 ) -> Result<(), NoMemory>
     requires { IsTable places.old (λ q. position (λ s. spec.defines q s) steps.now) }
-    ensures ok { OnOk result (IsTable places.new (λ q. position (λ s. spec.defines q s) (steps.now ++ step.now ∷ []))) }
-    ensures err { OnErr result (IsTable places.new (λ q. position (λ s. spec.defines q s) steps.now)) }
+    ensures ok { OnOk result
+        (IsTable places.new (λ q. position (λ s. spec.defines q s) (steps.now ++ step.now ∷ []))) }
+    ensures err { OnErr result
+        (IsTable places.new (λ q. position (λ s. spec.defines q s) steps.now)) }
 {
     let name = match bound(step) {
         None => return Ok(()),

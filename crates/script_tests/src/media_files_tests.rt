@@ -5,8 +5,8 @@ ghost use Rattle.script_types.specs.declared.steps.ChunkSource.TheVariants as so
 ghost use Rattle.script_tests.specs.MediaRows.{taker, two_names};
 
 use chunk_files::ChunkFault;
-use media_files::{MediaFault, read_media};
-use script_types::{CallerItem, ChunkSource, Script, ScriptData, Step};
+use media_files::read_media;
+use script_types::{CallerItem, ChunkSource, Counted, Fault, Script, ScriptData, Step, Stop};
 use std::alloc::Global;
 use std::test::Fail;
 use wc_base::{List, MemFiles, Text};
@@ -77,7 +77,7 @@ fn fault_of(
     inline: u64,
     y: &[u8],
     reads: Vec<u64>,
-) -> Result<Option<MediaFault>, Fail>
+) -> Result<Option<Stop<Fault>>, Fail>
     requires { inline ≤ 268435456 }
 {
     let script = script(alloc, inline)?;
@@ -103,34 +103,31 @@ fn two_files_are_read(rt: HostRuntime) -> Result<(), Fail> {
     Ok(())
 }
 
+// What is told of the bytes of the file y, which are no chunk file.
+fn chunks_of_y(alloc: Global, fault: ChunkFault) -> Result<Option<Stop<Fault>>, Fail> {
+    let name = text(alloc, "y")?;
+    Ok(Some(Stop::Fault(Fault::Chunks { name, fault })))
+}
+
 #[test]
 fn each_fault_names_its_file(rt: HostRuntime) -> Result<(), Fail> {
     let alloc = rt.alloc();
-    let none = Vec::new(alloc);
-    assert_eq!(rt;
-        fault_of(alloc, 0, b"WCX1", none)?,
-        Some(MediaFault::Chunks {
-            file: 1,
-            fault: ChunkFault::BadMark { at: 2 }
-        })
-    );
-    assert_eq!(rt;
-        fault_of(alloc, 0, b"WCC1\x02", Vec::new(alloc))?,
-        Some(MediaFault::Chunks {
-            file: 1,
-            fault: ChunkFault::BadKind { at: 4, found: 2 }
-        })
-    );
-    assert_eq!(rt;
-        fault_of(alloc, 0, b"WCC1\x00\x00", Vec::new(alloc))?,
-        Some(MediaFault::Chunks {
-            file: 1,
-            fault: ChunkFault::Short { at: 5 }
-        })
-    );
+    let rows = [
+        (b"WCX1".as_slice(), ChunkFault::BadMark { at: 2 }),
+        (
+            b"WCC1\x02".as_slice(),
+            ChunkFault::BadKind { at: 4, found: 2 },
+        ),
+        (b"WCC1\x00\x00".as_slice(), ChunkFault::Short { at: 5 }),
+    ];
+    for (bytes, fault) in rows {
+        let told = fault_of(alloc, 0, bytes, Vec::new(alloc))?;
+        assert_eq!(rt; told, chunks_of_y(alloc, fault)?);
+    }
+    let name = text(alloc, "y")?;
     assert_eq!(rt;
         fault_of(alloc, 0, ONE, vec![in alloc; 1]?)?,
-        Some(MediaFault::Unread { file: 1 })
+        Some(Stop::Fault(Fault::Unread { name }))
     );
     Ok(())
 }
@@ -141,7 +138,7 @@ fn media_have_a_limit(rt: HostRuntime) -> Result<(), Fail> {
     assert_eq!(rt; fault_of(alloc, 268_435_452, ONE, Vec::new(alloc))?, None);
     assert_eq!(rt;
         fault_of(alloc, 268_435_453, ONE, Vec::new(alloc))?,
-        Some(MediaFault::MuchMedia)
+        Some(Stop::Fault(Fault::TooMany(Counted::Media)))
     );
     Ok(())
 }

@@ -1,6 +1,6 @@
 // What single objects spell: a value, no value, where a rule of WebIDL is broken, or a fault of shape.
 use script_steps::{
-    SourceWords, Wrong, object_member, read_options, read_picture_init, read_sound_init,
+    SourceWords, Stop, Wrong, object_member, read_options, read_picture_init, read_sound_init,
     read_source, read_step_data,
 };
 use script_types::{FrameOptions, Options, PictureInit, RectWords, SoundInit, VariableKind};
@@ -9,11 +9,11 @@ use std::alloc::Global;
 use std::test::Fail;
 use wc_base::{PictureFormat, SampleFormat};
 
-fn parse(alloc: Global, text: &str) -> Result<Value, Wrong> {
-    Value::from_str(alloc, text).map_err(|_| Wrong::NoMemory)
+fn parse(alloc: Global, text: &str) -> Result<Value, Stop<Wrong>> {
+    Value::from_str(alloc, text).map_err(|_| Stop::NoMemory)
 }
 
-fn sound(alloc: Global, text: &str) -> Result<Option<SoundInit>, Wrong> {
+fn sound(alloc: Global, text: &str) -> Result<Option<SoundInit>, Stop<Wrong>> {
     let value = parse(alloc, text)?;
     let content = read_step_data(alloc, &value)?;
     read_sound_init(object_member(&value, "init")?, content)
@@ -40,26 +40,26 @@ fn audio_data_is_read(rt: HostRuntime) -> Result<(), Fail> {
 fn audio_data_breaks_rules(rt: HostRuntime) -> Result<(), Fail> {
     let rows = [
         ("s16-planar", "f32", Ok(false)),
-        ("\"s16-planar\"", "7", Err(Wrong::Shape)),
+        ("\"s16-planar\"", "7", Err(Stop::Fault(Wrong::Shape))),
         ("\"format\"", "\"\"", Ok(false)),
         ("8000", "4294967295", Ok(true)),
         ("8000", "4294967296", Ok(false)),
         ("8000", "-1", Ok(false)),
-        ("8000", "8e3", Err(Wrong::Shape)),
+        ("8000", "8e3", Err(Stop::Fault(Wrong::Shape))),
         ("\"sampleRate\"", "\"\"", Ok(false)),
         ("\"numberOfFrames\"", "\"\"", Ok(false)),
         ("\"numberOfChannels\"", "\"\"", Ok(false)),
         ("\"timestamp\"", "\"\"", Ok(false)),
         ("-7", "-9007199254740992", Ok(false)),
-        ("-7", "\"-7\"", Err(Wrong::Shape)),
+        ("-7", "\"-7\"", Err(Stop::Fault(Wrong::Shape))),
         ("\"data\"", "\"\"", Ok(false)),
-        ("01000aFf", "01000aF", Err(Wrong::Shape)),
+        ("01000aFf", "01000aF", Err(Stop::Fault(Wrong::Shape))),
         (
             "s16-planar\",\"sampleRate\":8000",
             "\",\"sampleRate\":null",
-            Err(Wrong::Shape),
+            Err(Stop::Fault(Wrong::Shape)),
         ),
-        ("\"init\"", "\"\"", Err(Wrong::Shape)),
+        ("\"init\"", "\"\"", Err(Stop::Fault(Wrong::Shape))),
     ];
     for (old, new, answer) in rows {
         let text = SOUND.replace(rt.alloc(), old, new)?;
@@ -69,7 +69,7 @@ fn audio_data_breaks_rules(rt: HostRuntime) -> Result<(), Fail> {
     Ok(())
 }
 
-fn picture(alloc: Global, text: &str) -> Result<Option<PictureInit>, Wrong> {
+fn picture(alloc: Global, text: &str) -> Result<Option<PictureInit>, Stop<Wrong>> {
     let value = parse(alloc, text)?;
     let content = read_step_data(alloc, &value)?;
     read_picture_init(object_member(&value, "init")?, content)
@@ -93,19 +93,23 @@ fn a_frame_is_read(rt: HostRuntime) -> Result<(), Fail> {
 fn a_frame_breaks_rules(rt: HostRuntime) -> Result<(), Fail> {
     let rows = [
         ("NV12", "nv12", Ok(false)),
-        ("\"NV12\"", "null", Err(Wrong::Shape)),
+        ("\"NV12\"", "null", Err(Stop::Fault(Wrong::Shape))),
         ("\"format\"", "\"\"", Ok(false)),
         ("\"codedWidth\"", "\"\"", Ok(false)),
         ("\"codedHeight\"", "\"\"", Ok(false)),
         (
             "\"codedHeight\":1",
             "\"codedHeight\":1.0",
-            Err(Wrong::Shape),
+            Err(Stop::Fault(Wrong::Shape)),
         ),
         ("\"timestamp\"", "\"\"", Ok(false)),
         ("\"duration\"", "\"\"", Ok(true)),
         ("\"duration\":5", "\"duration\":-5", Ok(false)),
-        ("\"duration\":5", "\"duration\":[]", Err(Wrong::Shape)),
+        (
+            "\"duration\":5",
+            "\"duration\":[]",
+            Err(Stop::Fault(Wrong::Shape)),
+        ),
         ("\"data\"", "\"\"", Ok(false)),
     ];
     for (old, new, answer) in rows {
@@ -116,15 +120,15 @@ fn a_frame_breaks_rules(rt: HostRuntime) -> Result<(), Fail> {
     Ok(())
 }
 
-fn options(alloc: Global, kind: VariableKind, text: &str) -> Result<Options, Wrong> {
+fn options(alloc: Global, kind: VariableKind, text: &str) -> Result<Options, Stop<Wrong>> {
     let value = parse(alloc, text)?;
     read_options(alloc, kind, Some(&value))
 }
 
-fn audio_options(alloc: Global, text: &str) -> Result<bool, Wrong> {
+fn audio_options(alloc: Global, text: &str) -> Result<bool, Stop<Wrong>> {
     match options(alloc, VariableKind::Audio, text)? {
         Options::Audio(options) => Ok(options.is_some()),
-        _ => Err(Wrong::Shape),
+        _ => Err(Stop::Fault(Wrong::Shape)),
     }
 }
 
@@ -133,15 +137,18 @@ fn audio_options_are_read(rt: HostRuntime) -> Result<(), Fail> {
     let rows = [
         (r#"{"planeIndex":0}"#, Ok(true)),
         ("{}", Ok(false)),
-        ("[]", Err(Wrong::Shape)),
+        ("[]", Err(Stop::Fault(Wrong::Shape))),
         (r#"{"planeIndex":-1}"#, Ok(false)),
-        (r#"{"planeIndex":"0"}"#, Err(Wrong::Shape)),
+        (r#"{"planeIndex":"0"}"#, Err(Stop::Fault(Wrong::Shape))),
         (r#"{"planeIndex":0,"frameOffset":4294967296}"#, Ok(false)),
         (r#"{"planeIndex":0,"frameCount":-1}"#, Ok(false)),
-        (r#"{"planeIndex":0,"frameCount":null}"#, Err(Wrong::Shape)),
+        (
+            r#"{"planeIndex":0,"frameCount":null}"#,
+            Err(Stop::Fault(Wrong::Shape)),
+        ),
         (r#"{"planeIndex":0,"format":"f32-planar"}"#, Ok(true)),
         (r#"{"planeIndex":0,"format":"f64"}"#, Ok(false)),
-        (r#"{"format":32}"#, Err(Wrong::Shape)),
+        (r#"{"format":32}"#, Err(Stop::Fault(Wrong::Shape))),
     ];
     for (text, answer) in rows {
         assert_eq!(rt; audio_options(rt.alloc(), text), answer, "{text}");
@@ -149,10 +156,10 @@ fn audio_options_are_read(rt: HostRuntime) -> Result<(), Fail> {
     Ok(())
 }
 
-fn frame_options(alloc: Global, text: &str) -> Result<Option<FrameOptions>, Wrong> {
+fn frame_options(alloc: Global, text: &str) -> Result<Option<FrameOptions>, Stop<Wrong>> {
     match options(alloc, VariableKind::Frame, text)? {
         Options::Frame(options) => Ok(options),
-        _ => Err(Wrong::Shape),
+        _ => Err(Stop::Fault(Wrong::Shape)),
     }
 }
 
@@ -162,15 +169,18 @@ fn frame_options_are_read(rt: HostRuntime) -> Result<(), Fail> {
         ("{}", Ok(true)),
         (r#"{"rect":{}}"#, Ok(true)),
         (r#"{"rect":{"x":-1}}"#, Ok(false)),
-        (r#"{"rect":{"height":0.5}}"#, Err(Wrong::Shape)),
-        (r#"{"rect":[]}"#, Err(Wrong::Shape)),
+        (r#"{"rect":{"height":0.5}}"#, Err(Stop::Fault(Wrong::Shape))),
+        (r#"{"rect":[]}"#, Err(Stop::Fault(Wrong::Shape))),
         (r#"{"layout":[]}"#, Ok(true)),
-        (r#"{"layout":{}}"#, Err(Wrong::Shape)),
+        (r#"{"layout":{}}"#, Err(Stop::Fault(Wrong::Shape))),
         (
             r#"{"layout":[{"offset":0,"stride":2},{"offset":8}]}"#,
             Ok(false),
         ),
-        (r#"{"layout":[{"stride":2},7]}"#, Err(Wrong::Shape)),
+        (
+            r#"{"layout":[{"stride":2},7]}"#,
+            Err(Stop::Fault(Wrong::Shape)),
+        ),
     ];
     for (text, answer) in rows {
         let options = frame_options(rt.alloc(), text).map(|o| o.is_some());
@@ -204,12 +214,12 @@ fn absent_options_are_an_empty_object(rt: HostRuntime) -> Result<(), Fail> {
     let chunk = options(rt.alloc(), VariableKind::Chunk, r#"{"planeIndex":"?"}"#);
     assert_eq!(rt; chunk, Ok(Options::Nothing));
     let chunk = options(rt.alloc(), VariableKind::Chunk, "0");
-    assert_eq!(rt; chunk, Err(Wrong::Shape));
+    assert_eq!(rt; chunk, Err(Stop::Fault(Wrong::Shape)));
     Ok(())
 }
 
 // Whether a chunk is made, with a value or without, or taken from a file.
-fn source(alloc: Global, text: &str) -> Result<&'static str, Wrong> {
+fn source(alloc: Global, text: &str) -> Result<&'static str, Stop<Wrong>> {
     let value = parse(alloc, text)?;
     let content = read_step_data(alloc, &value)?;
     match read_source(alloc, &value, content)? {
@@ -231,14 +241,17 @@ fn sources_are_read(rt: HostRuntime) -> Result<(), Fail> {
             Ok("broken"),
         ),
         (r#"{"init":{}}"#, Ok("broken")),
-        (r#"{"init":[]}"#, Err(Wrong::Shape)),
+        (r#"{"init":[]}"#, Err(Stop::Fault(Wrong::Shape))),
         (r#"{"file":"","index":18446744073709551615}"#, Ok("file")),
-        (r#"{"file":"f","index":-1}"#, Err(Wrong::Shape)),
-        (r#"{"file":7,"index":0}"#, Err(Wrong::Shape)),
-        (r#"{"file":"f"}"#, Err(Wrong::Shape)),
-        (r#"{"index":0}"#, Err(Wrong::Shape)),
-        (r#"{"init":{},"file":"f","index":0}"#, Err(Wrong::Shape)),
-        ("{}", Err(Wrong::Shape)),
+        (r#"{"file":"f","index":-1}"#, Err(Stop::Fault(Wrong::Shape))),
+        (r#"{"file":7,"index":0}"#, Err(Stop::Fault(Wrong::Shape))),
+        (r#"{"file":"f"}"#, Err(Stop::Fault(Wrong::Shape))),
+        (r#"{"index":0}"#, Err(Stop::Fault(Wrong::Shape))),
+        (
+            r#"{"init":{},"file":"f","index":0}"#,
+            Err(Stop::Fault(Wrong::Shape)),
+        ),
+        ("{}", Err(Stop::Fault(Wrong::Shape))),
     ];
     for (text, answer) in rows {
         assert_eq!(rt; source(rt.alloc(), text), answer, "{text}");

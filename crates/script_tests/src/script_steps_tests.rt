@@ -1,13 +1,13 @@
 // Steps that are read, and what is refused.
 use script_steps::{
-    Files, StepWord, Variables, Wrong, copied, read_inline_data, read_step, word_member,
+    Files, StepWord, Stop, Variables, Wrong, copied, read_inline_data, read_step, word_member,
 };
 use script_types::{ChunkSource, CodecItem, Kind, MediaStep, Options, Step, VariableKind};
 use serde_json::Value;
 use std::alloc::Global;
 use std::test::Fail;
 
-fn codec(alloc: Global, name: &str, kind: Kind) -> Result<CodecItem, Wrong> {
+fn codec(alloc: Global, name: &str, kind: Kind) -> Result<CodecItem, Stop<Wrong>> {
     Ok(CodecItem {
         name: copied(alloc, name)?,
         kind,
@@ -16,7 +16,7 @@ fn codec(alloc: Global, name: &str, kind: Kind) -> Result<CodecItem, Wrong> {
 }
 
 // A codec of each kind.
-fn codecs(alloc: Global) -> Result<[CodecItem; 3], Wrong> {
+fn codecs(alloc: Global) -> Result<[CodecItem; 3], Stop<Wrong>> {
     Ok([
         codec(alloc, "decoder", Kind::AudioDecoder)?,
         codec(alloc, "encoder", Kind::AudioEncoder)?,
@@ -24,17 +24,22 @@ fn codecs(alloc: Global) -> Result<[CodecItem; 3], Wrong> {
     ])
 }
 
-fn read(alloc: Global, files: &mut Files, before: &Variables, text: &str) -> Result<Step, Wrong> {
-    let value = Value::from_str(alloc, text).map_err(|_| Wrong::NoMemory)?;
+fn read(
+    alloc: Global,
+    files: &mut Files,
+    before: &Variables,
+    text: &str,
+) -> Result<Step, Stop<Wrong>> {
+    let value = Value::from_str(alloc, text).map_err(|_| Stop::NoMemory)?;
     let codecs = codecs(alloc)?;
     let word = word_member(&value);
     let content = read_inline_data(alloc, word, &value)?;
     if before.len() > 100_000 || files.len() > 100_000 {
-        return Err(Wrong::NoMemory);
+        return Err(Stop::NoMemory);
     }
     match word {
         Some(word) => read_step(alloc, &codecs, files, before, &value, word, content),
-        None => Err(Wrong::Shape),
+        None => Err(Stop::Fault(Wrong::Shape)),
     }
 }
 
@@ -46,7 +51,7 @@ const BEFORE: [&str; 4] = [
     r#"{"do":"frame","as":"frame","init":{}}"#,
 ];
 
-fn before(alloc: Global, files: &mut Files) -> Result<Variables, Wrong> {
+fn before(alloc: Global, files: &mut Files) -> Result<Variables, Stop<Wrong>> {
     let mut variables = Variables::new(alloc);
     for text in BEFORE {
         let step = read(alloc, files, &variables, text)?;
@@ -55,7 +60,7 @@ fn before(alloc: Global, files: &mut Files) -> Result<Variables, Wrong> {
     Ok(variables)
 }
 
-fn read_after(alloc: Global, text: &str) -> Result<Step, Wrong> {
+fn read_after(alloc: Global, text: &str) -> Result<Step, Stop<Wrong>> {
     let mut files = Files::new(alloc);
     let before = before(alloc, &mut files)?;
     read(alloc, &mut files, &before, text)
@@ -120,7 +125,7 @@ fn others_are_wrong_in_shape(rt: HostRuntime) -> Result<(), Fail> {
     ];
     for text in rows {
         let wrong = read_after(rt.alloc(), text).err();
-        assert_eq!(rt; wrong, Some(Wrong::Shape), "{text}");
+        assert_eq!(rt; wrong, Some(Stop::Fault(Wrong::Shape)), "{text}");
     }
     Ok(())
 }
@@ -168,7 +173,8 @@ fn names_stand_twice_or_are_unknown(rt: HostRuntime) -> Result<(), Fail> {
         (r#"{"do":"size","of":"nobody"}"#, Wrong::UnknownName),
     ];
     for (text, wrong) in rows {
-        assert_eq!(rt; read_after(rt.alloc(), text).err(), Some(wrong), "{text}");
+        let stop = Some(Stop::Fault(wrong));
+        assert_eq!(rt; read_after(rt.alloc(), text).err(), stop, "{text}");
     }
     Ok(())
 }

@@ -3,7 +3,7 @@ use script_types::{ChunkSource, OrderItem, Step};
 use std::alloc::Global;
 use std::test::Fail;
 use wc_base::Text;
-use wc_script::{Counted, Place, Script, ScriptFault, read_script};
+use wc_script::{Counted, Fault, Place, Script, Stop, Wrong, read_script};
 
 // Two codecs and two callers; three mentions of two chunk files.
 const ORDINARY: &str = r#"{"codecs":[{"name":"d","kind":"audio-decoder"},
@@ -79,36 +79,45 @@ fn all_is_where_it_was_written(rt: HostRuntime) -> Result<(), Fail> {
     Ok(())
 }
 
-const TOP: ScriptFault = ScriptFault::Shape { place: Place::Top };
+// What is told of this wrong at a place.
+fn told_at(place: Place, wrong: Wrong) -> Option<Stop<Fault>> {
+    Some(Stop::Fault(Fault::At { place, wrong }))
+}
+
+fn told(rt: &HostRuntime, text: &[u8]) -> Option<Stop<Fault>> {
+    read_script(rt.alloc(), text).err()
+}
 
 #[test]
 fn the_top_value_has_its_shape(rt: HostRuntime) -> Result<(), Fail> {
+    for text in ["{", "", "\u{feff}{}"] {
+        let fault = Some(Stop::Fault(Fault::NotJson));
+        assert_eq!(rt; told(&rt, text.as_bytes()), fault, "{text}");
+    }
     let rows = [
-        ("{", Some(ScriptFault::NotJson)),
-        ("", Some(ScriptFault::NotJson)),
-        ("\u{feff}{}", Some(ScriptFault::NotJson)),
-        ("[]", Some(TOP)),
-        (r#"{"codecs":[]}"#, Some(TOP)),
-        (r#"{"callers":[]}"#, Some(TOP)),
-        (r#"{"codecs":[],"callers":[]}"#, None),
-        (r#"{"codecs":[],"callers":[],"order":[]}"#, None),
-        (r#"{"codecs":[],"callers":[],"order":null}"#, Some(TOP)),
-        (r#"{"codecs":[],"callers":[],"order":{}}"#, Some(TOP)),
+        ("[]", true),
+        (r#"{"codecs":[]}"#, true),
+        (r#"{"callers":[]}"#, true),
+        (r#"{"codecs":[],"callers":[]}"#, false),
+        (r#"{"codecs":[],"callers":[],"order":[]}"#, false),
+        (r#"{"codecs":[],"callers":[],"order":null}"#, true),
+        (r#"{"codecs":[],"callers":[],"order":{}}"#, true),
     ];
-    for (text, fault) in rows {
-        assert_eq!(rt;
-            read_script(rt.alloc(), text.as_bytes()).err(),
-            fault,
-            "{text}"
-        );
+    for (text, is_faulty) in rows {
+        let fault = if is_faulty {
+            told_at(Place::Top, Wrong::Shape)
+        } else {
+            None
+        };
+        assert_eq!(rt; told(&rt, text.as_bytes()), fault, "{text}");
     }
     Ok(())
 }
 
 #[test]
 fn bytes_that_are_no_text_are_no_json(rt: HostRuntime) -> Result<(), Fail> {
-    let fault = Some(ScriptFault::NotJson);
-    assert_eq!(rt; read_script(rt.alloc(), &[0x22, 0xff, 0x22]).err(), fault);
+    let fault = Some(Stop::Fault(Fault::NotJson));
+    assert_eq!(rt; told(&rt, &[0x22, 0xff, 0x22]), fault);
     Ok(())
 }
 
@@ -122,7 +131,7 @@ fn a_script_may_have_no_order(rt: HostRuntime) -> Result<(), Fail> {
 }
 
 // The ordinary script with one text in another's place.
-fn read_changed(rt: &HostRuntime, old: &str, new: &str) -> Result<Option<ScriptFault>, Fail> {
+fn read_changed(rt: &HostRuntime, old: &str, new: &str) -> Result<Option<Stop<Fault>>, Fail> {
     let text = ORDINARY.replace(rt.alloc(), old, new)?;
     Ok(read_script(rt.alloc(), text.as_bytes()).err())
 }
@@ -149,7 +158,7 @@ fn shape_is_told_with_its_place(rt: HostRuntime) -> Result<(), Fail> {
     for (old, new, place) in rows {
         assert_eq!(rt;
             read_changed(&rt, old, new)?,
-            Some(ScriptFault::Shape { place }),
+            told_at(place, Wrong::Shape),
             "{new}"
         );
     }
@@ -185,12 +194,16 @@ fn names_are_told_with_their_place(rt: HostRuntime) -> Result<(), Fail> {
         ("{\"turn\":\"v\"}", "\"d\"", false, Place::Order(5)),
     ];
     for (old, new, twice, place) in rows {
-        let fault = if twice {
-            ScriptFault::Twice { place }
+        let wrong = if twice {
+            Wrong::Twice
         } else {
-            ScriptFault::UnknownName { place }
+            Wrong::UnknownName
         };
-        assert_eq!(rt; read_changed(&rt, old, new)?, Some(fault), "{new}");
+        assert_eq!(rt;
+            read_changed(&rt, old, new)?,
+            told_at(place, wrong),
+            "{new}"
+        );
     }
     Ok(())
 }
@@ -235,7 +248,7 @@ fn read_many(
     codecs: usize,
     callers: usize,
     steps: usize,
-) -> Result<Option<ScriptFault>, Fail> {
+) -> Result<Option<Stop<Fault>>, Fail> {
     let mut text = String::from_str(rt.alloc(), "{\"codecs\":[")?;
     push_codecs(rt.alloc(), &mut text, codecs)?;
     text.push_str("],\"callers\":[")?;
@@ -248,18 +261,14 @@ fn read_many(
 fn counts_have_their_limits(rt: HostRuntime) -> Result<(), Fail> {
     let rows = [
         (64, 16, 1, None),
-        (65, 17, 1, Some((Counted::Codecs, 65))),
-        (64, 17, 1, Some((Counted::Callers, 17))),
-        (1, 2, 50_001, Some((Counted::Steps, 100_001))),
+        (65, 17, 1, Some(Counted::Codecs)),
+        (64, 17, 1, Some(Counted::Callers)),
+        (1, 2, 50_001, Some(Counted::Steps)),
     ];
-    for (codecs, callers, steps, above) in rows {
-        let fault = match above {
-            Some((what, count)) => Some(ScriptFault::TooMany { what, count }),
-            None => None,
-        };
+    for (codecs, callers, steps, what) in rows {
         assert_eq!(rt;
             read_many(&rt, codecs, callers, steps)?,
-            fault,
+            what.map(|what| Stop::Fault(Fault::TooMany(what))),
             "{codecs} {callers} {steps}"
         );
     }

@@ -2,4 +2,6 @@ pub mod Names
 pub mod Sound
 pub mod Built
 pub mod Places
+pub mod Limits
+pub mod Reading
 pub mod SoundLaws

@@ -1,5 +1,7 @@
-// Why a script is not read.
+// Why a script is not replayed.
+use chunk_files::ChunkFault;
 use std::fmt;
+use wc_base::Text;
 
 /// A place in a script, by the numbers of its codecs, callers, steps of a caller, and order items.
 #[derive(Clone, Copy, Debug, PartialEq, Eq)]
@@ -28,31 +30,47 @@ impl fmt::Display for Place {
     }
 }
 
-/// What is counted against a limit: the codecs, the callers, the steps of all callers, the order items, the bytes of
-/// one inline data, and those of all.
+/// What is counted against a limit: the bytes of a script file, its codecs, callers, steps of all callers and order
+/// items, the bytes of one chunk or one inline data, those of one chunk file, and those of all chunks and all inline
+/// data.
 #[derive(Clone, Copy, Debug, PartialEq, Eq)]
 pub enum Counted {
+    Script,
     Codecs,
     Callers,
     Steps,
     Order,
     Chunk,
+    File,
     Media,
 }
 
-/// Why a script is not read: its first fault, with its place.
+/// What is wrong at one place of a script (our choice; WebIDL's own faults are no faults of the script).
 #[derive(Clone, Copy, Debug, PartialEq, Eq)]
-pub enum ScriptFault {
-    /// The bytes are no JSON value.
-    NotJson,
+pub enum Wrong {
     /// A member is missing, of another JSON kind, out of its range or form, or names a thing of another kind than is
     /// needed there.
-    Shape { place: Place },
-    /// Nothing has the name.
-    UnknownName { place: Place },
+    Shape,
     /// The name was given before.
-    Twice { place: Place },
-    /// A count is above its limit; `count` is the limit and 1.
-    TooMany { what: Counted, count: u64 },
-    NoMemory,
+    Twice,
+    /// Nothing has the name.
+    UnknownName,
+    /// The kind of the codec or the step is read, and not built.
+    Unbuilt,
+}
+
+/// Why a script is not replayed: its first fault, with its place, or that of its files.
+#[derive(Debug, PartialEq, Drop)]
+pub enum Fault {
+    /// The bytes are no JSON value.
+    NotJson,
+    At { place: Place, wrong: Wrong },
+    /// A count is above its limit.
+    TooMany(Counted),
+    /// The file of this name was not read; the files' count of faults rose.
+    Unread { name: Text },
+    /// The bytes of the chunk file of this name are no chunk file, with their first fault.
+    Chunks { name: Text, fault: ChunkFault },
+    /// The chunk file of this name lacks the chunk that the step at this place takes.
+    NoIndex { name: Text, place: Place },
 }

@@ -3,15 +3,20 @@
 
 mod fault;
 mod found;
+mod limits;
 mod options;
 mod script;
 mod steps;
+mod texts;
 
-pub use fault::{Counted, Place, ScriptFault};
+pub use chunk_files::Stop;
+pub use fault::{Counted, Fault, Place, Wrong};
 pub use found::{FoundCodec, FoundVariable};
+pub use limits::limit_of;
 pub use options::{AudioOptions, FormatWord, FrameOptions, LayoutWords, Options, RectWords};
 pub use script::{CallerItem, CodecItem, OrderItem, Script, ScriptData};
 pub use steps::{
     ChunkInit, ChunkSource, MediaStep, PictureInit, SoundInit, Step, Variable, VariableKind,
 };
+pub use texts::{copied, unread};
 pub use wc_config::Kind;

@@ -9,9 +9,9 @@ use Rattle.seat_lock.proofs.Logs.{inside}
 use Rattle.seat_lock.proofs.Unions.{owner_after, owner_after_else, owner_after_other}
 use Rattle.seat_lock.specs.Logs.{AllBy, Has}
 use Rattle.seat_lock.specs.Rule.{HasAuthors, HasNumber}
-use Rattle.seat_view.specs.Views.{Log}
-use Rattle.seat_view.specs.declared.view.Passage.{Passage}
-use Rattle.seat_view.specs.declared.view.View.{View}
+use Rattle.wc_base.specs.Views.{Log}
+use Rattle.wc_base.specs.declared.seat.Passage.{Passage}
+use Rattle.wc_base.specs.declared.seat.View.{View}
 
 module _ (E : Type 0) where
   abbrev W : Type 0

@@ -5,8 +5,8 @@ use native.Mathlib.Decide.{ℕ_discrete}
 use Rattle.seat_lock.proofs.Unions.{owner_after, owner_after_else, owner_after_other}
 use Rattle.seat_lock.specs.Claims.{AreLive, HasClaim, HoldsClaims, IsLive, claims_after, is_claim, is_unspent, mint_count, mints_in, remove_claim, spends_in, with_claim, without_claim}
 use Rattle.seat_lock.specs.Logs.{AreDistinct, Has, IsNotIn}
-use Rattle.seat_view.specs.Views.{Log}
-use Rattle.seat_view.specs.declared.view.Passage.{Passage}
+use Rattle.wc_base.specs.Views.{Log}
+use Rattle.wc_base.specs.declared.seat.Passage.{Passage}
 
 unspent_at : (b u w : Bool) → cond b false u ≡ true → (u ≡ true → w ≡ true) → cond b false w ≡ true
 unspent_at true u w e h = e

@@ -10,10 +10,10 @@ use Rattle.seat_lock.specs.Passages.{IsUnion}
 use Rattle.seat_lock.specs.Rule.{LockRule}
 use Rattle.seat_lock.specs.Seats.{Sitting, after_passage, union_view, with_phase}
 use Rattle.seat_lock.specs.Steps.{Publishes, Settles, Takes, tells_by}
-use Rattle.seat_view.specs.Views.{Log}
-use Rattle.seat_view.specs.declared.view.Passage.{Passage}
-use Rattle.seat_view.specs.declared.view.Phase.TheVariants.{Holding, Idle, Union, Waiting}
-use Rattle.seat_view.specs.declared.view.View.{View}
+use Rattle.wc_base.specs.Views.{Log}
+use Rattle.wc_base.specs.declared.seat.Passage.{Passage}
+use Rattle.wc_base.specs.declared.seat.Phase.TheVariants.{Holding, Idle, Union, Waiting}
+use Rattle.wc_base.specs.declared.seat.View.{View}
 
 second_of : {A : Type 0} → A → List (ℕ × A) → A
 second_of a [] = a

@@ -4,8 +4,8 @@ use mathlib.Core.Option.{some, some-injective, some-ne-none}
 use lib.ListN.{get_elem?}
 use Rattle.seat_lock.specs.Logs.{AreBelow, Continues, IsNotIn, NoneBy}
 use Rattle.seat_lock.specs.Rule.{BelongTo, total}
-use Rattle.seat_view.specs.Views.{Log}
-use Rattle.seat_view.specs.declared.view.Passage.{Passage}
+use Rattle.wc_base.specs.Views.{Log}
+use Rattle.wc_base.specs.declared.seat.Passage.{Passage}
 
 module _ {A : Type 0} where
   pub inside : (l : List A) (i : ℕ) (a : A) → get_elem? l i ≡ some a → i < length l

@@ -17,11 +17,11 @@ use Rattle.seat_lock.specs.Own.{own}
 use Rattle.seat_lock.specs.Rule.{HasWitness, IsHome, IsOut, LockRule, NumberRule, PhaseRule, busy, busy_in, parts_of, total}
 use Rattle.seat_lock.specs.Seats.{Sitting, after_passage, with_phase}
 use Rattle.seat_lock.specs.Steps.{Draws, Publishes, Takes, TakesTurn}
-use Rattle.seat_view.specs.Views.{Log}
-use Rattle.seat_view.specs.declared.view.Passage.{Passage}
-use Rattle.seat_view.specs.declared.view.Phase.{Phase}
-use Rattle.seat_view.specs.declared.view.Phase.TheVariants.{Empty, Holding, Idle, New, Token, Union, Waiting}
-use Rattle.seat_view.specs.declared.view.View.{View}
+use Rattle.wc_base.specs.Views.{Log}
+use Rattle.wc_base.specs.declared.seat.Passage.{Passage}
+use Rattle.wc_base.specs.declared.seat.Phase.{Phase}
+use Rattle.wc_base.specs.declared.seat.Phase.TheVariants.{Empty, Holding, Idle, New, Token, Union, Waiting}
+use Rattle.wc_base.specs.declared.seat.View.{View}
 
 module _ (E : Type 0) where
   abbrev pub W : Type 0

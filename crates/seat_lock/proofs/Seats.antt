@@ -18,10 +18,10 @@ use Rattle.seat_lock.specs.Logs.{AllBy, AreApart, AreBelow, Continues, Has, IsNo
 use Rattle.seat_lock.specs.Rule.{BelongTo, HasWitness, IsHome, IsOut, LockRule, NumberRule, PhaseRule, busy, busy_in, parts_of}
 use Rattle.seat_lock.specs.Seats.{Sitting, empty_view, first_view, less_claim, less_part, one_part, union_view, with_number, with_phase}
 use Rattle.seat_lock.specs.Steps.{Settles, TakesNumber}
-use Rattle.seat_view.specs.Views.{Log, token_view}
-use Rattle.seat_view.specs.declared.view.Phase.{Phase}
-use Rattle.seat_view.specs.declared.view.Phase.TheVariants.{Empty, Holding, Idle, New, Token, Union, Waiting}
-use Rattle.seat_view.specs.declared.view.View.{View}
+use Rattle.wc_base.specs.Views.{Log, token_view}
+use Rattle.wc_base.specs.declared.seat.Phase.{Phase}
+use Rattle.wc_base.specs.declared.seat.Phase.TheVariants.{Empty, Holding, Idle, New, Token, Union, Waiting}
+use Rattle.wc_base.specs.declared.seat.View.{View}
 
 -- two seats have no number in common
 not_of_other : (owner : ℕ → ℕ) (i j n : ℕ) (b : List ℕ) → owner n ≡ i → BelongTo owner j b → ¬ (j ≡ i) → IsNotIn n b

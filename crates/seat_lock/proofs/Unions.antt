@@ -5,7 +5,7 @@ use lib.ListN.{get_elem?}
 use Rattle.seat_lock.proofs.Logs.{free_end, ahead_whole}
 use Rattle.seat_lock.specs.Logs.{AreBelow, Continues, IsNotIn, NoneBy, longer, longer_if}
 use Rattle.seat_lock.specs.Rule.{BelongTo}
-use Rattle.seat_view.specs.Views.{Log}
+use Rattle.wc_base.specs.Views.{Log}
 
 module _ {A : Type 0} where
   pub at_snoc_at : (l : List A) (a b : A) (j : ℕ) → get_elem? (l ++ a ∷ []) j ≡ some b → (get_elem? l j ≡ some b) ⊎ ((j ≡ length l) × (a ≡ b))

@@ -3,10 +3,10 @@ use Rattle.std.proofs.Common.{◌≡◌, ℕ, ◌+◌, Bool, true, false, cond, 
 use Rattle.std.proofs.Math.Nat.{add_assoc, add_comm}
 use Rattle.seat_lock.specs.Claims.{mint_count, mints_in}
 use Rattle.atomic_table.specs.declared.shared.Seat.{Seat}
-use Rattle.seat_view.specs.Views.{Log}
-use Rattle.seat_view.specs.declared.view.Passage.{Passage}
-use Rattle.seat_view.specs.declared.view.Passage.TheVariants.{Made, Look}
-use Rattle.seat_view.specs.declared.view.View.{View}
+use Rattle.wc_base.specs.Views.{Log}
+use Rattle.wc_base.specs.declared.seat.Passage.{Passage}
+use Rattle.wc_base.specs.declared.seat.Passage.TheVariants.{Made, Look}
+use Rattle.wc_base.specs.declared.seat.View.{View}
 use Rattle.seat_lock.specs.Logs.{Has, IsNotIn, NoneBy, Continues, entry_in, entries_of}
 use Rattle.seat_lock.specs.Passages.{GoesIn, IsInside, Enters, Leaves, Passes}
 use Rattle.seat_lock.specs.Seats.{Sitting, HasView, after_passage}

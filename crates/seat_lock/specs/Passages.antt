@@ -3,11 +3,11 @@ use Rattle.std.specs.Prelude.{◌≡◌, ℕ, ◌^◌, ◌<◌, List, [], ◌∷
 use Rattle.atomic_table.specs.declared.badge.Badge.{Badge}
 use Rattle.atomic_table.specs.declared.shared.Seat.{Seat}
 use Rattle.std.specs.declared.snapshot.Snapshot.{Snapshot}
-use Rattle.seat_view.specs.Views.{Log, IsTokenWith}
-use Rattle.seat_view.specs.declared.view.Passage.{Passage}
-use Rattle.seat_view.specs.declared.view.Passage.TheVariants.{Made, Look}
-use Rattle.seat_view.specs.declared.view.Phase.TheVariants.{Idle, Holding}
-use Rattle.seat_view.specs.declared.view.View.{View}
+use Rattle.wc_base.specs.Views.{Log, IsTokenWith}
+use Rattle.wc_base.specs.declared.seat.Passage.{Passage}
+use Rattle.wc_base.specs.declared.seat.Passage.TheVariants.{Made, Look}
+use Rattle.wc_base.specs.declared.seat.Phase.TheVariants.{Idle, Holding}
+use Rattle.wc_base.specs.declared.seat.View.{View}
 use Rattle.seat_lock.specs.Claims.{HasClaim, spends_in, AreLive}
 use Rattle.seat_lock.specs.Logs.{Has, AreApart, AreDistinct, NoneBy, Continues}
 use Rattle.seat_lock.specs.Seats.{after_passage, with_phase, with_number, one_part, union_view, HasView}

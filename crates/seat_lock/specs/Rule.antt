@@ -5,10 +5,10 @@ use mathlib.Core.Option.{some, none}
 use mathlib.Core.Option as maybe
 use lib.ListN.{get_elem?}
 use Rattle.atomic_table.specs.Table.{State}
-use Rattle.seat_view.specs.Views.{Log}
-use Rattle.seat_view.specs.declared.view.Phase.{Phase}
-use Rattle.seat_view.specs.declared.view.Phase.TheVariants.{New, Idle, Token, Waiting, Holding, Union, Empty}
-use Rattle.seat_view.specs.declared.view.View.{View}
+use Rattle.wc_base.specs.Views.{Log}
+use Rattle.wc_base.specs.declared.seat.Phase.{Phase}
+use Rattle.wc_base.specs.declared.seat.Phase.TheVariants.{New, Idle, Token, Waiting, Holding, Union, Empty}
+use Rattle.wc_base.specs.declared.seat.View.{View}
 use Rattle.seat_lock.specs.Claims.{HoldsClaims, mint_count, is_unspent}
 use Rattle.seat_lock.specs.Logs.{Has, NoneBy, Continues, AreApart, AreBelow}
 

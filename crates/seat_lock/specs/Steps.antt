@@ -1,9 +1,9 @@
 -- What each step on the lock's words tells its seat.
 use Rattle.std.specs.Prelude.{◌≡◌, ℕ, ◌^◌, ◌<◌, List, [], ◌∷◌, Option, Some, Bool}
 use Rattle.atomic_table.specs.Table.{Step, rest}
-use Rattle.seat_view.specs.Views.{Log}
-use Rattle.seat_view.specs.declared.view.Passage.{Passage}
-use Rattle.seat_view.specs.declared.view.Phase.TheVariants.{Idle, Waiting, Holding, Union}
+use Rattle.wc_base.specs.Views.{Log}
+use Rattle.wc_base.specs.declared.seat.Passage.{Passage}
+use Rattle.wc_base.specs.declared.seat.Phase.TheVariants.{Idle, Waiting, Holding, Union}
 use Rattle.seat_lock.specs.Claims.{AreLive}
 use Rattle.seat_lock.specs.Logs.{Has, NoneBy, Continues, AreApart, AreDistinct}
 use Rattle.seat_lock.specs.Seats.{Sitting, with_number, with_phase, after_passage}

@@ -10,5 +10,5 @@ mod told;
 
 pub use held::Held;
 pub use lock::{Seat, SeatLock};
-pub use seat_view::{Passage, Token};
 pub use told::Told;
+pub use wc_base::{Passage, Token};

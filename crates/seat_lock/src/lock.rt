@@ -1,7 +1,7 @@
 //! The lock.
 ghost use Rattle.std.specs.Prelude.{◌≡◌, ℕ, ◌^◌, ◌≤◌, [], ◌∷◌, IfOk};
-ghost use Rattle.seat_view.specs.Views.{IsTokenWith, token_view};
-ghost use Rattle.seat_view.specs.declared.view.View.{View};
+ghost use Rattle.wc_base.specs.Views.{IsTokenWith, token_view};
+ghost use Rattle.wc_base.specs.declared.seat.View.{View};
 ghost use Rattle.seat_lock.specs.Logs.{AllBy, Has};
 ghost use Rattle.seat_lock.specs.Passages.{Enters, MayLeave, Leaves, passage_of};
 ghost use Rattle.seat_lock.specs.Passages.{IsNewSeat, IsUnion, TakesIn};
@@ -14,11 +14,11 @@ use crate::steps::{ClaimSplit, Draw, Number, PartSplit, Publish, Settle, Turn, V
 use crate::told::{LockLaw, Told};
 use atomic_table::Table;
 use crossbeam_utils::Backoff;
-use seat_view::{Passage, Token, View};
-use std::alloc::{AllocError, Global};
+use std::alloc::Global;
 use std::marker::{Brand, Model};
 use std::snapshot::Snapshot;
 use std::sync::Wait;
+use wc_base::{NoMemory, Passage, Token, View};
 
 /// A seat at a lock round an `S`, with which one thread at a time makes its passages. It has no bytes. Clauses see its
 /// view: its number, its parts, the log that it has seen and the claims that it holds. Of a seat that is dropped the
@@ -54,7 +54,7 @@ impl<S: Told> SeatLock<S> {
         alloc: Global,
         state: S,
         about: &S::About,
-    ) -> Result<(SeatLock<S>, Seat<S>), AllocError>
+    ) -> Result<(SeatLock<S>, Seat<S>), NoMemory>
     where
         S: Drop,
         requires { S.tells about.now state [] }
@@ -62,9 +62,11 @@ impl<S: Told> SeatLock<S> {
         ensures seat { IfOk result (λ r. (r.1.table_id ≡ r.0.id) × HasView first_view r.1) }
     {
         let mut slots = Vec::new(alloc);
-        slots.push(Some(state))?;
+        let Ok(()) = slots.push(Some(state)) else {
+            return Err(NoMemory);
+        };
         let Ok((table, seat)) = Table::new(alloc, &[0, 0], slots, about) else {
-            return Err(AllocError);
+            return Err(NoMemory);
         };
         Ok((SeatLock { table }, seat))
     }
@@ -169,7 +171,8 @@ impl<S: Told> SeatLock<S> {
     /// one. It then has that claim no more, and has the one that the passage mints. It takes no memory.
     pub fn leave(&self, seat: &mut Seat<S>, held: Held<S>, passage: Passage<Snapshot<S::Entry>>)
         requires seat { seat.old.table_id ≡ self.now.id }
-        requires log { MayLeave S.mints S.spends (S.tells self.now.about) held (passage_of passage) seat.old }
+        requires log { MayLeave S.mints S.spends (S.tells self.now.about) held
+            (passage_of passage) seat.old }
         ensures same { IsSameSeat seat.old seat.new }
         ensures log { Leaves S.mints S.spends (passage_of passage) seat.old seat.new }
     {

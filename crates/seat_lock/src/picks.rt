@@ -1,9 +1,9 @@
 //! What a call picks for its steps, whose tellings cannot read the call's arguments.
 ghost use Rattle.std.specs.Prelude.{ℕ, Option};
-ghost use Rattle.seat_view.specs.declared.view.Passage.{Passage};
+ghost use Rattle.wc_base.specs.declared.seat.Passage.{Passage};
 
-use seat_view::Passage;
 use std::marker::Brand;
+use wc_base::Passage;
 
 // What the lock was opened about.
 pub(crate) trait AboutPick<A> {
@@ -22,7 +22,7 @@ pub(crate) trait PassagePick<E> {
 }
 
 impl<E> PassagePick<E> for Brand {
-    ghost use Rattle.seat_view.specs.declared.view.Passage.TheVariants.{Look};
+    ghost use Rattle.wc_base.specs.declared.seat.Passage.TheVariants.{Look};
 
     ghost passage = { Look };
 }

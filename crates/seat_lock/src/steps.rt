@@ -1,13 +1,13 @@
 //! The kinds of step on a lock's words, by what each tells its seat.
-ghost use Rattle.seat_view.specs.Views.{token_view};
+ghost use Rattle.wc_base.specs.Views.{token_view};
 ghost use Rattle.seat_lock.specs.Seats.{less_part, one_part, union_view, empty_view, less_claim};
 ghost use Rattle.seat_lock.specs.Steps.{TakesNumber, Settles, Draws, TakesTurn, Publishes, tells_by};
 
 use crate::picks::{AboutPick, ClaimPick, PassagePick};
 use crate::told::Told;
 use atomic_table::{Join, Play, Split};
-use seat_view::View;
 use std::marker::PhantomData;
+use wc_base::View;
 
 // A seat draws a ticket, which is word 0 before it rises by 1.
 pub(crate) struct Draw;

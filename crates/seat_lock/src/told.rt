@@ -1,10 +1,10 @@
 //! What the value behind a lock tells, and the rule of the lock's words by it.
 ghost use Rattle.std.specs.Prelude.{ℕ, List, Bool, Option};
-ghost use Rattle.seat_view.specs.declared.view.Passage.{Passage};
+ghost use Rattle.wc_base.specs.declared.seat.Passage.{Passage};
 
 use atomic_table::TableRule;
-use seat_view::{Passage, View};
 use std::marker::PhantomData;
+use wc_base::{Passage, View};
 
 /// A type of values behind a lock. Its members are for clauses alone, so the value need not keep what they speak of.
 pub trait Told {

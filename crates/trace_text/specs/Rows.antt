@@ -68,28 +68,28 @@ results = result.Call 0 0 None ∷ result.Local None ∷ result.Call 0 1 None �
 abbrev pub quiet : Shown
 quiet = record { turn = None; events = [] }
 
-abbrev pub turned : TurnWord → List Event → Shown
-turned word events = record { turn = Some word; events = events }
+abbrev pub turn_shown : TurnWord → List Event → Shown
+turn_shown word events = record { turn = Some word; events = events }
 
 abbrev pub shown : List Shown
 shown =
     quiet ∷ quiet ∷ quiet
-    ∷ quiet ∷ quiet ∷ turned turn.Unblock [] ∷ turned turn.Process []
-    ∷ quiet ∷ quiet ∷ turned turn.Dequeue (event.Dequeue ∷ []) ∷ turned turn.Output (event.Output 0 unit ∷ [])
-    ∷ quiet ∷ quiet ∷ turned turn.Flushed (event.Resolve 2 ∷ []) ∷ []
+    ∷ quiet ∷ quiet ∷ turn_shown turn.Unblock [] ∷ turn_shown turn.Process []
+    ∷ quiet ∷ quiet ∷ turn_shown turn.Dequeue (event.Dequeue ∷ []) ∷ turn_shown turn.Output (event.Output 0 unit ∷ [])
+    ∷ quiet ∷ quiet ∷ turn_shown turn.Flushed (event.Resolve 2 ∷ []) ∷ []
 
 -- the coder that was handed in
 abbrev pub coder : CoderId
 coder = record { role = role.Decode; codec = PcmS16 }
 
-abbrev pub acquired : SlotEntry
-acquired = record { by = by.Codec 0 3; op = slot.Acquire coder 0 }
+abbrev pub acquire_entry : SlotEntry
+acquire_entry = record { by = by.Codec 0 3; op = slot.Acquire coder 0 }
 
 abbrev pub ordinary_run : Run
 ordinary_run = record {
   callers = record { results = results } ∷ [];
   codecs = record { opening = four; entries = ordinary; shown = shown } ∷ [];
-  slots = acquired ∷ [];
+  slots = acquire_entry ∷ [];
   held = 0;
 }
 

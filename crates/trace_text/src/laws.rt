@@ -7,6 +7,7 @@ ghost use Rattle.script_types.specs.declared.script.ScriptData.{ScriptData};
 /// A law: where calls stand once, each call's result names its entry, and each entry that names a caller's step is that
 /// step's call; where looks stand between them, the places of a caller's calls and looks on a codec rise with its steps.
 pub fn fits_by_places()
-    ensures calls { (script : ScriptData) (run : Recorded) → CallsAreIn script run → CallsByPlaces script run }
+    ensures calls { (script : ScriptData) (run : Recorded) → CallsAreIn script run
+        → CallsByPlaces script run }
     ensures order { (run : Recorded) → MarksClimb run → OrderByPlaces run }
 {}

@@ -3,3 +3,5 @@ pub mod Told
 pub mod Held
 pub mod Kept
 pub mod Up
+pub mod Views
+pub mod Options

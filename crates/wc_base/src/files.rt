@@ -38,11 +38,13 @@ pub trait Files {
     /// where the content is not told, only where the count of bytes read rose by more than `limit`.
     fn read_all(&mut self, alloc: Global, name: &str, limit: u64) -> Result<Vec<u8>, FileFault>
         ensures kept { content self.new ≡ content self.old }
-        ensures bytes { IfOk result (λ v. IfSome (content self.old) (λ files. files name.now ≡ Some v.items)) }
+        ensures bytes { IfOk result
+            (λ v. IfSome (content self.old) (λ files. files name.now ≡ Some v.items)) }
         ensures at_most { IfOk result (λ v. length v.items ≤ limit) }
         ensures faults_later { faults self.old ≤ faults self.new }
         ensures bytes_later { bytes_read self.old ≤ bytes_read self.new }
-        ensures failed { IsErrOf result FileFault.Failed → Rose (faults self.old) (faults self.new) }
+        ensures failed { IsErrOf result FileFault.Failed
+            → Rose (faults self.old) (faults self.new) }
         ensures too_long { IsErrOf result FileFault.TooLong → MatchOption (content self.old)
             (RoseBy (limit + 1) (bytes_read self.old) (bytes_read self.new))
             (λ files. IsSomeAnd (files name.now) (λ bytes. limit < length bytes)) };
@@ -73,7 +75,14 @@ impl Model for MemFiles {
 impl MemFiles {
     /// The files with these names and bytes, of which the reads in `fails` fail. It takes no memory.
     pub fn open(entries: Vec<(String, Vec<u8>)>, fails: Vec<u64>) -> MemFiles
-        ensures { result ≡ record { files = map plain entries.items; fails = fails.items; calls = 0; faults = 0; bytes_read = 0 } }
+        ensures { result
+            ≡ record {
+              files = map plain entries.items;
+              fails = fails.items;
+              calls = 0;
+              faults = 0;
+              bytes_read = 0;
+            } }
     {
         MemFiles {
             entries,
@@ -94,12 +103,15 @@ impl Files for MemFiles {
 
     fn read_all(&mut self, alloc: Global, name: &str, limit: u64) -> Result<Vec<u8>, FileFault>
         ensures ok { IfOk result (λ v. answer_of self.old name.now limit ≡ Ok v.items) }
-        ensures err { IfErr result (λ e. e ≢ FileFault.NoMemory → answer_of self.old name.now limit ≡ Err e) }
+        ensures err { IfErr result
+            (λ e. e ≢ FileFault.NoMemory → answer_of self.old name.now limit ≡ Err e) }
         ensures files { self.new.files ≡ self.old.files }
         ensures fails { self.new.fails ≡ self.old.fails }
         ensures calls { self.new.calls ≡ up self.old.calls }
-        ensures fault_count { self.new.faults ≡ faults_after self.old.faults (answer_of self.old name.now limit) }
-        ensures count_read { IfOk result (λ v. self.new.bytes_read ≡ up_by (length v.items) self.old.bytes_read) }
+        ensures fault_count { self.new.faults
+            ≡ faults_after self.old.faults (answer_of self.old name.now limit) }
+        ensures count_read { IfOk result
+            (λ v. self.new.bytes_read ≡ up_by (length v.items) self.old.bytes_read) }
         ensures count_unread { OnErr result (self.new.bytes_read ≡ self.old.bytes_read) }
 
         ensures kept { Some (found self.new.files) ≡ Some (found self.old.files) }
@@ -209,8 +221,10 @@ fn read_to_limit<F: Read + Drop>(
     ensures faults_later { faults.old ≤ faults.new }
     ensures bytes_later { bytes_read.old ≤ bytes_read.new }
     ensures failed { IsErrOf result FileFault.Failed → Rose faults.old faults.new }
-    ensures too_long { IsErrOf result FileFault.TooLong → RoseBy (limit + 1) bytes_read.old bytes_read.new }
-    ensures long { IsErrOf result FileFault.TooLong → IfSome (F.remaining file) (λ bytes. limit < length bytes) }
+    ensures too_long { IsErrOf result FileFault.TooLong
+        → RoseBy (limit + 1) bytes_read.old bytes_read.new }
+    ensures long { IsErrOf result FileFault.TooLong
+        → IfSome (F.remaining file) (λ bytes. limit < length bytes) }
 {
     let mut bytes = Vec::new(alloc);
     let result = file.take(limit.saturating_add(1)).read_to_end(&mut bytes);

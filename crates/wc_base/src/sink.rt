@@ -105,7 +105,9 @@ impl Model for MemSink {
 impl MemSink {
     /// A sink with this room, taken at once, of which the writes in `fails` fail.
     pub fn open(alloc: Global, room: u64, fails: Vec<u64>) -> Result<MemSink, NoMemory>
-        ensures { IfOk result (λ s. s ≡ record { bytes = []; room = room; fails = fails.items; calls = 0; faults = 0 }) }
+        ensures { IfOk result
+            (λ s. s
+            ≡ record { bytes = []; room = room; fails = fails.items; calls = 0; faults = 0 }) }
     {
         let Ok(bytes) = Vec::with_capacity(alloc, room as usize) else {
             return Err(NoMemory);

@@ -1,6 +1,6 @@
 -- What a desk keeps as its codec's history grows, and what becomes of its box.
 use Rattle.std.proofs.Common.{ℕ, ◌≡◌, Bool, true, false, not, cond, List, [], ◌∷◌, ◌++◌, length, Option, Some, None, is_some, is_none, refl, ap, sym, subst, ◌∙◌, option_map, append-nil}
-use Rattle.std.specs.Prelude.{◌==◌, ◌||◌, unwrap_or, map}
+use Rattle.std.specs.Prelude.{◌==◌, ◌||◌}
 use Rattle.wc_base.specs.declared.error.DomError.{DomError}
 use Rattle.wc_base.specs.declared.who.Who.{Who}
 use Rattle.wc_base.specs.declared.who.By.{By}
@@ -24,13 +24,13 @@ use Rattle.codec_model.specs.declared.entry.Removal.TheVariants as removal
 use Rattle.codec_model.specs.declared.entry.Running.{Running}
 use Rattle.codec_model.specs.declared.entry.Task.{Task}
 use Rattle.codec_model.specs.declared.entry.Work.{Work}
-use Rattle.codec_model.specs.Control.{Control, kind_of, front, start_item, may_start, is_close, may_reclaim}
+use Rattle.codec_model.specs.Control.{Control, kind_of, front, start_item, may_start, may_reclaim}
 use Rattle.codec_model.specs.Replay.{State, missing_coder, entry_of, removal_entry, removal_error, answer_to, turn_step}
 use Rattle.codec_core.specs.Codec.{Codec, item_parts, state_at, Makes, KeepsRunning, kept_box, handed_back, closes_now}
 use Rattle.codec_core.specs.Job.{JobValue, DoneValue, IsJobOf, EndsBy, outcome_of, stopped_box, missing_id}
-use Rattle.codec_accounts.specs.Boxes.{Act, Asks, Begins, Ends, Removes, Other, act_of, lacking, start_act, removal_act, closes_codec}
+use Rattle.codec_accounts.specs.Boxes.{Act, Other, act_of, lacking, start_act, removal_act, closes_codec}
 use Rattle.codec_accounts.specs.Registry.{BoxOut}
-use Rattle.codec_accounts.specs.Codec.{Holding, nothing_held, CodecValue, state_of, next_by, BoxStep, Keep, Give, Renew, is_old, box_step, give_of, after_give, after_ask, slots_after, holding_after, step_by, after_entry, slots_by, IsGivable}
+use Rattle.codec_accounts.specs.Codec.{Holding, CodecValue, state_of, next_by, BoxStep, Keep, Give, Renew, is_old, box_step, after_give, slots_after, holding_after, step_by, after_entry, slots_by, IsGivable}
 use Rattle.trace_text.specs.Follow.{outcome_for, start_entry, end_of, done_entry, turn_on, turn_entry, reclaim_entry}
 use Rattle.wc_replay.specs.Desk as desk
 use Rattle.wc_replay.specs.Desk.{box_out, holding_with, box_of, holding_of, JobMatches, LacksBox, IsRefused, IsDesk, more, renewal, codec_by, registry_by}

@@ -1,7 +1,7 @@
 -- The beginning and the end of a replay.
-use Rattle.std.proofs.Common.{ℕ, ◌≡◌, ◌+◌, ◌<◌, ◌≤◌, List, [], ◌∷◌, ◌++◌, map, length, get_or, append_assoc, append-nil, refl, ap, sym, subst, ◌∙◌, arith}
+use Rattle.std.proofs.Common.{ℕ, ◌≡◌, ◌+◌, ◌<◌, ◌≤◌, List, [], ◌∷◌, ◌++◌, map, length, get_or, append_assoc, append-nil, refl, ap, sym, ◌∙◌, arith}
 use Rattle.std.specs.Prelude.{take, slice_get, Some, Result, Ok, Err, IfOk}
-use Rattle.std.proofs.lemmas.List.{length-map, map-append, take_all}
+use Rattle.std.proofs.lemmas.List.{map-append, take_all}
 use Rattle.std.proofs.lemmas.Option.{slice_get_read, slice_get-get_or}
 use Rattle.coder_api.specs.declared.slot.SlotEntry.{SlotEntry}
 use Rattle.wc_chunk.specs.declared.chunk.Chunk.{Chunk}

@@ -1,13 +1,12 @@
 -- One codec among all: what looks show of it, and what becomes of it by an item.
-use Rattle.std.proofs.Common.{ℕ, zero, suc, ◌≡◌, ◌≤◌, ◌<◌, List, [], ◌∷◌, length, get_or, Option, Some, None, refl, ap, sym, ◌∙◌, arith}
-use Rattle.std.specs.Prelude.{slice_get, slice_set, unwrap_or}
+use Rattle.std.proofs.Common.{ℕ, zero, suc, ◌≡◌, ◌≤◌, ◌<◌, List, [], ◌∷◌, length, get_or, Option, Some, None, refl, ap, sym, ◌∙◌}
+use Rattle.std.specs.Prelude.{slice_get, slice_set}
 use Rattle.std.proofs.lemmas.Option.{slice_get_read, slice_get_past, some_pair_parts}
 use Rattle.slot_registry.specs.Slots.{SlotsValue}
 use Rattle.codec_model.specs.declared.entry.Entry.{Entry}
-use Rattle.wc_config.specs.declared.kind.Kind.TheVariants as kind
 use Rattle.codec_model.specs.declared.entry.PromiseState.{PromiseState}
 use Rattle.codec_model.specs.declared.entry.PromiseState.TheVariants.{Pending}
-use Rattle.codec_accounts.specs.Codec.{CodecValue, new_codec, codec_at}
+use Rattle.codec_accounts.specs.Codec.{CodecValue, codec_at}
 use Rattle.report_text.specs.declared.result.StepResult.{StepResult}
 use Rattle.report_text.specs.declared.result.StepResult.TheVariants as result
 use Rattle.trace_text.specs.Follow.{Course, after_move, advance, look_of_flush, promise_after}

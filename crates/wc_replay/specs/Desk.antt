@@ -1,5 +1,5 @@
 -- A codec at work in a replay.
-use Rattle.std.specs.Prelude.{ℕ, ◌≡◌, true, List, [], ◌∷◌, ◌++◌, Option, Some, None, is_some, option_map}
+use Rattle.std.specs.Prelude.{ℕ, ◌≡◌, true, [], ◌∷◌, ◌++◌, Option, Some, None, is_some, option_map}
 use Rattle.coder_api.specs.Lent.{Lent}
 use Rattle.wc_config.specs.declared.codec.CoderId.{CoderId}
 use Rattle.slot_registry.specs.Slots.{SlotsValue}

@@ -47,7 +47,8 @@ fn lend<C: Coder>(
     ensures stays { (s : State) → IsJobOf s job → IsJobOf s result.0 }
     ensures refused { IfOk result.1 (LacksBox result.0) }
     ensures slots { OnOk result.1 (slots.new ≡ acquired by id slots.old) }
-    ensures holding { IfOk result.1 (λ refusal. holding_with result.0.coder refusal ≡ after_ask by id slots.old) }
+    ensures holding { IfOk result.1
+        (λ refusal. holding_with result.0.coder refusal ≡ after_ask by id slots.old) }
 {
     match slots.acquire(by, id) {
         Ok(slot) => {
@@ -75,8 +76,12 @@ pub(crate) fn fill<C: Coder>(
     requires givable { IsGivable slots.old.history by (option_map box_out job.coder) }
     ensures stays { (s : State) → IsJobOf s job → IsJobOf s result.0 }
     ensures refused { IfOk result.1 (LacksBox result.0) }
-    ensures slots { OnOk result.1 (slots.new ≡ slots_after by (renewal (missing_id job)) (option_map box_out job.coder) slots.old) }
-    ensures holding { IfOk result.1 (λ refusal. holding_with result.0.coder refusal ≡ holding_after by (renewal (missing_id job)) (holding_with job.coder None) slots.old) }
+    ensures slots { OnOk result.1
+        (slots.new
+        ≡ slots_after by (renewal (missing_id job)) (option_map box_out job.coder) slots.old) }
+    ensures holding { IfOk result.1
+        (λ refusal. holding_with result.0.coder refusal
+        ≡ holding_after by (renewal (missing_id job)) (holding_with job.coder None) slots.old) }
 {
     match job.lacks() {
         None => (job, Ok(None)),

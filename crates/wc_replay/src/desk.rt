@@ -65,7 +65,8 @@ impl<C: Coder> Desk<C> {
     pub(crate) fn call(&mut self, who: Who, call: Call) -> Result<Answer, NoMemory>
         ensures made { OnOk result (self.new ≡ more (entry_of who call) self.old) }
         ensures place { IfOk result (λ a. a.place ≡ length self.old.history) }
-        ensures error { IfOk result (λ a. a.error ≡ exception_of call (call_error call (state_of self.old).control)) }
+        ensures error { IfOk result
+            (λ a. a.error ≡ exception_of call (call_error call (state_of self.old).control)) }
     {
         ask(&mut self.core, who, call)
     }
@@ -78,9 +79,12 @@ impl<C: Coder> Desk<C> {
         who: Who,
         removal: Removal,
     ) -> Result<Answer, NoMemory>
-        requires givable { IsGivable slots.old.history (next_by codec self.old) self.old.holding.box }
-        ensures made { OnOk result (self.new ≡ after_entry codec (removal_entry who removal) slots.old self.old) }
-        ensures slots { OnOk result (slots.new ≡ slots_by codec (removal_entry who removal) slots.old self.old) }
+        requires givable { IsGivable slots.old.history
+            (next_by codec self.old) self.old.holding.box }
+        ensures made { OnOk result
+            (self.new ≡ after_entry codec (removal_entry who removal) slots.old self.old) }
+        ensures slots { OnOk result
+            (slots.new ≡ slots_by codec (removal_entry who removal) slots.old self.old) }
         ensures place { IfOk result (λ a. a.place ≡ length self.old.history) }
         ensures error { IfOk result (λ a. a.error ≡ removal_error (state_of self.old).control) }
     {
@@ -93,8 +97,10 @@ impl<C: Coder> Desk<C> {
 
     /// A start: the front item's job goes out, with the box that it needs or the entry that refused it one.
     fn start(&mut self, codec: u32, slots: &mut Slots<C>) -> Result<(), NoMemory>
-        requires givable { IsGivable slots.old.history (next_by codec self.old) self.old.holding.box }
-        ensures { OnOk result (Makes codec (start_entry self.old) slots.old slots.new self.old self.new) }
+        requires givable { IsGivable slots.old.history
+            (next_by codec self.old) self.old.holding.box }
+        ensures { OnOk result
+            (Makes codec (start_entry self.old) slots.old slots.new self.old self.new) }
     {
         let Some(job) = self.core.start() else {
             return Ok(());
@@ -109,8 +115,10 @@ impl<C: Coder> Desk<C> {
 
     /// The end of the running item: its job is done, and the box that it lets go goes back.
     fn done(&mut self, alloc: Global, codec: u32, slots: &mut Slots<C>, moment: u64)
-        requires givable { IsGivable slots.old.history (next_by codec self.old) self.old.holding.box }
-        ensures { (wants : Bool) × Makes codec (done_entry wants moment self.old) slots.old slots.new self.old self.new }
+        requires givable { IsGivable slots.old.history
+            (next_by codec self.old) self.old.holding.box }
+        ensures { (wants : Bool)
+            × Makes codec (done_entry wants moment self.old) slots.old slots.new self.old self.new }
     {
         if let Some(job) = self.job.take() {
             let done = end_of_job(alloc, job, self.refusal.take());
@@ -122,7 +130,8 @@ impl<C: Coder> Desk<C> {
 
     /// A turn: the front task runs, and the box that it lets go goes back.
     fn turn(&mut self, codec: u32, slots: &mut Slots<C>)
-        requires givable { IsGivable slots.old.history (next_by codec self.old) self.old.holding.box }
+        requires givable { IsGivable slots.old.history
+            (next_by codec self.old) self.old.holding.box }
         ensures { Makes codec (turn_entry self.old) slots.old slots.new self.old self.new }
     {
         if let Some((place, slot)) = run_task(&mut self.core) {
@@ -132,8 +141,10 @@ impl<C: Coder> Desk<C> {
 
     /// A reclaim at a moment in microseconds, where it is lawful; the box that it lets go goes back.
     fn reclaim(&mut self, codec: u32, slots: &mut Slots<C>, moment: u64)
-        requires givable { IsGivable slots.old.history (next_by codec self.old) self.old.holding.box }
-        ensures { Makes codec (reclaim_entry moment self.old) slots.old slots.new self.old self.new }
+        requires givable { IsGivable slots.old.history
+            (next_by codec self.old) self.old.holding.box }
+        ensures { Makes codec
+            (reclaim_entry moment self.old) slots.old slots.new self.old self.new }
     {
         if let Some(removed) = self.core.reclaim(moment) {
             let place = removed.place;
@@ -149,8 +160,11 @@ impl<C: Coder> Desk<C> {
         slots: &mut Slots<C>,
         item: OrderItem,
     ) -> Result<(), NoMemory>
-        requires givable { IsGivable slots.old.history (next_by codec self.old) self.old.holding.box }
-        ensures { OnOk result ((wants : Bool) × Makes codec (item_entry wants item self.old) slots.old slots.new self.old self.new) }
+        requires givable { IsGivable slots.old.history
+            (next_by codec self.old) self.old.holding.box }
+        ensures { OnOk result
+            ((wants : Bool)
+            × Makes codec (item_entry wants item self.old) slots.old slots.new self.old self.new) }
     {
         match item {
             OrderItem::Caller(_) => {}
@@ -200,7 +214,8 @@ impl<C: Coder> Desk<C> {
 fn ask<C: Coder>(core: &mut Core<C>, who: Who, call: Call) -> Result<Answer, NoMemory>
     ensures made { OnOk result (CoreMakes core.old core.new (entry_of who call)) }
     ensures place { IfOk result (λ a. a.place ≡ length core.old.history) }
-    ensures error { IfOk result (λ a. a.error ≡ exception_of call (call_error call (state_at core.old).control)) }
+    ensures error { IfOk result
+        (λ a. a.error ≡ exception_of call (call_error call (state_at core.old).control)) }
     ensures running { KeepsRunning (state_at core.old) (state_at core.new) }
     ensures slot { core.new.slot ≡ core.old.slot }
     ensures err { OnErr result (core.new ≡ core.old) }
@@ -224,8 +239,10 @@ fn remove<C: Coder>(core: &mut Core<C>, who: Who, removal: Removal) -> (Answer, 
     ensures made { CoreMakes core.old core.new (removal_entry who removal) }
     ensures place { result.0.place ≡ length core.old.history }
     ensures error { result.0.error ≡ removal_error (state_at core.old).control }
-    ensures handed { result.1 ≡ handed_back (is_some (removal_error (state_at core.old).control)) core.old.slot }
-    ensures slot { core.new.slot ≡ kept_box (is_some (removal_error (state_at core.old).control)) core.old.slot }
+    ensures handed { result.1
+        ≡ handed_back (is_some (removal_error (state_at core.old).control)) core.old.slot }
+    ensures slot { core.new.slot
+        ≡ kept_box (is_some (removal_error (state_at core.old).control)) core.old.slot }
     ensures running { KeepsRunning (state_at core.old) (state_at core.new) }
 {
     match core.remove(who, removal) {
@@ -244,7 +261,10 @@ fn remove<C: Coder>(core: &mut Core<C>, who: Who, removal: Removal) -> (Answer, 
 fn end_of_job<C: Coder>(alloc: Global, job: Job<C>, refusal: Option<u64>) -> DoneJob<C>
     requires { LacksBox job refusal }
     ensures end { (s : State) → IsJobOf s job → IsEndOf s result }
-    ensures outcome { (s : State) → IsJobOf s job → (wants : Bool) × (outcome_of result.ended ≡ outcome_for wants refusal (answer_to (kind_of job.work) s.running_given)) }
+    ensures outcome { (s : State) → IsJobOf s job → (wants : Bool)
+        ×
+        (outcome_of result.ended
+        ≡ outcome_for wants refusal (answer_to (kind_of job.work) s.running_given)) }
     ensures epoch { result.epoch ≡ job.epoch }
     ensures number { result.number ≡ job.number }
     ensures slot { option_map box_out result.coder ≡ option_map box_out job.coder }
@@ -267,8 +287,10 @@ fn run_task<C: Coder>(core: &mut Core<C>) -> Option<(u64, Option<SlotBox<C>>)>
     ensures same { IfNone result (core.new ≡ core.old) }
     ensures made { OnSome result (CoreMakes core.old core.new entry.Turn) }
     ensures place { IfSome result (λ t. t.0 ≡ length core.old.history) }
-    ensures handed { IfSome result (λ t. t.1 ≡ handed_back (not (closes_now (state_at core.old).control)) core.old.slot) }
-    ensures slot { OnSome result (core.new.slot ≡ kept_box (not (closes_now (state_at core.old).control)) core.old.slot) }
+    ensures handed { IfSome result
+        (λ t. t.1 ≡ handed_back (not (closes_now (state_at core.old).control)) core.old.slot) }
+    ensures slot { OnSome result
+        (core.new.slot ≡ kept_box (not (closes_now (state_at core.old).control)) core.old.slot) }
     ensures running { OnSome result (KeepsRunning (state_at core.old) (state_at core.new)) }
 {
     let turned = core.turn()?;

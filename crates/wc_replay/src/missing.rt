@@ -47,7 +47,8 @@ fn missing_step(media: &[List<Chunk>], caller: u32, steps: &[Step]) -> Option<(u
 
 fn missing_caller(media: &[List<Chunk>], callers: &[CallerItem]) -> Option<(u32, Place)>
     requires callers { length callers.now ≤ 16 }
-    requires steps { (i : ℕ) (c : CallerItem) → slice_get callers.now i ≡ Some c → length c.steps ≤ 100000 }
+    requires steps { (i : ℕ) (c : CallerItem) → slice_get callers.now i ≡ Some c
+        → length c.steps ≤ 100000 }
     ensures { result ≡ spec.missing_caller media.now 0 callers.now }
 {
     for (i, caller) in callers.iter().enumerate() {

@@ -22,9 +22,14 @@ pub(crate) fn call_at<C: Coder>(
     call: Call,
 ) -> Result<Answer, NoMemory>
     requires { codec < length desks.old.items }
-    ensures made { OnOk result (desks.new.items ≡ slice_set desks.old.items codec (more (entry_of who call) (codec_at codec desks.old.items))) }
+    ensures made { OnOk result
+        (desks.new.items
+        ≡ slice_set desks.old.items codec
+        (more (entry_of who call) (codec_at codec desks.old.items))) }
     ensures place { IfOk result (λ a. a.place ≡ length (codec_at codec desks.old.items).history) }
-    ensures error { IfOk result (λ a. a.error ≡ exception_of call (call_error call (state_of (codec_at codec desks.old.items)).control)) }
+    ensures error { IfOk result
+        (λ a. a.error
+        ≡ exception_of call (call_error call (state_of (codec_at codec desks.old.items)).control)) }
 {
     match desks.get_mut(codec as usize) {
         Some(desk) => desk.call(who, call),
@@ -41,11 +46,18 @@ pub(crate) fn remove_at<C: Coder>(
     removal: Removal,
 ) -> Result<Answer, NoMemory>
     requires codec { codec < length desks.old.items }
-    requires givable { IsGivable slots.old.history (next_by codec (codec_at codec desks.old.items)) (codec_at codec desks.old.items).holding.box }
-    ensures made { OnOk result (desks.new.items ≡ codecs_after codec (removal_entry who removal) slots.old desks.old.items) }
-    ensures slots { OnOk result (slots.new ≡ slots_by codec (removal_entry who removal) slots.old (codec_at codec desks.old.items)) }
+    requires givable { IsGivable slots.old.history
+        (next_by codec (codec_at codec desks.old.items))
+        (codec_at codec desks.old.items).holding.box }
+    ensures made { OnOk result
+        (desks.new.items
+        ≡ codecs_after codec (removal_entry who removal) slots.old desks.old.items) }
+    ensures slots { OnOk result
+        (slots.new
+        ≡ slots_by codec (removal_entry who removal) slots.old (codec_at codec desks.old.items)) }
     ensures place { IfOk result (λ a. a.place ≡ length (codec_at codec desks.old.items).history) }
-    ensures error { IfOk result (λ a. a.error ≡ removal_error (state_of (codec_at codec desks.old.items)).control) }
+    ensures error { IfOk result
+        (λ a. a.error ≡ removal_error (state_of (codec_at codec desks.old.items)).control) }
 {
     match desks.get_mut(codec as usize) {
         Some(desk) => desk.remove(codec, slots, who, removal),
@@ -62,8 +74,20 @@ pub(crate) fn take_at<C: Coder>(
     item: OrderItem,
 ) -> Result<(), NoMemory>
     requires codec { codec < length desks.old.items }
-    requires givable { IsGivable slots.old.history (next_by codec (codec_at codec desks.old.items)) (codec_at codec desks.old.items).holding.box }
-    ensures { OnOk result ((wants : Bool) × (desks.new.items ≡ slice_set desks.old.items codec (codec_by codec (item_entry wants item (codec_at codec desks.old.items)) slots.old (codec_at codec desks.old.items))) × (slots.new ≡ registry_by codec (item_entry wants item (codec_at codec desks.old.items)) slots.old (codec_at codec desks.old.items))) }
+    requires givable { IsGivable slots.old.history
+        (next_by codec (codec_at codec desks.old.items))
+        (codec_at codec desks.old.items).holding.box }
+    ensures { OnOk result
+        ((wants : Bool)
+        ×
+        (desks.new.items
+        ≡ slice_set desks.old.items codec
+        (codec_by codec (item_entry wants item (codec_at codec desks.old.items)) slots.old
+        (codec_at codec desks.old.items)))
+        ×
+        (slots.new
+        ≡ registry_by codec (item_entry wants item (codec_at codec desks.old.items)) slots.old
+        (codec_at codec desks.old.items))) }
 {
     match desks.get_mut(codec as usize) {
         Some(desk) => desk.take(alloc, codec, slots, item),

@@ -80,7 +80,8 @@ fn take_items<C: Coder>(
 ) -> Result<(), NoMemory>
     requires playable { IsPlayable script.now }
     requires nothing { player.old ≡ nothing_yet script.now player.old.slots.made }
-    ensures { OnOk result (Follows script.now media.now (order_items script.now) player.old player.new) }
+    ensures { OnOk result
+        (Follows script.now media.now (order_items script.now) player.old player.new) }
 {
     for item in items_of(script) {
         following_stands();
@@ -167,7 +168,8 @@ fn play<C: Coder>(
 ) -> Result<Run, NoMemory>
     requires codecs { list_all is_openable script.now.codecs ≡ true }
     requires playable { IsPlayable script.now }
-    ensures follows { IfOk result (λ run. FollowsTheOrder script.now media.now (map C.coder coders.items) run) }
+    ensures follows { IfOk result
+        (λ run. FollowsTheOrder script.now media.now (map C.coder coders.items) run) }
     ensures shows { IfOk result (λ run. AreShownTraces script.now.codecs run.codecs) }
     ensures held { IfOk result (λ run. run.held ≡ 0) }
 {

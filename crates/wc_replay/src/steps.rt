@@ -123,7 +123,9 @@ impl<C: Coder> Player<C> {
     /// A configure, decode or flush of a caller.
     fn call(&mut self, who: Who, codec: u32, call: Call) -> Result<(), NoMemory>
         requires { codec < length self.old.codecs }
-        ensures { OnOk result (self.new ≡ after_move (call_move who codec call (codec_at codec self.old.codecs)) self.old) }
+        ensures { OnOk result
+            (self.new
+            ≡ after_move (call_move who codec call (codec_at codec self.old.codecs)) self.old) }
     {
         let answer = call_at(&mut self.desks, codec, who, call)?;
         note(&mut self.callers, who.caller, call_result(codec, answer))
@@ -139,7 +141,9 @@ impl<C: Coder> Player<C> {
     /// A decode of the chunk that the variable holds, unless it is absent.
     fn decode(&mut self, who: Who, codec: u32, chunk: Option<Chunk>) -> Result<(), NoMemory>
         requires { codec < length self.old.codecs }
-        ensures { OnOk result (self.new ≡ after_move (decode_move who codec chunk (codec_at codec self.old.codecs)) self.old) }
+        ensures { OnOk result
+            (self.new
+            ≡ after_move (decode_move who codec chunk (codec_at codec self.old.codecs)) self.old) }
     {
         match chunk {
             Some(chunk) => self.call(who, codec, Call::Decode(chunk)),
@@ -149,7 +153,11 @@ impl<C: Coder> Player<C> {
 
     /// A look at the promise of the flush that is the caller's step with this number.
     fn look(&mut self, who: Who, flush: u32) -> Result<(), NoMemory>
-        ensures { OnOk result (self.new ≡ with_result who.caller (look_of_flush self.old.codecs (slice_get (at who.caller self.old.callers) flush)) self.old) }
+        ensures { OnOk result
+            (self.new
+            ≡ with_result who.caller
+            (look_of_flush self.old.codecs
+            (slice_get (at who.caller self.old.callers) flush)) self.old) }
     {
         let flush = result_of(&self.callers, who.caller, flush);
         let came = look_result(&self.desks, flush);
@@ -159,7 +167,10 @@ impl<C: Coder> Player<C> {
     /// A look at a codec's state.
     fn look_at_state(&mut self, who: Who, codec: u32) -> Result<(), NoMemory>
         requires { codec < length self.old.codecs }
-        ensures { OnOk result (self.new ≡ with_result who.caller (look_of_state codec (codec_at codec self.old.codecs)) self.old) }
+        ensures { OnOk result
+            (self.new
+            ≡ with_result who.caller
+            (look_of_state codec (codec_at codec self.old.codecs)) self.old) }
     {
         let came = state_result(&self.desks, codec);
         self.answer(who, came)
@@ -169,7 +180,10 @@ impl<C: Coder> Player<C> {
     fn remove(&mut self, who: Who, codec: u32, removal: Removal) -> Result<(), NoMemory>
         requires codec { codec < length self.old.codecs }
         requires givable { AreGivable self.old.codecs self.old.slots.history }
-        ensures { OnOk result (self.new ≡ after_move (removal_move who codec removal (codec_at codec self.old.codecs)) self.old) }
+        ensures { OnOk result
+            (self.new
+            ≡ after_move
+            (removal_move who codec removal (codec_at codec self.old.codecs)) self.old) }
     {
         let answer = remove_at(&mut self.desks, &mut self.slots, codec, who, removal)?;
         note(&mut self.callers, who.caller, call_result(codec, answer))
@@ -188,7 +202,9 @@ impl<C: Coder> Player<C> {
         requires range { (k : ℕ) → called step.now ≡ Some k → k < length self.old.codecs }
         requires state { LooksInRange (length self.old.codecs) step.now }
         requires givable { AreGivable self.old.codecs self.old.slots.history }
-        ensures { OnOk result (self.new ≡ after_move (step_move script.now media.now who step.now self.old) self.old) }
+        ensures { OnOk result
+            (self.new
+            ≡ after_move (step_move script.now media.now who step.now self.old) self.old) }
     {
         match step {
             Step::Configure { on, config } => {
@@ -220,7 +236,8 @@ impl<C: Coder> Player<C> {
         requires codecs { length self.old.codecs ≡ length script.now.codecs }
         requires playable { IsPlayable script.now }
         requires givable { AreGivable self.old.codecs self.old.slots.history }
-        ensures { OnOk result (self.new ≡ follow_item script.now media.now false (item.Caller caller) self.old) }
+        ensures { OnOk result
+            (self.new ≡ follow_item script.now media.now false (item.Caller caller) self.old) }
     {
         let steps = steps_of(script, caller);
         let number = made_by(&self.callers, caller);
@@ -240,7 +257,12 @@ impl<C: Coder> Player<C> {
     fn advance(&mut self, alloc: Global, codec: u32, item: OrderItem) -> Result<(), NoMemory>
         requires codec { codec < length self.old.codecs }
         requires givable { AreGivable self.old.codecs self.old.slots.history }
-        ensures { OnOk result ((wants : Bool) × (self.new ≡ after_move (advance codec (item_entry wants item (codec_at codec self.old.codecs))) self.old)) }
+        ensures { OnOk result
+            ((wants : Bool)
+            ×
+            (self.new
+            ≡ after_move
+            (advance codec (item_entry wants item (codec_at codec self.old.codecs))) self.old)) }
     {
         take_at(&mut self.desks, &mut self.slots, codec, alloc, item)
     }
@@ -257,7 +279,8 @@ impl<C: Coder> Player<C> {
         requires playable { IsPlayable script.now }
         requires range { IsInRange (length self.old.codecs) item }
         requires givable { AreGivable self.old.codecs self.old.slots.history }
-        ensures { OnOk result ((wants : Bool) × (self.new ≡ follow_item script.now media.now wants item self.old)) }
+        ensures { OnOk result
+            ((wants : Bool) × (self.new ≡ follow_item script.now media.now wants item self.old)) }
     {
         match item {
             OrderItem::Caller(caller) => self.next(script, media, caller),

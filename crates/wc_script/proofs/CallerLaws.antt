@@ -10,11 +10,13 @@ use Rattle.script_types.specs.declared.script.CodecItem.{CodecItem}
 use Rattle.script_types.specs.declared.script.CallerItem.{CallerItem}
 use Rattle.script_types.specs.Names.{is_name, is_codec_name, is_caller_name}
 use Rattle.script_types.specs.Sound.{most_steps, most_media, is_sound_caller, are_sound_callers, are_sound_steps, are_small, bytes_of_caller, files_after, files_in, are_apart}
-use Rattle.script_steps.specs.declared.wrong.Wrong.{Wrong}
-use Rattle.script_steps.specs.declared.wrong.Wrong.TheVariants as wrong
+use Rattle.chunk_files.specs.declared.fault.Stop.{Stop}
+use Rattle.script_types.specs.declared.fault.Wrong.{Wrong}
+use Rattle.chunk_files.specs.declared.fault.Stop.TheVariants as stop
+use Rattle.script_types.specs.declared.fault.Wrong.TheVariants as wrong
 use Rattle.script_steps.specs.Members.{needed, name_in, array_in}
-use Rattle.script_steps.proofs.Chains.{same_Ok, chain, all_true}
-use Rattle.script_steps.proofs.NameLaws.{name_is_name}
+use Rattle.script_steps.specs.Chains.{same_Ok, chain, all_true}
+use Rattle.script_steps.specs.NameLaws.{name_is_name}
 use Rattle.wc_script.specs.declared.callers.Room.{Room}
 use Rattle.wc_script.specs.declared.callers.Walked.{Walked}
 use Rattle.wc_script.specs.declared.callers.Heard.{Heard}
@@ -30,7 +32,7 @@ abbrev IsNew : List CodecItem → List CallerItem → List ℕ → Type 0
 IsNew codecs before name = (is_name name ≡ true) × (not (is_codec_name codecs name || is_caller_name before name) ≡ true)
 
 heading_if : (codecs : List CodecItem) (before : List CallerItem) (name : List ℕ) (ds : Items) (h : List ℕ × Items) (b : Bool) → (is_codec_name codecs name || is_caller_name before name) ≡ b
-    → is_name name ≡ true → Path (Result (List ℕ × Items) Wrong) (if b then Err wrong.Twice else Ok (name, ds)) (Ok h) → IsNew codecs before h.0
+    → is_name name ≡ true → Path (Result (List ℕ × Items) (Stop Wrong)) (if b then Err (stop.Fault wrong.Twice) else Ok (name, ds)) (Ok h) → IsNew codecs before h.0
 heading_if codecs before name ds h true e n g = absurd cc
 heading_if codecs before name ds h false e n g = subst (λ x. IsNew codecs before x.0) (same_Ok (name, ds) h g) (n, ap not e)
 

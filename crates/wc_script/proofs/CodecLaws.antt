@@ -9,11 +9,13 @@ use Rattle.wc_config.specs.declared.kind.Kind.{Kind}
 use Rattle.script_types.specs.declared.script.CodecItem.{CodecItem}
 use Rattle.script_types.specs.Names.{is_name, is_codec_name}
 use Rattle.script_types.specs.Sound.{is_sound_codec, are_sound_codecs}
-use Rattle.script_steps.specs.declared.wrong.Wrong.{Wrong}
-use Rattle.script_steps.specs.declared.wrong.Wrong.TheVariants as wrong
+use Rattle.chunk_files.specs.declared.fault.Stop.{Stop}
+use Rattle.script_types.specs.declared.fault.Wrong.{Wrong}
+use Rattle.chunk_files.specs.declared.fault.Stop.TheVariants as stop
+use Rattle.script_types.specs.declared.fault.Wrong.TheVariants as wrong
 use Rattle.script_steps.specs.Members.{needed, text_in, name_in, natural_of}
-use Rattle.script_steps.proofs.Chains.{same_Ok, chain, needed_some, all_true}
-use Rattle.script_steps.proofs.NameLaws.{name_is_name}
+use Rattle.script_steps.specs.Chains.{same_Ok, chain, needed_some, all_true}
+use Rattle.script_steps.specs.NameLaws.{name_is_name}
 use Rattle.wc_script.specs.Faults.{at}
 use Rattle.wc_script.specs.Codecs.{kind_of, checked_saturation, saturation_of, codec_of, codecs_of}
 use Rattle.wc_script.specs.Walk.{count_of}
@@ -37,7 +39,7 @@ saturation_in_range None n h = subst Range (same_Ok 4 n h) refl
 saturation_in_range (Some d) n h = range_of (natural_of d) n (needed_some _ n h)
 
 codec_if : (before : List CodecItem) (name : List ℕ) (kind : Kind) (saturation : ℕ) (c : CodecItem) (b : Bool) → is_codec_name before name ≡ b → is_name name ≡ true → Range saturation
-    → Path (Result CodecItem Wrong) (if b then Err wrong.Twice else Ok (record { name = name; kind = kind; saturation = saturation })) (Ok c)
+    → Path (Result CodecItem (Stop Wrong)) (if b then Err (stop.Fault wrong.Twice) else Ok (record { name = name; kind = kind; saturation = saturation })) (Ok c)
     → is_sound_codec before c ≡ true
 codec_if before name kind saturation c true e n s h = absurd cc
 codec_if before name kind saturation c false e n s h =

@@ -5,4 +5,5 @@ mod CallerLaws
 mod OrderLaws
 mod CountLaws
 mod SoundLaws
+mod FaultLaws
 mod ValueLaws

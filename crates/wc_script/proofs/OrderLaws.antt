@@ -13,8 +13,8 @@ use Rattle.script_types.specs.declared.found.FoundCodec.{FoundCodec}
 use Rattle.script_types.specs.Names.{codec_named, caller_named}
 use Rattle.script_types.specs.Sound.{any_kind, is_codec, is_sound_item}
 use Rattle.script_steps.specs.Members.{needed, known, checked_name, name_in, natural_of}
-use Rattle.script_steps.proofs.Chains.{same_Ok, chain, known_some}
-use Rattle.script_steps.proofs.NameLaws.{codec_is_there}
+use Rattle.script_steps.specs.Chains.{same_Ok, chain, known_some}
+use Rattle.script_steps.specs.NameLaws.{codec_is_there}
 use Rattle.wc_script.specs.declared.order.OrderWord.{OrderWord}
 use Rattle.wc_script.specs.declared.order.OrderWord.TheVariants as word
 use Rattle.wc_script.specs.Faults.{at}

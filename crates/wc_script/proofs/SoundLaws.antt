@@ -7,23 +7,25 @@ use Rattle.serde_json.specs.Data.{Data, Items}
 use Rattle.script_types.specs.declared.fault.Place.TheVariants as place
 use Rattle.script_types.specs.declared.fault.Counted.{Counted}
 use Rattle.script_types.specs.declared.fault.Counted.TheVariants as counted
-use Rattle.script_types.specs.declared.fault.ScriptFault.{ScriptFault}
-use Rattle.script_types.specs.declared.fault.ScriptFault.TheVariants as fault
+use Rattle.chunk_files.specs.declared.fault.Stop.{Stop}
+use Rattle.script_types.specs.declared.fault.Fault.{Fault}
+use Rattle.chunk_files.specs.declared.fault.Stop.TheVariants as stop
+use Rattle.script_types.specs.declared.fault.Fault.TheVariants as fault
 use Rattle.script_types.specs.declared.script.CodecItem.{CodecItem}
 use Rattle.script_types.specs.declared.script.CallerItem.{CallerItem}
 use Rattle.script_types.specs.declared.script.OrderItem.{OrderItem}
 use Rattle.script_types.specs.declared.script.ScriptData.{ScriptData}
+use Rattle.script_types.specs.Limits.{limit_of}
 use Rattle.script_types.specs.Sound.{most_codecs, most_callers, most_steps, most_order, most_media, are_sound_codecs, are_sound_callers, are_small, bytes_of_caller, files_in, is_count, are_apart, are_sound_files, is_sound_item, counts_agree, is_sound_order, are_few, is_small_media, is_sound}
-use Rattle.script_steps.specs.declared.wrong.Wrong.{Wrong}
-use Rattle.script_steps.specs.declared.wrong.Wrong.TheVariants as wrong
+use Rattle.script_types.specs.declared.fault.Wrong.{Wrong}
+use Rattle.script_types.specs.declared.fault.Wrong.TheVariants as wrong
 use Rattle.script_steps.specs.Members.{needed, array_in}
 use Rattle.script_steps.specs.Sources.{has}
-use Rattle.script_steps.proofs.Chains.{same_Ok, chain, needed_some, all_true}
-use Rattle.wc_script.specs.Faults.{limit_of, at}
+use Rattle.script_steps.specs.Chains.{same_Ok, chain, needed_some, all_true}
 use Rattle.wc_script.specs.Codecs.{codecs_of}
 use Rattle.wc_script.specs.Callers.{callers_of}
 use Rattle.wc_script.specs.Order.{order_of}
-use Rattle.wc_script.specs.Walk.{count_of, few, Parts, order_if_there, parts_of, ordered, whole_room, walk_of}
+use Rattle.wc_script.specs.Walk.{count_of, few, Parts, order_if_there, parts_with, parts_of, ordered, whole_room, walk_of}
 use Rattle.wc_script.proofs.Proceeds.{proceeds, read_at}
 use Rattle.wc_script.proofs.CodecLaws.{codecs_sound}
 use Rattle.wc_script.proofs.CallerLaws.{SoundCallers, callers_sound}
@@ -32,7 +34,7 @@ use Rattle.wc_script.proofs.OrderLaws.{items_sound}
 -- ---- the arrays
 
 few_if : (what : Counted) (ds es : Items) (b : Bool) → nat_le (count_of ds) (limit_of what) ≡ b
-    → Path (Result (Option Items) Wrong) (if b then Ok (Some ds) else Err (wrong.TooMany what)) (Ok (Some es)) → nat_le (count_of es) (limit_of what) ≡ true
+    → Path (Result (Option Items) (Stop Fault)) (if b then Ok (Some ds) else Err (stop.Fault (fault.TooMany what))) (Ok (Some es)) → nat_le (count_of es) (limit_of what) ≡ true
 few_if what ds es true e h = subst (λ x. nat_le (count_of x) (limit_of what) ≡ true) (same_Some ds es (same_Ok (Some ds) (Some es) h)) e
 few_if what ds es false e h = absurd cc
 
@@ -54,23 +56,25 @@ record AreFew (p : Parts) : Type 0 where
 few_parts : (d : Data) (p : Parts) → parts_of d ≡ Ok p → AreFew p
 unfolding parts_of
 few_parts d p h =
-    let a = chain (few counted.Codecs (array_in (codes "codecs") d)) _ p h in
-    let b = chain (few counted.Callers (array_in (codes "callers") d)) _ p a.rest in
-    let c = chain (few counted.Order (array_in (codes "order") d)) _ p b.rest in
-    let codecs = chain (needed a.value) _ p c.rest in
+    let a = proceeds (few counted.Codecs (array_in (codes "codecs") d)) _ p h in
+    let b = proceeds (few counted.Callers (array_in (codes "callers") d)) _ p a.rest in
+    let c = proceeds (few counted.Order (array_in (codes "order") d)) _ p b.rest in
+    let there = has (codes "order") d in
+    let read = read_at place.Top (parts_with a.value b.value there c.value) p c.rest in
+    let codecs = chain (needed a.value) _ p read in
     let callers = chain (needed b.value) _ p codecs.rest in
-    let order = chain (order_if_there (has (codes "order") d) c.value) _ p callers.rest in
+    let order = chain (order_if_there there c.value) _ p callers.rest in
     subst (λ x. AreFew x) (same_Ok _ p order.rest) (record {
       codecs = few_of counted.Codecs (array_in (codes "codecs") d) codecs.value (a.first ∙ ap (λ o. Ok o) (needed_some a.value codecs.value codecs.first));
       callers = few_of counted.Callers (array_in (codes "callers") d) callers.value (b.first ∙ ap (λ o. Ok o) (needed_some b.value callers.value callers.first));
-      order = λ ds e. few_of counted.Order (array_in (codes "order") d) ds (c.first ∙ ap (λ o. Ok o) (same_order (has (codes "order") d) c.value order.value order.first ∙ e));
+      order = λ ds e. few_of counted.Order (array_in (codes "order") d) ds (c.first ∙ ap (λ o. Ok o) (same_order there c.value order.value order.first ∙ e));
     })
 
 -- ---- the order
 
 checked_if : (codecs : List CodecItem) (callers : List CallerItem) (items : List OrderItem) (o : Option (List OrderItem)) (b : Bool) → counts_agree 0 callers items ≡ b
     → nat_le (length items) most_order ≡ true → list_all (is_sound_item (length codecs) (length callers)) items ≡ true
-    → Path (Result (Option (List OrderItem)) ScriptFault) (if b then Ok (Some items) else Err (fault.Shape place.Top)) (Ok o)
+    → Path (Result (Option (List OrderItem)) (Stop Fault)) (if b then Ok (Some items) else Err (stop.Fault (fault.At place.Top wrong.Shape))) (Ok o)
     → is_sound_order (length codecs) callers o ≡ true
 checked_if codecs callers items o true e n s h =
     subst (λ x. is_sound_order (length codecs) callers x ≡ true) (same_Ok (Some items) o h) (all_true (nat_le (length items) most_order) _ n (all_true _ _ s e))
@@ -98,11 +102,11 @@ counted_files n (Some m) h = eq-eqb m n (same_Some m n h)
 pub walk_is_sound : (d : Data) (s : ScriptData) → walk_of d ≡ Ok s → is_sound s ≡ true
 unfolding walk_of
 walk_is_sound d s h =
-    let parts = proceeds (at place.Top (parts_of d)) _ s h in
+    let parts = proceeds (parts_of d) _ s h in
     let codecs = proceeds (codecs_of 0 [] parts.value.codecs) _ s parts.rest in
     let r = proceeds (callers_of codecs.value [] [] whole_room parts.value.callers) _ s codecs.rest in
     let order = proceeds (ordered codecs.value r.value.0 parts.value.order) _ s r.rest in
-    let few_are = few_parts d parts.value (read_at place.Top (parts_of d) parts.value parts.first) in
+    let few_are = few_parts d parts.value parts.first in
     let cs = codecs_sound 0 [] parts.value.codecs codecs.value refl codecs.first in
     let t = callers_sound codecs.value [] [] whole_room parts.value.callers r.value (no_callers codecs.value) r.first in
     let a : length codecs.value ≡ count_of parts.value.codecs = omega (arith, cs.count) in

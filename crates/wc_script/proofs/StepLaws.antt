@@ -14,11 +14,13 @@ use Rattle.script_types.specs.declared.steps.ChunkSource.TheVariants as source
 use Rattle.script_types.specs.declared.steps.Step.{Step}
 use Rattle.script_types.specs.declared.steps.Step.TheVariants as step
 use Rattle.script_types.specs.Sound.{most_chunk, is_sound_step, are_sound_steps, bytes_of_step, source_after, file_after, files_after, are_apart}
-use Rattle.script_steps.specs.declared.wrong.Wrong.{Wrong}
-use Rattle.script_steps.specs.declared.wrong.Wrong.TheVariants as wrong
+use Rattle.chunk_files.specs.declared.fault.Stop.{Stop}
+use Rattle.script_types.specs.declared.fault.Fault.{Fault}
+use Rattle.chunk_files.specs.declared.fault.Stop.TheVariants as stop
+use Rattle.script_types.specs.declared.fault.Fault.TheVariants as fault
 use Rattle.script_steps.specs.Words.{inline_data, byte_count}
 use Rattle.script_steps.specs.Steps.{step_of}
-use Rattle.script_steps.proofs.Chains.{same_Ok, chain, all_true}
+use Rattle.script_steps.specs.Chains.{same_Ok, all_true}
 use Rattle.script_steps.proofs.StepLaws.{step_sound}
 use Rattle.wc_script.specs.declared.callers.Room.{Room}
 use Rattle.wc_script.specs.declared.callers.Walked.{Walked}
@@ -35,7 +37,7 @@ record IsCounted (room : Room) (bytes : ℕ) (r : Room) : Type 0 where
   pub media : bytes + r.media ≤ room.media
 
 room_if : (room r : Room) (bytes : ℕ) (a b c : Bool) → (room.steps == 0) ≡ a → nat_lt most_chunk bytes ≡ b → nat_lt room.media bytes ≡ c
-    → Path (Result Room Wrong) (if a then Err (wrong.TooMany counted.Steps) else if b then Err (wrong.TooMany counted.Chunk) else if c then Err (wrong.TooMany counted.Media)
+    → Path (Result Room (Stop Fault)) (if a then Err (stop.Fault (fault.TooMany counted.Steps)) else if b then Err (stop.Fault (fault.TooMany counted.Chunk)) else if c then Err (stop.Fault (fault.TooMany counted.Media))
     else Ok (record { steps = room.steps - 1; media = room.media - bytes })) (Ok r)
     → IsCounted room bytes r
 room_if room r bytes true b c e f g h = absurd cc
@@ -92,12 +94,14 @@ record OneStep (codecs : List CodecItem) (w : Walked) (v : Walked) : Type 0 wher
   pub files : file_after (length w.files) step ≡ Some (length v.files)
   pub apart : are_apart [] w.files ≡ true → are_apart [] v.files ≡ true
 
-one_step : (codecs : List CodecItem) (w v : Walked) (d : Data) → counted_step_of codecs w d ≡ Ok v → OneStep codecs w v
+one_step : (codecs : List CodecItem) (i : ℕ) (w v : Walked) (d : Data) → counted_step_of codecs i w d ≡ Ok v → OneStep codecs w v
 unfolding counted_step_of
-one_step codecs w v d h =
-    let room = chain (room_after w.room (byte_count (inline_data d))) _ v h in
-    let s = chain (step_of codecs w.files w.steps d) _ v room.rest in
-    let t = step_sound codecs w.files w.steps d s.value.0 s.value.1 s.first in
+one_step codecs i w v d h =
+    let p = place.Step i (length w.steps) in
+    let room = proceeds (room_after w.room (byte_count (inline_data d))) _ v h in
+    let s = proceeds (at p (step_of codecs w.files w.steps d)) _ v room.rest in
+    let read = read_at p (step_of codecs w.files w.steps d) s.value s.first in
+    let t = step_sound codecs w.files w.steps d s.value.0 s.value.1 read in
     subst (λ x. OneStep codecs w x) (same_Ok _ v s.rest) (record {
       step = s.value.0;
       steps = refl;
@@ -128,8 +132,8 @@ pub steps_sound : (codecs : List CodecItem) (i : ℕ) (fs : List (List ℕ)) (ro
     → steps_of codecs i w ds ≡ Ok v → SoundSteps codecs fs room v
 steps_sound codecs i fs room w no_items v t h = subst (λ x. SoundSteps codecs fs room x) (same_Ok w v h) t
 steps_sound codecs i fs room w (item d ds) v t h =
-    let u = proceeds (at (place.Step i (length w.steps)) (counted_step_of codecs w d)) _ v h in
-    let o = one_step codecs w u.value d (read_at (place.Step i (length w.steps)) (counted_step_of codecs w d) u.value u.first) in
+    let u = proceeds (counted_step_of codecs i w d) _ v h in
+    let o = one_step codecs i w u.value d u.first in
     steps_sound codecs i fs room u.value ds v (step_kept codecs fs room w u.value t o) u.rest
 
 -- ---- how many files and steps there are after one more step
@@ -155,16 +159,16 @@ file_grows n k (step.Close on) h = grind (arith, same_Some n k h)
 file_grows n k (step.State on) h = grind (arith, same_Some n k h)
 file_grows n k (step.Media s) h = grind (arith, same_Some n k h)
 
-pub files_grow : (codecs : List CodecItem) (w v : Walked) (d : Data) → counted_step_of codecs w d ≡ Ok v → length w.files + w.room.steps ≤ 100000
+pub files_grow : (codecs : List CodecItem) (i : ℕ) (w v : Walked) (d : Data) → counted_step_of codecs i w d ≡ Ok v → length w.files + w.room.steps ≤ 100000
     → length v.files + v.room.steps ≤ 100000
-files_grow codecs w v d h le =
-    let o = one_step codecs w v d h in
+files_grow codecs i w v d h le =
+    let o = one_step codecs i w v d h in
     let more = file_grows (length w.files) (length v.files) o.step o.files in
     omega (arith, o.room.steps)
 
-pub steps_grow : (codecs : List CodecItem) (w v : Walked) (d : Data) → counted_step_of codecs w d ≡ Ok v → length w.steps + w.room.steps ≤ 100000
+pub steps_grow : (codecs : List CodecItem) (i : ℕ) (w v : Walked) (d : Data) → counted_step_of codecs i w d ≡ Ok v → length w.steps + w.room.steps ≤ 100000
     → length v.steps + v.room.steps ≤ 100000
-steps_grow codecs w v d h le =
-    let o = one_step codecs w v d h in
+steps_grow codecs i w v d h le =
+    let o = one_step codecs i w v d h in
     let n : length v.steps ≡ length w.steps + 1 = ap length o.steps ∙ length_push w.steps o.step in
     omega (arith, o.room.steps)

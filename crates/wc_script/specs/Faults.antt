@@ -1,33 +1,30 @@
 -- What is wrong at a place of a script. The first fault alone decides.
-use Rattle.std.specs.Prelude.{ℕ, ◌+◌, Result, Ok, Err}
-use Rattle.script_types.specs.declared.fault.Place.{Place}
-use Rattle.script_types.specs.declared.fault.Counted.{Counted}
+use Rattle.std.specs.Prelude.{Result, Ok, Err}
 use Rattle.script_types.specs.declared.fault.Counted.TheVariants as counted
-use Rattle.script_types.specs.declared.fault.ScriptFault.{ScriptFault}
-use Rattle.script_types.specs.declared.fault.ScriptFault.TheVariants as fault
-use Rattle.script_types.specs.Sound.{most_codecs, most_callers, most_steps, most_order, most_chunk, most_media}
-use Rattle.script_steps.specs.declared.wrong.Wrong.{Wrong}
-use Rattle.script_steps.specs.declared.wrong.Wrong.TheVariants as wrong
+use Rattle.script_types.specs.declared.fault.Fault.{Fault}
+use Rattle.script_types.specs.declared.fault.Fault.TheVariants as fault
+use Rattle.script_types.specs.declared.fault.Place.{Place}
+use Rattle.chunk_files.specs.declared.fault.Stop.{Stop}
+use Rattle.chunk_files.specs.declared.fault.Stop.TheVariants as stop
+use Rattle.script_types.specs.declared.fault.Wrong.{Wrong}
 
-abbrev pub limit_of : Counted → ℕ
-limit_of counted.Codecs = most_codecs
-limit_of counted.Callers = most_callers
-limit_of counted.Steps = most_steps
-limit_of counted.Order = most_order
-limit_of counted.Chunk = most_chunk
-limit_of counted.Media = most_media
+abbrev pub fault_at : Place → Stop Wrong → Stop Fault
+fault_at p (stop.Fault w) = stop.Fault (fault.At p w)
+fault_at p stop.NoMemory = stop.NoMemory
 
-abbrev pub fault_at : Place → Wrong → ScriptFault
-fault_at p (wrong.TooMany what) = fault.TooMany what (limit_of what + 1)
-fault_at p wrong.Shape = fault.Shape p
-fault_at p wrong.Twice = fault.Twice p
-fault_at p wrong.UnknownName = fault.UnknownName p
-fault_at p wrong.NoMemory = fault.NoMemory
-
-abbrev pub at : {A : Type 0} → Place → Result A Wrong → Result A ScriptFault
+abbrev pub at : {A : Type 0} → Place → Result A (Stop Wrong) → Result A (Stop Fault)
 at p (Ok a) = Ok a
-at p (Err w) = Err (fault_at p w)
+at p (Err e) = Err (fault_at p e)
 
-abbrev pub proceed : {A B : Type 0} → Result A ScriptFault → (A → Result B ScriptFault) → Result B ScriptFault
+abbrev pub proceed : {A B : Type 0} → Result A (Stop Fault) → (A → Result B (Stop Fault)) → Result B (Stop Fault)
 proceed (Err e) f = Err e
 proceed (Ok a) f = f a
+
+-- a fault that a script has by itself, and not by the file in which it stands or those that it mentions
+abbrev pub IsOfScript : Stop Fault → Type 0
+IsOfScript (stop.Fault (fault.TooMany counted.Script)) = ⊥
+IsOfScript (stop.Fault (fault.TooMany counted.File)) = ⊥
+IsOfScript (stop.Fault (fault.Unread name)) = ⊥
+IsOfScript (stop.Fault (fault.Chunks name e)) = ⊥
+IsOfScript (stop.Fault (fault.NoIndex name p)) = ⊥
+IsOfScript _ = Unit {0}

@@ -3,8 +3,10 @@ use Rattle.std.specs.Prelude.{ℕ, List, if◌then◌else◌, Option, Some, None
 use Rattle.std.specs.Str.{is_utf8}
 use Rattle.serde_json.specs.Data.{Data}
 use Rattle.serde_json.specs.Read.{read}
-use Rattle.script_types.specs.declared.fault.ScriptFault.{ScriptFault}
-use Rattle.script_types.specs.declared.fault.ScriptFault.TheVariants as fault
+use Rattle.chunk_files.specs.declared.fault.Stop.{Stop}
+use Rattle.script_types.specs.declared.fault.Fault.{Fault}
+use Rattle.chunk_files.specs.declared.fault.Stop.TheVariants as stop
+use Rattle.script_types.specs.declared.fault.Fault.TheVariants as fault
 use Rattle.script_types.specs.declared.script.ScriptData.{ScriptData}
 use Rattle.wc_script.specs.Walk.{walk_of}
 
@@ -12,9 +14,9 @@ use Rattle.wc_script.specs.Walk.{walk_of}
 abbrev pub value_of : List ℕ → Option Data
 value_of bytes = if is_utf8 bytes then read bytes else None
 
-abbrev pub script_of_value : Option Data → Result ScriptData ScriptFault
-script_of_value None = Err fault.NotJson
+abbrev pub script_of_value : Option Data → Result ScriptData (Stop Fault)
+script_of_value None = Err (stop.Fault fault.NotJson)
 script_of_value (Some d) = walk_of d
 
-abbrev pub script_of : List ℕ → Result ScriptData ScriptFault
+abbrev pub script_of : List ℕ → Result ScriptData (Stop Fault)
 script_of bytes = script_of_value (value_of bytes)

@@ -6,19 +6,22 @@ use Rattle.serde_json.specs.Data.{Data, Items, no_items, item}
 use Rattle.script_types.specs.declared.fault.Place.TheVariants as place
 use Rattle.script_types.specs.declared.fault.Counted.{Counted}
 use Rattle.script_types.specs.declared.fault.Counted.TheVariants as counted
-use Rattle.script_types.specs.declared.fault.ScriptFault.{ScriptFault}
-use Rattle.script_types.specs.declared.fault.ScriptFault.TheVariants as fault
+use Rattle.chunk_files.specs.declared.fault.Stop.{Stop}
+use Rattle.script_types.specs.declared.fault.Fault.{Fault}
+use Rattle.chunk_files.specs.declared.fault.Stop.TheVariants as stop
+use Rattle.script_types.specs.declared.fault.Fault.TheVariants as fault
 use Rattle.script_types.specs.declared.script.CodecItem.{CodecItem}
 use Rattle.script_types.specs.declared.script.CallerItem.{CallerItem}
 use Rattle.script_types.specs.declared.script.OrderItem.{OrderItem}
 use Rattle.script_types.specs.declared.script.ScriptData.{ScriptData}
+use Rattle.script_types.specs.Limits.{limit_of}
 use Rattle.script_types.specs.Sound.{most_steps, most_media, counts_agree}
-use Rattle.script_steps.specs.declared.wrong.Wrong.{Wrong}
-use Rattle.script_steps.specs.declared.wrong.Wrong.TheVariants as wrong
+use Rattle.script_types.specs.declared.fault.Wrong.{Wrong}
+use Rattle.script_types.specs.declared.fault.Wrong.TheVariants as wrong
 use Rattle.script_steps.specs.Members.{and_then, needed, array_in}
 use Rattle.script_steps.specs.Sources.{has}
 use Rattle.wc_script.specs.declared.callers.Room.{Room}
-use Rattle.wc_script.specs.Faults.{limit_of, at, proceed}
+use Rattle.wc_script.specs.Faults.{at, proceed}
 use Rattle.wc_script.specs.Codecs.{codecs_of}
 use Rattle.wc_script.specs.Callers.{callers_of}
 use Rattle.wc_script.specs.Order.{order_of}
@@ -30,9 +33,9 @@ count_of no_items = 0
 count_of (item d ds) = count_of ds + 1
 
 -- an array within its limit, if it is one
-abbrev pub few : Counted → Option Items → Result (Option Items) Wrong
+abbrev pub few : Counted → Option Items → Result (Option Items) (Stop Fault)
 few what None = Ok None
-few what (Some ds) = if nat_le (count_of ds) (limit_of what) then Ok (Some ds) else Err (wrong.TooMany what)
+few what (Some ds) = if nat_le (count_of ds) (limit_of what) then Ok (Some ds) else Err (stop.Fault (fault.TooMany what))
 
 -- the three arrays of a script
 pub record Parts : Type 0 where
@@ -41,28 +44,32 @@ pub record Parts : Type 0 where
   pub order : Option Items
 
 -- the order may be absent, and may not be another thing than an array
-abbrev pub order_if_there : Bool → Option Items → Result (Option Items) Wrong
+abbrev pub order_if_there : Bool → Option Items → Result (Option Items) (Stop Wrong)
 order_if_there there (Some ds) = Ok (Some ds)
-order_if_there true None = Err wrong.Shape
+order_if_there true None = Err (stop.Fault wrong.Shape)
 order_if_there false None = Ok None
 
-unfoldable pub parts_of : Data → Result Parts Wrong
-parts_of d =
-    and_then (few counted.Codecs (array_in (codes "codecs") d)) (λ maybe_codecs.
-    and_then (few counted.Callers (array_in (codes "callers") d)) (λ maybe_callers.
-    and_then (few counted.Order (array_in (codes "order") d)) (λ maybe_order.
+-- the arrays that are there
+abbrev pub parts_with : Option Items → Option Items → Bool → Option Items → Result Parts (Stop Wrong)
+parts_with maybe_codecs maybe_callers there maybe_order =
     and_then (needed maybe_codecs) (λ codecs. and_then (needed maybe_callers) (λ callers.
-    and_then (order_if_there (has (codes "order") d) maybe_order) (λ order.
-    Ok (record { codecs = codecs; callers = callers; order = order })))))))
+    and_then (order_if_there there maybe_order) (λ order. Ok (record { codecs = codecs; callers = callers; order = order }))))
+
+unfoldable pub parts_of : Data → Result Parts (Stop Fault)
+parts_of d =
+    proceed (few counted.Codecs (array_in (codes "codecs") d)) (λ maybe_codecs.
+    proceed (few counted.Callers (array_in (codes "callers") d)) (λ maybe_callers.
+    proceed (few counted.Order (array_in (codes "order") d)) (λ maybe_order.
+    at place.Top (parts_with maybe_codecs maybe_callers (has (codes "order") d) maybe_order))))
 
 -- ---- the whole
 
 -- each caller stands in the order as often as it has steps
-abbrev pub checked_order : List CallerItem → List OrderItem → Result (Option (List OrderItem)) ScriptFault
-checked_order callers items = if counts_agree 0 callers items then Ok (Some items) else Err (fault.Shape place.Top)
+abbrev pub checked_order : List CallerItem → List OrderItem → Result (Option (List OrderItem)) (Stop Fault)
+checked_order callers items = if counts_agree 0 callers items then Ok (Some items) else Err (stop.Fault (fault.At place.Top wrong.Shape))
 
 -- the order, which may be absent
-unfoldable pub ordered : List CodecItem → List CallerItem → Option Items → Result (Option (List OrderItem)) ScriptFault
+unfoldable pub ordered : List CodecItem → List CallerItem → Option Items → Result (Option (List OrderItem)) (Stop Fault)
 ordered codecs callers None = Ok None
 ordered codecs callers (Some ds) = proceed (order_of codecs callers 0 [] ds) (checked_order callers)
 
@@ -70,9 +77,9 @@ ordered codecs callers (Some ds) = proceed (order_of codecs callers 0 [] ds) (ch
 abbrev pub whole_room : Room
 whole_room = record { steps = most_steps; media = most_media }
 
-unfoldable pub walk_of : Data → Result ScriptData ScriptFault
+unfoldable pub walk_of : Data → Result ScriptData (Stop Fault)
 walk_of d =
-    proceed (at place.Top (parts_of d)) (λ parts.
+    proceed (parts_of d) (λ parts.
     proceed (codecs_of 0 [] parts.codecs) (λ codecs.
     proceed (callers_of codecs [] [] whole_room parts.callers) (λ r.
     proceed (ordered codecs r.0 parts.order) (λ order.

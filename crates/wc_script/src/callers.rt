@@ -4,15 +4,20 @@ ghost use Rattle.serde_json.specs.View.{view, items_view};
 ghost use Rattle.wc_script.specs.Faults as faults;
 ghost use Rattle.wc_script.specs.Callers.{counted_step_of, steps_of, heading_of, caller_of, callers_of};
 ghost use Rattle.wc_script.specs.Callers as spec;
+ghost use Rattle.script_steps.specs.Steps.{step_of};
+ghost use Rattle.script_steps.specs.Words.{word_in, inline_data};
 ghost use Rattle.script_steps.specs.Words as words;
+ghost use Rattle.script_types.specs.Reading.{Gives, GivesAs};
 
-use crate::faults::{fault_at, limit_of};
+use crate::faults::fault_at;
 use bytes::Bytes;
 use script_steps::{
-    Files, Variables, Wrong, array_member, copied, is_caller_name, is_codec_name, name_member,
+    Files, StepWord, Variables, array_member, is_caller_name, is_codec_name, name_member,
     read_inline_data, read_step, word_member,
 };
-use script_types::{CallerItem, CodecItem, Counted, Place, ScriptFault};
+use script_types::{
+    CallerItem, CodecItem, Counted, Fault, Place, Step, Stop, Wrong, copied, limit_of,
+};
 use serde_json::Value;
 use std::alloc::Global;
 use wc_base::{List, Text};
@@ -41,16 +46,16 @@ pub struct Heard {
 }
 
 // The room after a step with so many bytes of inline data.
-fn room_after(room: Room, bytes: usize) -> Result<Room, Wrong>
+fn room_after(room: Room, bytes: usize) -> Result<Room, Stop<Fault>>
     ensures value { result ≡ spec.room_after room bytes }
     ensures less { IfOk result (λ r. r.steps + 1 ≡ room.steps) }
 {
     if room.steps == 0 {
-        Err(Wrong::TooMany(Counted::Steps))
+        Err(Stop::Fault(Fault::TooMany(Counted::Steps)))
     } else if bytes > limit_of(Counted::Chunk) {
-        Err(Wrong::TooMany(Counted::Chunk))
+        Err(Stop::Fault(Fault::TooMany(Counted::Chunk)))
     } else if bytes > room.media {
-        Err(Wrong::TooMany(Counted::Media))
+        Err(Stop::Fault(Fault::TooMany(Counted::Media)))
     } else {
         Ok(Room {
             steps: room.steps - 1,
@@ -68,61 +73,107 @@ fn byte_count(content: &Option<Bytes>) -> usize
     }
 }
 
-// One more step.
-#[tactic(auto, unfolding(crate::specs::Callers::counted_step_of))]
-fn read_counted_step(
+// The step of a value whose word and inline data were read before.
+fn read_word_step(
     alloc: Global,
     codecs: &[CodecItem],
+    files: &mut Files,
+    before: &Variables,
+    value: &Value,
+    word: Option<StepWord>,
+    content: Option<Bytes>,
+) -> Result<Step, Stop<Wrong>>
+    requires codecs { length codecs.now ≤ 64 }
+    requires files { length files.old ≤ 100000 }
+    requires steps { length before.now ≤ 100000 }
+    requires word { word ≡ word_in (view value.now) }
+    requires content { content ≡ inline_data (view value.now) }
+    ensures { GivesAs
+        (λ s. (s, files.new)) result (step_of codecs.now files.old before.now (view value.now)) }
+{
+    match word {
+        Some(word) => read_step(alloc, codecs, files, before, value, word, content),
+        None => Err(Stop::Fault(Wrong::Shape)),
+    }
+}
+
+fn read_step_at(
+    alloc: Global,
+    codecs: &[CodecItem],
+    place: Place,
     walked: &mut Walked,
     value: &Value,
-) -> Result<(), Wrong>
+    word: Option<StepWord>,
+    content: Option<Bytes>,
+) -> Result<Step, Stop<Fault>>
     requires codecs { length codecs.now ≤ 64 }
-    requires files { length walked.old.files + walked.old.room.steps ≤ 100000 }
-    requires steps { length walked.old.steps + walked.old.room.steps ≤ 100000 }
-    ensures ok { OnOk result (counted_step_of codecs.now walked.old (view value.now) ≡ Ok walked.new) }
-    ensures err { IfErr result (λ e. e ≢ Wrong.NoMemory → counted_step_of codecs.now walked.old (view value.now) ≡ Err e) }
+    requires files { length walked.old.files ≤ 100000 }
+    requires steps { length walked.old.steps ≤ 100000 }
+    requires word { word ≡ word_in (view value.now) }
+    requires content { content ≡ inline_data (view value.now) }
+    ensures given { GivesAs
+        (λ s. (s, walked.new.files)) result
+        (faults.at place (step_of codecs.now walked.old.files walked.old.steps (view value.now))) }
+    ensures steps { walked.new.steps ≡ walked.old.steps }
 {
-    let word = word_member(value);
-    let content = read_inline_data(alloc, word, value)?;
-    let room = room_after(walked.room, byte_count(&content))?;
-    let Some(word) = word else {
-        return Err(Wrong::Shape);
-    };
-    let step = read_step(
+    let before = &walked.steps;
+    match read_word_step(
         alloc,
         codecs,
         &mut walked.files,
-        &walked.steps,
+        before,
         value,
         word,
         content,
-    )?;
-    walked.steps.push(step)?;
-    walked.room = room;
-    Ok(())
+    ) {
+        Ok(step) => Ok(step),
+        Err(stop) => Err(fault_at(place, stop)),
+    }
 }
 
-#[tactic(auto, using(crate::proofs::StepLaws::files_grow, crate::proofs::StepLaws::steps_grow))]
-fn read_step_at(
+// One more step of caller `i`.
+#[tactic(auto, unfolding(crate::specs::Callers::counted_step_of))]
+fn read_counted_step(
     alloc: Global,
     codecs: &[CodecItem],
     i: u32,
     walked: &mut Walked,
     value: &Value,
-) -> Result<(), ScriptFault>
+) -> Result<(), Stop<Fault>>
     requires codecs { length codecs.now ≤ 64 }
     requires files { length walked.old.files + walked.old.room.steps ≤ 100000 }
     requires steps { length walked.old.steps + walked.old.room.steps ≤ 100000 }
-    ensures ok { OnOk result (faults.at (Place.Step i (length walked.old.steps)) (counted_step_of codecs.now walked.old (view value.now)) ≡ Ok walked.new) }
+    ensures { GivesAs
+        (λ _. walked.new) result (counted_step_of codecs.now i walked.old (view value.now)) }
+{
+    let word = word_member(value);
+    let content = read_inline_data(alloc, word, value)?;
+    let room = room_after(walked.room, byte_count(&content))?;
+    let place = Place::Step(i, walked.steps.len() as u32);
+    let step = read_step_at(alloc, codecs, place, walked, value, word, content)?;
+    walked.steps.push(step)?;
+    walked.room = room;
+    Ok(())
+}
+
+// The same, with what may still come after it.
+#[tactic(auto, using(crate::proofs::StepLaws::files_grow, crate::proofs::StepLaws::steps_grow))]
+fn read_next_step(
+    alloc: Global,
+    codecs: &[CodecItem],
+    i: u32,
+    walked: &mut Walked,
+    value: &Value,
+) -> Result<(), Stop<Fault>>
+    requires codecs { length codecs.now ≤ 64 }
+    requires files { length walked.old.files + walked.old.room.steps ≤ 100000 }
+    requires steps { length walked.old.steps + walked.old.room.steps ≤ 100000 }
+    ensures given { GivesAs
+        (λ _. walked.new) result (counted_step_of codecs.now i walked.old (view value.now)) }
     ensures files { OnOk result (length walked.new.files + walked.new.room.steps ≤ 100000) }
     ensures steps { OnOk result (length walked.new.steps + walked.new.room.steps ≤ 100000) }
-    ensures err { IfErr result (λ e. e ≢ ScriptFault.NoMemory → faults.at (Place.Step i (length walked.old.steps)) (counted_step_of codecs.now walked.old (view value.now)) ≡ Err e) }
 {
-    let place = Place::Step(i, walked.steps.len() as u32);
-    match read_counted_step(alloc, codecs, walked, value) {
-        Ok(()) => Ok(()),
-        Err(wrong) => Err(fault_at(place, wrong)),
-    }
+    read_counted_step(alloc, codecs, i, walked, value)
 }
 
 // The steps of caller `i`.
@@ -133,12 +184,13 @@ fn read_steps(
     files: Files,
     room: Room,
     items: &[Value],
-) -> Result<Walked, ScriptFault>
+) -> Result<Walked, Stop<Fault>>
     requires codecs { length codecs.now ≤ 64 }
     requires files { length files + room.steps ≤ 100000 }
-    ensures ok { IfOk result (λ w. steps_of codecs.now i (record { steps = []; files = files; room = room }) (items_view items.now) ≡ Ok w) }
+    ensures given { Gives result
+        (steps_of codecs.now i (record { steps = []; files = files; room = room })
+        (items_view items.now)) }
     ensures files { IfOk result (λ w. length w.files + w.room.steps ≤ 100000) }
-    ensures err { IfErr result (λ e. e ≢ ScriptFault.NoMemory → steps_of codecs.now i (record { steps = []; files = files; room = room }) (items_view items.now) ≡ Err e) }
 {
     let mut walked = Walked {
         steps: Variables::new(alloc),
@@ -146,7 +198,7 @@ fn read_steps(
         room,
     };
     for value in items {
-        read_step_at(alloc, codecs, i, &mut walked, value)?;
+        read_next_step(alloc, codecs, i, &mut walked, value)?;
     }
     Ok(walked)
 }
@@ -158,16 +210,17 @@ fn read_heading<'v>(
     codecs: &[CodecItem],
     before: &[CallerItem],
     value: &'v Value,
-) -> Result<(Text, &'v [Value]), Wrong>
-    ensures ok { IfOk result (λ h. heading_of codecs.now before.now (view value.now) ≡ Ok (h.0, items_view h.1.now)) }
-    ensures err { IfErr result (λ e. e ≢ Wrong.NoMemory → heading_of codecs.now before.now (view value.now) ≡ Err e) }
+) -> Result<(Text, &'v [Value]), Stop<Wrong>>
+    ensures { GivesAs
+        (λ h. (h.0, items_view h.1.now)) result
+        (heading_of codecs.now before.now (view value.now)) }
 {
     let name = name_member(value, "name")?;
     let Some(items) = array_member(value, "steps") else {
-        return Err(Wrong::Shape);
+        return Err(Stop::Fault(Wrong::Shape));
     };
     if is_codec_name(codecs, name) || is_caller_name(before, name) {
-        return Err(Wrong::Twice);
+        return Err(Stop::Fault(Wrong::Twice));
     }
     let name = copied(alloc, name)?;
     Ok((name, items))
@@ -178,14 +231,16 @@ fn read_heading_at<'v>(
     codecs: &[CodecItem],
     before: &[CallerItem],
     value: &'v Value,
-) -> Result<(Text, &'v [Value]), ScriptFault>
+) -> Result<(Text, &'v [Value]), Stop<Fault>>
     requires { length before.now ≤ 16 }
-    ensures ok { IfOk result (λ h. faults.at (Place.Caller (length before.now)) (heading_of codecs.now before.now (view value.now)) ≡ Ok (h.0, items_view h.1.now)) }
-    ensures err { IfErr result (λ e. e ≢ ScriptFault.NoMemory → faults.at (Place.Caller (length before.now)) (heading_of codecs.now before.now (view value.now)) ≡ Err e) }
+    ensures { GivesAs
+        (λ h. (h.0, items_view h.1.now)) result
+        (faults.at (Place.Caller (length before.now))
+        (heading_of codecs.now before.now (view value.now))) }
 {
     match read_heading(alloc, codecs, before, value) {
         Ok(heading) => Ok(heading),
-        Err(wrong) => Err(fault_at(Place::Caller(before.len() as u32), wrong)),
+        Err(stop) => Err(fault_at(Place::Caller(before.len() as u32), stop)),
     }
 }
 
@@ -198,13 +253,12 @@ fn read_caller(
     files: Files,
     room: Room,
     value: &Value,
-) -> Result<Heard, ScriptFault>
+) -> Result<Heard, Stop<Fault>>
     requires codecs { length codecs.now ≤ 64 }
     requires callers { length before.now ≤ 16 }
     requires files { length files + room.steps ≤ 100000 }
-    ensures ok { IfOk result (λ h. caller_of codecs.now before.now files room (view value.now) ≡ Ok h) }
+    ensures given { Gives result (caller_of codecs.now before.now files room (view value.now)) }
     ensures files { IfOk result (λ h. length h.files + h.room.steps ≤ 100000) }
-    ensures err { IfErr result (λ e. e ≢ ScriptFault.NoMemory → caller_of codecs.now before.now files room (view value.now) ≡ Err e) }
 {
     let (name, items) = read_heading_at(alloc, codecs, before, value)?;
     let walked = read_steps(alloc, codecs, before.len() as u32, files, room, items)?;
@@ -222,13 +276,14 @@ pub fn read_callers(
     codecs: &[CodecItem],
     room: Room,
     items: &[Value],
-) -> Result<(Vec<CallerItem>, (Files, Room)), ScriptFault>
+) -> Result<(Vec<CallerItem>, (Files, Room)), Stop<Fault>>
     requires codecs { length codecs.now ≤ 64 }
     requires callers { length items.now ≤ 16 }
     requires room { room.steps ≤ 100000 }
-    ensures ok { IfOk result (λ r. callers_of codecs.now [] [] room (items_view items.now) ≡ Ok (r.0.items, (r.1.0, r.1.1))) }
+    ensures given { GivesAs
+        (λ r. (r.0.items, (r.1.0, r.1.1))) result
+        (callers_of codecs.now [] [] room (items_view items.now)) }
     ensures few { IfOk result (λ r. length r.0.items ≤ 16) }
-    ensures err { IfErr result (λ e. e ≢ ScriptFault.NoMemory → callers_of codecs.now [] [] room (items_view items.now) ≡ Err e) }
 {
     let mut callers = Vec::new(alloc);
     let mut files = Files::new(alloc);
@@ -238,7 +293,7 @@ pub fn read_callers(
         files = heard.files;
         left = heard.room;
         if callers.push(heard.caller).is_err() {
-            return Err(ScriptFault::NoMemory);
+            return Err(Stop::NoMemory);
         }
     }
     Ok((callers, (files, left)))

@@ -5,10 +5,11 @@ ghost use Rattle.serde_json.specs.Find.{get};
 ghost use Rattle.script_steps.specs.Members.{text_in};
 ghost use Rattle.wc_script.specs.Faults as faults;
 ghost use Rattle.wc_script.specs.Codecs.{kind_of, saturation_of, codec_of, codecs_of};
+ghost use Rattle.script_types.specs.Reading.{Gives, GivesAs};
 
 use crate::faults::fault_at;
-use script_steps::{Wrong, copied, is_codec_name, name_member, text_member};
-use script_types::{CodecItem, Kind, Place, ScriptFault};
+use script_steps::{is_codec_name, name_member, text_member};
+use script_types::{CodecItem, Fault, Kind, Place, Stop, Wrong, copied};
 use serde_json::Value;
 use std::alloc::Global;
 
@@ -30,7 +31,7 @@ fn kind_member(value: &Value) -> Option<Kind>
 }
 
 // The saturation number of a codec, 4 where the script says nothing. `Shape` outside 1 to 64.
-fn saturation_member(value: &Value) -> Result<u32, Wrong>
+fn saturation_member(value: &Value) -> Result<u32, Stop<Wrong>>
     ensures { result ≡ saturation_of (get (codes "saturation") (view value.now)) }
 {
     let Some(number) = value.get("saturation") else {
@@ -38,21 +39,20 @@ fn saturation_member(value: &Value) -> Result<u32, Wrong>
     };
     match number.as_u64() {
         Some(n) if (1..=64).contains(&n) => Ok(n as u32),
-        _ => Err(Wrong::Shape),
+        _ => Err(Stop::Fault(Wrong::Shape)),
     }
 }
 
 // A codec, after those before it.
 #[tactic(auto, unfolding(crate::specs::Codecs::codec_of))]
-fn read_codec(alloc: Global, before: &[CodecItem], value: &Value) -> Result<CodecItem, Wrong>
-    ensures ok { IfOk result (λ c. codec_of before.now (view value.now) ≡ Ok c) }
-    ensures err { IfErr result (λ e. e ≢ Wrong.NoMemory → codec_of before.now (view value.now) ≡ Err e) }
+fn read_codec(alloc: Global, before: &[CodecItem], value: &Value) -> Result<CodecItem, Stop<Wrong>>
+    ensures { Gives result (codec_of before.now (view value.now)) }
 {
     let name = name_member(value, "name")?;
-    let kind = kind_member(value).ok_or(Wrong::Shape)?;
+    let kind = kind_member(value).ok_or(Stop::Fault(Wrong::Shape))?;
     let saturation = saturation_member(value)?;
     if is_codec_name(before, name) {
-        return Err(Wrong::Twice);
+        return Err(Stop::Fault(Wrong::Twice));
     }
     let name = copied(alloc, name)?;
     Ok(CodecItem {
@@ -67,27 +67,25 @@ fn read_codec_at(
     i: u32,
     before: &[CodecItem],
     value: &Value,
-) -> Result<CodecItem, ScriptFault>
-    ensures ok { IfOk result (λ c. faults.at (Place.Codec i) (codec_of before.now (view value.now)) ≡ Ok c) }
-    ensures err { IfErr result (λ e. e ≢ ScriptFault.NoMemory → faults.at (Place.Codec i) (codec_of before.now (view value.now)) ≡ Err e) }
+) -> Result<CodecItem, Stop<Fault>>
+    ensures { Gives result (faults.at (Place.Codec i) (codec_of before.now (view value.now))) }
 {
     match read_codec(alloc, before, value) {
         Ok(codec) => Ok(codec),
-        Err(wrong) => Err(fault_at(Place::Codec(i), wrong)),
+        Err(stop) => Err(fault_at(Place::Codec(i), stop)),
     }
 }
 
-pub fn read_codecs(alloc: Global, items: &[Value]) -> Result<Vec<CodecItem>, ScriptFault>
+pub fn read_codecs(alloc: Global, items: &[Value]) -> Result<Vec<CodecItem>, Stop<Fault>>
     requires { length items.now ≤ 64 }
-    ensures ok { IfOk result (λ v. codecs_of 0 [] (items_view items.now) ≡ Ok v.items) }
+    ensures given { GivesAs (λ v. v.items) result (codecs_of 0 [] (items_view items.now)) }
     ensures few { IfOk result (λ v. length v.items ≤ 64) }
-    ensures err { IfErr result (λ e. e ≢ ScriptFault.NoMemory → codecs_of 0 [] (items_view items.now) ≡ Err e) }
 {
     let mut codecs = Vec::new(alloc);
     for (i, value) in items.iter().enumerate() {
         let codec = read_codec_at(alloc, i as u32, &codecs, value)?;
         if codecs.push(codec).is_err() {
-            return Err(ScriptFault::NoMemory);
+            return Err(Stop::NoMemory);
         }
     }
     Ok(codecs)

@@ -11,4 +11,4 @@ mod walk;
 
 pub use laws::scripts_are_sound;
 pub use read::read_script;
-pub use script_types::{Counted, Place, Script, ScriptData, ScriptFault};
+pub use script_types::{Counted, Fault, Place, Script, ScriptData, Stop, Wrong};

@@ -3,10 +3,11 @@ ghost use Rattle.std.specs.Prelude.{◌≡◌, ◌≢◌, ◌≤◌, [], IfOk, I
 ghost use Rattle.serde_json.specs.View.{view, items_view};
 ghost use Rattle.wc_script.specs.Faults as faults;
 ghost use Rattle.wc_script.specs.Order.{order_word_of, codec_in, codec_at, order_by, order_item_of, order_of};
+ghost use Rattle.script_types.specs.Reading.{GivesAs};
 
 use crate::faults::fault_at;
-use script_steps::{Wrong, as_name, find_caller, find_codec, has, name_member, natural_member};
-use script_types::{CallerItem, CodecItem, OrderItem, Place, ScriptFault};
+use script_steps::{as_name, find_caller, find_codec, has, name_member, natural_member};
+use script_types::{CallerItem, CodecItem, Fault, OrderItem, Place, Stop, Wrong};
 use serde_json::Value;
 use std::alloc::Global;
 
@@ -39,32 +40,36 @@ fn order_word(value: &Value) -> Option<OrderWord>
 }
 
 // The codec that an item names.
-fn read_codec_in(codecs: &[CodecItem], value: &Value, key: &str) -> Result<u32, Wrong>
+fn read_codec_in(codecs: &[CodecItem], value: &Value, key: &str) -> Result<u32, Stop<Wrong>>
     requires { length codecs.now ≤ 64 }
     ensures { result ≡ codec_in key.now codecs.now (view value.now) }
 {
     let name = name_member(value, key)?;
     match find_codec(codecs, name) {
         Some(codec) => Ok(codec.number),
-        None => Err(Wrong::UnknownName),
+        None => Err(Stop::Fault(Wrong::UnknownName)),
     }
 }
 
 // The codec that an item names, and the moment, in microseconds.
-fn read_codec_at(codecs: &[CodecItem], value: &Value, key: &str) -> Result<(u32, u64), Wrong>
+fn read_codec_at(codecs: &[CodecItem], value: &Value, key: &str) -> Result<(u32, u64), Stop<Wrong>>
     requires { length codecs.now ≤ 64 }
     ensures { result ≡ codec_at key.now codecs.now (view value.now) }
 {
     let name = name_member(value, key)?;
-    let at = natural_member(value, "at").ok_or(Wrong::Shape)?;
+    let at = natural_member(value, "at").ok_or(Stop::Fault(Wrong::Shape))?;
     match find_codec(codecs, name) {
         Some(codec) => Ok((codec.number, at)),
-        None => Err(Wrong::UnknownName),
+        None => Err(Stop::Fault(Wrong::UnknownName)),
     }
 }
 
 // What is done to a codec.
-fn read_codec_item(codecs: &[CodecItem], value: &Value, word: OrderWord) -> Result<OrderItem, Wrong>
+fn read_codec_item(
+    codecs: &[CodecItem],
+    value: &Value,
+    word: OrderWord,
+) -> Result<OrderItem, Stop<Wrong>>
     requires { length codecs.now ≤ 64 }
     ensures { result ≡ order_by codecs.now (view value.now) word }
 {
@@ -87,19 +92,19 @@ fn read_order_item(
     codecs: &[CodecItem],
     callers: &[CallerItem],
     value: &Value,
-) -> Result<OrderItem, Wrong>
+) -> Result<OrderItem, Stop<Wrong>>
     requires codecs { length codecs.now ≤ 64 }
     requires callers { length callers.now ≤ 16 }
     ensures { result ≡ order_item_of codecs.now callers.now (view value.now) }
 {
     let Some(text) = value.as_str() else {
-        let word = order_word(value).ok_or(Wrong::Shape)?;
+        let word = order_word(value).ok_or(Stop::Fault(Wrong::Shape))?;
         return read_codec_item(codecs, value, word);
     };
-    let name = as_name(text).ok_or(Wrong::Shape)?;
+    let name = as_name(text).ok_or(Stop::Fault(Wrong::Shape))?;
     match find_caller(callers, name) {
         Some(caller) => Ok(OrderItem::Caller(caller)),
-        None => Err(Wrong::UnknownName),
+        None => Err(Stop::Fault(Wrong::UnknownName)),
     }
 }
 
@@ -108,14 +113,15 @@ fn read_order_item_at(
     callers: &[CallerItem],
     i: u32,
     value: &Value,
-) -> Result<OrderItem, ScriptFault>
+) -> Result<OrderItem, Stop<Fault>>
     requires codecs { length codecs.now ≤ 64 }
     requires callers { length callers.now ≤ 16 }
-    ensures { result ≡ faults.at (Place.Order i) (order_item_of codecs.now callers.now (view value.now)) }
+    ensures { result
+        ≡ faults.at (Place.Order i) (order_item_of codecs.now callers.now (view value.now)) }
 {
     match read_order_item(codecs, callers, value) {
         Ok(item) => Ok(item),
-        Err(wrong) => Err(fault_at(Place::Order(i), wrong)),
+        Err(stop) => Err(fault_at(Place::Order(i), stop)),
     }
 }
 
@@ -125,18 +131,18 @@ pub fn read_order(
     codecs: &[CodecItem],
     callers: &[CallerItem],
     items: &[Value],
-) -> Result<Vec<OrderItem>, ScriptFault>
+) -> Result<Vec<OrderItem>, Stop<Fault>>
     requires codecs { length codecs.now ≤ 64 }
     requires callers { length callers.now ≤ 16 }
     requires order { length items.now ≤ 1000000 }
-    ensures ok { IfOk result (λ v. order_of codecs.now callers.now 0 [] (items_view items.now) ≡ Ok v.items) }
-    ensures err { IfErr result (λ e. e ≢ ScriptFault.NoMemory → order_of codecs.now callers.now 0 [] (items_view items.now) ≡ Err e) }
+    ensures { GivesAs
+        (λ v. v.items) result (order_of codecs.now callers.now 0 [] (items_view items.now)) }
 {
     let mut order = Vec::new(alloc);
     for (i, value) in items.iter().enumerate() {
         let item = read_order_item_at(codecs, callers, i as u32, value)?;
         if order.push(item).is_err() {
-            return Err(ScriptFault::NoMemory);
+            return Err(Stop::NoMemory);
         }
     }
     Ok(order)

@@ -2,11 +2,13 @@
 ghost use Rattle.std.specs.Prelude.{◌≡◌, ◌≢◌, IfOk, IfErr, IfSome, Some, option_map, true};
 ghost use Rattle.serde_json.specs.View.{view};
 ghost use Rattle.script_types.specs.Sound.{is_sound};
+ghost use Rattle.wc_script.specs.Faults.{IsOfScript};
 ghost use Rattle.wc_script.specs.Walk.{walk_of};
 ghost use Rattle.wc_script.specs.Read.{value_of, script_of};
+ghost use Rattle.script_types.specs.Reading.{Gives};
 
 use crate::walk::read_value;
-use script_types::{Script, ScriptData, ScriptFault};
+use script_types::{Fault, Script, ScriptData, Stop};
 use serde_json::Value;
 use std::alloc::Global;
 
@@ -20,11 +22,11 @@ fn read_json(alloc: Global, bytes: &[u8]) -> Option<Option<Value>>
     }
 }
 
-#[tactic(auto, using(crate::proofs::SoundLaws::walk_is_sound))]
-fn read_sound(alloc: Global, value: &Value) -> Result<ScriptData, ScriptFault>
-    ensures ok { IfOk result (λ s. walk_of (view value.now) ≡ Ok s) }
+#[tactic(auto, using(crate::proofs::SoundLaws::walk_is_sound, crate::proofs::FaultLaws::walk_faults))]
+fn read_sound(alloc: Global, value: &Value) -> Result<ScriptData, Stop<Fault>>
+    ensures given { Gives result (walk_of (view value.now)) }
     ensures sound { IfOk result (λ s. is_sound s ≡ true) }
-    ensures err { IfErr result (λ e. e ≢ ScriptFault.NoMemory → walk_of (view value.now) ≡ Err e) }
+    ensures own { IfErr result (λ e. IsOfScript e) }
 {
     read_value(alloc, value)
 }
@@ -35,13 +37,13 @@ fn read_sound(alloc: Global, value: &Value) -> Result<ScriptData, ScriptFault>
 /// the codecs, each caller with its steps, and the order: at each place `TooMany` is tried first, then `Shape`, then
 /// `Twice`, then `UnknownName`. `Shape` at the top is tried last where a caller does not stand in the order as often as
 /// it has steps. `NoMemory` where memory runs out.
-pub fn read_script(alloc: Global, bytes: &[u8]) -> Result<Script, ScriptFault>
-    ensures ok { IfOk result (λ s. script_of bytes.now ≡ Ok s) }
-    ensures err { IfErr result (λ e. e ≢ ScriptFault.NoMemory → script_of bytes.now ≡ Err e) }
+pub fn read_script(alloc: Global, bytes: &[u8]) -> Result<Script, Stop<Fault>>
+    ensures given { Gives result (script_of bytes.now) }
+    ensures own { IfErr result (λ e. IsOfScript e) }
 {
     match read_json(alloc, bytes) {
-        None => Err(ScriptFault::NoMemory),
-        Some(None) => Err(ScriptFault::NotJson),
+        None => Err(Stop::NoMemory),
+        Some(None) => Err(Stop::Fault(Fault::NotJson)),
         Some(Some(value)) => Ok(Script::of(read_sound(alloc, &value)?)),
     }
 }

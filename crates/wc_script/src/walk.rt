@@ -2,33 +2,41 @@
 ghost use Rattle.std.specs.Prelude.{◌≡◌, ◌≢◌, ◌≤◌, [], IfOk, IfErr, IfSome, Some, None, Option, option_map, length, codes};
 ghost use Rattle.std.specs.List.{count_by};
 ghost use Rattle.serde_json.specs.View.{view, items_view};
+ghost use Rattle.script_types.specs.Limits as limits;
 ghost use Rattle.script_types.specs.Sound as sound;
 ghost use Rattle.script_steps.specs.Members.{array_in};
-ghost use Rattle.wc_script.specs.Faults as faults;
 ghost use Rattle.wc_script.specs.Walk.{few, parts_of, order_if_there, checked_order, ordered, walk_of};
+ghost use Rattle.script_types.specs.Reading.{Gives};
 
 use crate::callers::{Room, read_callers};
 use crate::codecs::read_codecs;
-use crate::faults::{fault_at, limit_of};
 use crate::order::read_order;
-use script_steps::{Wrong, array_member, has};
-use script_types::{CallerItem, CodecItem, Counted, OrderItem, Place, ScriptData, ScriptFault};
+use script_steps::{array_member, has};
+use script_types::{
+    CallerItem, CodecItem, Counted, Fault, OrderItem, Place, ScriptData, Stop, Wrong, limit_of,
+};
 use serde_json::Value;
 use std::alloc::Global;
 use wc_base::List;
 
 // A member that is an array, within its limit.
 #[tactic(auto, using(crate::proofs::CountLaws::count_of_view))]
-fn few_member<'v>(value: &'v Value, key: &str, what: Counted) -> Result<Option<&'v [Value]>, Wrong>
-    ensures ok { IfOk result (λ o. few what (array_in key.now (view value.now)) ≡ Ok (option_map (λ s. items_view s.now) o)) }
-    ensures within { IfOk result (λ o. IfSome o (λ s. length s.now ≤ faults.limit_of what)) }
+fn few_member<'v>(
+    value: &'v Value,
+    key: &str,
+    what: Counted,
+) -> Result<Option<&'v [Value]>, Stop<Fault>>
+    ensures ok { IfOk result
+        (λ o. few what (array_in key.now (view value.now))
+        ≡ Ok (option_map (λ s. items_view s.now) o)) }
+    ensures within { IfOk result (λ o. IfSome o (λ s. length s.now ≤ limits.limit_of what)) }
     ensures err { IfErr result (λ e. few what (array_in key.now (view value.now)) ≡ Err e) }
 {
     match array_member(value, key) {
         None => Ok(None),
         Some(items) => {
             if items.len() > limit_of(what) {
-                Err(Wrong::TooMany(what))
+                Err(Stop::Fault(Fault::TooMany(what)))
             } else {
                 Ok(Some(items))
             }
@@ -44,9 +52,25 @@ struct Parts<'v> {
     order: Option<&'v [Value]>,
 }
 
+fn shape_at_top() -> Stop<Fault>
+    ensures { result ≡ Stop.Fault (Fault.At Place.Top Wrong.Shape) }
+{
+    Stop::Fault(Fault::At {
+        place: Place::Top,
+        wrong: Wrong::Shape,
+    })
+}
+
 #[tactic(auto, unfolding(crate::specs::Walk::parts_of))]
-fn read_parts(value: &Value) -> Result<Parts<'_>, Wrong>
-    ensures ok { IfOk result (λ p. parts_of (view value.now) ≡ Ok (record { codecs = items_view p.codecs.now; callers = items_view p.callers.now; order = option_map (λ s. items_view s.now) p.order })) }
+fn read_parts(value: &Value) -> Result<Parts<'_>, Stop<Fault>>
+    ensures ok { IfOk result
+        (λ p. parts_of (view value.now)
+        ≡ Ok
+        (record {
+          codecs = items_view p.codecs.now;
+          callers = items_view p.callers.now;
+          order = option_map (λ s. items_view s.now) p.order;
+        })) }
     ensures codecs { IfOk result (λ p. length p.codecs.now ≤ 64) }
     ensures callers { IfOk result (λ p. length p.callers.now ≤ 16) }
     ensures order { IfOk result (λ p. IfSome p.order (λ s. length s.now ≤ 1000000)) }
@@ -56,29 +80,16 @@ fn read_parts(value: &Value) -> Result<Parts<'_>, Wrong>
     let callers = few_member(value, "callers", Counted::Callers)?;
     let order = few_member(value, "order", Counted::Order)?;
     let (Some(codecs), Some(callers)) = (codecs, callers) else {
-        return Err(Wrong::Shape);
+        return Err(shape_at_top());
     };
     if order.is_none() && has(value, "order") {
-        return Err(Wrong::Shape);
+        return Err(shape_at_top());
     }
     Ok(Parts {
         codecs,
         callers,
         order,
     })
-}
-
-fn read_parts_at_top(value: &Value) -> Result<Parts<'_>, ScriptFault>
-    ensures ok { IfOk result (λ p. faults.at Place.Top (parts_of (view value.now)) ≡ Ok (record { codecs = items_view p.codecs.now; callers = items_view p.callers.now; order = option_map (λ s. items_view s.now) p.order })) }
-    ensures codecs { IfOk result (λ p. length p.codecs.now ≤ 64) }
-    ensures callers { IfOk result (λ p. length p.callers.now ≤ 16) }
-    ensures order { IfOk result (λ p. IfSome p.order (λ s. length s.now ≤ 1000000)) }
-    ensures err { IfErr result (λ e. faults.at Place.Top (parts_of (view value.now)) ≡ Err e) }
-{
-    match read_parts(value) {
-        Ok(parts) => Ok(parts),
-        Err(wrong) => Err(fault_at(Place::Top, wrong)),
-    }
 }
 
 fn is_turn_of(caller: usize, item: &OrderItem) -> bool
@@ -108,13 +119,13 @@ fn counts_agree(callers: &[CallerItem], order: &[OrderItem]) -> bool
 fn check_order(
     callers: &[CallerItem],
     order: Vec<OrderItem>,
-) -> Result<Option<List<OrderItem>>, ScriptFault>
+) -> Result<Option<List<OrderItem>>, Stop<Fault>>
     ensures { result ≡ checked_order callers.now order.items }
 {
     if counts_agree(callers, &order) {
         Ok(Some(List::of(order)))
     } else {
-        Err(ScriptFault::Shape { place: Place::Top })
+        Err(shape_at_top())
     }
 }
 
@@ -125,12 +136,12 @@ fn read_ordered(
     codecs: &[CodecItem],
     callers: &[CallerItem],
     items: Option<&[Value]>,
-) -> Result<Option<List<OrderItem>>, ScriptFault>
+) -> Result<Option<List<OrderItem>>, Stop<Fault>>
     requires codecs { length codecs.now ≤ 64 }
     requires callers { length callers.now ≤ 16 }
     requires order { IfSome items (λ s. length s.now ≤ 1000000) }
-    ensures ok { IfOk result (λ o. ordered codecs.now callers.now (option_map (λ v. items_view v.now) items.entry) ≡ Ok o) }
-    ensures err { IfErr result (λ e. e ≢ ScriptFault.NoMemory → ordered codecs.now callers.now (option_map (λ v. items_view v.now) items.entry) ≡ Err e) }
+    ensures { Gives result
+        (ordered codecs.now callers.now (option_map (λ v. items_view v.now) items.entry)) }
 {
     match items {
         None => Ok(None),
@@ -143,11 +154,10 @@ fn read_ordered(
 
 /// What a script's value holds, or its first fault.
 #[tactic(auto, unfolding(crate::specs::Walk::walk_of))]
-pub fn read_value(alloc: Global, value: &Value) -> Result<ScriptData, ScriptFault>
-    ensures ok { IfOk result (λ s. walk_of (view value.now) ≡ Ok s) }
-    ensures err { IfErr result (λ e. e ≢ ScriptFault.NoMemory → walk_of (view value.now) ≡ Err e) }
+pub fn read_value(alloc: Global, value: &Value) -> Result<ScriptData, Stop<Fault>>
+    ensures { Gives result (walk_of (view value.now)) }
 {
-    let parts = read_parts_at_top(value)?;
+    let parts = read_parts(value)?;
     let codecs = read_codecs(alloc, parts.codecs)?;
     let room = Room {
         steps: limit_of(Counted::Steps),

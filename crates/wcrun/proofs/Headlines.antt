@@ -1,29 +1,25 @@
 -- The headline, from how a call ends and from what its last step writes.
-use Rattle.std.proofs.Common.{◌≡◌, ◌≢◌, ℕ, List, [], ◌++◌, Option, ◌⊎◌, inl, inr, refl, sym, subst, ◌∙◌, arith}
+use Rattle.std.proofs.Common.{◌≡◌, ◌≢◌, ℕ, List, [], ◌++◌, Option, None, ◌⊎◌, inl, inr, refl, sym, subst, ◌∙◌, arith}
 use Rattle.wc_base.specs.Told.{AppendsPart}
 use Rattle.wcrun.proofs.Parts.{one_after_another, then_a_part}
 use Rattle.wc_config.specs.declared.codec.CoderId.{CoderId}
-use Rattle.wcrun.specs.declared.refusal.Refusal.{Refusal}
-use Rattle.wcrun.specs.declared.refusal.Refusal.TheVariants as refusal
-use Rattle.wcrun.specs.Refusals.{status_of, line_of, memory_line}
-use Rattle.wcrun.specs.Headline.{Reading, Writing, IsReport, IsCut, Comes, SinkFailed, Headline}
+use Rattle.script_types.specs.declared.fault.Fault.{Fault}
+use Rattle.script_types.specs.declared.fault.Fault.TheVariants as fault
+use Rattle.chunk_files.specs.declared.fault.Stop.{Stop}
+use Rattle.chunk_files.specs.declared.fault.Stop.TheVariants as stop
+use Rattle.wcrun.specs.Refusals.{status_of, line_of, usage_line, memory_line}
+use Rattle.wcrun.specs.Headline.{Reading, Writing, IsReport, IsCut, Comes, IsRefusal, SinkFailed, Headline}
 use Rattle.wcrun.specs.Writing.{WritesText, WritesLine}
-use Rattle.wcrun.specs.declared.stop.Stop.{Stop}
-use Rattle.wcrun.specs.declared.stop.Stop.TheVariants as stop
 use Rattle.wcrun.specs.Stops.{MayStop}
 
--- no refusal has status 0
-not_zero : (x : Refusal) → status_of x ≢ 0
-not_zero refusal.Usage = λ e. omega arith
-not_zero refusal.NotJson = λ e. omega arith
-not_zero (refusal.Shape p) = λ e. omega arith
-not_zero (refusal.UnknownName p) = λ e. omega arith
-not_zero (refusal.Twice p) = λ e. omega arith
-not_zero (refusal.Unbuilt p) = λ e. omega arith
-not_zero (refusal.Chunks name f) = λ e. omega arith
-not_zero (refusal.NoIndex name p) = λ e. omega arith
-not_zero (refusal.ReadFault name) = λ e. omega arith
-not_zero (refusal.Limit what) = λ e. omega arith
+-- no fault has status 0
+not_zero : (x : Fault) → status_of x ≢ 0
+not_zero fault.NotJson = λ e. omega arith
+not_zero (fault.At p w) = λ e. omega arith
+not_zero (fault.TooMany what) = λ e. omega arith
+not_zero (fault.Unread name) = λ e. omega arith
+not_zero (fault.Chunks name f) = λ e. omega arith
+not_zero (fault.NoIndex name p) = λ e. omega arith
 
 not_five : (n : ℕ) → n ≡ 0 → n ≢ 5
 not_five n e = λ q. omega arith
@@ -57,26 +53,30 @@ headline_of_report r ids w text k p = record {
 }
 
 -- a failed write of a line, or of the line for want of memory
-failed_line : (r : Reading) (ids : List CoderId) (w : Writing) (x : Refusal) → Comes r x → WritesLine (status_of x) (line_of x) w → w.answer ≡ 5 → AppendsPart w.before (line_of x) w.after ⊎ AppendsPart w.before memory_line w.after → SinkFailed r ids w
-failed_line r ids w x k p e (inl q) = record {
-  rose = p.failed e;
-  text = line_of x;
-  allowed = inr (inr (status_of x, record { refusal = x; comes = k; is_status = refl; is_line = refl }));
-  part = q;
-}
-failed_line r ids w x k p e (inr q) = record { rose = p.failed e; text = memory_line; allowed = inr (inl (cut_nothing r ids)); part = q }
+failed_line : (r : Reading) (ids : List CoderId) (w : Writing) (status : ℕ) (line : List ℕ) → IsRefusal r status line → WritesLine status line w → w.answer ≡ 5
+    → AppendsPart w.before line w.after ⊎ AppendsPart w.before memory_line w.after → SinkFailed r ids w
+failed_line r ids w status line k p e (inl q) = record { rose = p.failed e; text = line; allowed = inr (inr (status, k)); part = q }
+failed_line r ids w status line k p e (inr q) = record { rose = p.failed e; text = memory_line; allowed = inr (inl (cut_nothing r ids)); part = q }
 
-pub headline_of_refusal : (r : Reading) (ids : List CoderId) (w : Writing) (x : Refusal) → Comes r x → WritesLine (status_of x) (line_of x) w → Headline r ids w
-headline_of_refusal r ids w x k p = record {
-  written = λ e. absurd (not_zero x (sym (p.done (not_five w.answer e) (not_six w.answer e)) ∙ e));
+headline_of_line : (r : Reading) (ids : List CoderId) (w : Writing) (status : ℕ) (line : List ℕ) → status ≢ 0 → IsRefusal r status line → WritesLine status line w → Headline r ids w
+headline_of_line r ids w status line some k p = record {
+  written = λ e. absurd (some (sym (p.done (not_five w.answer e) (not_six w.answer e)) ∙ e));
   out_of_memory = λ e. record { text = memory_line; cut = cut_nothing r ids; told = p.memory e };
-  sink_failed = λ e. failed_line r ids w x k p e (p.part e);
+  sink_failed = λ e. failed_line r ids w status line k p e (p.part e);
   refused = λ n0 n5 n6. record {
-    text = line_of x;
-    line = record { refusal = x; comes = k; is_status = p.done n5 n6; is_line = refl };
+    text = line;
+    line = subst (λ n. IsRefusal r n line) (sym (p.done n5 n6)) k;
     told = p.whole n5 n6;
   };
 }
+
+pub headline_of_fault : (r : Reading) (ids : List CoderId) (w : Writing) (x : Fault) → Comes r x → WritesLine (status_of x) (line_of x) w → Headline r ids w
+headline_of_fault r ids w x k p =
+    headline_of_line r ids w (status_of x) (line_of x) (not_zero x) (inr (record { told = x; comes = k; is_status = refl; is_line = refl })) p
+
+pub headline_of_usage : (r : Reading) (ids : List CoderId) (w : Writing) → r.command ≡ None → WritesLine 2 usage_line w → Headline r ids w
+headline_of_usage r ids w k p =
+    headline_of_line r ids w 2 usage_line (λ e. omega arith) (inl (record { comes = k; is_status = refl; is_line = refl })) p
 
 failed_memory : (r : Reading) (ids : List CoderId) (w : Writing) → WritesLine 6 memory_line w → w.answer ≡ 5 → AppendsPart w.before memory_line w.after ⊎ AppendsPart w.before memory_line w.after → SinkFailed r ids w
 failed_memory r ids w p e (inl q) = record { rose = p.failed e; text = memory_line; allowed = inr (inl (cut_nothing r ids)); part = q }
@@ -90,6 +90,6 @@ headline_of_memory r ids w p = record {
   refused = λ n0 n5 n6. absurd (n6 (p.done n5 n6));
 }
 
--- a refusal that stops a replay may come
-pub stop_comes : (r : Reading) (e : Stop) (x : Refusal) → e ≡ stop.Refused x → MayStop r e → Comes r x
+-- a fault that stops a replay may come
+pub stop_comes : (r : Reading) (e : Stop Fault) (x : Fault) → e ≡ stop.Fault x → MayStop r e → Comes r x
 stop_comes r e x q k = subst (λ s. MayStop r s) q k

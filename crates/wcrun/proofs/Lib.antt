@@ -2,6 +2,6 @@ mod Counts
 mod Parts
 mod Files
 mod Outcomes
-mod Prepared
+mod Stopping
 mod Headlines
 mod Texts

@@ -3,21 +3,20 @@
 -- Status 0 is a whole report, 6 is want of memory, 5 is a failed sink, and 2, 3, 4 and 7 are refusals. What is said of the
 -- bytes of files and of the sink holds where they tell them.
 use Rattle.std.specs.Prelude.{ℕ, ◌≡◌, ◌≢◌, ◌⊎◌, List, [], ◌++◌, Option, Some, None, IfSome, IsSomeAnd, MatchOption, Result, Ok, Err}
-use Rattle.std.specs.List.{slice_get}
 use Rattle.wc_base.specs.Causes.{Rose, RoseBy}
 use Rattle.wc_base.specs.Told.{appended, AppendsPart}
 use Rattle.wc_config.specs.declared.codec.CoderId.{CoderId}
+use Rattle.script_types.specs.declared.fault.Counted.TheVariants as counted
+use Rattle.script_types.specs.declared.fault.Fault.{Fault}
+use Rattle.script_types.specs.declared.fault.Fault.TheVariants as fault
+use Rattle.chunk_files.specs.declared.fault.Stop.TheVariants as stop
 use Rattle.script_types.specs.declared.script.ScriptData.{ScriptData}
 use Rattle.trace_text.specs.declared.run.Run.{Run}
 use Rattle.trace_text.specs.Fits.{IsLegalRun, Fits}
 use Rattle.trace_text.specs.Report.{report_of}
-use Rattle.wcrun.specs.declared.refusal.Refusal.{Refusal}
-use Rattle.wcrun.specs.declared.refusal.Refusal.TheVariants as refusal
-use Rattle.wcrun.specs.declared.refusal.Limited.TheVariants as limited
-use Rattle.wcrun.specs.declared.stop.Stop.{Stop}
-use Rattle.wcrun.specs.declared.stop.Stop.TheVariants as stop
-use Rattle.wcrun.specs.Refusals.{status_of, line_of, memory_line}
-use Rattle.wcrun.specs.Outcome.{Ready, playable_of, IsOutcome}
+use Rattle.media_files.specs.Media.{IsMentioned}
+use Rattle.wcrun.specs.Refusals.{status_of, line_of, usage_line, memory_line}
+use Rattle.wcrun.specs.Outcome.{Ready, Outcome, playable_of, IsOutcome}
 
 -- What a call was told to do, and what it read: the file that the words name, what the files hold, where they tell it, and
 -- their counts of faults and of bytes, before the call and after it.
@@ -59,7 +58,7 @@ abbrev pub IfFile : Reading → (Holding → List ℕ → Type 0) → Type 0
 IfFile r P = IfSome r.command (λ name. IfSome r.content (λ files. IfSome (files name) (P files)))
 
 -- The file's bytes come to this.
-abbrev pub ComesTo : Reading → Result Ready Stop → Type 0
+abbrev pub ComesTo : Reading → Outcome → Type 0
 ComesTo r outcome = OfFile r (λ files bytes. IsOutcome files bytes outcome)
 
 -- A run that is legal and fits the script that the file's bytes spell, with the chunks of its chunk files; `coders` has the
@@ -90,31 +89,36 @@ pub record IsCut (r : Reading) (coders : List CoderId) (text : List ℕ) : Type 
   pub whole : text ≡ part ++ memory_line
 
 -- The name is that of the script file, or of a chunk file that its script mentions.
-abbrev pub IsMentioned : List ℕ → ScriptData → Type 0
-IsMentioned name s = (n : ℕ) × (slice_get s.chunk_files n ≡ Some name)
-
 abbrev pub IsNamed : Reading → List ℕ → Type 0
 IsNamed r name = (r.command ≡ Some name) ⊎ OfFile r (λ files bytes. (s : ScriptData) × (playable_of bytes ≡ Ok s) × IsMentioned name s)
 
--- When a refusal may come: each as the file's bytes come to it. A file that was not read only where the count of faults
+-- When a fault may come: each as the file's bytes come to it. A file that was not read only where the count of faults
 -- rose; and one that is too long, where it is not told, only where the count of bytes read rose by as much.
-abbrev pub Comes : Reading → Refusal → Type 0
-Comes r refusal.Usage = r.command ≡ None
-Comes r (refusal.ReadFault name) = IsNamed r name × Rose r.faults_before r.faults_after
-Comes r (refusal.Limit limited.Script) =
+abbrev pub Comes : Reading → Fault → Type 0
+Comes r (fault.Unread name) = IsNamed r name × Rose r.faults_before r.faults_after
+Comes r (fault.TooMany counted.Script) =
     IsSomeAnd r.command (λ name. MatchOption r.content (RoseBy 16777217 r.bytes_before r.bytes_after) (λ files.
-    IsSomeAnd (files name) (λ bytes. IsOutcome files bytes (Err (stop.Refused (refusal.Limit limited.Script))))))
-Comes r (refusal.Limit limited.File) =
+    IsSomeAnd (files name) (λ bytes. IsOutcome files bytes (Err (stop.Fault (fault.TooMany counted.Script))))))
+Comes r (fault.TooMany counted.File) =
     IsSomeAnd r.command (λ name. MatchOption r.content (RoseBy 268435457 r.bytes_before r.bytes_after) (λ files.
-    IsSomeAnd (files name) (λ bytes. IsOutcome files bytes (Err (stop.Refused (refusal.Limit limited.File))))))
-Comes r x = ComesTo r (Err (stop.Refused x))
+    IsSomeAnd (files name) (λ bytes. IsOutcome files bytes (Err (stop.Fault (fault.TooMany counted.File))))))
+Comes r x = ComesTo r (Err (stop.Fault x))
 
--- The text is the line of a refusal that may come, and the status is its own.
-pub record IsRefusal (r : Reading) (status : ℕ) (text : List ℕ) : Type 0 where
-  pub refusal : Refusal
-  pub comes : Comes r refusal
-  pub is_status : status ≡ status_of refusal
-  pub is_line : text ≡ line_of refusal
+-- The text is the line of usage, which comes where the words are no command.
+pub record IsUsage (r : Reading) (status : ℕ) (text : List ℕ) : Type 0 where
+  pub comes : r.command ≡ None
+  pub is_status : status ≡ 2
+  pub is_line : text ≡ usage_line
+
+-- The text is the line of a fault that may come, and the status is its own.
+pub record TellsFault (r : Reading) (status : ℕ) (text : List ℕ) : Type 0 where
+  pub told : Fault
+  pub comes : Comes r told
+  pub is_status : status ≡ status_of told
+  pub is_line : text ≡ line_of told
+
+abbrev pub IsRefusal : Reading → ℕ → List ℕ → Type 0
+IsRefusal r status text = IsUsage r status text ⊎ TellsFault r status text
 
 -- The four parts. With status 0 the sink's bytes are the earlier ones, followed by the report of a run that is legal and
 -- fits the script.
@@ -149,9 +153,9 @@ pub record Headline (r : Reading) (coders : List CoderId) (w : Writing) : Type 0
   pub refused : w.answer ≢ 0 → w.answer ≢ 5 → w.answer ≢ 6 → Refused r w
 
 -- the status for what a file's bytes come to, where nothing fails
-abbrev pub status_for : Result Ready Stop → ℕ
+abbrev pub status_for : Outcome → ℕ
 status_for (Ok ready) = 0
-status_for (Err (stop.Refused x)) = status_of x
+status_for (Err (stop.Fault x)) = status_of x
 status_for (Err stop.NoMemory) = 6
 
 -- Where no read, no write and no memory fails, the words and what the files hold alone give the status: so 2 comes exactly
@@ -159,7 +163,8 @@ status_for (Err stop.NoMemory) = 6
 -- that is built and has an order, a chunk file is none, or a chunk file lacks a chunk that is taken.
 pub record Decides (r : Reading) (w : Writing) : Type 0 where
   pub words : r.command ≡ None → w.answer ≢ 5 → w.answer ≢ 6 → w.answer ≡ 2
-  pub file : IfFile r (λ files bytes. (outcome : Result Ready Stop) → IsOutcome files bytes outcome → w.answer ≢ 4 → w.answer ≢ 5 → w.answer ≢ 6 → w.answer ≡ status_for outcome)
+  pub file : IfFile r (λ files bytes. (outcome : Outcome) → IsOutcome files bytes outcome
+      → w.answer ≢ 4 → w.answer ≢ 5 → w.answer ≢ 6 → w.answer ≡ status_for outcome)
 
 -- Where the file's bytes come to a script that can be replayed, and no count of faults rose, the status is 0 or want of
 -- memory.

@@ -1,55 +1,64 @@
 -- The status and the line of each answer that comes in place of a report (our choice).
 use Rattle.std.specs.Prelude.{ℕ, List, codes, decimal}
 use Rattle.chunk_files.specs.declared.fault.ChunkFault.{ChunkFault}
-use Rattle.chunk_files.specs.declared.fault.ChunkFault.TheVariants as fault
+use Rattle.chunk_files.specs.declared.fault.ChunkFault.TheVariants as chunks
+use Rattle.script_types.specs.declared.fault.Counted.{Counted}
+use Rattle.script_types.specs.declared.fault.Counted.TheVariants as counted
+use Rattle.script_types.specs.declared.fault.Fault.{Fault}
+use Rattle.script_types.specs.declared.fault.Fault.TheVariants as fault
+use Rattle.script_types.specs.declared.fault.Place.{Place}
+use Rattle.script_types.specs.declared.fault.Wrong.{Wrong}
+use Rattle.script_types.specs.declared.fault.Wrong.TheVariants as wrong
 use Rattle.script_types.specs.Places.{place_text}
 use Rattle.report_text.specs.Words.{◌<>◌}
-use Rattle.wcrun.specs.declared.refusal.Limited.{Limited}
-use Rattle.wcrun.specs.declared.refusal.Limited.TheVariants as limited
-use Rattle.wcrun.specs.declared.refusal.Refusal.{Refusal}
-use Rattle.wcrun.specs.declared.refusal.Refusal.TheVariants as refusal
 
-abbrev pub status_of : Refusal → ℕ
-status_of refusal.Usage = 2
-status_of refusal.NotJson = 3
-status_of (refusal.Shape place) = 3
-status_of (refusal.UnknownName place) = 3
-status_of (refusal.Twice place) = 3
-status_of (refusal.Unbuilt place) = 3
-status_of (refusal.Chunks name e) = 3
-status_of (refusal.NoIndex name place) = 3
-status_of (refusal.ReadFault name) = 4
-status_of (refusal.Limit what) = 7
+abbrev pub status_of : Fault → ℕ
+status_of fault.NotJson = 3
+status_of (fault.At place w) = 3
+status_of (fault.TooMany what) = 7
+status_of (fault.Unread name) = 4
+status_of (fault.Chunks name e) = 3
+status_of (fault.NoIndex name place) = 3
 
 -- what is limited, and its limit and 1
-abbrev pub limit_text : Limited → List ℕ
-limit_text limited.Script = codes "script 16777217"
-limit_text limited.Codecs = codes "codecs 65"
-limit_text limited.Callers = codes "callers 17"
-limit_text limited.Steps = codes "steps 100001"
-limit_text limited.Order = codes "order 1000001"
-limit_text limited.Chunk = codes "chunk 16777217"
-limit_text limited.File = codes "file 268435457"
-limit_text limited.Media = codes "media 268435457"
+abbrev pub limit_text : Counted → List ℕ
+limit_text counted.Script = codes "script 16777217"
+limit_text counted.Codecs = codes "codecs 65"
+limit_text counted.Callers = codes "callers 17"
+limit_text counted.Steps = codes "steps 100001"
+limit_text counted.Order = codes "order 1000001"
+limit_text counted.Chunk = codes "chunk 16777217"
+limit_text counted.File = codes "file 268435457"
+limit_text counted.Media = codes "media 268435457"
+
+-- what is wrong at a place
+abbrev pub wrong_text : Wrong → List ℕ
+wrong_text wrong.Shape = codes "shape"
+wrong_text wrong.Twice = codes "twice"
+wrong_text wrong.UnknownName = codes "unknown name"
+wrong_text wrong.Unbuilt = codes "unbuilt"
 
 -- the first fault of a chunk file
 abbrev pub fault_text : ChunkFault → List ℕ
-fault_text (fault.BadMark at) = codes "bad mark at " <> decimal at
-fault_text (fault.BadKind at found) = codes "bad kind at " <> decimal at
-fault_text (fault.Short at) = codes "short at " <> decimal at
-fault_text fault.NoMemory = codes "not read"
+fault_text (chunks.BadMark at) = codes "bad mark at " <> decimal at
+fault_text (chunks.BadKind at found) = codes "bad kind at " <> decimal at
+fault_text (chunks.Short at) = codes "short at " <> decimal at
 
-abbrev pub line_of : Refusal → List ℕ
-line_of refusal.Usage = codes "usage: wcrun replay FILE | run FILE --workers N | load START N | check SCRIPT REPORT\n"
-line_of refusal.NotJson = codes "script: not json\n"
-line_of (refusal.Shape place) = codes "script: shape at " <> place_text place <> codes "\n"
-line_of (refusal.UnknownName place) = codes "script: unknown name at " <> place_text place <> codes "\n"
-line_of (refusal.Twice place) = codes "script: twice at " <> place_text place <> codes "\n"
-line_of (refusal.Unbuilt place) = codes "script: unbuilt at " <> place_text place <> codes "\n"
-line_of (refusal.Chunks name e) = codes "script: chunks " <> name <> codes " " <> fault_text e <> codes "\n"
-line_of (refusal.NoIndex name place) = codes "script: chunks " <> name <> codes " no index at " <> place_text place <> codes "\n"
-line_of (refusal.ReadFault name) = codes "read fault: " <> name <> codes "\n"
-line_of (refusal.Limit what) = codes "limit: " <> limit_text what <> codes "\n"
+-- the place of a step whose chunk its file lacks
+abbrev pub lack_text : Place → List ℕ
+lack_text place = codes "no index at " <> place_text place
+
+abbrev pub line_of : Fault → List ℕ
+line_of fault.NotJson = codes "script: not json\n"
+line_of (fault.At place w) = codes "script: " <> wrong_text w <> codes " at " <> place_text place <> codes "\n"
+line_of (fault.TooMany what) = codes "limit: " <> limit_text what <> codes "\n"
+line_of (fault.Unread name) = codes "read fault: " <> name <> codes "\n"
+line_of (fault.Chunks name e) = codes "script: chunks " <> name <> codes " " <> fault_text e <> codes "\n"
+line_of (fault.NoIndex name place) = codes "script: chunks " <> name <> codes " " <> lack_text place <> codes "\n"
+
+-- the line where the words are no command, whose status is 2
+abbrev pub usage_line : List ℕ
+usage_line = codes "usage: wcrun replay FILE | run FILE --workers N | load START N | check SCRIPT REPORT\n"
 
 -- the line for want of memory, whose status is 6
 abbrev pub memory_line : List ℕ

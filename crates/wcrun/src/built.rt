@@ -44,7 +44,8 @@ fn unbuilt_step(caller: u32, steps: &[Step]) -> Option<Place>
 
 fn unbuilt_caller(callers: &[CallerItem]) -> Option<Place>
     requires callers { length callers.now ≤ 16 }
-    requires steps { (i : ℕ) (c : CallerItem) → slice_get callers.now i ≡ Some c → length c.steps ≤ 100000 }
+    requires steps { (i : ℕ) (c : CallerItem) → slice_get callers.now i ≡ Some c
+        → length c.steps ≤ 100000 }
     ensures { result ≡ spec.unbuilt_caller 0 callers.now }
 {
     for (i, caller) in callers.iter().enumerate() {

@@ -2,7 +2,7 @@
 ghost use Rattle.std.specs.Prelude.{◌≡◌, ◌⊎◌, true, map, IfOk, IfErr, Some};
 ghost use Rattle.trace_text.specs.Report.{report_of};
 ghost use Rattle.wcrun.specs.Words.{words_of, command_of};
-ghost use Rattle.wcrun.specs.Refusals.{status_of, line_of, memory_line};
+ghost use Rattle.wcrun.specs.Refusals.{status_of, line_of, usage_line, memory_line};
 ghost use Rattle.wcrun.specs.Headline.{reading, writing, IsRunOf, Headline, Decides, IsComplete};
 ghost use Rattle.wcrun.specs.Stops.{MayStop};
 ghost use Rattle.wcrun.specs.Writing.{WritesText, WritesLine};
@@ -10,39 +10,52 @@ ghost use Rattle.wcrun.specs.Writing.{WritesText, WritesLine};
 use crate::Refusal;
 use crate::command::file_to_replay;
 use crate::prepare::prepare;
-use crate::stop::{Replayed, Stop};
+use crate::prepared::Replayed;
 use coder_api::Coder;
 use media_files::media_have_one_reading;
-use script_types::Script;
+use script_types::{Fault, Script, Stop};
 use std::alloc::Global;
 use trace_text::{Run, WriteFault, write_report};
 use wc_base::{Files, Sink};
 use wc_replay::replay;
 
-// The run of the script that the words name.
+// The run of the script in the file of this name.
 fn replayed<F: Files, C: Coder>(
     alloc: Global,
-    words: &[String],
+    name: &str,
     files: &mut F,
     coders: Vec<C>,
-) -> Result<Replayed, Stop>
-    ensures ok { IfOk result (λ d. IsRunOf (reading (command_of (words_of words.now)) (F.content files.old) (F.faults files.old)
+) -> Result<Replayed, Stop<Fault>>
+    ensures ok { IfOk result (λ d. IsRunOf (reading (Some name.now) (F.content files.old) (F.faults files.old)
         (F.faults files.new) (F.bytes_read files.old) (F.bytes_read files.new)) (map C.coder coders.items)
         (record { script = d.prepared.script; media = d.prepared.media.items }) d.run) }
-    ensures stop { IfErr result (λ e. MayStop (reading (command_of (words_of words.now)) (F.content files.old) (F.faults files.old)
+    ensures stop { IfErr result (λ e. MayStop (reading (Some name.now) (F.content files.old) (F.faults files.old)
         (F.faults files.new) (F.bytes_read files.old) (F.bytes_read files.new)) e) }
 {
-    let Some(name) = file_to_replay(words) else {
-        return Err(Stop::Refused(Refusal::Usage));
-    };
     let prepared = prepare(alloc, name, files)?;
     let run = replay(alloc, &prepared.script, &prepared.media, coders)?;
     Ok(Replayed { prepared, run })
 }
 
+// Ends with the line of usage.
+fn usage<S: Sink>(sink: &mut S) -> u8
+    ensures { WritesLine 2 usage_line
+        (writing (S.told sink.old) (S.told sink.new) (S.faults sink.old)
+        (S.faults sink.new) result) }
+{
+    let line =
+        b"usage: wcrun replay FILE | run FILE --workers N | load START N | check SCRIPT REPORT\n";
+    match sink.write_all(line) {
+        Ok(()) => 2,
+        Err(_) => 5,
+    }
+}
+
 // Ends for want of memory.
 pub(crate) fn want_memory<S: Sink>(sink: &mut S) -> u8
-    ensures { WritesLine 6 memory_line (writing (S.told sink.old) (S.told sink.new) (S.faults sink.old) (S.faults sink.new) result) }
+    ensures { WritesLine 6 memory_line
+        (writing (S.told sink.old) (S.told sink.new) (S.faults sink.old)
+        (S.faults sink.new) result) }
 {
     match sink.write_all(b"out of memory\n") {
         Ok(()) => 6,
@@ -50,11 +63,12 @@ pub(crate) fn want_memory<S: Sink>(sink: &mut S) -> u8
     }
 }
 
-// Ends with the line of a refusal.
-fn refuse<S: Sink>(alloc: Global, refusal: &Refusal, sink: &mut S) -> u8
-    ensures { WritesLine (status_of refusal.now) (line_of refusal.now)
+// Ends with the line of a fault.
+fn refuse<S: Sink>(alloc: Global, fault: Fault, sink: &mut S) -> u8
+    ensures { WritesLine (status_of fault) (line_of fault)
         (writing (S.told sink.old) (S.told sink.new) (S.faults sink.old) (S.faults sink.new) result) }
 {
+    let refusal = Refusal(fault);
     let Ok(line) = format!(in alloc; "{refusal}") else {
         return want_memory(sink);
     };
@@ -77,6 +91,36 @@ fn report<S: Sink>(alloc: Global, script: &Script, run: &Run, sink: &mut S) -> u
             Ok(()) => 6,
             Err(_) => 5,
         },
+    }
+}
+
+// Ends with the report of the run of the script in the file of this name, or with the line of why there is none.
+fn replay_named<F: Files, S: Sink, C: Coder>(
+    alloc: Global,
+    name: &str,
+    files: &mut F,
+    sink: &mut S,
+    coders: Vec<C>,
+) -> u8
+    ensures headline { Headline
+        (reading (Some name.now) (F.content files.old) (F.faults files.old) (F.faults files.new)
+        (F.bytes_read files.old) (F.bytes_read files.new)) (map C.coder coders.items)
+        (writing (S.told sink.old) (S.told sink.new) (S.faults sink.old) (S.faults sink.new) result) }
+    ensures decided { Decides
+        (reading (Some name.now) (F.content files.old) (F.faults files.old) (F.faults files.new)
+        (F.bytes_read files.old) (F.bytes_read files.new))
+        (writing (S.told sink.old) (S.told sink.new) (S.faults sink.old) (S.faults sink.new) result) }
+    ensures complete { IsComplete
+        (reading (Some name.now) (F.content files.old) (F.faults files.old) (F.faults files.new)
+        (F.bytes_read files.old) (F.bytes_read files.new))
+        (writing (S.told sink.old) (S.told sink.new) (S.faults sink.old) (S.faults sink.new) result) }
+{
+    // The law by which what the files hold decides the status.
+    media_have_one_reading();
+    match replayed(alloc, name, files, coders) {
+        Ok(done) => report(alloc, &done.prepared.script, &done.run, sink),
+        Err(Stop::Fault(fault)) => refuse(alloc, fault, sink),
+        Err(Stop::NoMemory) => want_memory(sink),
     }
 }
 
@@ -108,11 +152,8 @@ pub fn top<F: Files, S: Sink, C: Coder>(
         (F.bytes_read files.old) (F.bytes_read files.new))
         (writing (S.told sink.old) (S.told sink.new) (S.faults sink.old) (S.faults sink.new) result) }
 {
-    // The law by which what the files hold decides the status.
-    media_have_one_reading();
-    match replayed(alloc, words, files, coders) {
-        Ok(done) => report(alloc, &done.prepared.script, &done.run, sink),
-        Err(Stop::Refused(refusal)) => refuse(alloc, &refusal, sink),
-        Err(Stop::NoMemory) => want_memory(sink),
+    match file_to_replay(words) {
+        Some(name) => replay_named(alloc, name, files, sink, coders),
+        None => usage(sink),
     }
 }

@@ -7,10 +7,10 @@ mod command;
 #[cfg(test)]
 mod faults;
 mod prepare;
+mod prepared;
 mod refusal;
 #[cfg(test)]
 mod rows;
-mod stop;
 #[cfg(test)]
 mod tests;
 
@@ -18,14 +18,14 @@ pub use calls::top;
 use calls::want_memory;
 use coder_api::CoderBox;
 use g711::Law;
-pub use refusal::{Limited, Refusal};
+pub use refusal::Refusal;
 use sample_coder::{Coding, SampleCoder};
 use sample_conversion::SampleSize;
 use std::alloc::Global;
 use std::process::ExitCode;
 use std::rt::Env;
 use std::{env, io};
-use wc_base::{NoMemory, Output, SystemFiles};
+use wc_base::{Output, SystemFiles};
 use wc_config::{CodecId, Role};
 
 // How many boxes of each coder there are.
@@ -60,26 +60,6 @@ fn coding_of(codec: CodecId) -> Option<Coding> {
     }
 }
 
-// The boxes of all coders that are built.
-fn boxes(alloc: Global) -> Result<Vec<CoderBox>, NoMemory> {
-    let mut coders = Vec::new(alloc);
-    for role in [Role::Decode, Role::Encode] {
-        for _ in 0..BOXES {
-            for codec in CODECS {
-                if let Some(coding) = coding_of(codec) {
-                    let Ok(coder) = Box::new(alloc, SampleCoder::new(role, coding)) else {
-                        return Err(NoMemory);
-                    };
-                    if coders.push(CoderBox::of(coder)).is_err() {
-                        return Err(NoMemory);
-                    }
-                }
-            }
-        }
-    }
-    Ok(coders)
-}
-
 fn words(rt: &(impl Env + Alloc<A = Global>)) -> io::Result<Vec<String>> {
     let mut words = Vec::new(rt.alloc());
     for word in env::args(rt)?.skip(1) {
@@ -99,9 +79,23 @@ fn main(rt: HostRuntime) -> ExitCode {
         }
         Err(_) => Vec::new(alloc),
     };
-    let Ok(coders) = boxes(alloc) else {
-        return ExitCode::from(want_memory(&mut sink));
-    };
+    // A function that handed out boxed coders would be refused: nothing could be told of what is in them.
+    let mut coders = Vec::new(alloc);
+    for role in [Role::Decode, Role::Encode] {
+        for _ in 0..BOXES {
+            for codec in CODECS {
+                if let Some(coding) = coding_of(codec) {
+                    let coder = match Box::new(alloc, SampleCoder::new(role, coding)) {
+                        Ok(coder) => CoderBox::of(coder),
+                        Err(_) => return ExitCode::from(want_memory(&mut sink)),
+                    };
+                    if coders.push(coder).is_err() {
+                        return ExitCode::from(want_memory(&mut sink));
+                    }
+                }
+            }
+        }
+    }
     let mut files = SystemFiles::new(&rt);
     ExitCode::from(top(alloc, &words, &mut files, &mut sink, coders))
 }

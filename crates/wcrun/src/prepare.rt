@@ -3,17 +3,18 @@ ghost use Rattle.std.specs.Prelude.{◌≡◌, ◌≤◌, ◌⊎◌, IfOk, IfErr
 ghost use Rattle.script_types.specs.Built.{unbuilt_in};
 ghost use Rattle.trace_text.specs.Missing.{missing_in};
 ghost use Rattle.wcrun.specs.Headline.{reading, ComesTo};
-ghost use Rattle.wcrun.specs.Outcome.{playable_of, Becomes, name_of, stop_by};
+ghost use Rattle.wc_script.specs.Faults.{IsOfScript};
+ghost use Rattle.wcrun.specs.Outcome.{playable_of, Becomes, name_of};
 ghost use Rattle.wcrun.specs.Outcome as spec;
 ghost use Rattle.wcrun.specs.Stops.{MayStop, MayStopFor};
+ghost use Rattle.script_types.specs.Reading.{Gives};
 
 use crate::built::unbuilt;
-use crate::stop::{Prepared, Stop};
-use crate::{Limited, Refusal};
-use media_files::{MediaFault, read_media};
-use script_types::{Place, Script};
+use crate::prepared::Prepared;
+use media_files::read_media;
+use script_types::{Counted, Fault, Place, Script, Stop, Wrong, copied, unread};
 use std::alloc::Global;
-use wc_base::{FileFault, Files, List, NoMemory, Text};
+use wc_base::{FileFault, Files, List};
 use wc_chunk::Chunk;
 use wc_replay::missing_chunk;
 use wc_script::read_script;
@@ -21,59 +22,50 @@ use wc_script::read_script;
 // The most bytes of a script file.
 const LIMIT: u64 = 16_777_216;
 
-fn copied(alloc: Global, text: &str) -> Result<Text, NoMemory>
-    ensures { IfOk result (λ t. t ≡ text.now) }
-{
-    match String::from_str(alloc, text) {
-        Ok(text) => Ok(Text::of(text)),
-        Err(_) => Err(NoMemory),
-    }
-}
-
-// The answer where the file of this name was not read.
-fn read_fault(alloc: Global, name: &str) -> Stop
-    ensures { result ≡ Stop.NoMemory ⊎ result ≡ Stop.Refused (Refusal.ReadFault name.now) }
-{
-    match copied(alloc, name) {
-        Ok(name) => Stop::Refused(Refusal::ReadFault(name)),
-        Err(_) => Stop::NoMemory,
-    }
-}
-
 // A script that can be replayed: it has an order, and is built.
-fn if_playable(script: Script) -> Result<Script, Stop>
+fn if_playable(script: Script) -> Result<Script, Stop<Fault>>
     ensures ok { IfOk result (λ s. spec.if_playable script.order script ≡ Ok s) }
     ensures order { IfOk result (λ s. IsSome s.order) }
     ensures built { IfOk result (λ s. unbuilt_in s ≡ None) }
+    ensures own { IfErr result (λ e. IsOfScript e) }
     ensures err { IfErr result (λ e. spec.if_playable script.order script ≡ Err e) }
 {
     if script.data().order.is_none() {
-        return Err(Stop::Refused(Refusal::Shape(Place::Top)));
+        return Err(Stop::Fault(Fault::At {
+            place: Place::Top,
+            wrong: Wrong::Shape,
+        }));
     }
     match unbuilt(&script) {
-        Some(place) => Err(Stop::Refused(Refusal::Unbuilt(place))),
+        Some(place) => Err(Stop::Fault(Fault::At {
+            place,
+            wrong: Wrong::Unbuilt,
+        })),
         None => Ok(script),
     }
 }
 
 // The script that bytes spell, where they are no more than a script may have.
-fn read_playable(alloc: Global, bytes: &[u8]) -> Result<Script, Stop>
+fn read_playable(alloc: Global, bytes: &[u8]) -> Result<Script, Stop<Fault>>
     requires { length bytes.now ≤ 16777216 }
-    ensures ok { IfOk result (λ s. playable_of bytes.now ≡ Ok s) }
+    ensures given { Gives result (playable_of bytes.now) }
     ensures order { IfOk result (λ s. IsSome s.order) }
     ensures built { IfOk result (λ s. unbuilt_in s ≡ None) }
-    ensures err { IfErr result (λ e. e ≢ Stop.NoMemory → playable_of bytes.now ≡ Err e) }
+    ensures own { IfErr result (λ e. IsOfScript e) }
 {
     let script = read_script(alloc, bytes)?;
     if_playable(script)
 }
 
 // The script of the file with this name, which can be replayed.
-fn read_named<F: Files>(alloc: Global, name: &str, files: &mut F) -> Result<Script, Stop>
+#[tactic(auto, using(crate::proofs::Stopping::script_stops, crate::proofs::Stopping::script_is_long))]
+fn read_named<F: Files>(alloc: Global, name: &str, files: &mut F) -> Result<Script, Stop<Fault>>
     ensures kept { F.content files.new ≡ F.content files.old }
     ensures faults { F.faults files.old ≤ F.faults files.new }
     ensures bytes { F.bytes_read files.old ≤ F.bytes_read files.new }
-    ensures ok { IfOk result (λ s. IfSome (F.content files.old) (λ held. IsSomeAnd (held name.now) (λ bytes. playable_of bytes ≡ Ok s))) }
+    ensures ok { IfOk result
+        (λ s. IfSome (F.content files.old)
+        (λ held. IsSomeAnd (held name.now) (λ bytes. playable_of bytes ≡ Ok s))) }
     ensures order { IfOk result (λ s. IsSome s.order) }
     ensures built { IfOk result (λ s. unbuilt_in s ≡ None) }
     ensures stop { IfErr result (λ e. MayStop (reading (Some name.now) (F.content files.old) (F.faults files.old) (F.faults files.new)
@@ -81,69 +73,54 @@ fn read_named<F: Files>(alloc: Global, name: &str, files: &mut F) -> Result<Scri
 {
     match files.read_all(alloc, name, LIMIT) {
         Ok(bytes) => read_playable(alloc, &bytes),
-        Err(FileFault::Failed) => Err(read_fault(alloc, name)),
-        Err(FileFault::TooLong) => Err(Stop::Refused(Refusal::Limit(Limited::Script))),
+        Err(FileFault::Failed) => Err(unread(alloc, name)),
+        Err(FileFault::TooLong) => Err(Stop::Fault(Fault::TooMany(Counted::Script))),
         Err(FileFault::NoMemory) => Err(Stop::NoMemory),
     }
 }
 
 // The name of a chunk file; an empty one where there is none of this number.
-fn file_name(alloc: Global, script: &Script, file: u64) -> Result<Text, NoMemory>
-    ensures { IfOk result (λ t. t ≡ name_of script.now file) }
+fn file_name(script: &Script, file: u32) -> &str
+    ensures { result.now ≡ name_of script.now file }
 {
     match script.files().get(file as usize) {
-        Some(name) => copied(alloc, name.as_str()),
-        None => copied(alloc, ""),
-    }
-}
-
-// The answer where the chunk files have a fault.
-fn media_fault(alloc: Global, script: &Script, fault: MediaFault) -> Stop
-    ensures { result ≡ Stop.NoMemory ⊎ result ≡ stop_by script.now fault }
-{
-    match fault {
-        MediaFault::Unread { file } => match file_name(alloc, script, file) {
-            Ok(name) => Stop::Refused(Refusal::ReadFault(name)),
-            Err(_) => Stop::NoMemory,
-        },
-        MediaFault::Chunks { file, fault } => match file_name(alloc, script, file) {
-            Ok(name) => Stop::Refused(Refusal::Chunks { name, fault }),
-            Err(_) => Stop::NoMemory,
-        },
-        MediaFault::LongFile => Stop::Refused(Refusal::Limit(Limited::File)),
-        MediaFault::LongChunk => Stop::Refused(Refusal::Limit(Limited::Chunk)),
-        MediaFault::MuchMedia => Stop::Refused(Refusal::Limit(Limited::Media)),
-        MediaFault::NoMemory => Stop::NoMemory,
+        Some(name) => name.as_str(),
+        None => "",
     }
 }
 
 // The answer where a chunk file lacks the chunk of a step.
-fn no_index(alloc: Global, script: &Script, file: u32, place: Place) -> Stop
-    ensures { result ≡ Stop.NoMemory ⊎ result ≡ Stop.Refused (Refusal.NoIndex (name_of script.now file) place) }
+fn no_index(alloc: Global, script: &Script, file: u32, place: Place) -> Stop<Fault>
+    ensures { result ≡ Stop.NoMemory
+        ⊎ result ≡ Stop.Fault (Fault.NoIndex (name_of script.now file) place) }
 {
-    match file_name(alloc, script, u64::from(file)) {
-        Ok(name) => Stop::Refused(Refusal::NoIndex { name, place }),
+    match copied(alloc, file_name(script, file)) {
+        Ok(name) => Stop::Fault(Fault::NoIndex { name, place }),
         Err(_) => Stop::NoMemory,
     }
 }
 
 // The chunks of the script's chunk files, in which each chunk that a step takes is there.
+#[tactic(auto, using(crate::proofs::Stopping::media_stops))]
 fn read_chunk_files<F: Files>(
     alloc: Global,
     script: &Script,
     files: &mut F,
-) -> Result<Vec<List<Chunk>>, Stop>
+) -> Result<Vec<List<Chunk>>, Stop<Fault>>
     ensures kept { F.content files.new ≡ F.content files.old }
     ensures faults { F.faults files.old ≤ F.faults files.new }
     ensures bytes { F.bytes_read files.old ≤ F.bytes_read files.new }
-    ensures ok { IfOk result (λ m. IfSome (F.content files.old) (λ held. Becomes held (Ok script.now) (Ok (record { script = script.now; media = m.items })))) }
+    ensures ok { IfOk result
+        (λ m. IfSome (F.content files.old)
+        (λ held.
+        Becomes held (Ok script.now) (Ok (record { script = script.now; media = m.items })))) }
     ensures each { IfOk result (λ m. length m.items ≡ length script.now.chunk_files) }
     ensures there { IfOk result (λ m. missing_in script.now m.items ≡ None) }
     ensures stop { IfErr result (λ e. MayStopFor (F.content files.old) script.now (F.faults files.old) (F.faults files.new)
         (F.bytes_read files.old) (F.bytes_read files.new) e) }
 {
     match read_media(alloc, script, files) {
-        Err(fault) => Err(media_fault(alloc, script, fault)),
+        Err(stop) => Err(stop),
         Ok(media) => match missing_chunk(script, &media) {
             Some((file, place)) => Err(no_index(alloc, script, file, place)),
             None => Ok(media),
@@ -152,7 +129,7 @@ fn read_chunk_files<F: Files>(
 }
 
 /// The script of the file with this name, and the chunks of its chunk files, where it can be replayed.
-pub fn prepare<F: Files>(alloc: Global, name: &str, files: &mut F) -> Result<Prepared, Stop>
+pub fn prepare<F: Files>(alloc: Global, name: &str, files: &mut F) -> Result<Prepared, Stop<Fault>>
     ensures ok { IfOk result (λ p. ComesTo (reading (Some name.now) (F.content files.old) (F.faults files.old) (F.faults files.new)
         (F.bytes_read files.old) (F.bytes_read files.new)) (Ok (record { script = p.script; media = p.media.items }))) }
     ensures order { IfOk result (λ p. IsSome p.script.order) }

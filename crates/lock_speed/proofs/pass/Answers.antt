@@ -1,5 +1,5 @@
 use Rattle.std.proofs.Common.{ap, ◌∙◌}
-use Rattle.seat_view.specs.declared.view.Passage.TheVariants.{Look}
+use Rattle.wc_base.specs.declared.seat.Passage.TheVariants.{Look}
 use Rattle.seat_lock.specs.Own.{view_of_passage}
 use Rattle.seat_lock.specs.Seats.{Sitting}
 use Rattle.lock_speed.specs.Passing.{mints_none, spends_none}

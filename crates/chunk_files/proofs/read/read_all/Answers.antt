@@ -6,7 +6,7 @@ use Rattle.chunk_files.proofs.Chunks.{read_more}
 use Rattle.chunk_files.proofs.read.read_all.Goals as goal
 
 pub returns-in-Some-clause-fault : goal.returns-in-Some-clause-fault
-returns-in-Some-clause-fault c = λ h.
+returns-in-Some-clause-fault c =
     let found : chunk_fault c.loop-at.at (drop c.loop-at.at c.args.bytes.now) ≡ Some c.in-Some.fault = sym (c.in-Some.ensures ∙ ap (chunk_fault c.loop-at.at) c.tail-rest.ensures) in
     fault_is_first _ _ c.loop-at.at _ (marks_agree c.args.bytes.now (omega (arith, c.if-agreeing-lt4.false, c.agreeing-agreeing.ensures))) c.loop-at.invariant.within c.loop-at.invariant.before found
 

@@ -1,5 +1,5 @@
 use Rattle.std.proofs.Common.{◌∙◌, subst}
-use Rattle.seat_view.specs.declared.view.Passage.{Passage}
+use Rattle.wc_base.specs.declared.seat.Passage.{Passage}
 use Rattle.seat_lock.specs.Own.{inside_of, passes_of}
 use Rattle.seat_lock.specs.Passages.{Passes}
 use Rattle.lock_tests.specs.declared.marks.Mark.{Mark}

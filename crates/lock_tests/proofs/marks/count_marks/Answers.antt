@@ -1,5 +1,5 @@
 use Rattle.std.proofs.Common.{rules, List, length, sym, ap, ◌∙◌}
-use Rattle.seat_view.specs.declared.view.Passage.TheVariants.{Look}
+use Rattle.wc_base.specs.declared.seat.Passage.TheVariants.{Look}
 use Rattle.seat_lock.specs.Logs.{entries_of}
 use Rattle.seat_lock.specs.Own.{inside_of, passes_of, view_of_passage}
 use Rattle.seat_lock.specs.Seats.{Sitting}

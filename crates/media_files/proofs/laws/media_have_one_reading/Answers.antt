@@ -4,4 +4,4 @@ use Rattle.media_files.proofs.OneReading.{one_media}
 use Rattle.media_files.proofs.laws.media_have_one_reading.Goals as goal
 
 pub returns : goal.returns
-returns c files s a b p q = one_media (record { file = c.bytes_have_one_reading.ensures.chunks; fault = c.bytes_have_one_reading.ensures.fault; apart = c.bytes_have_one_reading.ensures.apart }) files s.chunk_files (most_media - s.inline) 0 a b p q
+returns c files s a b p q = one_media (record { file = c.bytes_have_one_reading.ensures.chunks; fault = c.bytes_have_one_reading.ensures.fault; apart = c.bytes_have_one_reading.ensures.apart }) files s.chunk_files (most_media - s.inline) a b p q

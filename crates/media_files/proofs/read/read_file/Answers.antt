@@ -7,4 +7,4 @@ pub returns-in-Err-TooLong-clause-err : goal.returns-in-Err-TooLong-clause-err
 returns-in-Err-TooLong-clause-err g c =
     let h = c.in-Err-TooLong.field-0-is in
     let q : c.in-Err-TooLong.field-0 ≡ fault.TooLong = cc in
-    too_long (g.F.Files.content c.args.files.now) c.args.room c.args.n c.args.name.now (g.F.Files.bytes_read c.args.files.now) (g.F.Files.bytes_read c.read_all.new.self) (c.in-Err-TooLong.ensures.too_long (ap Err q))
+    too_long (g.F.Files.content c.args.files.now) c.args.room c.args.name.now (g.F.Files.bytes_read c.args.files.now) (g.F.Files.bytes_read c.read_all.new.self) (c.in-Err-TooLong.ensures.too_long (ap Err q))

@@ -7,16 +7,16 @@ use Rattle.media_files.proofs.read.read_media.Goals as goal
 
 pub returns-in-Err-clause-err : goal.returns-in-Err-clause-err
 returns-in-Err-clause-err g c =
-    fails (g.F.Files.content c.args.files.now) c.args.script.now c.loop-n.room c.loop-n.n c.as_str.result.now c.loop-n.made.items _ (g.F.Files.faults c.loop-n.files) _ _ (g.F.Files.bytes_read c.loop-n.files) _ c.in-Err.fault
+    fails (g.F.Files.content c.args.files.now) c.args.script.now c.loop-n.room c.loop-n.n c.as_str.result.now c.loop-n.made.items _ (g.F.Files.faults c.loop-n.files) _ _ (g.F.Files.bytes_read c.loop-n.files) _ c.in-Err.stop
     (omega (arith, ap length c.files-name-items.ensures.files)) (search rules) c.loop-n.invariant.faults c.loop-n.invariant.bytes
-    (subst (λ o. MayFailAt o c.loop-n.room c.loop-n.n c.as_str.result.now (g.F.Files.faults c.loop-n.files) (g.F.Files.faults c.read_file.new.files) (g.F.Files.bytes_read c.loop-n.files) (g.F.Files.bytes_read c.read_file.new.files) c.in-Err.fault) c.loop-n.invariant.kept c.in-Err.ensures.err)
+    (subst (λ o. MayFailAt o c.loop-n.room c.as_str.result.now (g.F.Files.faults c.loop-n.files) (g.F.Files.faults c.read_file.new.files) (g.F.Files.bytes_read c.loop-n.files) (g.F.Files.bytes_read c.read_file.new.files) c.in-Err.stop) c.loop-n.invariant.kept c.in-Err.ensures.err)
     c.loop-n.invariant.continues
 
 pub loop-n-preserved : goal.loop-n-preserved
 loop-n-preserved g c =
     let went : Continues (g.F.Files.content c.args.files.now) (268435456 - c.args.script.now.inline) c.args.script.now.chunk_files c.in-Ok.left (c.loop-n.n + 1) (c.loop-n.made.items ++ c.in-Ok.chunks ∷ []) =
     goes_on (g.F.Files.content c.args.files.now) (268435456 - c.args.script.now.inline) c.args.script.now.chunk_files c.loop-n.room c.loop-n.n c.as_str.result.now c.loop-n.made.items c.in-Ok.chunks c.in-Ok.left (omega (arith, ap length c.files-name-items.ensures.files)) (search rules) c.in-Ok.ensures.left
-    (subst (λ o. IfSome o (λ files. FileGives c.loop-n.room c.loop-n.n (files c.as_str.result.now) (Ok c.in-Ok.chunks))) c.loop-n.invariant.kept c.in-Ok.ensures.ok)
+    (subst (λ o. IfSome o (λ files. FileGives c.loop-n.room c.as_str.result.now (files c.as_str.result.now) (Ok c.in-Ok.chunks))) c.loop-n.invariant.kept c.in-Ok.ensures.ok)
     c.loop-n.invariant.continues in
     record {
       kept = search rules;

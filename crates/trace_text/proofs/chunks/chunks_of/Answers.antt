@@ -1,5 +1,5 @@
 use Rattle.std.proofs.Common.{sym, ◌∙◌}
-use Rattle.trace_text.proofs.Places.{at_read, at_past}
+use Rattle.codec_accounts.specs.Places.{at_read, at_past}
 use Rattle.trace_text.proofs.chunks.chunks_of.Goals as goal
 
 pub returns-in-Some : goal.returns-in-Some

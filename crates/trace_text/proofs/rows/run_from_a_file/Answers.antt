@@ -2,7 +2,7 @@
 use Rattle.std.proofs.Common.{refl, false, [], ◌∷◌, Some, None}
 use Rattle.wc_base.specs.declared.who.By.TheVariants as by
 use Rattle.codec_model.specs.Rows.{four, ordinary}
-use Rattle.trace_text.specs.Rows.{coder, results, acquired}
+use Rattle.trace_text.specs.Rows.{coder, results, acquire_entry}
 use Rattle.trace_text.proofs.rows.run_from_a_file.Goals as goal
 
 pub returns-clause-follows : goal.returns-clause-follows
@@ -10,7 +10,7 @@ returns-clause-follows c = record {
   course = record {
     callers = results ∷ [];
     codecs = record { opening = four; history = ordinary; holding = record { box = Some (record { id = coder; number = 0; by = by.Codec 0 3 }); refusal = None } } ∷ [];
-    slots = record { made = coder ∷ []; history = acquired ∷ [] };
+    slots = record { made = coder ∷ []; history = acquire_entry ∷ [] };
   };
   follows = (false, (false, (false, (false, (false, (false, (false, (false, (false, (false, (false, (false, (false, (false, (false, (false, refl))))))))))))))));
   is_recorded = refl;

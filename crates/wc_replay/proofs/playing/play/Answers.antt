@@ -1,7 +1,6 @@
-use Rattle.std.proofs.Common.{◌≡◌, List, map, ap, sym, subst, ◌∙◌}
+use Rattle.std.proofs.Common.{List, map, ap, sym, subst, ◌∙◌}
 use Rattle.std.proofs.lemmas.Result.{IfOk-weaker}
 use Rattle.wc_config.specs.declared.codec.CoderId.{CoderId}
-use Rattle.slot_registry.specs.Slots.{SlotsValue}
 use Rattle.trace_text.specs.declared.run.Run.{Run}
 use Rattle.trace_text.specs.Fits.{FollowsTheOrder}
 use Rattle.trace_text.specs.Follow.{order_items, Course, Follows, nothing_yet}

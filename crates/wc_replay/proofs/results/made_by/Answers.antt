@@ -1,5 +1,5 @@
 use Rattle.std.proofs.Common.{length, ap, sym, ◌∙◌}
-use Rattle.trace_text.proofs.Places.{at_read, at_past}
+use Rattle.codec_accounts.specs.Places.{at_read, at_past}
 use Rattle.wc_replay.proofs.results.made_by.Goals as goal
 
 pub returns-in-Some : goal.returns-in-Some

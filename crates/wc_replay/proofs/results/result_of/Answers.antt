@@ -1,7 +1,7 @@
 use Rattle.std.proofs.Common.{List, ap, sym, ◌∙◌}
 use Rattle.std.specs.Prelude.{slice_get}
 use Rattle.report_text.specs.declared.result.StepResult.{StepResult}
-use Rattle.trace_text.proofs.Places.{at_read, at_past}
+use Rattle.codec_accounts.specs.Places.{at_read, at_past}
 use Rattle.wc_replay.proofs.results.result_of.Goals as goal
 
 pub returns-in-Some : goal.returns-in-Some

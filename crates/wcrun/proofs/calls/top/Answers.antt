@@ -1,47 +1,17 @@
-use Rattle.std.proofs.Common.{◌≡◌, refl}
-use Rattle.wcrun.specs.declared.stop.Stop.TheVariants as stop
+use Rattle.std.proofs.Common.{sym}
 use Rattle.wcrun.specs.Words.{words_of, command_of}
-use Rattle.wcrun.specs.Headline.{Reading, reading, writing}
-use Rattle.wcrun.proofs.Headlines.{headline_of_report, headline_of_refusal, headline_of_memory, stop_comes}
-use Rattle.wcrun.proofs.Outcomes.{decides_report, complete_report, decides_refusal, complete_refusal, decides_memory, complete_memory}
+use Rattle.wcrun.specs.Headline.{reading, writing}
+use Rattle.wcrun.proofs.Headlines.{headline_of_usage}
+use Rattle.wcrun.proofs.Outcomes.{decides_usage, complete_usage}
 use Rattle.wcrun.proofs.calls.top.Goals as goal
 
-pub returns-in-Ok-clause-headline : goal.returns-in-Ok-clause-headline
-returns-in-Ok-clause-headline g c =
-    headline_of_report _ _ _ _ (record { ready = record { script = c.in-Ok.done.prepared.script; media = c.in-Ok.done.prepared.media.items }; run = c.in-Ok.done.run; ran = c.in-Ok.ensures.ok; whole = refl }) c.report.ensures
+pub returns-in-None-clause-headline : goal.returns-in-None-clause-headline
+returns-in-None-clause-headline g c = headline_of_usage _ _ _ (sym c.in-None.ensures) c.usage.ensures
 
-pub returns-in-Ok-clause-decided : goal.returns-in-Ok-clause-decided
-returns-in-Ok-clause-decided g c = decides_report c.media_have_one_reading.ensures _ _ (record { script = c.in-Ok.done.prepared.script; media = c.in-Ok.done.prepared.media.items }) _ c.in-Ok.ensures.ok.spelled c.report.ensures
+pub returns-in-None-clause-decided : goal.returns-in-None-clause-decided
+returns-in-None-clause-decided g c = decides_usage _ _ (sym c.in-None.ensures) c.usage.ensures
 
-pub returns-in-Ok-clause-complete : goal.returns-in-Ok-clause-complete
-returns-in-Ok-clause-complete g c = complete_report (reading (command_of (words_of c.args.words.now)) (g.F.Files.content c.args.files.now) (g.F.Files.faults c.args.files.now) (g.F.Files.faults c.replayed.new.files) (g.F.Files.bytes_read c.args.files.now) (g.F.Files.bytes_read c.replayed.new.files)) (writing (g.S.Sink.told c.args.sink.now) (g.S.Sink.told c.report.new.sink) (g.S.Sink.faults c.args.sink.now) (g.S.Sink.faults c.report.new.sink) c.report.result) _ c.report.ensures
-
-pub returns-in-Err-Refused-clause-headline : goal.returns-in-Err-Refused-clause-headline
-returns-in-Err-Refused-clause-headline g c =
-    let h = c.in-Err-Refused.field-0-is in
-    let q : c.in-Err-Refused.field-0 ≡ stop.Refused c.in-Err-Refused.refusal = cc in
-    let r : Reading = reading (command_of (words_of c.args.words.now)) (g.F.Files.content c.args.files.now) (g.F.Files.faults c.args.files.now) (g.F.Files.faults c.replayed.new.files) (g.F.Files.bytes_read c.args.files.now) (g.F.Files.bytes_read c.replayed.new.files) in
-    headline_of_refusal r _ _ c.in-Err-Refused.refusal (stop_comes r c.in-Err-Refused.field-0 c.in-Err-Refused.refusal q c.in-Err-Refused.ensures.stop) c.refuse.ensures
-
-pub returns-in-Err-Refused-clause-decided : goal.returns-in-Err-Refused-clause-decided
-returns-in-Err-Refused-clause-decided g c =
-    let h = c.in-Err-Refused.field-0-is in
-    let q : c.in-Err-Refused.field-0 ≡ stop.Refused c.in-Err-Refused.refusal = cc in
-    let r : Reading = reading (command_of (words_of c.args.words.now)) (g.F.Files.content c.args.files.now) (g.F.Files.faults c.args.files.now) (g.F.Files.faults c.replayed.new.files) (g.F.Files.bytes_read c.args.files.now) (g.F.Files.bytes_read c.replayed.new.files) in
-    decides_refusal c.media_have_one_reading.ensures r _ c.in-Err-Refused.refusal (stop_comes r c.in-Err-Refused.field-0 c.in-Err-Refused.refusal q c.in-Err-Refused.ensures.stop) c.refuse.ensures
-
-pub returns-in-Err-Refused-clause-complete : goal.returns-in-Err-Refused-clause-complete
-returns-in-Err-Refused-clause-complete g c =
-    let h = c.in-Err-Refused.field-0-is in
-    let q : c.in-Err-Refused.field-0 ≡ stop.Refused c.in-Err-Refused.refusal = cc in
-    let r : Reading = reading (command_of (words_of c.args.words.now)) (g.F.Files.content c.args.files.now) (g.F.Files.faults c.args.files.now) (g.F.Files.faults c.replayed.new.files) (g.F.Files.bytes_read c.args.files.now) (g.F.Files.bytes_read c.replayed.new.files) in
-    complete_refusal c.media_have_one_reading.ensures r (writing (g.S.Sink.told c.args.sink.now) (g.S.Sink.told c.refuse.new.sink) (g.S.Sink.faults c.args.sink.now) (g.S.Sink.faults c.refuse.new.sink) c.refuse.result) c.in-Err-Refused.refusal (stop_comes r c.in-Err-Refused.field-0 c.in-Err-Refused.refusal q c.in-Err-Refused.ensures.stop)
-
-pub returns-in-Err-NoMemory-clause-headline : goal.returns-in-Err-NoMemory-clause-headline
-returns-in-Err-NoMemory-clause-headline g c = headline_of_memory _ _ _ c.want_memory.ensures
-
-pub returns-in-Err-NoMemory-clause-decided : goal.returns-in-Err-NoMemory-clause-decided
-returns-in-Err-NoMemory-clause-decided g c = decides_memory _ _ c.want_memory.ensures
-
-pub returns-in-Err-NoMemory-clause-complete : goal.returns-in-Err-NoMemory-clause-complete
-returns-in-Err-NoMemory-clause-complete g c = complete_memory (reading (command_of (words_of c.args.words.now)) (g.F.Files.content c.args.files.now) (g.F.Files.faults c.args.files.now) (g.F.Files.faults c.replayed.new.files) (g.F.Files.bytes_read c.args.files.now) (g.F.Files.bytes_read c.replayed.new.files)) (writing (g.S.Sink.told c.args.sink.now) (g.S.Sink.told c.want_memory.new.sink) (g.S.Sink.faults c.args.sink.now) (g.S.Sink.faults c.want_memory.new.sink) c.want_memory.result) c.want_memory.ensures
+pub returns-in-None-clause-complete : goal.returns-in-None-clause-complete
+returns-in-None-clause-complete g c =
+    complete_usage (reading (command_of (words_of c.args.words.now)) (g.F.Files.content c.args.files.now) (g.F.Files.faults c.args.files.now) (g.F.Files.faults c.args.files.now) (g.F.Files.bytes_read c.args.files.now) (g.F.Files.bytes_read c.args.files.now))
+    (writing (g.S.Sink.told c.args.sink.now) (g.S.Sink.told c.usage.new.sink) (g.S.Sink.faults c.args.sink.now) (g.S.Sink.faults c.usage.new.sink) c.usage.result) (sym c.in-None.ensures)

@@ -1,6 +1,6 @@
 use Rattle.std.proofs.Common.{subst}
 use Rattle.wcrun.specs.Stops.{MayStopFor}
-use Rattle.wcrun.proofs.Prepared.{stops}
+use Rattle.wcrun.proofs.Stopping.{stops}
 use Rattle.wcrun.proofs.prepare.prepare.Goals as goal
 
 pub returns-in-Err-clause-stop : goal.returns-in-Err-clause-stop

@@ -1,4 +1,3 @@
-use Rattle.codec_model.proofs.FactLaws.{all_facts}
 use Rattle.codec_core.proofs.Steps.{state_is}
 use Rattle.codec_core.proofs.codec.Core.history.Goals as goal
 
@@ -6,4 +5,4 @@ pub returns-clause-facts : goal.returns-clause-facts
 returns-clause-facts g c =
     let kept = c.self.invariant.kept in
     rw (← c.self.view_is, state_is c.self.inside.trace.entries c.self.inside.slot c.self.inside.machine c.self.inside.spare kept)
-    (all_facts c.self.inside.machine.opening c.self.inside.trace.entries kept.state kept.some_saturate kept.replays)
+    (c.never_stuck.ensures.facts c.self.inside.machine.opening c.self.inside.trace.entries kept.state kept.some_saturate kept.replays)

@@ -12,7 +12,7 @@ pub remove-answer-requires : goal.remove-answer-requires
 remove-answer-requires g c = next_fits c.self.inside.trace c.self.inside.slot c.self.inside.machine c.self.inside.spare c.self.invariant
 
 pub push-requires-clause-ends : goal.push-requires-clause-ends
-push-requires-clause-ends g c = removal_ends c.self.inside.trace.entries c.self.inside.slot c.self.inside.machine _ c.self.invariant.kept c.remove-answer.ensures.answer.is_shown
+push-requires-clause-ends g c = removal_ends c.never_stuck.ensures.facts c.self.inside.trace.entries c.self.inside.slot c.self.inside.machine _ c.self.invariant.kept c.remove-answer.ensures.answer.is_shown
 
 after_is : (g : Over) (c : goal.After-push g) → c.remove-answer.new.self ≡ removal_of (removal_error c.self.inside.machine) c.args.removal c.self.inside.machine
 after_is g c = removal_after (removal_error c.self.inside.machine) c.args.removal c.self.inside.machine c.remove-answer.new.self c.remove-answer.ensures.made c.remove-answer.ensures.refused

@@ -10,7 +10,7 @@ pub reclaim-requires : goal.reclaim-requires
 reclaim-requires g c = next_fits c.self.inside.trace c.self.inside.slot c.self.inside.machine c.self.inside.spare c.self.invariant
 
 pub push-requires-clause-ends : goal.push-requires-clause-ends
-push-requires-clause-ends g c = reclaim_ends c.self.inside.trace.entries c.self.inside.slot c.self.inside.machine _ c.self.invariant.kept c.in_ok-answer.ensures.answer.is_shown
+push-requires-clause-ends g c = reclaim_ends c.never_stuck.ensures.facts c.self.inside.trace.entries c.self.inside.slot c.self.inside.machine _ c.self.invariant.kept c.in_ok-answer.ensures.answer.is_shown
 
 moved : (g : Over) (c : goal.After-push g) → Moved None (entry.Reclaim c.args.now) c.self.invariant.kept.state c.reclaim.new.self
 moved g c = reclaim_moves c.self.inside.trace.entries c.self.inside.slot c.self.inside.machine c.reclaim.new.self c.args.now c.self.invariant.kept c.in_ok-answer.ensures.may c.in_ok-answer.ensures.made

@@ -15,7 +15,7 @@ pub turn-requires : goal.turn-requires
 turn-requires g c = next_fits c.self.inside.trace c.self.inside.slot c.self.inside.machine c.self.inside.spare c.self.invariant
 
 pub push-requires-clause-ends : goal.push-requires-clause-ends
-push-requires-clause-ends g c = turn_ends c.self.inside.trace.entries c.self.inside.slot c.self.inside.machine _ c.self.invariant.kept c.in_ok-answer.ensures.answer.is_shown
+push-requires-clause-ends g c = turn_ends c.never_stuck.ensures.facts c.self.inside.trace.entries c.self.inside.slot c.self.inside.machine _ c.self.invariant.kept c.in_ok-answer.ensures.answer.is_shown
 
 closes_is : (g : Over) (c : goal.After-push g) → turn_closes c.self.inside.machine.tasks ≡ Some c.closes-closes.result
 closes_is g c = sym c.in_ok-answer.ensures.closes ∙ ap (λ (b : Bool). Some b) (sym c.closes-closes.ensures)

@@ -3,8 +3,8 @@ use Rattle.seat_lock.proofs.Ends.{settles_union, phase_of_union}
 use Rattle.seat_lock.proofs.Seats.{joins, settles}
 use Rattle.seat_lock.proofs.lock.SeatLock.join_token.Goals as goal
 use Rattle.seat_lock.specs.Passages.{IsUnion}
-use Rattle.seat_view.specs.declared.view.Phase.TheVariants.{Token}
-use Rattle.seat_view.specs.declared.view.View.{View}
+use Rattle.wc_base.specs.declared.seat.Phase.TheVariants.{Token}
+use Rattle.wc_base.specs.declared.seat.View.{View}
 
 pub join_seat-requires : goal.join_seat-requires
 join_seat-requires g c =

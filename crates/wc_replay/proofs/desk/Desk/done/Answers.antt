@@ -1,4 +1,4 @@
-use Rattle.std.proofs.Common.{◌≡◌, sym, ◌∙◌, ap, subst, Option, Some, None, ℕ}
+use Rattle.std.proofs.Common.{◌≡◌, sym, ◌∙◌, ap, subst, Option, Some, ℕ}
 use Rattle.codec_model.specs.Control.{kind_of}
 use Rattle.codec_model.specs.Replay.{answer_to}
 use Rattle.codec_core.specs.Codec.{BackValue, state_at}

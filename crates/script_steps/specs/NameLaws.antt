@@ -13,12 +13,14 @@ use Rattle.script_types.specs.declared.steps.VariableKind.{VariableKind}
 use Rattle.script_types.specs.declared.steps.VariableKind.TheVariants as holds
 use Rattle.script_types.specs.Names.{is_name, codec_at, codec_named, variable_named, is_variable_name}
 use Rattle.script_types.specs.Sound.{is_free, is_codec, is_codec_kind, is_variable, is_found, same_kind}
-use Rattle.script_steps.specs.declared.wrong.Wrong.{Wrong}
-use Rattle.script_steps.specs.declared.wrong.Wrong.TheVariants as wrong
+use Rattle.chunk_files.specs.declared.fault.Stop.{Stop}
+use Rattle.script_types.specs.declared.fault.Wrong.{Wrong}
+use Rattle.chunk_files.specs.declared.fault.Stop.TheVariants as stop
+use Rattle.script_types.specs.declared.fault.Wrong.TheVariants as wrong
 use Rattle.script_steps.specs.Members.{checked_name, name_in, text_in, known}
 use Rattle.script_steps.specs.declared.references.Needed.{Needed}
 use Rattle.script_steps.specs.References.{is_right, unused, codec_if, variable_if, variable_of}
-use Rattle.script_steps.proofs.Chains.{same_Ok, needed_some, known_some, expected_right, all_true}
+use Rattle.script_steps.specs.Chains.{same_Ok, needed_some, known_some, expected_right, all_true}
 
 -- ---- new names
 
@@ -35,7 +37,7 @@ named (Some text) name h =
 pub name_is_name : (key name : List ℕ) (d : Data) → name_in key d ≡ Ok name → is_name name ≡ true
 name_is_name key name d h = named (text_in key d) name (needed_some _ name h)
 
-free_if : (b : Bool) (name bind : List ℕ) → Path (Result (List ℕ) Wrong) (if b then Err wrong.Twice else Ok name) (Ok bind) → (not b ≡ true) × (name ≡ bind)
+free_if : (b : Bool) (name bind : List ℕ) → Path (Result (List ℕ) (Stop Wrong)) (if b then Err (stop.Fault wrong.Twice) else Ok name) (Ok bind) → (not b ≡ true) × (name ≡ bind)
 free_if true name bind h = absurd cc
 free_if false name bind h = (refl, same_Ok name bind h)
 

@@ -1,8 +1,10 @@
 -- What is known of a chain of tests that ended well.
 use Rattle.std.proofs.Common.{◌≡◌, Bool, true, false, if◌then◌else◌, ◌&&◌, Option, Some, None, Result, Ok, Err, refl, sym, ap, ◌∙◌}
 use Rattle.std.proofs.lemmas.Option.{same_Some}
-use Rattle.script_steps.specs.declared.wrong.Wrong.{Wrong}
-use Rattle.script_steps.specs.declared.wrong.Wrong.TheVariants as wrong
+use Rattle.chunk_files.specs.declared.fault.Stop.{Stop}
+use Rattle.script_types.specs.declared.fault.Wrong.{Wrong}
+use Rattle.chunk_files.specs.declared.fault.Stop.TheVariants as stop
+use Rattle.script_types.specs.declared.fault.Wrong.TheVariants as wrong
 use Rattle.script_steps.specs.Members.{and_then, needed, known, expected}
 
 abbrev value_or : {A E : Type 0} → A → Result A E → A
@@ -13,12 +15,12 @@ pub same_Ok : {A E : Type 0} (x y : A) → Path (Result A E) (Ok x) (Ok y) → x
 same_Ok {A} {E} x y h = ap (value_or {A = A} {E = E} x) h
 
 -- the first test gave a value, and the rest went on with it
-pub record Chain {A B : Type 0} (r : Result A Wrong) (f : A → Result B Wrong) (b : B) : Type 0 where
+pub record Chain {A B : Type 0} (r : Result A (Stop Wrong)) (f : A → Result B (Stop Wrong)) (b : B) : Type 0 where
   pub value : A
   pub first : r ≡ Ok value
   pub rest : f value ≡ Ok b
 
-pub chain : {A B : Type 0} (r : Result A Wrong) (f : A → Result B Wrong) (b : B) → and_then r f ≡ Ok b → Chain r f b
+pub chain : {A B : Type 0} (r : Result A (Stop Wrong)) (f : A → Result B (Stop Wrong)) (b : B) → and_then r f ≡ Ok b → Chain r f b
 chain (Ok a) f b h = record { value = a; first = refl; rest = h }
 chain (Err e) f b h = absurd cc
 
@@ -34,7 +36,7 @@ abbrev Found : {A : Type 0} → (A → Bool) → Option A → A → Type 0
 Found right o a = (o ≡ Some a) × (right a ≡ true)
 
 right_if : {A : Type 0} (right : A → Bool) (x y : A) (b : Bool) (m : Option A) → right x ≡ b
-    → Path (Result (Option A) Wrong) (if b then Ok (Some x) else Err wrong.Shape) (Ok m) → known m ≡ Ok y → Found right (Some x) y
+    → Path (Result (Option A) (Stop Wrong)) (if b then Ok (Some x) else Err (stop.Fault wrong.Shape)) (Ok m) → known m ≡ Ok y → Found right (Some x) y
 right_if right x y true m r h k =
     let e : x ≡ y = same_Some x y (same_Ok (Some x) m h ∙ known_some m y k) in
     (ap (λ z. Some z) e, ap right (sym e) ∙ r)

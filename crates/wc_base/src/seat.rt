@@ -1,4 +1,4 @@
-//! Passages, views and tokens.
+//! What a seat at a lock knows, and the tokens that hold single claims. The locks themselves stand in `seat_lock`.
 use atomic_table::Badge;
 use std::collections::LinkedList;
 

@@ -1,9 +1,9 @@
 -- Logs of passages, and tokens.
 use Rattle.std.specs.Prelude.{◌≡◌, ℕ, List, [], ◌∷◌}
 use Rattle.atomic_table.specs.declared.badge.Badge.{Badge}
-use Rattle.seat_view.specs.declared.view.Passage.{Passage}
-use Rattle.seat_view.specs.declared.view.Phase.TheVariants.{Token}
-use Rattle.seat_view.specs.declared.view.View.{View}
+use Rattle.wc_base.specs.declared.seat.Passage.{Passage}
+use Rattle.wc_base.specs.declared.seat.Phase.TheVariants.{Token}
+use Rattle.wc_base.specs.declared.seat.View.{View}
 
 -- passages, each with the number of its seat
 abbrev pub Log : Type 0 → Type 0

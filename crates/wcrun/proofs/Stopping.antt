@@ -1,0 +1,108 @@
+-- How a script is read, from its file and its chunk files.
+use Rattle.std.proofs.Common.{◌≡◌, ◌≢◌, ◌<◌, ◌≤◌, inr, ℕ, List, length, Bool, true, false, Option, Some, None, IfSome, Result, Ok, Err, refl, sym, ap, subst, ◌∙◌, arith}
+use Rattle.std.specs.Prelude.{IsSomeAnd, MatchOption, nat_lt, if◌then◌else◌}
+use Rattle.wc_base.specs.Causes.{RoseBy}
+use Rattle.script_types.specs.declared.fault.Counted.TheVariants as counted
+use Rattle.script_types.specs.declared.fault.Fault.{Fault}
+use Rattle.script_types.specs.declared.fault.Fault.TheVariants as fault
+use Rattle.chunk_files.specs.declared.fault.Stop.{Stop}
+use Rattle.chunk_files.specs.declared.fault.Stop.TheVariants as stop
+use Rattle.script_types.specs.declared.script.ScriptData.{ScriptData}
+use Rattle.media_files.specs.Media.{GivesMedia, IsMentioned, MayFail}
+use Rattle.wc_script.specs.Faults.{IsOfScript}
+use Rattle.wc_script.specs.Read.{script_of}
+use Rattle.wcrun.specs.Headline.{Reading, reading, Holding, ComesTo, Comes}
+use Rattle.wcrun.specs.Outcome.{Outcome, playable_of, if_spelled, Becomes, IsOutcome}
+use Rattle.wcrun.specs.Stops.{MayStop, MayStopFor}
+use Rattle.wcrun.proofs.Files.{rose_since}
+
+-- the script of the named file, where it can be replayed
+abbrev pub Spells : Option Holding → List ℕ → ScriptData → Type 0
+Spells content name s = IfSome content (λ held. IsSomeAnd (held name) (λ bytes. playable_of bytes ≡ Ok s))
+
+at_name : (held : Holding) (s : ScriptData) (outcome : Outcome) (b : Option (List ℕ)) → IsSomeAnd b (λ bytes. playable_of bytes ≡ Ok s) → Becomes held (Ok s) outcome → IsSomeAnd b (λ bytes. IsOutcome held bytes outcome)
+at_name held s outcome None h g = elim h [ ]
+at_name held s outcome (Some bytes) h g = subst (λ p. Becomes held p outcome) (sym h) g
+
+pub comes_to : (content : Option Holding) (name : List ℕ) (s : ScriptData) (outcome : Outcome) → Spells content name s → IfSome content (λ held. Becomes held (Ok s) outcome) → IfSome content (λ files. IsSomeAnd (files name) (λ bytes. IsOutcome files bytes outcome))
+comes_to None name s outcome h g = tt
+comes_to (Some held) name s outcome h g = at_name held s outcome (held name) h g
+
+long_file : (content : Option Holding) (name : List ℕ) (s : ScriptData) (outcome : Outcome) (a b c : ℕ) → a ≤ b → Spells content name s → MatchOption content (RoseBy 268435457 b c) (λ held. Becomes held (Ok s) outcome) → MatchOption content (RoseBy 268435457 a c) (λ files. IsSomeAnd (files name) (λ bytes. IsOutcome files bytes outcome))
+long_file None name s outcome a b c le h g = rose_since 268435457 a b c le g
+long_file (Some held) name s outcome a b c le h g = at_name held s outcome (held name) h g
+
+named_at : (s : ScriptData) (name : List ℕ) (b : Option (List ℕ)) → IsSomeAnd b (λ bytes. playable_of bytes ≡ Ok s) → IsMentioned name s → IsSomeAnd b (λ bytes. (t : ScriptData) × (playable_of bytes ≡ Ok t) × IsMentioned name t)
+named_at s name None h m = elim h [ ]
+named_at s name (Some bytes) h m = (s, h, m)
+
+named_in : (content : Option Holding) (file name : List ℕ) (s : ScriptData) → Spells content file s → IsMentioned name s → IfSome content (λ held. IsSomeAnd (held file) (λ bytes. (t : ScriptData) × (playable_of bytes ≡ Ok t) × IsMentioned name t))
+named_in None file name s h m = tt
+named_in (Some held) file name s h m = named_at s name (held file) h m
+
+-- why there is no replay of a script that can be replayed
+pub stops : (content : Option Holding) (name : List ℕ) (s : ScriptData) (fa fb fc ba bb bc : ℕ) (e : Stop Fault) → fa ≤ fb → ba ≤ bb → Spells content name s
+    → MayStopFor content s fb fc bb bc e → MayStop (reading (Some name) content fa fc ba bc) e
+stops content name s fa fb fc ba bb bc stop.NoMemory le le' h g = tt
+stops content name s fa fb fc ba bb bc (stop.Fault (fault.Unread n)) le le' h (m, rose) = (inr (named_in content name n s h m), rose_since 1 fa fb fc le rose)
+stops content name s fa fb fc ba bb bc (stop.Fault (fault.TooMany counted.Script)) le le' h g = elim g [ ]
+stops content name s fa fb fc ba bb bc (stop.Fault (fault.TooMany counted.File)) le le' h g = long_file content name s _ ba bb bc le' h g
+stops content name s fa fb fc ba bb bc (stop.Fault x) le le' h g = comes_to content name s _ h g
+
+-- ---- the chunk files
+
+becomes : (content : Option Holding) (s : ScriptData) (e : Stop Fault) → IfSome content (λ files. GivesMedia files s (Err e)) → IfSome content (λ files. Becomes files (Ok s) (Err e))
+becomes None s e h = tt
+becomes (Some files) s e h = (Err e, h, refl)
+
+long_becomes : (content : Option Holding) (s : ScriptData) (e : Stop Fault) (P : Type 0) → MatchOption content P (λ files. GivesMedia files s (Err e))
+    → MatchOption content P (λ files. Becomes files (Ok s) (Err e))
+long_becomes None s e P h = h
+long_becomes (Some files) s e P h = (Err e, h, refl)
+
+-- a fault of the chunk files
+pub media_stops : (content : Option Holding) (s : ScriptData) (fb fc bb bc : ℕ) (e : Stop Fault) → MayFail content s fb fc bb bc e → MayStopFor content s fb fc bb bc e
+media_stops content s fb fc bb bc stop.NoMemory h = tt
+media_stops content s fb fc bb bc (stop.Fault (fault.Unread n)) h = h
+media_stops content s fb fc bb bc (stop.Fault (fault.TooMany counted.File)) h = long_becomes content s _ _ h
+media_stops content s fb fc bb bc (stop.Fault (fault.Chunks n f)) h = becomes content s _ h
+media_stops content s fb fc bb bc (stop.Fault (fault.TooMany counted.Chunk)) h = becomes content s _ h
+media_stops content s fb fc bb bc (stop.Fault (fault.TooMany counted.Media)) h = becomes content s _ h
+media_stops content s fb fc bb bc e h = elim h [ ]
+
+-- ---- a script that can not be replayed
+
+refused_at : (held : Holding) (e : Stop Fault) (bytes : List ℕ) (b : Option (List ℕ)) → b ≡ Some bytes → playable_of bytes ≡ Err e → IsSomeAnd b (λ bytes. IsOutcome held bytes (Err e))
+refused_at held e bytes b is q = subst (λ o. IsSomeAnd o (λ bytes. IsOutcome held bytes (Err e))) (sym is) (subst (λ p. Becomes held p (Err e)) (sym q) refl)
+
+refused_in : (content : Option Holding) (name bytes : List ℕ) (e : Stop Fault) → IfSome content (λ held. held name ≡ Some bytes) → playable_of bytes ≡ Err e
+    → IfSome content (λ files. IsSomeAnd (files name) (λ bytes. IsOutcome files bytes (Err e)))
+refused_in None name bytes e h q = tt
+refused_in (Some held) name bytes e h q = refused_at held e bytes (held name) h q
+
+by_script : (r : Reading) (x : Fault) → IsOfScript (stop.Fault x) → ComesTo r (Err (stop.Fault x)) → Comes r x
+by_script r (fault.Unread n) o h = elim o [ ]
+by_script r (fault.TooMany counted.Script) o h = elim o [ ]
+by_script r (fault.TooMany counted.File) o h = elim o [ ]
+by_script r x o h = h
+
+-- a script that was read can not be replayed
+pub script_stops : (content : Option Holding) (name bytes : List ℕ) (fa fc ba bc : ℕ) (e : Stop Fault) → IfSome content (λ held. held name ≡ Some bytes)
+    → IsOfScript e → (e ≢ stop.NoMemory → playable_of bytes ≡ Err e) → MayStop (reading (Some name) content fa fc ba bc) e
+script_stops content name bytes fa fc ba bc stop.NoMemory h o k = tt
+script_stops content name bytes fa fc ba bc (stop.Fault x) h o k =
+    by_script (reading (Some name) content fa fc ba bc) x o (refused_in content name bytes (stop.Fault x) h (k (λ is. absurd cc)))
+
+long_at : (held : Holding) (b : Option (List ℕ)) → IsSomeAnd b (λ bytes. 16777216 < length bytes) → IsSomeAnd b (λ bytes. IsOutcome held bytes (Err (stop.Fault (fault.TooMany counted.Script))))
+long_at held None h = elim h [ ]
+long_at held (Some bytes) h = subst (λ p. Becomes held p (Err (stop.Fault (fault.TooMany counted.Script)))) (sym (long bytes h)) refl
+  where
+    long : (bytes : List ℕ) → 16777216 < length bytes → playable_of bytes ≡ Err (stop.Fault (fault.TooMany counted.Script))
+    long bytes lt =
+        let many : nat_lt 16777216 (length bytes) ≡ true = search arith in
+        ap (λ (b : Bool). if b then Err (stop.Fault (fault.TooMany counted.Script)) else if_spelled (script_of bytes)) many
+
+-- a script file that is too long
+pub script_is_long : (content : Option Holding) (name : List ℕ) (b c : ℕ) → MatchOption content (RoseBy 16777217 b c) (λ files. IsSomeAnd (files name) (λ bytes. 16777216 < length bytes)) → MatchOption content (RoseBy 16777217 b c) (λ files. IsSomeAnd (files name) (λ bytes. IsOutcome files bytes (Err (stop.Fault (fault.TooMany counted.Script)))))
+script_is_long None name b c h = h
+script_is_long (Some held) name b c h = long_at held (held name) h
