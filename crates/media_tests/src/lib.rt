@@ -1,4 +1,4 @@
-//! Tests of media resources and of audio data.
+//! Tests of media resources, of audio data and of video frames.
 #![tactic(auto)]
 
 #[cfg(test)]
@@ -7,3 +7,5 @@ mod conversion_tests;
 mod wc_audio_tests;
 #[cfg(test)]
 mod wc_pool_tests;
+#[cfg(test)]
+mod wc_video_tests;

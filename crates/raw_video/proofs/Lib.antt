@@ -1,0 +1,2 @@
+mod CoderLaws
+mod PictureLaws

@@ -1,0 +1,4 @@
+mod CopyLaws
+mod PlanLaws
+mod RowLaws
+mod StraightLaws

@@ -1,0 +1,225 @@
+// Video frames that are open or detached.
+ghost use Rattle.std.specs.Prelude.{◌≡◌, ◌≤◌, [], true, false, length, take, Option, Some, None};
+ghost use Rattle.std.specs.Prelude.{IfOk, IfErr, IfSome, OnOk, OnErr};
+ghost use Rattle.std.specs.Prelude.{option_map, is_some, is_none, unwrap_or};
+ghost use Rattle.wc_base.specs.declared.error.DomError.TheVariants as dom;
+ghost use Rattle.picture_planes.specs.Planes.{picture_size};
+ghost use Rattle.wc_pool.specs.Pools.{KeepsAll};
+ghost use Rattle.wc_video.specs.Frames.{is_invalid, content_of, IsHeldOf, IsMadeBy};
+ghost use Rattle.wc_video.specs.Frames.{IsCloneBy, IsInitFault, IsCloneFault, Closes, KeepsButHeld};
+
+use bytes::Bytes;
+use picture_planes::picture_size;
+use std::alloc::Global;
+use std::marker::Model;
+use wc_base::{By, DomError, NoMemory, Picture, PictureShape};
+use wc_pool::{MediaFault, MediaRef, RefPool};
+
+/// A picture in a media resource (W3C WebCodecs, VideoFrame). It holds one reference to it while it is
+/// open, and none once it is detached. One that is dropped while it is open leaves its reference live.
+#[derive(Drop)]
+pub struct VideoFrame {
+    shape: PictureShape,
+    held: Option<MediaRef>,
+}
+
+impl Model for VideoFrame {
+    ghost use Rattle.wc_video.specs.Frames.{Frame, IsEnough};
+
+    ghost Value = { Frame };
+
+    ghost view = { λ f. record { shape = f.shape; held = f.held } };
+
+    ghost invariant = { λ f. IsEnough f.shape f.held };
+}
+
+/// As many bytes as the planes need; none where there are fewer, or the picture has no row or column.
+fn needed(shape: &PictureShape, bytes: usize) -> Option<usize>
+    ensures some { IfSome result (λ n. (n ≡ picture_size shape.now) × (n ≤ bytes)) }
+    ensures none { is_none result ≡ is_invalid shape.now bytes }
+{
+    let _bytes = bytes;
+    if shape.width == 0 || shape.height == 0 {
+        return None;
+    }
+    match picture_size(shape) {
+        Some(count) if count <= bytes => Some(count),
+        _ => None,
+    }
+}
+
+impl VideoFrame {
+    /// An open frame of a shape (W3C WebCodecs, VideoFrame's constructor of bytes): a new resource with
+    /// the bytes that its planes need, from the front of `content`. `TypeErr` comes exactly where the
+    /// picture has no row or column, or needs more bytes than there are; then the pool is as it was.
+    pub fn new<P: RefPool>(
+        alloc: Global,
+        shape: PictureShape,
+        content: &[u8],
+        pool: &mut P,
+        by: By,
+    ) -> Result<VideoFrame, MediaFault>
+        ensures ok { let adds = P.adds pool.old pool.new in
+            IfOk result (IsMadeBy adds by shape (take (picture_size shape) content.now)) }
+        ensures valid { OnOk result (is_invalid shape (length content.now) ≡ false) }
+        ensures of { IfOk result (IsHeldOf (P.is_of pool.new)) }
+        ensures err { let invalid = is_invalid shape (length content.now) in
+            IfErr result (IsInitFault invalid (pool.new ≡ pool.old) (P.stays pool.old pool.new)) }
+        ensures kept { KeepsAll (P.is_of pool.old) (P.is_of pool.new) }
+    {
+        let Some(count) = needed(&shape, content.len()) else {
+            return Err(MediaFault::Dom(DomError::TypeErr));
+        };
+        let bytes = copy_bytes(alloc, &content[..count])?;
+        let held = pool.make(by, bytes)?;
+        Ok(VideoFrame {
+            shape,
+            held: Some(held),
+        })
+    }
+
+    /// An open frame of a picture that a decoder gave: a new resource with its bytes, of which there are
+    /// at least as many as its planes need.
+    pub fn of_picture<P: RefPool>(
+        picture: Picture,
+        pool: &mut P,
+        by: By,
+    ) -> Result<VideoFrame, NoMemory>
+        requires { picture_size picture.shape ≤ length picture.bytes }
+        ensures ok { let adds = P.adds pool.old pool.new in
+            IfOk result (IsMadeBy adds by picture.shape picture.bytes) }
+        ensures of { IfOk result (IsHeldOf (P.is_of pool.new)) }
+        ensures err { OnErr result (P.stays pool.old pool.new) }
+        ensures kept { KeepsAll (P.is_of pool.old) (P.is_of pool.new) }
+    {
+        let held = pool.make(by, picture.bytes)?;
+        Ok(VideoFrame {
+            shape: picture.shape,
+            held: Some(held),
+        })
+    }
+
+    /// An open frame with a second reference to the same resource, and the same shape (W3C WebCodecs,
+    /// VideoFrame, `clone`). `InvalidState` comes exactly where it is detached.
+    pub fn clone_frame<P: RefPool>(
+        &mut self,
+        pool: &mut P,
+        by: By,
+    ) -> Result<VideoFrame, MediaFault>
+        requires { IsHeldOf (P.is_of pool.old) self.old }
+        ensures same { self.new ≡ self.old }
+        ensures still { IsHeldOf (P.is_of pool.new) self.new }
+        ensures ok { IfOk result (IsCloneBy (P.adds pool.old pool.new) by self.old) }
+        ensures of { IfOk result (IsHeldOf (P.is_of pool.new)) }
+        ensures err { IfErr result
+            (IsCloneFault self.old (pool.new ≡ pool.old) (P.stays pool.old pool.new)) }
+        ensures kept { KeepsAll (P.is_of pool.old) (P.is_of pool.new) }
+    {
+        match &mut self.held {
+            None => Err(MediaFault::Dom(DomError::InvalidState)),
+            Some(r) => match pool.clone_ref(by, r) {
+                Ok(held) => Ok(VideoFrame {
+                    shape: self.shape,
+                    held: Some(held),
+                }),
+                Err(NoMemory) => Err(MediaFault::NoMemory),
+            },
+        }
+    }
+
+    /// Hands its reference on, and is detached (W3C WebCodecs, VideoFrame's transfer steps). `DataClone`
+    /// comes exactly where it was detached already. It takes no memory, and makes no entry.
+    pub fn transfer(&mut self) -> Result<VideoFrame, DomError>
+        ensures ok { IfOk result (λ f. f ≡ self.old) }
+        ensures open { OnOk result (is_some self.old.held ≡ true) }
+        ensures err { IfErr result (λ e. (e ≡ dom.DataClone) × (self.old.held ≡ None)) }
+        ensures detached { self.new ≡ record self.old { held = None } }
+    {
+        match self.held.take() {
+            Some(held) => Ok(VideoFrame {
+                shape: self.shape,
+                held: Some(held),
+            }),
+            None => Err(DomError::DataClone),
+        }
+    }
+
+    /// Ends its reference, and is detached (W3C WebCodecs, VideoFrame, `close`); where it is detached
+    /// already nothing is done. The answer has the resource's bytes exactly where the reference was the
+    /// last one. It takes no memory.
+    pub fn close_frame<P: RefPool>(&mut self, pool: &mut P, by: By) -> Option<Bytes>
+        requires { IsHeldOf (P.is_of pool.old) self.old }
+        ensures detached { self.new ≡ record self.old { held = None } }
+        ensures closes { let adds = P.adds pool.old pool.new in
+            Closes adds (pool.new ≡ pool.old) by self.old.held (is_some result) }
+        ensures bytes { IfSome result (λ b. option_map (λ r. r.bytes) self.old.held ≡ Some b) }
+        ensures kept { KeepsButHeld self.old.held (P.is_of pool.old) (P.is_of pool.new) }
+    {
+        match self.held.take() {
+            Some(held) => pool.end(by, held),
+            None => None,
+        }
+    }
+
+    /// Its reference alone; none exactly where it is detached.
+    pub fn into_reference(self) -> Option<MediaRef>
+        ensures { result ≡ self.held }
+    {
+        self.held
+    }
+
+    /// Whether it holds no reference: it was closed, or its reference was handed on.
+    pub fn is_detached(&self) -> bool
+        ensures { result ≡ is_none self.now.held }
+    {
+        self.held.is_none()
+    }
+
+    /// The shape of its picture, also where it is detached.
+    pub fn shape(&self) -> &PictureShape
+        ensures { result.now ≡ self.now.shape }
+    {
+        &self.shape
+    }
+
+    /// The reference that it holds; none exactly where it is detached.
+    pub fn reference(&self) -> Option<&MediaRef>
+        ensures { option_map (λ r. r.now) result ≡ self.now.held }
+    {
+        self.held.as_ref()
+    }
+
+    /// The bytes that the planes need; none where it is detached.
+    pub fn content(&self) -> &[u8]
+        ensures value { result.now ≡ unwrap_or (content_of self.now) [] }
+        ensures whole { is_some self.now.held ≡ true →
+            length result.now ≡ picture_size self.now.shape }
+    {
+        match &self.held {
+            Some(r) => whole(&self.shape, r.bytes()),
+            None => &[],
+        }
+    }
+}
+
+/// The front of the bytes that the planes need.
+fn whole<'a>(shape: &PictureShape, bytes: &'a Bytes) -> &'a [u8]
+    requires { picture_size shape.now ≤ length bytes.now }
+    ensures value { result.now ≡ take (picture_size shape.now) bytes.now }
+    ensures whole { length result.now ≡ picture_size shape.now }
+{
+    let bytes = bytes.as_slice();
+    match picture_size(shape) {
+        Some(count) => &bytes[..count],
+        None => unreachable!(),
+    }
+}
+
+fn copy_bytes(alloc: Global, bytes: &[u8]) -> Result<Bytes, NoMemory>
+    ensures { IfOk result (λ b. b ≡ bytes.now) }
+{
+    match Bytes::from_vec(Vec::from_slice(alloc, bytes)?) {
+        Ok(bytes) => Ok(bytes),
+        Err(_) => Err(NoMemory),
+    }
+}
