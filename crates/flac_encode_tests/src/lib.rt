@@ -1,0 +1,11 @@
+//! Tests of what FLAC's writers write, and of the candidates that are chosen.
+#![tactic(auto)]
+
+#[cfg(test)]
+mod bytes_tests;
+#[cfg(test)]
+mod choice_tests;
+#[cfg(test)]
+mod header_tests;
+#[cfg(test)]
+mod plan_tests;

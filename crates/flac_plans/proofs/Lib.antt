@@ -1,0 +1,6 @@
+pub mod Descent
+pub mod Least
+pub mod ResidualLaws
+pub mod Rows
+pub mod Spelled
+pub mod Windows

@@ -1,0 +1,14 @@
+use Rattle.std.proofs.Common.{ℕ, ◌≡◌, ◌≤◌, ◌*◌, ◌^◌, ◌-◌, length, subst, ◌∙◌}
+use Rattle.flac_plans.specs.Plans.{total}
+use Rattle.flac_plans.proofs.Windows.{quotients_none}
+use Rattle.flac_plans.proofs.sums.narrowed_by.Goals as goal
+
+pub returns-clause-fits : goal.returns-clause-fits
+returns-clause-fits c =
+    let zs = c.args.zs.now in
+    let sum : c.quotients.result ≡ total zs = c.quotients.ensures.value ∙ quotients_none zs in
+    record {
+      some = c.requires.some;
+      above = λ s. subst (λ (t : ℕ). 3 * length zs * 2 ^ (c.narrowed.result.low - 1) ≤ t) sum (c.narrowed.ensures.low s);
+      below = λ s. subst (λ (t : ℕ). t ≤ length zs * 2 ^ c.narrowed.result.high) sum (c.narrowed.ensures.high s);
+    }

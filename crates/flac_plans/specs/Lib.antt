@@ -1,0 +1,4 @@
+pub mod FitLaws
+pub mod Plans
+pub mod ResidualLaws
+pub mod Spelling

@@ -1,0 +1,11 @@
+//! Coded residuals of FLAC, written with the fewest bits (RFC 9639, section 9.2.7).
+#![tactic(auto)]
+
+mod laws;
+mod plan;
+mod residual;
+mod sums;
+
+pub use laws::{no_plan_is_below, written_residuals_are_read};
+pub use plan::{RicePlan, best_below, best_parameters};
+pub use residual::write_residual;

@@ -1,0 +1,4 @@
+mod Samples
+mod Predictors
+mod Listed
+mod Subframes

@@ -1,0 +1,3 @@
+pub mod Candidates
+pub mod Fixed
+pub mod Spelling

@@ -1,0 +1,327 @@
+// Residuals of fixed predictors, order by order.
+ghost use Rattle.std.specs.Prelude.{◌≡◌, ◌<◌, ◌≤◌, ◌+◌, ◌-◌, ◌*◌, ◌^◌, ◌+ℤ◌, ◌-ℤ◌, ◌*ℤ◌, ◌≤ℤ◌, pos, negsuc, true, false, length, map, IfOk, IfSome, IfNone};
+ghost use Rattle.std.specs.List.{range_with_len};
+ghost use Rattle.flac_subframes.specs.Fixed.{at, predicted, residual_at, residuals, are_in_range, is_in_range, AreWithin, differences};
+
+use std::alloc::Global;
+use wc_base::NoMemory;
+
+/// The residual of a fixed predictor of order 0 to 4 (RFC 9639, section 9.2.5); none where a value is outside of
+/// -2^31 + 1 to 2^31 - 1.
+pub fn residual_of(alloc: Global, samples: &[i32], order: u32) -> Result<Option<Vec<i32>>, NoMemory>
+    requires some { order < length samples.now }
+    requires order { order ≤ 4 }
+    ensures value { IfOk result (λ o. IfSome o (λ v. v.items ≡ residuals order samples.now)) }
+    ensures range { IfOk result
+        (λ o. IfSome o (λ _. are_in_range (residuals order samples.now) ≡ true)) }
+    ensures none { IfOk result
+        (λ o. IfNone o (are_in_range (residuals order samples.now) ≡ false)) }
+{
+    if are_within(samples, 1 << 25) {
+        match small_residual(alloc, samples, order) {
+            Ok(residual) => Ok(Some(residual)),
+            Err(e) => Err(e),
+        }
+    } else {
+        large_residual(alloc, samples, order)
+    }
+}
+
+/// The residual of samples that may have 32 bits.
+fn large_residual(alloc: Global, samples: &[i32], order: u32) -> Result<Option<Vec<i32>>, NoMemory>
+    requires some { order < length samples.now }
+    requires order { order ≤ 4 }
+    ensures value { IfOk result (λ o. IfSome o (λ v. v.items ≡ residuals order samples.now)) }
+    ensures range { IfOk result
+        (λ o. IfSome o (λ _. are_in_range (residuals order samples.now) ≡ true)) }
+    ensures none { IfOk result
+        (λ o. IfNone o (are_in_range (residuals order samples.now) ≡ false)) }
+{
+    let mut out = Vec::from_elem(alloc, 0, samples.len() - order as usize)?;
+    if fill_residual(samples, order, out.as_mut_slice()) {
+        Ok(Some(out))
+    } else {
+        Ok(None)
+    }
+}
+
+/// Whether all values are in range, which it then writes.
+fn fill_residual(samples: &[i32], order: u32, out: &mut [i32]) -> bool
+    requires count { length out.old + order ≡ length samples.now }
+    requires order { order ≤ 4 }
+    ensures value { result ≡ true → out.new ≡ residuals order samples.now }
+    ensures range { result ≡ are_in_range (residuals order samples.now) }
+{
+    for j in 0..out.len() {
+        match value_at(samples, order, j) {
+            Some(value) => out[j] = value,
+            None => return false,
+        }
+    }
+    true
+}
+
+/// One value of a residual, if it is in range.
+#[inline]
+fn value_at(samples: &[i32], order: u32, j: usize) -> Option<i32>
+    requires order { order ≤ 4 }
+    requires within { order + j < length samples.now }
+    ensures value { IfSome result (λ v. v ≡ residual_at order samples.now (order + j)) }
+    ensures some { IfSome result
+        (λ _. is_in_range (residual_at order samples.now (order + j)) ≡ true) }
+    ensures none { IfNone result
+        (is_in_range (residual_at order samples.now (order + j)) ≡ false) }
+{
+    narrowed(residual_at(samples, order, order as usize + j))
+}
+
+/// A value in 32 bits, if it is in range.
+#[inline]
+#[tactic(auto, using(crate::proofs::Ranges::value_above, crate::proofs::Ranges::value_below, crate::proofs::Ranges::value_inside))]
+fn narrowed(value: i64) -> Option<i32>
+    ensures value { IfSome result (λ v. v ≡ value) }
+    ensures some { IfSome result (λ _. is_in_range value ≡ true) }
+    ensures none { IfNone result (is_in_range value ≡ false) }
+{
+    if value < -0x7fff_ffff {
+        return None;
+    }
+    if value > 0x7fff_ffff {
+        return None;
+    }
+    Some(value as i32)
+}
+
+/// The residual of one sample.
+fn residual_at(samples: &[i32], order: u32, i: usize) -> i64
+    requires order { order ≤ 4 }
+    requires from { order ≤ i }
+    requires within { i < length samples.now }
+    ensures { result ≡ residual_at order samples.now i }
+{
+    let sample = sample_at(samples, i);
+    let predicted = predicted_at(samples, order, i);
+    sample - predicted
+}
+
+/// One sample.
+#[inline]
+fn sample_at(samples: &[i32], i: usize) -> i64
+    requires { i < length samples.now }
+    ensures value { result ≡ at samples.now i }
+    ensures low { negsuc (2 ^ 31) ≤ℤ result }
+    ensures high { result ≤ℤ pos (2 ^ 31) }
+{
+    samples[i] as i64
+}
+
+/// The prediction of one sample from those before it.
+fn predicted_at(samples: &[i32], order: u32, i: usize) -> i64
+    requires order { order ≤ 4 }
+    requires from { order ≤ i }
+    requires within { i < length samples.now }
+    ensures value { result ≡ predicted order samples.now i }
+    ensures low { negsuc (2 ^ 36) ≤ℤ result }
+    ensures high { result ≤ℤ pos (2 ^ 36) }
+{
+    match order {
+        0 => 0,
+        1 => sample_at(samples, i - 1),
+        2 => predicted_by_two(sample_at(samples, i - 1), sample_at(samples, i - 2)),
+        3 => predicted_by_three(
+            sample_at(samples, i - 1),
+            sample_at(samples, i - 2),
+            sample_at(samples, i - 3),
+        ),
+        _ => predicted_by_four(
+            sample_at(samples, i - 1),
+            sample_at(samples, i - 2),
+            sample_at(samples, i - 3),
+            sample_at(samples, i - 4),
+        ),
+    }
+}
+
+#[inline]
+fn predicted_by_two(a: i64, b: i64) -> i64
+    requires a_low { negsuc (2 ^ 31) ≤ℤ a }
+    requires a_high { a ≤ℤ pos (2 ^ 31) }
+    requires b_low { negsuc (2 ^ 31) ≤ℤ b }
+    requires b_high { b ≤ℤ pos (2 ^ 31) }
+    ensures value { result ≡ (pos 2 *ℤ a) -ℤ b }
+    ensures low { negsuc (2 ^ 36) ≤ℤ result }
+    ensures high { result ≤ℤ pos (2 ^ 36) }
+{
+    2 * a - b
+}
+
+#[inline]
+fn predicted_by_three(a: i64, b: i64, c: i64) -> i64
+    requires a_low { negsuc (2 ^ 31) ≤ℤ a }
+    requires a_high { a ≤ℤ pos (2 ^ 31) }
+    requires b_low { negsuc (2 ^ 31) ≤ℤ b }
+    requires b_high { b ≤ℤ pos (2 ^ 31) }
+    requires c_low { negsuc (2 ^ 31) ≤ℤ c }
+    requires c_high { c ≤ℤ pos (2 ^ 31) }
+    ensures value { result ≡ ((pos 3 *ℤ a) -ℤ (pos 3 *ℤ b)) +ℤ c }
+    ensures low { negsuc (2 ^ 36) ≤ℤ result }
+    ensures high { result ≤ℤ pos (2 ^ 36) }
+{
+    let pair = 3 * a - 3 * b;
+    pair + c
+}
+
+#[inline]
+fn predicted_by_four(a: i64, b: i64, c: i64, d: i64) -> i64
+    requires a_low { negsuc (2 ^ 31) ≤ℤ a }
+    requires a_high { a ≤ℤ pos (2 ^ 31) }
+    requires b_low { negsuc (2 ^ 31) ≤ℤ b }
+    requires b_high { b ≤ℤ pos (2 ^ 31) }
+    requires c_low { negsuc (2 ^ 31) ≤ℤ c }
+    requires c_high { c ≤ℤ pos (2 ^ 31) }
+    requires d_low { negsuc (2 ^ 31) ≤ℤ d }
+    requires d_high { d ≤ℤ pos (2 ^ 31) }
+    ensures value { result ≡ (((pos 4 *ℤ a) -ℤ (pos 6 *ℤ b)) +ℤ (pos 4 *ℤ c)) -ℤ d }
+    ensures low { negsuc (2 ^ 36) ≤ℤ result }
+    ensures high { result ≤ℤ pos (2 ^ 36) }
+{
+    let front = plus_four(four_and_six(a, b), c);
+    minus(front, d)
+}
+
+#[inline]
+fn four_and_six(a: i64, b: i64) -> i64
+    requires a_low { negsuc (2 ^ 31) ≤ℤ a }
+    requires a_high { a ≤ℤ pos (2 ^ 31) }
+    requires b_low { negsuc (2 ^ 31) ≤ℤ b }
+    requires b_high { b ≤ℤ pos (2 ^ 31) }
+    ensures value { result ≡ (pos 4 *ℤ a) -ℤ (pos 6 *ℤ b) }
+    ensures low { negsuc (2 ^ 35) ≤ℤ result }
+    ensures high { result ≤ℤ pos (2 ^ 35) }
+{
+    4 * a - 6 * b
+}
+
+#[inline]
+fn plus_four(front: i64, c: i64) -> i64
+    requires front_low { negsuc (2 ^ 35) ≤ℤ front }
+    requires front_high { front ≤ℤ pos (2 ^ 35) }
+    requires c_low { negsuc (2 ^ 31) ≤ℤ c }
+    requires c_high { c ≤ℤ pos (2 ^ 31) }
+    ensures value { result ≡ front +ℤ (pos 4 *ℤ c) }
+    ensures low { negsuc (2 ^ 35 + 2 ^ 34) ≤ℤ result }
+    ensures high { result ≤ℤ pos (2 ^ 35 + 2 ^ 34) }
+{
+    front + 4 * c
+}
+
+#[inline]
+fn minus(front: i64, d: i64) -> i64
+    requires front_low { negsuc (2 ^ 35 + 2 ^ 34) ≤ℤ front }
+    requires front_high { front ≤ℤ pos (2 ^ 35 + 2 ^ 34) }
+    requires d_low { negsuc (2 ^ 31) ≤ℤ d }
+    requires d_high { d ≤ℤ pos (2 ^ 31) }
+    ensures value { result ≡ front -ℤ d }
+    ensures low { negsuc (2 ^ 36) ≤ℤ result }
+    ensures high { result ≤ℤ pos (2 ^ 36) }
+{
+    front - d
+}
+
+/// The residual of samples that are small, order by order.
+fn small_residual(alloc: Global, samples: &[i32], order: u32) -> Result<Vec<i32>, NoMemory>
+    requires some { order < length samples.now }
+    requires order { order ≤ 4 }
+    requires within { AreWithin (2 ^ 25) samples.now }
+    ensures value { IfOk result (λ v. v.items ≡ residuals order samples.now) }
+    ensures range { IfOk result (λ _. are_in_range (residuals order samples.now) ≡ true) }
+{
+    let mut current = Vec::from_slice(alloc, samples)?;
+    let mut bound = 1u32 << 25;
+    for o in 0..order {
+        current = next_order(alloc, samples, o, current.as_slice(), bound)?;
+        bound *= 2;
+    }
+    Ok(current)
+}
+
+/// Whether each is at most `most`, above and below 0.
+fn are_within(values: &[i32], most: u32) -> bool
+    requires { most ≤ 2 ^ 30 }
+    ensures { result ≡ true → AreWithin most values.now }
+{
+    let high = most as i32;
+    for value in values {
+        if *value > high || *value < -high {
+            return false;
+        }
+    }
+    true
+}
+
+/// The residual of the next order from one of the orders 0 to 3.
+fn next_order(
+    alloc: Global,
+    samples: &[i32],
+    order: u32,
+    residual: &[i32],
+    most: u32,
+) -> Result<Vec<i32>, NoMemory>
+    requires order { order ≤ 3 }
+    requires some { order < length samples.now }
+    requires residual { residual.now ≡ residuals order samples.now }
+    requires most { most ≤ 2 ^ 29 }
+    requires within { AreWithin most residual.now }
+    ensures value { IfOk result (λ v. v.items ≡ residuals (order + 1) samples.now) }
+    ensures within { IfOk result (λ v. AreWithin (2 * most) v.items) }
+{
+    let _count = samples.len();
+    differences(alloc, residual, most)
+}
+
+/// The differences of neighbours.
+fn differences(alloc: Global, values: &[i32], most: u32) -> Result<Vec<i32>, NoMemory>
+    requires some { 0 < length values.now }
+    requires most { most ≤ 2 ^ 29 }
+    requires within { AreWithin most values.now }
+    ensures value { IfOk result (λ v. v.items ≡ differences values.now) }
+    ensures within { IfOk result (λ v. AreWithin (2 * most) v.items) }
+{
+    match made(alloc, values, most) {
+        Ok(out) => Ok(out),
+        Err(e) => Err(e),
+    }
+}
+
+fn made(alloc: Global, values: &[i32], most: u32) -> Result<Vec<i32>, NoMemory>
+    requires some { 0 < length values.now }
+    requires most { most ≤ 2 ^ 29 }
+    requires within { AreWithin most values.now }
+    ensures { IfOk result (λ v. v.items ≡ differences values.now) }
+{
+    let mut out = Vec::from_elem(alloc, 0, values.len() - 1)?;
+    fill_differences(values, most, out.as_mut_slice());
+    Ok(out)
+}
+
+fn fill_differences(values: &[i32], most: u32, out: &mut [i32])
+    requires count { length out.old + 1 ≡ length values.now }
+    requires most { most ≤ 2 ^ 29 }
+    requires within { AreWithin most values.now }
+    ensures { out.new ≡ differences values.now }
+{
+    for j in 0..out.len() {
+        out[j] = difference(values, most, j);
+    }
+}
+
+#[inline]
+fn difference(values: &[i32], most: u32, j: usize) -> i32
+    requires short { j + 1 < length values.now }
+    requires most { most ≤ 2 ^ 29 }
+    requires within { AreWithin most values.now }
+    ensures { result ≡ at values.now (j + 1) -ℤ at values.now j }
+{
+    let _most = most;
+    values[j + 1] - values[j]
+}

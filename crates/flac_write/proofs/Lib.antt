@@ -1,0 +1,4 @@
+pub mod HeaderLaws
+pub mod NumberLaws
+pub mod Shifts
+pub mod Words

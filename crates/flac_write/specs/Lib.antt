@@ -1,0 +1,5 @@
+pub mod Header
+pub mod HeaderLaws
+pub mod SpellingLaws
+pub mod Writer
+pub mod WriterLaws
