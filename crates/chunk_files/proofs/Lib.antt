@@ -2,3 +2,4 @@ pub mod Chunks
 pub mod Faults
 pub mod OneReading
 pub mod WrittenLaws
+pub mod Whole

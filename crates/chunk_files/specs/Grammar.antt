@@ -1,5 +1,5 @@
 -- The grammar of a chunk file (our choice): the mark `WCC1`, and then the chunks, to the end of the file.
-use Rattle.std.specs.Prelude.{◌≡◌, ◌<◌, ◌+◌, ◌==◌, ℕ, nat_lt, List, [], ◌∷◌, length, drop, codes, slice_index, Option, Some, None, if◌then◌else◌}
+use Rattle.std.specs.Prelude.{◌≡◌, ◌<◌, ◌+◌, ◌⊎◌, ◌==◌, ℕ, nat_lt, List, [], ◌∷◌, length, drop, codes, slice_index, Option, Some, None, if◌then◌else◌}
 use Rattle.byteorder.specs.Endian.{big_number}
 use Rattle.wc_chunk.specs.declared.chunk.Chunk.{Chunk}
 use Rattle.chunk_files.specs.declared.fault.ChunkFault.{ChunkFault}
@@ -55,3 +55,7 @@ abbrev pub IsFirstFault : List ℕ → ChunkFault → Type 0
 IsFirstFault bytes (fault.BadMark at) = (at < 4) × (at ≡ marked bytes)
 IsFirstFault bytes (fault.BadKind at found) = FollowsChunks bytes (fault.BadKind at found)
 IsFirstFault bytes (fault.Short at) = FollowsChunks bytes (fault.Short at)
+
+-- the bytes are a chunk file, or have a first fault
+abbrev pub IsRead : List ℕ → Type 0
+IsRead bytes = ((chunks : List Chunk) × IsChunkFile chunks bytes) ⊎ ((e : ChunkFault) × IsFirstFault bytes e)

@@ -1,7 +1,7 @@
 // What the definitions of chunk files give.
 ghost use Rattle.std.specs.Prelude.{◌≡◌, ◌<◌, ◌^◌, ◌∷◌, ◌++◌, [], ℕ, None, Some, List, All, IfOk, IfErr, drop, length, map, replicate, take};
 ghost use Rattle.std.specs.List.{range_with_len};
-ghost use Rattle.chunk_files.specs.Grammar.{IsChunkFile, IsFirstFault, chunk_fault, marked};
+ghost use Rattle.chunk_files.specs.Grammar.{IsChunkFile, IsFirstFault, IsRead, chunk_fault, marked};
 ghost use Rattle.chunk_files.specs.Written.{one_empty_chunk};
 ghost use Rattle.chunk_files.specs.declared.fault.ChunkFault.{ChunkFault};
 ghost use Rattle.chunk_files.specs.declared.fault.ChunkFault.TheVariants as fault;
@@ -11,7 +11,7 @@ use crate::{ChunkFault, Stop, read_chunks, write_chunks};
 use std::alloc::Global;
 use wc_chunk::Chunk;
 
-/// Bytes are the file of one list of chunks at most, they have one first fault at most, and never both.
+/// Bytes are the file of one list of chunks, or they have one first fault, and never both.
 pub fn bytes_have_one_reading()
     ensures chunks { (bytes : List ℕ) (one other : List Chunk) → IsChunkFile one bytes
         → IsChunkFile other bytes → one ≡ other }
@@ -19,6 +19,7 @@ pub fn bytes_have_one_reading()
         → IsFirstFault bytes other → one ≡ other }
     ensures apart { (bytes : List ℕ) (chunks : List Chunk) (e : ChunkFault)
         → IsChunkFile chunks bytes → IsFirstFault bytes e → ⊥ }
+    ensures some { (bytes : List ℕ) → IsRead bytes }
 {}
 
 /// What is written for chunks is read again as the same chunks.

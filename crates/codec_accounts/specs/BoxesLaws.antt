@@ -12,7 +12,7 @@ le_true n p h = le-leb n p h
 le_false : (n p : ℕ) → p < n → leb n p ≡ false
 le_false n p h = lt-leb n p h
 
-stays_snoc : (p place n : ℕ) (runs : Bool) (acts : List Act) (a : Act) (stay : Stay) → n ≡ place + length acts → stays p place runs (acts ++ a ∷ []) stay ≡ cond (leb n p) (stays p place runs acts stay) (stay_at a (state_on runs_after runs acts) n (stays p place runs acts stay))
+pub stays_snoc : (p place n : ℕ) (runs : Bool) (acts : List Act) (a : Act) (stay : Stay) → n ≡ place + length acts → stays p place runs (acts ++ a ∷ []) stay ≡ cond (leb n p) (stays p place runs acts stay) (stay_at a (state_on runs_after runs acts) n (stays p place runs acts stay))
 stays_snoc p place n runs [] a stay h = let e : place ≡ n = omega (arith, h) in ap (λ (m : ℕ). cond (leb m p) stay (stay_at a runs m stay)) e
 stays_snoc p place n runs (x ∷ xs) a stay h = stays_snoc p (suc place) n (runs_after x runs) xs a (cond (leb place p) stay (stay_at x runs place stay)) (omega (arith, h))
 

@@ -9,6 +9,8 @@ pub mod ListLaws
 pub mod SlotLaws
 pub mod HoldingLaws
 pub mod StartLaws
+pub mod Asked
+pub mod AskedLaws
 pub mod CodecLaws
 pub mod AccountLaws
 pub mod BoxAccounts

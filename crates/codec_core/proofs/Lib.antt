@@ -3,3 +3,4 @@ pub mod Ends
 pub mod Steps
 pub mod Recorded
 pub mod Laws
+pub mod Owning

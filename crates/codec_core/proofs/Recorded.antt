@@ -25,17 +25,19 @@ use Rattle.codec_model.specs.Facts.{Always, IsNeverStuck, NamesEarlier}
 use Rattle.codec_model.specs.Shown.{shown_at, shown_of, each_shown, ends_of, call_shows, removal_shows, reclaim_shows, close_shows, rejections, outputs_from, task_shows, turn_shows, turn_word}
 use Rattle.codec_model.specs.ShownLaws.{each_more}
 use Rattle.codec_model.specs.Earlier.{pending_below, resolved_below}
-use Rattle.codec_core.specs.Codec.{IsKept, IsCore, reclaims}
+use Rattle.codec_accounts.specs.Asked.{asked_at}
+use Rattle.codec_core.specs.Codec.{IsAskedAt, IsKept, IsCore, reclaims}
 use Rattle.codec_core.specs.Trace.{TraceValue, EndsBelow}
 use Rattle.codec_core.proofs.Steps.{Moved, kept_more}
 
 -- the trace with one more entry is that of the codec after it
-pub core_more : (t : TraceValue) (slot next : Option Lent) (k k' : Control) (spare : ℕ) (e : Entry) (x : Shown) (kept : IsKept t.entries slot k) → t.shown ≡ each_shown k.opening t.entries → Moved next e kept.state k' → x ≡ shown_at e kept.state → left k' + spare + reclaims k'.phase + 1 ≤ t.free → length t.entries + t.free < 2 ^ 63 → IsCore (record { entries = t.entries ++ e ∷ []; shown = t.shown ++ x ∷ []; free = t.free - 1 }) next k' spare
-core_more t slot next k k' spare e x kept shows m is places fits =
+pub core_more : (t : TraceValue) (slot next : Option Lent) (k k' : Control) (spare : ℕ) (e : Entry) (x : Shown) (kept : IsKept t.entries slot k) → t.shown ≡ each_shown k.opening t.entries → Moved next e kept.state k' → x ≡ shown_at e kept.state → left k' + spare + reclaims k'.phase + 1 ≤ t.free → length t.entries + t.free < 2 ^ 63 → IsAskedAt (asked_at k'.opening (t.entries ++ e ∷ [])) next → IsCore (record { entries = t.entries ++ e ∷ []; shown = t.shown ++ x ∷ []; free = t.free - 1 }) next k' spare
+core_more t slot next k k' spare e x kept shows m is places fits own =
     let same : k'.opening ≡ k.opening = m.same_opening ∙ ap (λ (c : Control). c.opening) kept.is_control in
     record {
       kept = kept_more t.entries slot next k k' e kept m;
       shows = rw (shows, is, same) (sym (each_more k.opening t.entries e kept.state kept.replays));
+      own = own;
       places = omega (arith, places);
       fits = omega (arith, fits, places, length-append t.entries (e ∷ []));
     }

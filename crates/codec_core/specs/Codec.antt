@@ -1,6 +1,8 @@
 -- A codec as its history.
 use Rattle.std.specs.Prelude.{ℕ, ◌≡◌, ◌≤◌, ◌<◌, ◌+◌, ◌^◌, Bool, false, List, [], ◌∷◌, ◌++◌, length, Option, Some, None, unwrap_or, if◌then◌else◌}
 use Rattle.wc_base.specs.declared.error.DomError.{DomError}
+use Rattle.wc_base.specs.declared.who.By.{By}
+use Rattle.wc_base.specs.declared.who.By.TheVariants as by
 use Rattle.wc_base.specs.declared.who.Who.{Who}
 use Rattle.coder_api.specs.Lent.{Lent}
 use Rattle.codec_model.specs.declared.entry.Opening.{Opening}
@@ -18,6 +20,7 @@ use Rattle.codec_model.specs.Shown.{each_shown, exception_of}
 use Rattle.codec_core.specs.declared.reply.CallFault.{CallFault}
 use Rattle.codec_core.specs.declared.reply.CallFault.TheVariants as fault
 use Rattle.codec_core.specs.Job.{CoderAt, stopped_box}
+use Rattle.codec_accounts.specs.Asked.{asked_at}
 use Rattle.codec_core.specs.Trace.{TraceValue}
 
 pub record Codec : Type 0 where
@@ -52,6 +55,16 @@ pub record CoderHome (slot : Option Lent) (s : State) : Type 0 where
   pub stale : (r : Running) → s.control.running ≡ Some r → r.epoch < s.control.epoch → s.given ≡ nothing_given
   pub older : (r : Running) → s.control.running ≡ Some r → r.epoch ≤ s.control.epoch
 
+-- the cause is the codec's entry at this place
+abbrev pub IsBy : By → Option ℕ → Type 0
+IsBy (by.Codec codec place) at = at ≡ Some place
+IsBy (by.Caller who) at = ⊥
+
+-- the box, if there is one, was acquired by the codec's entry at this place
+abbrev pub IsAskedAt : Option ℕ → Option Lent → Type 0
+IsAskedAt at None = Unit {0}
+IsAskedAt at (Some lent) = IsBy lent.by at
+
 -- the history's state is the one that is kept
 pub record IsKept (history : List Entry) (slot : Option Lent) (k : Control) : Type 0 where
   pub state : State
@@ -72,6 +85,8 @@ reclaims Closed = 0
 pub record IsCore (t : TraceValue) (slot : Option Lent) (k : Control) (spare : ℕ) : Type 0 where
   pub kept : IsKept t.entries slot k
   pub shows : t.shown ≡ each_shown k.opening t.entries
+  -- the box at home is the one that the codec asked for last
+  pub own : IsAskedAt (asked_at k.opening t.entries) slot
   pub places : left k + spare + reclaims k.phase ≤ t.free
   -- what memory can hold
   pub fits : length t.entries + t.free < 2 ^ 63

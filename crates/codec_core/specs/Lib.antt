@@ -1,3 +1,4 @@
 pub mod Job
 pub mod Trace
 pub mod Codec
+pub mod Owning

@@ -1,12 +1,13 @@
 // One codec, which keeps its history.
-ghost use Rattle.std.specs.Prelude.{◌≡◌, ◌==◌, max, ◌≤◌, ◌+◌, ◌^◌, IfOk, IfErr, IfNone, IfSome, OnSome, OnOk, OnErr, None, Some, [], length, map, option_map, not, is_some, false};
+ghost use Rattle.std.specs.Prelude.{◌≡◌, ◌==◌, max, ◌≤◌, ◌+◌, ◌^◌, IfOk, IfErr, IfNone, IfSome, OnSome, OnOk, OnErr, None, Some, [], length, map, option_map, not, is_some, false, true};
 ghost use Rattle.codec_model.specs.declared.entry.Entry.TheVariants as entry;
 ghost use Rattle.codec_model.specs.Control.{start_item, may_reclaim};
 ghost use Rattle.codec_model.specs.Replay.{entry_of, removal_entry as the_removal_entry, call_error, missing_coder, removal_error, IsLegal};
 ghost use Rattle.codec_model.specs.Facts.{IsNeverStuck};
 ghost use Rattle.codec_model.specs.Shown.{shown, shown_of, each_shown, ends_in, promise_state, exception_of};
 ghost use Rattle.codec_core.specs.Job.{IsJobOf, IsEndOf, outcome_of, missing_id, stopped_box};
-ghost use Rattle.codec_core.specs.Codec.{state_at, Makes, KeepsRunning, Replied, FaultIs, promise_of, kept_box, handed_back, removed_if, closes_now, progress_of, item_parts};
+ghost use Rattle.codec_core.specs.Owning.{asked_of, IsOwnJob, GoesBack, KeepsAsked};
+ghost use Rattle.codec_core.specs.Codec.{state_at, Makes, IsAskedAt, KeepsRunning, Replied, FaultIs, promise_of, kept_box, handed_back, removed_if, closes_now, progress_of, item_parts};
 
 use crate::job::{DoneJob, Job};
 use crate::parts::{entry_of_call, hand_back, more_places, promise, removal_entry, removed_if};
@@ -160,6 +161,7 @@ impl<C: Coder> Core<C> {
         ensures promise { IfOk result (λ reply. reply.promise ≡ promise_of call reply.place) }
         ensures err { IfErr result (FaultIs self.old self.new who call) }
         ensures running { KeepsRunning (state_at self.old) (state_at self.new) }
+        ensures asked { KeepsAsked self.old self.new }
         ensures slot { self.new.slot ≡ self.old.slot }
         ensures spare { self.new.spare ≡ self.old.spare }
     {
@@ -180,6 +182,7 @@ impl<C: Coder> Core<C> {
             (λ a. a.1 ≡ exception_of call (call_error call (state_at self.old).control)) }
         ensures err { OnErr result (self.new ≡ self.old) }
         ensures running { KeepsRunning (state_at self.old) (state_at self.new) }
+        ensures asked { KeepsAsked self.old self.new }
         ensures slot { self.new.slot ≡ self.old.slot }
         ensures spare { self.new.spare ≡ self.old.spare }
     {
@@ -191,8 +194,8 @@ impl<C: Coder> Core<C> {
         Ok((answer.place, answer.exception))
     }
 
-    /// The front item of the work queue becomes running, and its job leaves with the box that the codec holds. None
-    /// exactly where an item is running, the codec is halted, or no item is queued; then nothing has changed.
+    /// The front item of the work queue becomes running, and its job leaves with the box that the codec holds. Where the
+    /// job lacks a box of another id, that box goes back by this Start. None exactly where an item is running, the codec is halted, or no item is queued; then nothing has changed.
     pub fn start(&mut self) -> Option<Job<C>>
         ensures none { IfNone result (start_item (state_at self.old).control ≡ None) }
         ensures same { IfNone result (self.new ≡ self.old) }
@@ -208,6 +211,9 @@ impl<C: Coder> Core<C> {
         ensures lacks { IfSome result
             (λ job. missing_id job ≡ missing_coder (state_at self.old).given job.work) }
         ensures slot { OnSome result (self.new.slot ≡ None) }
+        ensures own { IfSome result (IsOwnJob (asked_of self.new)) }
+        ensures lets { IfSome result
+            (λ job. is_some (missing_id job) ≡ true → GoesBack self.new job.place job.coder) }
         ensures spare { self.new.spare ≡ self.old.spare }
     {
         let place = self.machine.place();
@@ -230,10 +236,11 @@ impl<C: Coder> Core<C> {
         })
     }
 
-    /// The running item ends at a moment in microseconds. Its box comes home, or is handed back where the codec was
-    /// reset or closed since the item began.
+    /// The running item ends at a moment in microseconds, by the end of this codec's own job. Its box comes home, or is
+    /// handed back where the codec was reset or closed since the item began.
     pub fn done(&mut self, d: DoneJob<C>, moment: u64) -> Back<C>
-        requires { IsEndOf (state_at self.old) d }
+        requires end { IsEndOf (state_at self.old) d }
+        requires own { IsAskedAt (asked_of self.old) d.coder }
         ensures made { Makes self.old self.new
             (entry.Done d.epoch d.number moment (outcome_of d.ended)) }
         ensures idle { (state_at self.new).control.running ≡ None }
@@ -242,6 +249,7 @@ impl<C: Coder> Core<C> {
             ≡ kept_box (d.epoch == (state_at self.old).control.epoch) d.coder }
         ensures back { result.coder
             ≡ handed_back (d.epoch == (state_at self.old).control.epoch) d.coder }
+        ensures lets { GoesBack self.new result.place result.coder }
         ensures spare { self.new.spare ≡ self.old.spare }
     {
         let place = self.machine.place();
@@ -277,9 +285,12 @@ impl<C: Coder> Core<C> {
             (λ t. t.removed
             ≡ removed_if (closes_now (state_at self.old).control) t.place
             (stopped_box self.old.slot)) }
+        ensures lets { IfSome result
+            (λ t. IfSome t.removed (λ r. GoesBack self.new r.place r.coder)) }
         ensures slot { self.new.slot
             ≡ kept_box (not (closes_now (state_at self.old).control)) self.old.slot }
         ensures running { KeepsRunning (state_at self.old) (state_at self.new) }
+        ensures asked { KeepsAsked self.old self.new }
         ensures spare { self.new.spare ≡ self.old.spare }
     {
         never_stuck();
@@ -302,11 +313,13 @@ impl<C: Coder> Core<C> {
         ensures removed { IfOk result
             (λ r. r
             ≡ record { place = length self.old.history; coder = stopped_box self.old.slot }) }
+        ensures lets { IfOk result (λ r. GoesBack self.new r.place r.coder) }
         ensures err { IfErr result (λ e. removal_error (state_at self.old).control ≡ Some e.0) }
         ensures place { IfErr result (λ e. e.1 ≡ length self.old.history) }
         ensures slot { self.new.slot
             ≡ kept_box (is_some (removal_error (state_at self.old).control)) self.old.slot }
         ensures running { KeepsRunning (state_at self.old) (state_at self.new) }
+        ensures asked { KeepsAsked self.old self.new }
         ensures spare { self.new.spare + 1 ≡ self.old.spare }
     {
         let (removed, error) = self.make_removal(who, removal);
@@ -322,9 +335,11 @@ impl<C: Coder> Core<C> {
         ensures made { Makes self.old self.new (the_removal_entry who removal) }
         ensures place { result.0.place ≡ length self.old.history }
         ensures coder { result.0.coder ≡ handed_back (is_some result.1) self.old.slot }
+        ensures lets { GoesBack self.new result.0.place result.0.coder }
         ensures exception { removal_error (state_at self.old).control ≡ result.1 }
         ensures slot { self.new.slot ≡ kept_box (is_some result.1) self.old.slot }
         ensures running { KeepsRunning (state_at self.old) (state_at self.new) }
+        ensures asked { KeepsAsked self.old self.new }
         ensures spare { self.new.spare + 1 ≡ self.old.spare }
     {
         never_stuck();
@@ -347,8 +362,10 @@ impl<C: Coder> Core<C> {
         ensures removed { IfSome result
             (λ r. r
             ≡ record { place = length self.old.history; coder = stopped_box self.old.slot }) }
+        ensures lets { IfSome result (λ r. GoesBack self.new r.place r.coder) }
         ensures slot { OnSome result (self.new.slot ≡ None) }
         ensures running { KeepsRunning (state_at self.old) (state_at self.new) }
+        ensures asked { KeepsAsked self.old self.new }
         ensures spare { self.new.spare ≡ self.old.spare }
     {
         never_stuck();

@@ -1,6 +1,8 @@
 // The work of one item, which leaves the codec and comes back done.
-ghost use Rattle.std.specs.Prelude.{◌≡◌, None, Some, is_some, true};
+ghost use Rattle.std.specs.Prelude.{◌≡◌, ℕ, None, Option, Some, is_some, true};
 ghost use Rattle.codec_core.specs.Job.{IsJob, IsJobOf, IsEndOf, EndsBy, missing_id, stopped_box, with_box, done_with, wants};
+ghost use Rattle.codec_core.specs.Codec.{IsBy, IsAskedAt};
+ghost use Rattle.codec_core.specs.Owning.{IsOwnJob};
 ghost use Rattle.codec_model.specs.Control.{kind_of};
 ghost use Rattle.codec_model.specs.Replay.{State, Given, answer_to};
 ghost use Rattle.codec_model.specs.declared.entry.Ended.TheVariants as ended;
@@ -80,36 +82,43 @@ impl<C: Coder> Job<C> {
         ensures left { self.new ≡ with_box None self.old }
         ensures lacks { missing_id self.new ≡ missing_id self.old }
         ensures stays { (s : State) → IsJobOf s self.old → IsJobOf s self.new }
+        ensures own { (at : Option ℕ) → IsOwnJob at self.old → IsOwnJob at self.new }
     {
         let mut coder = self.coder.take()?;
         coder.stop();
         Some(coder)
     }
 
-    /// Gives the job the box that it lacks.
+    /// Gives the job the box that it lacks, which was acquired by its Start.
     pub fn put_box(&mut self, coder: SlotBox<C>)
         requires id { missing_id self.old ≡ Some coder.id }
         requires none { self.old.coder ≡ None }
+        requires start { IsBy coder.by (Some self.old.place) }
         ensures put { self.new ≡ with_box (Some coder) self.old }
         ensures serves { missing_id self.new ≡ None }
         ensures stays { (s : State) → IsJobOf s self.old → IsJobOf s self.new }
+        ensures own { (at : Option ℕ) → IsOwnJob at self.old → IsOwnJob at self.new }
     {
         self.coder = Some(coder);
     }
 
-    /// The job's end where no coder was free, by this entry of the registry.
+    /// The job's end where no coder was free, by this entry of the registry. The job lacks a box, and has none.
     pub fn no_slot(self, entry: u64) -> DoneJob<C>
-        requires { is_some (missing_id self) ≡ true }
+        requires lacks { is_some (missing_id self) ≡ true }
+        requires none { self.coder ≡ None }
         ensures done { result ≡ done_with (ended.NoSlot entry) self }
         ensures end { (s : State) → IsJobOf s self → IsEndOf s result }
+        ensures own { (at : Option ℕ) → IsOwnJob at self → IsAskedAt at result.coder }
     {
         self.ended(Ended::NoSlot(entry))
     }
 
-    /// The job's end where memory was wanted.
+    /// The job's end where memory was wanted. A job that lacks a box has none.
     pub fn no_memory(self) -> DoneJob<C>
+        requires none { is_some (missing_id self) ≡ true → self.coder ≡ None }
         ensures done { result ≡ done_with ended.NoMemory self }
         ensures end { (s : State) → IsJobOf s self → IsEndOf s result }
+        ensures own { (at : Option ℕ) → IsOwnJob at self → IsAskedAt at result.coder }
     {
         self.ended(Ended::NoMemory)
     }
@@ -138,6 +147,7 @@ impl<C: Coder> Job<C> {
         ensures number { result.number ≡ self.number }
         ensures kind { result.kind ≡ kind_of self.work }
         ensures same { stopped_box result.coder ≡ stopped_box self.coder }
+        ensures own { (at : Option ℕ) → IsOwnJob at self → IsAskedAt at result.coder }
     {
         let Job {
             epoch,

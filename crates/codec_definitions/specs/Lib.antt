@@ -1,4 +1,6 @@
 pub mod Answers
+pub mod Flac
 pub mod G711
 pub mod Pcm
+pub mod RawVideo
 pub mod SampleCodecs

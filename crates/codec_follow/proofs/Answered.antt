@@ -1,18 +1,25 @@
--- After a legal history the running flush item is answered, where its codec answers drains.
+-- After a legal history the running flush item is answered.
 use Rattle.std.proofs.Common.{ℕ, ◌≡◌, ◌+◌, ◌≤◌, ◌&&◌, not, Bool, true, false, eqb, eq-eqb, cond, List, [], ◌∷◌, ◌++◌, append_assoc, append-nil, map, Option, Some, None, is_some, is_none, refl, ap, sym, subst, ◌∙◌, arith}
-use Rattle.std.specs.Prelude.{option_map, unwrap_or, max}
+use Rattle.std.specs.Prelude.{unwrap_or, max}
 use Rattle.std.proofs.lemmas.Bool.{eqb-true}
 use Rattle.std.proofs.lemmas.List.{map-append}
 use Rattle.wc_base.specs.declared.error.DomError.{DomError}
 use Rattle.wc_base.specs.declared.error.DomError.TheVariants as dom
 use Rattle.wc_config.specs.declared.codec.CoderId.{CoderId}
+use Rattle.wc_config.specs.declared.codec.CodecId.{CodecId}
+use Rattle.wc_config.specs.declared.codec.CodecId.TheVariants as codec
+use Rattle.wc_config.specs.declared.config.AudioDecoderConfig.{AudioDecoderConfig}
+use Rattle.wc_config.specs.declared.config.AudioEncoderConfig.{AudioEncoderConfig}
 use Rattle.wc_config.specs.declared.config.Config.{Config}
+use Rattle.wc_config.specs.declared.stream_info.StreamInfo.{StreamInfo}
 use Rattle.wc_config.specs.declared.config.Config.TheVariants as config
 use Rattle.wc_config.specs.Configs.{is_valid, is_within, is_supported, coder_id_of}
 use Rattle.codec_definitions.specs.declared.unit.Unit as media
 use Rattle.codec_definitions.specs.declared.command.Command.{Command}
 use Rattle.codec_definitions.specs.declared.command.Command.TheVariants as command
-use Rattle.codec_definitions.specs.Answers.{answer_after, answers_from, until_refused, last_answer}
+use Rattle.codec_definitions.specs.Answers.{answer_after, answers_from, audio_decoder_answer, sample_decoder_by, sample_encoder_by, until_refused, last_answer}
+use Rattle.codec_definitions.specs.Flac.{described, flac_decoder}
+use Rattle.codec_definitions.specs.SampleCodecs.{SampleCodec, sample_codec}
 use Rattle.codec_model.specs.declared.entry.CodecState.{CodecState}
 use Rattle.codec_model.specs.declared.entry.CodecState.TheVariants.{Unconfigured, Configured, Closed}
 use Rattle.codec_model.specs.declared.entry.Opening.{Opening}
@@ -34,11 +41,10 @@ use Rattle.codec_model.specs.declared.entry.Task.TheVariants as task
 use Rattle.codec_model.specs.declared.entry.Ended.{Ended}
 use Rattle.codec_model.specs.declared.entry.Ended.TheVariants as ended
 use Rattle.codec_model.specs.declared.entry.Outcome.{Outcome}
-use Rattle.codec_model.specs.declared.entry.Outcome.TheVariants as outcome
 use Rattle.codec_model.specs.Control.{Control, kind_of, is_taken, after_message, process_queue, at_next_place, run_task, done_running, after_end, after_reset, after_close, may_reclaim, may_start}
-use Rattle.codec_model.specs.Replay.{State, Given, given_more, answer_to, answers_to, opening_state, step, replay, replay_from, done_ended, ended_of, ended_run, decode_error, flush_error, configure_error, removal_error, after_call, call_error, call_step, accepted, remove_or_refuse, removed, start_step, done_step, with_control, turn_step}
+use Rattle.codec_model.specs.Replay.{State, Given, given_more, answer_to, answers_to, opening_state, step, done_ended, ended_of, removal_error, after_call, call_error, accepted, remove_or_refuse, removed, start_step, done_step, with_control, turn_step}
 use Rattle.wc_base.specs.Options.{cond_is, some_same}
-use Rattle.codec_follow.specs.Follow.{answers_drain}
+use Rattle.history_laws.specs.Answers.{ran_answer}
 
 -- the answers of a coder that refused nothing so far
 both : (a b : Bool) → (a && b) ≡ true → (a ≡ true) × (b ≡ true)
@@ -143,15 +149,31 @@ starts_push (work.Configure c ∷ ws) config h = refl
 starts_push (work.Coded chunk ∷ ws) config h = absurd cc
 starts_push (work.Flush ∷ ws) config h = absurd cc
 
--- a definition answers a drain after any commands, where it answers one
-drain_again : (id : CoderId) (c : Config) (before : List Command) → is_some (answer_after id c [] command.Drain) ≡ true → is_some (answer_after id c before command.Drain) ≡ true
-drain_again id (config.AudioDecoder c) before h = h
-drain_again id (config.AudioEncoder c) before h = h
-drain_again id (config.VideoDecoder c) before h = h
-drain_again id config.Bad before h = h
+-- a codec's definition answers each drain
+flac_drains : (s : Option StreamInfo) → is_some (flac_decoder s command.Drain) ≡ true
+flac_drains None = refl
+flac_drains (Some info) = refl
 
-open_drains : (g : Given) → IsOpen g → answers_drain g.config ≡ true → is_some (last_answer (answers_to (more command.Drain g))) ≡ true
-open_drains g k h = ap (λ (o : Option (List media.Unit)). is_some o) (last_is g command.Drain k) ∙ drain_again k.id g.config g.commands (sym (ap (λ (o : Option CoderId). unwrap_or (option_map (λ id. is_some (answer_after id g.config [] command.Drain)) o) true) k.asked) ∙ h)
+sample_drains : (s : Option SampleCodec) (c : AudioDecoderConfig) → is_some (sample_decoder_by s c command.Drain) ≡ true
+sample_drains None c = refl
+sample_drains (Some s) c = refl
+
+coded_drains : (s : Option SampleCodec) (c : AudioEncoderConfig) → is_some (sample_encoder_by s c command.Drain) ≡ true
+coded_drains None c = refl
+coded_drains (Some s) c = refl
+
+decoder_drains : (k : CodecId) (c : AudioDecoderConfig) → is_some (audio_decoder_answer k c command.Drain) ≡ true
+decoder_drains codec.Flac c = flac_drains (described c.description)
+decoder_drains k c = sample_drains (sample_codec k) c
+
+drain_answered : (id : CoderId) (c : Config) (before : List Command) → is_some (answer_after id c before command.Drain) ≡ true
+drain_answered id (config.AudioDecoder c) before = decoder_drains id.codec c
+drain_answered id (config.AudioEncoder c) before = coded_drains (sample_codec id.codec) c
+drain_answered id (config.VideoDecoder c) before = refl
+drain_answered id config.Bad before = refl
+
+open_drains : (g : Given) → IsOpen g → is_some (last_answer (answers_to (more command.Drain g))) ≡ true
+open_drains g k = ap (λ (o : Option (List media.Unit)). is_some o) (last_is g command.Drain k) ∙ drain_answered k.id g.config g.commands
 
 -- the works that are queued, as items and then as messages
 abbrev pub works_on : List Item → List Message → List Work
@@ -179,7 +201,7 @@ pub record Parts (phase : CodecState) (epoch : ℕ) (halted : Bool) (ws : List W
   open_now : begun ≡ true → halted ≡ false → ((r : Running) → running ≡ Some r → r.epoch ≡ epoch → ⊥) → IsOpen given
   open_then : (r : Running) → running ≡ Some r → r.epoch ≡ epoch → (us : List media.Unit) → answer_to r.kind given ≡ Some us → IsOpen given
   same : (r : Running) → running ≡ Some r → r.epoch ≡ epoch → busy ≡ given
-  pub flushed : (r : Running) → running ≡ Some r → r.kind ≡ kind.Flush → answers_drain busy.config ≡ true → is_some (answer_to kind.Flush busy) ≡ true
+  pub flushed : (r : Running) → running ≡ Some r → r.kind ≡ kind.Flush → is_some (answer_to kind.Flush busy) ≡ true
   before : (r : Running) → running ≡ Some r → r.epoch ≤ epoch
 
 abbrev pub At : Control → Given → Given → Type 0
@@ -312,7 +334,7 @@ starts_one phase epoch number place (work.Configure config) ws given busy h =
       open_now = λ b fine free. absurd (free _ refl refl);
       open_then = λ r is e us answer. open_configured config us (subst (λ (x : Running). answer_to x.kind g ≡ Some us) (sym (some_same _ r is)) answer);
       same = λ r is e. refl;
-      flushed = λ r is f d. absurd cc;
+      flushed = λ r is f. absurd cc;
       before = λ r is. rw (← ap (λ (x : Running). x.epoch) (some_same _ r is)) (omega arith);
     }
 starts_one phase epoch number place (work.Coded chunk) ws given busy h =
@@ -324,7 +346,7 @@ starts_one phase epoch number place (work.Coded chunk) ws given busy h =
       open_now = λ b fine free. absurd (free _ refl refl);
       open_then = λ r is e us answer. open_more given (command.Chunk chunk) k us (subst (λ (x : Running). answer_to x.kind (more (command.Chunk chunk) given) ≡ Some us) (sym (some_same _ r is)) answer);
       same = λ r is e. refl;
-      flushed = λ r is f d. absurd cc;
+      flushed = λ r is f. absurd cc;
       before = λ r is. rw (← ap (λ (x : Running). x.epoch) (some_same _ r is)) (omega arith);
     }
   where
@@ -340,7 +362,7 @@ starts_one phase epoch number place work.Flush ws given busy h =
       open_now = λ b fine free. absurd (free _ refl refl);
       open_then = λ r is e us answer. open_more given command.Drain k us (subst (λ (x : Running). answer_to x.kind (more command.Drain given) ≡ Some us) (sym (some_same _ r is)) answer);
       same = λ r is e. refl;
-      flushed = λ r is f d. open_drains given k d;
+      flushed = λ r is f. open_drains given k;
       before = λ r is. rw (← ap (λ (x : Running). x.epoch) (some_same _ r is)) (omega arith);
     }
   where
@@ -362,22 +384,7 @@ started_sound (i ∷ is) epoch item s t e step h =
     let begun = starts_one s.control.phase s.control.epoch i.number i.place i.work (works_on is s.control.messages) s.given s.running_given there in
     subst (λ (u : State). Sound u) (some_same _ t k.1) (subst (λ (l : List Item). At (Rattle.codec_model.specs.Control.start_first l (at_next_place s.control)) (given_more i.work s.given) (given_more i.work s.given)) (sym e) (rw idle.0 begun))
 
--- the end of an item
-pub ran_answer : (k : WorkKind) (g : Given) (x : Outcome) (us : List media.Unit) → ended_of k g x ≡ Some (ended.Ran us) → answer_to k g ≡ Some us
-ran_answer k g (outcome.Ran units) us h = by (answer_to k g) h
-  where
-    by : (a : Option (List media.Unit)) → ended_run units a ≡ Some (ended.Ran us) → a ≡ Some us
-    by None e = absurd cc
-    by (Some vs) e = let one : Some (ended.Ran vs) ≡ Some (ended.Ran us) = (cond_is _ (Some (ended.Ran vs)) (ended.Ran us) e).1 in cc
-ran_answer k g outcome.Refused us h = by (answer_to k g) h
-  where
-    by : (a : Option (List media.Unit)) → Rattle.codec_model.specs.Replay.ended_refused a ≡ Some (ended.Ran us) → a ≡ Some us
-    by None e = absurd cc
-    by (Some vs) e = absurd cc
-ran_answer kind.Configure g (outcome.NoSlot n) us h = let one : Some (ended.NoSlot n) ≡ Some (ended.Ran us) = (cond_is (is_supported g.config) (Some (ended.NoSlot n)) (ended.Ran us) h).1 in absurd cc
-ran_answer kind.Coded g (outcome.NoSlot n) us h = absurd cc
-ran_answer kind.Flush g (outcome.NoSlot n) us h = absurd cc
-ran_answer k g outcome.NoMemory us h = absurd cc
+-- ---- the end of an item
 
 -- an item of an older epoch ended
 stale_at : (phase : CodecState) (epoch : ℕ) (halted : Bool) (ws : List Work) (r : Running) (given busy : Given) → (r.epoch ≡ epoch → ⊥) → Parts phase epoch halted ws (Some r) given busy → Parts phase epoch halted ws None given busy

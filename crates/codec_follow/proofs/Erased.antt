@@ -32,7 +32,7 @@ use Rattle.codec_model.specs.Control.{Control, is_decoder, is_dequeue, is_desatu
 use Rattle.codec_model.specs.Replay.{State, Given, step, done_ended, ended_of, ended_run, ended_refused, answer_to, start_step, done_step, turn_step, removed, accepted, after_call, call_error, call_step, removal_error, remove_or_refuse, with_control}
 use Rattle.wc_base.specs.Options.{cond_is, some_same}
 use Rattle.codec_model.specs.Facts.{with_event}
-use Rattle.codec_follow.specs.Follow.{blank, blanks, answers_drain, known_of, ran_as, refused_as, ended_as, follow_done, follow_step}
+use Rattle.codec_follow.specs.Follow.{blank, blanks, ran_as, refused_as, ended_as, follow_done, follow_step}
 use Rattle.codec_follow.proofs.Answered.{Sound}
 
 abbrev pub erased_task : Task → Task
@@ -222,15 +222,14 @@ refused_ends : (a : Option (List media.Unit)) (e : Ended) → ended_refused a �
 refused_ends None e h = ap (λ (x : Ended). Some (erased_end x)) (some_same ended.Refused e h)
 refused_ends (Some us) e h = absurd cc
 
-flush_refused : (drains : Bool) (a : Option (List media.Unit)) (e : Ended) → (drains ≡ true → is_some a ≡ true) → ended_refused a ≡ Some e → cond drains None (Some ended.Refused) ≡ Some (erased_end e)
-flush_refused true None e answered h = let no : false ≡ true = answered refl in absurd cc
-flush_refused true (Some us) e answered h = absurd cc
-flush_refused false a e answered h = refused_ends a e h
+flush_refused : (a : Option (List media.Unit)) (e : Ended) → is_some a ≡ true → ended_refused a ≡ Some e → refused_as kind.Flush ≡ Some (erased_end e)
+flush_refused None e some h = absurd cc
+flush_refused (Some units) e some h = absurd cc
 
-refused_ends_by : (k : WorkKind) (g : Given) (e : Ended) → (k ≡ kind.Flush → answers_drain g.config ≡ true → is_some (answer_to kind.Flush g) ≡ true) → ended_refused (answer_to k g) ≡ Some e → refused_as k (known_of g.config) ≡ Some (erased_end e)
+refused_ends_by : (k : WorkKind) (g : Given) (e : Ended) → (k ≡ kind.Flush → is_some (answer_to kind.Flush g) ≡ true) → ended_refused (answer_to k g) ≡ Some e → refused_as k ≡ Some (erased_end e)
 refused_ends_by kind.Configure g e answered h = refused_ends (answer_to kind.Configure g) e h
 refused_ends_by kind.Coded g e answered h = refused_ends (answer_to kind.Coded g) e h
-refused_ends_by kind.Flush g e answered h = flush_refused (answers_drain g.config) (answer_to kind.Flush g) e (answered refl) h
+refused_ends_by kind.Flush g e answered h = flush_refused (answer_to kind.Flush g) e (answered refl) h
 
 no_slot_ends : (k : WorkKind) (g : Given) (n : ℕ) (e : Ended) → ended_of k g (outcome.NoSlot n) ≡ Some e → ended_as k g (outcome.NoSlot n) ≡ Some (erased_end e)
 no_slot_ends kind.Configure g n e h = h ∙ ap (λ (x : Ended). Some x) (same e (some_same (ended.NoSlot n) e (cond_is (is_supported g.config) (Some (ended.NoSlot n)) e h).1))
@@ -240,13 +239,13 @@ no_slot_ends kind.Configure g n e h = h ∙ ap (λ (x : Ended). Some x) (same e 
 no_slot_ends kind.Coded g n e h = absurd cc
 no_slot_ends kind.Flush g n e h = absurd cc
 
-pub ends_erased : (k : WorkKind) (g : Given) (o : Outcome) (e : Ended) → (k ≡ kind.Flush → answers_drain g.config ≡ true → is_some (answer_to kind.Flush g) ≡ true) → ended_of k g o ≡ Some e → ended_as k g o ≡ Some (erased_end e)
+pub ends_erased : (k : WorkKind) (g : Given) (o : Outcome) (e : Ended) → (k ≡ kind.Flush → is_some (answer_to kind.Flush g) ≡ true) → ended_of k g o ≡ Some e → ended_as k g o ≡ Some (erased_end e)
 ends_erased k g (outcome.Ran units) e answered h = ran_ends_by k units (answer_to k g) e (gives_none k g) h
 ends_erased k g outcome.Refused e answered h = refused_ends_by k g e answered h
 ends_erased k g (outcome.NoSlot n) e answered h = no_slot_ends k g n e h
 ends_erased k g outcome.NoMemory e answered h = ap (λ (x : Ended). Some (erased_end x)) (some_same ended.NoMemory e h)
 
-ended_erased : (r : Running) (x : Outcome) (a : Option Ended) (moment : ℕ) (s t : State) → (r.kind ≡ kind.Flush → answers_drain s.running_given.config ≡ true → is_some (answer_to kind.Flush s.running_given) ≡ true) → ended_of r.kind s.running_given x ≡ a → done_ended r a moment s ≡ Some t → done_ended r (ended_as r.kind s.running_given x) moment (erased_state s) ≡ Some (erased_state t)
+ended_erased : (r : Running) (x : Outcome) (a : Option Ended) (moment : ℕ) (s t : State) → (r.kind ≡ kind.Flush → is_some (answer_to kind.Flush s.running_given) ≡ true) → ended_of r.kind s.running_given x ≡ a → done_ended r a moment s ≡ Some t → done_ended r (ended_as r.kind s.running_given x) moment (erased_state s) ≡ Some (erased_state t)
 ended_erased r x None moment s t fine is h = absurd cc
 ended_erased r x (Some e) moment s t fine is h =
     rw (ends_erased r.kind s.running_given x e fine is)

@@ -4,3 +4,4 @@ pub mod Answered
 pub mod Moves
 pub mod Callers
 pub mod OutputLaws
+pub mod ErrorLaws

@@ -1,11 +1,8 @@
 -- The outputs of a history are of its codec's kind, where its configs are.
-use Rattle.std.proofs.Common.{ℕ, zero, suc, ◌≡◌, ◌+◌, ◌<◌, ◌&&◌, not, Bool, true, false, eqb, cond, List, [], ◌∷◌, ◌++◌, length, Option, Some, None, refl, ap, sym, subst, ◌∙◌, append_assoc, arith}
-use Rattle.std.specs.Prelude.{option_map, unwrap_or, max, nat_le, count_by, filter, ℤ}
+use Rattle.std.proofs.Common.{ℕ, zero, suc, ◌≡◌, ◌<◌, ◌&&◌, not, Bool, true, false, cond, List, [], ◌∷◌, ◌++◌, length, Option, Some, None, refl, subst, arith, ◌%◌, ◌^◌, take, drop, bytes_eq, codes}
+use Rattle.std.proofs.lemmas.Bool.{leb-true}
+use Rattle.std.specs.Prelude.{◌==◌, nat_le, ℤ}
 use Rattle.std.specs.List.{AllByRecursion}
-use Rattle.wc_base.specs.declared.error.DomError.{DomError}
-use Rattle.wc_base.specs.declared.error.DomError.TheVariants as dom
-use Rattle.wc_base.specs.declared.media.SampleFormat.{SampleFormat}
-use Rattle.wc_base.specs.declared.media.SampleFormat.TheVariants as format
 use Rattle.wc_base.specs.declared.media.Samples.{Samples}
 use Rattle.wc_config.specs.declared.codec.CoderId.{CoderId}
 use Rattle.wc_config.specs.declared.codec.CodecId.{CodecId}
@@ -14,52 +11,34 @@ use Rattle.wc_config.specs.declared.config.AudioDecoderConfig.{AudioDecoderConfi
 use Rattle.wc_config.specs.declared.config.AudioEncoderConfig.{AudioEncoderConfig}
 use Rattle.wc_config.specs.declared.config.Config.{Config}
 use Rattle.wc_config.specs.declared.config.Config.TheVariants as config
-use Rattle.wc_config.specs.Configs.{is_valid, is_supported, is_blank, coder_id_of}
+use Rattle.wc_config.specs.declared.stream_info.StreamInfo.{StreamInfo}
+use Rattle.wc_config.specs.Streams.{big_endian, stream_info_of, is_usable, streaminfo_of}
+use Rattle.wc_config.specs.Configs.{is_valid, is_blank}
 use Rattle.codec_definitions.specs.SampleCodecs.{SampleCodec, sample_codec, sample_decoder, sample_encoder}
 use Rattle.wc_chunk.specs.declared.chunk.Chunk.{Chunk}
 use Rattle.codec_definitions.specs.declared.unit.Unit as media
 use Rattle.codec_definitions.specs.declared.unit.Unit.TheVariants as unit
 use Rattle.codec_definitions.specs.declared.command.Command.{Command}
 use Rattle.codec_definitions.specs.declared.command.Command.TheVariants as command
-use Rattle.codec_definitions.specs.Answers.{sample_decoder_by, sample_encoder_by, audio_decoder_answer, audio_encoder_answer, answer_after, until_refused, answers_from, last_answer}
+use Rattle.flac_definitions.specs.Frame.{frame_of}
+use Rattle.flac_definitions.specs.declared.header.FrameHeader.{FrameHeader}
+use Rattle.codec_definitions.specs.Flac.{described, flac_sound, unit_of_frame, flac_units, flac_decoder}
+use Rattle.wc_base.specs.declared.media.PictureShape.{PictureShape}
+use Rattle.picture_planes.specs.Planes.{picture_size}
+use Rattle.codec_definitions.specs.RawVideo.{raw_shape, chunks_since_drain, last_picture, is_whole_chunk, picture_unit, raw_decoder}
+use Rattle.codec_definitions.specs.Answers.{undefined_answer, sample_decoder_by, sample_encoder_by, audio_decoder_answer, audio_encoder_answer, answer_after}
 use Rattle.wc_config.specs.declared.kind.Kind.{Kind}
 use Rattle.wc_config.specs.declared.kind.Kind.TheVariants as kind
-use Rattle.codec_model.specs.declared.entry.Opening.{Opening}
-use Rattle.codec_model.specs.declared.entry.Removal.{Removal}
-use Rattle.codec_model.specs.declared.entry.Removal.TheVariants as removal
-use Rattle.codec_model.specs.declared.entry.Call.{Call}
-use Rattle.codec_model.specs.declared.entry.Call.TheVariants as call
 use Rattle.codec_model.specs.declared.entry.Entry.{Entry}
 use Rattle.codec_model.specs.declared.entry.Entry.TheVariants as entry
-use Rattle.codec_model.specs.declared.entry.Event.{Event}
-use Rattle.codec_model.specs.declared.entry.Event.TheVariants as event
-use Rattle.codec_model.specs.declared.entry.Work.{Work}
-use Rattle.codec_model.specs.declared.entry.Work.TheVariants as work
-use Rattle.codec_model.specs.declared.entry.WorkKind.{WorkKind}
-use Rattle.codec_model.specs.declared.entry.WorkKind.TheVariants as item
-use Rattle.codec_model.specs.declared.entry.Message.{Message}
-use Rattle.codec_model.specs.declared.entry.Item.{Item}
-use Rattle.codec_model.specs.declared.entry.Running.{Running}
-use Rattle.codec_model.specs.declared.entry.Task.{Task}
-use Rattle.codec_model.specs.declared.entry.Task.TheVariants as task
-use Rattle.codec_model.specs.declared.entry.Ended.{Ended}
-use Rattle.codec_model.specs.declared.entry.Ended.TheVariants as ended
-use Rattle.codec_model.specs.declared.entry.Outcome.{Outcome}
-use Rattle.codec_model.specs.Control.{Control, is_taken, after_message, process_queue, at_next_place, run_task, done_running, after_end, start_first, is_dequeue, is_desaturate, with_desaturate, after_reset, after_close, may_reclaim, may_start}
-use Rattle.codec_model.specs.Replay.{State, Given, given_more, answer_to, answers_by, opening_state, step, done_ended, ended_of, configure_error, decode_error, flush_error, removal_error, after_call, call_error, accepted, remove_or_refuse, removed, start_step, done_step, with_control, turn_step}
-use Rattle.codec_model.specs.Shown.{refusal, rejection, rejections, outputs_from, turn_shows, removal_shows, shows, event_units, units_in, each_shown_from}
+use Rattle.codec_model.specs.declared.entry.Shown.{Shown}
+use Rattle.codec_model.specs.Shown.{units_in, each_shown}
 use Rattle.wc_base.specs.Options.{cond_is, some_same}
+use Rattle.history_laws.specs.Outputs.{Judge, HoldsOwn}
+use Rattle.history_laws.specs.OutputLaws.{all_append, outputs_are}
 use Rattle.codec_follow.specs.Follow.{units_shown}
 use Rattle.codec_follow.specs.Outputs.{IsOutputOf, IsConfigOf, ConfiguresAs}
 use Rattle.codec_follow.specs.Laws.{OutputsAreOfKind}
-use Rattle.codec_follow.proofs.Answered.{ran_answer}
-
-all_append : {X : Type 0} (P : X → Type 0) (xs ys : List X) → AllByRecursion P xs → AllByRecursion P ys → AllByRecursion P (xs ++ ys)
-all_append P [] ys h k = k
-all_append P (x ∷ xs) ys h k = (h.0, all_append P xs ys h.1 k)
-
-all_more : {X : Type 0} (P : X → Type 0) (xs : List X) (y : X) → AllByRecursion P xs → P y → AllByRecursion P (xs ++ y ∷ [])
-all_more P xs y h k = all_append P xs (y ∷ []) h (k, tt)
 
 -- ---- what a codec's definition answers
 
@@ -106,146 +85,87 @@ sample_encoded s c (command.Sound samples) us h = chunk_or _ _ us h
 sample_encoded s c (command.Image picture) us h = absurd cc
 sample_encoded s c command.Drain us h = none_of kind.AudioEncoder us h
 
+undefined_none : (k : Kind) (x : Command) (us : List media.Unit) → undefined_answer x ≡ Some us → AllOf k us
+undefined_none k (command.Chunk chunk) us h = absurd cc
+undefined_none k (command.Sound samples) us h = absurd cc
+undefined_none k (command.Image picture) us h = absurd cc
+undefined_none k command.Drain us h = none_of k us h
+
 decoded_by : (o : Option SampleCodec) (c : AudioDecoderConfig) (x : Command) (us : List media.Unit) → 0 < c.rate → sample_decoder_by o c x ≡ Some us → AllOf kind.AudioDecoder us
-decoded_by None c x us own h = absurd cc
+decoded_by None c x us own h = undefined_none kind.AudioDecoder x us h
 decoded_by (Some s) c x us own h = sample_decoded s c x us own h
 
 encoded_by : (o : Option SampleCodec) (c : AudioEncoderConfig) (x : Command) (us : List media.Unit) → sample_encoder_by o c x ≡ Some us → AllOf kind.AudioEncoder us
-encoded_by None c x us h = absurd cc
+encoded_by None c x us h = undefined_none kind.AudioEncoder x us h
 encoded_by (Some s) c x us h = sample_encoded s c x us h
 
+both : (a b : Bool) → (a && b) ≡ true → (a ≡ true) × (b ≡ true)
+both true true h = (refl, refl)
+both true false h = absurd cc
+both false b h = absurd cc
+
+-- a stream that is described has a rate
+read_rate : (d : List ℕ) (info : StreamInfo) → streaminfo_of d ≡ Some info → 0 < info.rate
+read_rate d info h =
+    let said = stream_info_of (take 34 (drop 8 d)) in
+    let front = nat_le 42 (length d) && bytes_eq (take 4 d) (codes "fLaC") && (big_endian (take 4 (drop 4 d)) % 2 ^ 31 == 34) in
+    let read = cond_is (front && is_usable said) (Some said) info h in
+    let usable = both front (is_usable said) read.0 in
+    subst (λ (i : StreamInfo). 0 < i.rate) (some_same said info read.1) (leb-true 1 said.rate (both (nat_le 1 said.rate) (nat_le 4 said.depth) usable.1).0)
+
+described_rate : (d : Option (List ℕ)) (info : StreamInfo) → described d ≡ Some info → 0 < info.rate
+described_rate None info h = absurd cc
+described_rate (Some d) info h = read_rate d info h
+
+frame_decoded : (info : StreamInfo) (chunk : Chunk) (o : Option (FrameHeader × List ℤ)) (us : List media.Unit) → 0 < info.rate → unit_of_frame info chunk o ≡ Some us → AllOf kind.AudioDecoder us
+frame_decoded info chunk None us own h = absurd cc
+frame_decoded info chunk (Some f) us own h = one_of kind.AudioDecoder (flac_sound info chunk f.0 f.1) us own h
+
+chunk_decoded : (o : Option StreamInfo) (chunk : Chunk) (us : List media.Unit) → ((info : StreamInfo) → o ≡ Some info → 0 < info.rate) → flac_units o chunk ≡ Some us → AllOf kind.AudioDecoder us
+chunk_decoded None chunk us rate h = absurd cc
+chunk_decoded (Some info) chunk us rate h = frame_decoded info chunk (frame_of info chunk.bytes) us (rate info refl) h
+
+flac_decoded : (d : Option (List ℕ)) (x : Command) (us : List media.Unit) → flac_decoder (described d) x ≡ Some us → AllOf kind.AudioDecoder us
+flac_decoded d (command.Chunk chunk) us h = chunk_decoded (described d) chunk us (described_rate d) h
+flac_decoded d (command.Sound samples) us h = absurd cc
+flac_decoded d (command.Image picture) us h = absurd cc
+flac_decoded d command.Drain us h = none_of kind.AudioDecoder us h
+
 decoded : (id : CodecId) (c : AudioDecoderConfig) (x : Command) (us : List media.Unit) → 0 < c.rate → audio_decoder_answer id c x ≡ Some us → AllOf kind.AudioDecoder us
+decoded codec.Flac c x us own h = flac_decoded c.description x us h
 decoded id c x us own h = decoded_by (sample_codec id) c x us own h
 
 encoded : (id : CodecId) (c : AudioEncoderConfig) (x : Command) (us : List media.Unit) → audio_encoder_answer id c x ≡ Some us → AllOf kind.AudioEncoder us
 encoded id c x us h = encoded_by (sample_codec id) c x us h
 
+picture_given : (shape : PictureShape) (chunk : Chunk) (o : Option (List ℕ)) (us : List media.Unit) → picture_unit shape chunk o ≡ Some us → AllOf kind.VideoDecoder us
+picture_given shape chunk None us h = absurd cc
+picture_given shape chunk (Some bytes) us h = one_of kind.VideoDecoder _ us tt h
+
+raw_given : (o : Option PictureShape) (before : List Command) (x : Command) (us : List media.Unit) → raw_decoder o before x ≡ Some us → AllOf kind.VideoDecoder us
+raw_given None before (command.Chunk chunk) us h = absurd cc
+raw_given (Some shape) before (command.Chunk chunk) us h = by (is_whole_chunk (picture_size shape) chunk.bytes) h
+  where
+    by : (b : Bool) → cond (not b) None (picture_unit shape chunk (last_picture (picture_size shape) (chunks_since_drain before ++ chunk.bytes ∷ []))) ≡ Some us → AllOf kind.VideoDecoder us
+    by true e = picture_given shape chunk _ us e
+    by false e = absurd cc
+raw_given o before (command.Sound samples) us h = absurd cc
+raw_given o before (command.Image picture) us h = absurd cc
+raw_given o before command.Drain us h = none_of kind.VideoDecoder us h
+
 answered : (k : Kind) (id : CoderId) (c : Config) (before : List Command) (x : Command) (us : List media.Unit) → IsOwn k c → answer_after id c before x ≡ Some us → AllOf k us
 answered kind.AudioDecoder id (config.AudioDecoder c) before x us own h = decoded id.codec c x us own h
 answered kind.AudioEncoder id (config.AudioEncoder c) before x us own h = encoded id.codec c x us h
+answered kind.VideoDecoder id (config.VideoDecoder c) before x us own h = raw_given (raw_shape id.codec c) before x us h
 answered kind.AudioDecoder id (config.AudioEncoder c) before x us own h = absurd own
+answered kind.AudioDecoder id (config.VideoDecoder c) before x us own h = absurd own
 answered kind.AudioEncoder id (config.AudioDecoder c) before x us own h = absurd own
+answered kind.AudioEncoder id (config.VideoDecoder c) before x us own h = absurd own
 answered kind.VideoDecoder id (config.AudioDecoder c) before x us own h = absurd own
 answered kind.VideoDecoder id (config.AudioEncoder c) before x us own h = absurd own
-answered k id (config.VideoDecoder c) before x us own h = absurd cc
-answered k id config.Bad before x us own h = absurd cc
+answered k id config.Bad before x us own h = undefined_none k x us h
 
-last_of : (k : Kind) (id : CoderId) (c : Config) (before xs : List Command) (us : List media.Unit) → IsOwn k c → last_answer (answers_from id c before xs) ≡ Some us → AllOf k us
-last_of k id c before [] us own h = absurd cc
-last_of k id c before (x ∷ xs) us own h = here (answer_after id c before x) refl (last_of k id c (before ++ x ∷ []) xs us own) h
-  where
-    later : (vs : List media.Unit) (rest : List (Option (List media.Unit))) → answer_after id c before x ≡ Some vs → (last_answer rest ≡ Some us → AllOf k us) → last_answer (Some vs ∷ rest) ≡ Some us → AllOf k us
-    later vs [] e more l = answered k id c before x us own (e ∙ l)
-    later vs (y ∷ ys) e more l = more l
-
-    here : (o : Option (List media.Unit)) → answer_after id c before x ≡ o → (last_answer (answers_from id c (before ++ x ∷ []) xs) ≡ Some us → AllOf k us) → last_answer (until_refused o (answers_from id c (before ++ x ∷ []) xs)) ≡ Some us → AllOf k us
-    here None e more l = absurd cc
-    here (Some vs) e more l = later vs (answers_from id c (before ++ x ∷ []) xs) e more l
-
-by_coder : (k : Kind) (o : Option CoderId) (g : Given) (us : List media.Unit) → IsOwn k g.config → last_answer (answers_by o g) ≡ Some us → AllOf k us
-by_coder k None g us own h = absurd cc
-by_coder k (Some id) g us own h = last_of k id g.config [] g.commands us own h
-
-given_of : (k : Kind) (w : WorkKind) (g : Given) (us : List media.Unit) → IsOwn k g.config → answer_to w g ≡ Some us → AllOf k us
-given_of k item.Configure g us own h = none_of k us (cond_is (is_supported g.config) (Some []) us h).1
-given_of k item.Coded g us own h = by_coder k (coder_id_of g.config) g us own h
-given_of k item.Flush g us own h = by_coder k (coder_id_of g.config) g us own h
-
--- ---- states
-
-abbrev IsOwnWork : Kind → Work → Type 0
-IsOwnWork k (work.Configure c) = IsOwn k c
-IsOwnWork k w = Unit {0}
-
-abbrev IsOwnTask : Kind → Task → Type 0
-IsOwnTask k (task.Output units) = AllOf k units
-IsOwnTask k (task.Flushed promise units) = AllOf k units
-IsOwnTask k t = Unit {0}
-
-abbrev AreOwnMessages : Kind → List Message → Type 0
-AreOwnMessages k ms = AllByRecursion (λ m. IsOwnWork k m.work) ms
-
-abbrev AreOwnTasks : Kind → List Task → Type 0
-AreOwnTasks k ts = AllByRecursion (IsOwnTask k) ts
-
-record OwnControl (k : Kind) (c : Control) : Type 0 where
-  messages : AreOwnMessages k c.messages
-  items : AllByRecursion (λ i. IsOwnWork k i.work) c.work
-  tasks : AreOwnTasks k c.tasks
-
-record Own (k : Kind) (s : State) : Type 0 where
-  control : OwnControl k s.control
-  given : IsOwn k s.given.config
-  busy : IsOwn k s.running_given.config
-
-dequeue_own : (k : Kind) (b : Bool) (ts : List Task) → AreOwnTasks k ts → AreOwnTasks k (cond b (ts ++ task.Dequeue ∷ []) ts)
-dequeue_own k true ts h = all_more (IsOwnTask k) ts task.Dequeue h tt
-dequeue_own k false ts h = h
-
-taken_own : (k : Kind) (w : Work) (at : ℕ) (ms : List Message) (c : Control) → OwnControl k c → IsOwnWork k w → AreOwnMessages k ms → OwnControl k (record (after_message (record { place = at; work = w }) c) { messages = ms })
-taken_own k (work.Configure given) at ms c h w all = record {
-  messages = all;
-  items = all_more (λ (i : Item). IsOwnWork k i.work) c.work (record { number = c.next_item; place = at; work = work.Configure given }) h.items w;
-  tasks = h.tasks;
-}
-taken_own k (work.Coded chunk) at ms c h w all = record {
-  messages = all;
-  items = all_more (λ (i : Item). IsOwnWork k i.work) c.work (record { number = c.next_item; place = at; work = work.Coded chunk }) h.items tt;
-  tasks = dequeue_own k (not c.scheduled) c.tasks h.tasks;
-}
-taken_own k work.Flush at ms c h w all = record {
-  messages = all;
-  items = all_more (λ (i : Item). IsOwnWork k i.work) c.work (record { number = c.next_item; place = at; work = work.Flush }) h.items tt;
-  tasks = h.tasks;
-}
-
-own_by : (k : Kind) (b : Bool) (c d : Control) → OwnControl k c → OwnControl k d → OwnControl k (cond b d c)
-own_by k true c d h j = j
-own_by k false c d h j = h
-
-process_own : (k : Kind) (ms : List Message) (c : Control) → OwnControl k c → AreOwnMessages k ms → OwnControl k (process_queue ms c)
-process_own k [] c h all = h
-process_own k (m ∷ ms) c h all =
-    let d : Control = record (after_message m c) { messages = ms } in
-    own_by k (is_taken m c) c (process_queue ms d) h (process_own k ms d (taken_own k m.work m.place ms c h all.0 all.1) all.1)
-
-processed_own : (k : Kind) (c : Control) → OwnControl k c → OwnControl k (process_queue c.messages c)
-processed_own k c h = process_own k c.messages c h h.messages
-
--- ---- calls
-
--- a call whose config, if it has one, the codec takes for its own
-abbrev IsOwnCall : Kind → Call → Type 0
-IsOwnCall k (call.Configure c) = IsOwn k c
-IsOwnCall k x = Unit {0}
-
-queued_own : (k : Kind) (c : Control) (m : Message) → OwnControl k c → IsOwnWork k m.work → OwnControl k (record c { messages = c.messages ++ m ∷ [] })
-queued_own k c m h w = record {
-  messages = all_more (λ (x : Message). IsOwnWork k x.work) c.messages m h.messages w;
-  items = h.items;
-  tasks = h.tasks;
-}
-
--- the same messages, items and tasks
-same_own : (k : Kind) (c d : Control) → d.messages ≡ c.messages → d.work ≡ c.work → d.tasks ≡ c.tasks → OwnControl k c → OwnControl k d
-same_own k c d messages items tasks h = record {
-  messages = rw messages (h.messages);
-  items = rw items (h.items);
-  tasks = rw tasks (h.tasks);
-}
-
-accepted_own : (k : Kind) (x : Call) (c : Control) → IsOwnCall k x → OwnControl k c → OwnControl k (accepted x c)
-accepted_own k (call.Configure given) c own h = processed_own k _ (same_own k _ _ refl refl refl (queued_own k c (record { place = c.place; work = work.Configure given }) h own))
-accepted_own k (call.Decode chunk) c own h = processed_own k _ (same_own k _ _ refl refl refl (queued_own k c (record { place = c.place; work = work.Coded chunk }) h tt))
-accepted_own k call.Flush c own h = processed_own k _ (same_own k _ _ refl refl refl (queued_own k c (record { place = c.place; work = work.Flush }) h tt))
-
-called_own : (k : Kind) (o : Option DomError) (x : Call) (c : Control) → (o ≡ None → IsOwnCall k x) → OwnControl k c → OwnControl k (after_call o x c)
-called_own k None x c own h = accepted_own k x c (own refl) h
-called_own k (Some error) x c own h = same_own k c _ refl refl refl h
-
-accepted_valid : (b : Bool) (o : Option DomError) → cond b o (Some dom.TypeErr) ≡ None → b ≡ true
-accepted_valid true o h = refl
-accepted_valid false o h = absurd cc
+-- ---- a config that is valid and of the codec's kind
 
 rate_of : (a : Bool) (rate : ℕ) (b : Bool) → (a && nat_le 1 rate && b) ≡ true → 0 < rate
 rate_of true zero b h = absurd cc
@@ -264,227 +184,28 @@ own_config kind.VideoDecoder (config.AudioDecoder c) own h = absurd own
 own_config kind.VideoDecoder (config.AudioEncoder c) own h = absurd own
 own_config k config.Bad own h = absurd cc
 
--- ---- removals
+-- the outputs of a codec of this kind
+abbrev judge_of : Kind → Judge
+judge_of k = record { config = IsOwn k; chunk = λ chunk. Unit {0}; output = IsOutputOf k; nothing = bad_own k; gives = λ id c before x us own chunk h. answered k id c before x us own h }
 
-filtered_own : (k : Kind) (ts : List Task) → AreOwnTasks k ts → AreOwnTasks k (filter is_dequeue ts)
-filtered_own k [] h = tt
-filtered_own k (task.Unblock ∷ ts) h = filtered_own k ts h.1
-filtered_own k (task.Process ∷ ts) h = filtered_own k ts h.1
-filtered_own k (task.Desaturate ∷ ts) h = filtered_own k ts h.1
-filtered_own k (task.Output units ∷ ts) h = filtered_own k ts h.1
-filtered_own k (task.Flushed promise units ∷ ts) h = filtered_own k ts h.1
-filtered_own k (task.Dequeue ∷ ts) h = (tt, filtered_own k ts h.1)
-filtered_own k (task.Close error ∷ ts) h = filtered_own k ts h.1
-
-reset_own : (k : Kind) (c : Control) → OwnControl k c → OwnControl k (after_reset c)
-reset_own k c h = record {
-  messages = tt;
-  items = tt;
-  tasks = dequeue_own k (not (eqb c.size 0) && not c.scheduled) (filter is_dequeue c.tasks) (filtered_own k c.tasks h.tasks);
-}
-
-removed_own : (k : Kind) (c : Control) (s : State) → OwnControl k c → Own k s → Own k (removed c s)
-removed_own k c s h own = record { control = h; given = bad_own k; busy = own.busy }
-
-with_own : (k : Kind) (c : Control) (s : State) → OwnControl k c → Own k s → Own k (with_control c s)
-with_own k c s h own = record { control = h; given = own.given; busy = own.busy }
-
-entered_own : (k : Kind) (c : Control) → OwnControl k c → OwnControl k (at_next_place c)
-entered_own k c h = same_own k c (at_next_place c) refl refl refl h
-
-closed_own : (k : Kind) (c : Control) → OwnControl k c → OwnControl k (after_close c)
-closed_own k c h = same_own k (after_reset c) (after_close c) refl refl refl (reset_own k c h)
-
-removal_own : (k : Kind) (o : Option DomError) (r : Removal) (s : State) → Own k s → Own k (remove_or_refuse o r s)
-removal_own k None removal.Reset s own = removed_own k _ s (reset_own k (at_next_place s.control) (entered_own k s.control own.control)) own
-removal_own k None removal.Close s own = removed_own k _ s (closed_own k (at_next_place s.control) (entered_own k s.control own.control)) own
-removal_own k (Some error) r s own = with_own k (at_next_place s.control) s (entered_own k s.control own.control) own
-
--- ---- starts
-
-more_own : (k : Kind) (w : Work) (g : Given) → IsOwnWork k w → IsOwn k g.config → IsOwn k (given_more w g).config
-more_own k (work.Configure c) g own h = own
-more_own k (work.Coded chunk) g own h = h
-more_own k work.Flush g own h = h
-
-started_own : (k : Kind) (is : List Item) (epoch number : ℕ) (s t : State) → s.control.work ≡ is → start_step is epoch number s ≡ Some t → Own k s → Own k t
-started_own k [] epoch number s t e step h = absurd cc
-started_own k (i ∷ is) epoch number s t e step h =
-    let given = cond_is (may_start s.control && eqb epoch s.control.epoch && eqb number i.number) _ t step in
-    let items : AllByRecursion (λ j. IsOwnWork k j.work) (i ∷ is) = subst (λ (l : List Item). AllByRecursion (λ j. IsOwnWork k j.work) l) e h.control.items in
-    let own = more_own k i.work s.given items.0 h.given in
-    subst (λ (u : State). Own k u) (some_same _ t given.1)
-    (record {
-      control = subst (λ (l : List Item). OwnControl k (start_first l (at_next_place s.control))) (sym e) (record { messages = h.control.messages; items = items.1; tasks = h.control.tasks });
-      given = own;
-      busy = own;
-    })
-
--- ---- ends of items
-
-task_own : (k : Kind) (c : Control) (t : Task) → OwnControl k c → IsOwnTask k t → OwnControl k (record c { tasks = c.tasks ++ t ∷ [] })
-task_own k c t h own = record { messages = h.messages; items = h.items; tasks = all_more (IsOwnTask k) c.tasks t h.tasks own }
-
-desaturated_own : (k : Kind) (b : Bool) (ts : List Task) → AreOwnTasks k ts → AreOwnTasks k (cond b (ts ++ task.Desaturate ∷ []) ts)
-desaturated_own k true ts h = all_more (IsOwnTask k) ts task.Desaturate h tt
-desaturated_own k false ts h = h
-
-output_own : (k : Kind) (b : Bool) (ts : List Task) (us : List media.Unit) → AreOwnTasks k ts → AllOf k us → AreOwnTasks k (cond b ts (ts ++ task.Output us ∷ []))
-output_own k true ts us h own = h
-output_own k false ts us h own = all_more (IsOwnTask k) ts (task.Output us) h own
-
-ran_own : (k : Kind) (epoch number place : ℕ) (w : WorkKind) (us : List media.Unit) (c : Control) → OwnControl k c → AllOf k us → OwnControl k (after_end (record { epoch = epoch; number = number; place = place; kind = w }) (ended.Ran us) c)
-ran_own k epoch number place item.Configure us c h own = task_own k c task.Unblock h tt
-ran_own k epoch number place item.Coded us c h own = record {
-  messages = h.messages;
-  items = h.items;
-  tasks = output_own k (eqb (length us) 0) (with_desaturate c.saturated c.tasks) us (desaturated_own k (c.saturated && eqb (count_by is_desaturate c.tasks) 0) c.tasks h.tasks) own;
-}
-ran_own k epoch number place item.Flush us c h own = task_own k c (task.Flushed place us) h own
-
-settled_own : (k : Kind) (r : Running) (e : Ended) (c : Control) → OwnControl k c → ((us : List media.Unit) → e ≡ ended.Ran us → AllOf k us) → OwnControl k (after_end r e c)
-settled_own k r (ended.Ran us) c h own = ran_own k r.epoch r.number r.place r.kind us c h (own us refl)
-settled_own k r ended.Refused c h own = task_own k _ (task.Close _) (same_own k c (record c { halted = true }) refl refl refl h) tt
-settled_own k r (ended.NoSlot n) c h own = task_own k _ (task.Close _) (same_own k c (record c { halted = true }) refl refl refl h) tt
-settled_own k r ended.NoMemory c h own = task_own k _ (task.Close _) (same_own k c (record c { halted = true }) refl refl refl h) tt
-
-done_own : (k : Kind) (r : Running) (e : Ended) (moment : ℕ) (c : Control) → OwnControl k c → ((us : List media.Unit) → e ≡ ended.Ran us → AllOf k us) → OwnControl k (done_running r e moment (at_next_place c))
-done_own k r e moment c h own = by (eqb r.epoch c.epoch)
+entries_own : (k : Kind) (es : List Entry) → AllByRecursion (ConfiguresAs k) es → AllByRecursion (HoldsOwn (judge_of k)) es
+entries_own k [] own = tt
+entries_own k (e ∷ es) own = (by e own.0, entries_own k es own.1)
   where
-    by : (b : Bool) → OwnControl k (cond b (after_end r e (record (at_next_place c) { running = None; progress = Some (max moment (unwrap_or c.progress moment)) })) (record (at_next_place c) { running = None }))
-    by true = settled_own k r e _ (same_own k c _ refl refl refl h) own
-    by false = same_own k c _ refl refl refl h
+    by : (x : Entry) → ConfiguresAs k x → HoldsOwn (judge_of k) x
+    by (entry.Configure who c) is = own_config k c is
+    by (entry.Decode who chunk) is = tt
+    by (entry.Flush who) is = tt
+    by (entry.Reset who) is = tt
+    by (entry.Close who) is = tt
+    by (entry.Start epoch number) is = tt
+    by (entry.Done epoch number moment x) is = tt
+    by entry.Turn is = tt
+    by (entry.Reclaim moment) is = tt
 
-ended_own : (k : Kind) (r : Running) (x : Outcome) (o : Option Ended) (moment : ℕ) (s t : State) → ended_of r.kind s.running_given x ≡ o → done_ended r o moment s ≡ Some t → Own k s → Own k t
-ended_own k r x None moment s t is step h = absurd cc
-ended_own k r x (Some e) moment s t is step h =
-    subst (λ (u : State). Own k u) (some_same (with_control (done_running r e moment (at_next_place s.control)) s) t step)
-    (with_own k (done_running r e moment (at_next_place s.control)) s (done_own k r e moment s.control h.control (λ us ran. given_of k r.kind s.running_given us h.busy (ran_answer r.kind s.running_given x us (is ∙ ap some_ended ran)))) h)
-  where
-    some_ended : Ended → Option Ended
-    some_ended e = Some e
-
-done_step_own : (k : Kind) (o : Option Running) (epoch number moment : ℕ) (x : Outcome) (s t : State) → done_step o epoch number moment x s ≡ Some t → Own k s → Own k t
-done_step_own k None epoch number moment x s t step h = absurd cc
-done_step_own k (Some r) epoch number moment x s t step h = ended_own k r x (ended_of r.kind s.running_given x) moment s t refl (cond_is (eqb r.epoch epoch && eqb r.number number) (done_ended r (ended_of r.kind s.running_given x) moment s) t step).1 h
-
--- ---- turns
-
-run_own : (k : Kind) (t : Task) (c : Control) → OwnControl k c → OwnControl k (run_task t c)
-run_own k task.Unblock c h = task_own k (record c { blocked = false }) task.Process (same_own k c _ refl refl refl h) tt
-run_own k task.Process c h = processed_own k c h
-run_own k task.Desaturate c h = processed_own k (record c { saturated = false }) (same_own k c _ refl refl refl h)
-run_own k (task.Output units) c h = same_own k c _ refl refl refl h
-run_own k (task.Flushed promise units) c h = same_own k c _ refl refl refl h
-run_own k task.Dequeue c h = same_own k c _ refl refl refl h
-run_own k (task.Close x) c h = closed_own k c h
-
-left_own : (k : Kind) (t : Task) (ts : List Task) (c : Control) → c.tasks ≡ t ∷ ts → OwnControl k c → OwnControl k (record (at_next_place c) { tasks = ts })
-left_own k t ts c e h =
-    let tasks : AreOwnTasks k (t ∷ ts) = subst (λ (l : List Task). AreOwnTasks k l) e h.tasks in
-    record { messages = h.messages; items = h.items; tasks = tasks.1 }
-
-turned_own : (k : Kind) (ts : List Task) (s t : State) → s.control.tasks ≡ ts → turn_step ts s ≡ Some t → Own k s → Own k t
-turned_own k [] s t e step h = absurd cc
-turned_own k (task.Close x ∷ ts) s t e step h = subst (λ (u : State). Own k u) (some_same _ t step) (rw e (removed_own k _ s (run_own k (task.Close x) _ (left_own k (task.Close x) ts s.control e h.control)) h))
-turned_own k (task.Unblock ∷ ts) s t e step h = subst (λ (u : State). Own k u) (some_same _ t step) (rw e (with_own k _ s (run_own k task.Unblock _ (left_own k task.Unblock ts s.control e h.control)) h))
-turned_own k (task.Process ∷ ts) s t e step h = subst (λ (u : State). Own k u) (some_same _ t step) (rw e (with_own k _ s (run_own k task.Process _ (left_own k task.Process ts s.control e h.control)) h))
-turned_own k (task.Desaturate ∷ ts) s t e step h = subst (λ (u : State). Own k u) (some_same _ t step) (rw e (with_own k _ s (run_own k task.Desaturate _ (left_own k task.Desaturate ts s.control e h.control)) h))
-turned_own k (task.Output units ∷ ts) s t e step h = subst (λ (u : State). Own k u) (some_same _ t step) (rw e (with_own k _ s (run_own k (task.Output units) _ (left_own k (task.Output units) ts s.control e h.control)) h))
-turned_own k (task.Flushed promise units ∷ ts) s t e step h = subst (λ (u : State). Own k u) (some_same _ t step) (rw e (with_own k _ s (run_own k (task.Flushed promise units) _ (left_own k (task.Flushed promise units) ts s.control e h.control)) h))
-turned_own k (task.Dequeue ∷ ts) s t e step h = subst (λ (u : State). Own k u) (some_same _ t step) (rw e (with_own k _ s (run_own k task.Dequeue _ (left_own k task.Dequeue ts s.control e h.control)) h))
-
--- ---- entries
-
-call_own : (k : Kind) (x : Call) (s : State) → (call_error x s.control ≡ None → IsOwnCall k x) → Own k s → Own k (with_control (after_call (call_error x s.control) x s.control) s)
-call_own k x s own h = with_own k _ s (called_own k (call_error x s.control) x s.control own h.control) h
-
-step_own : (k : Kind) (e : Entry) (s t : State) → step e s ≡ Some t → ConfiguresAs k e → Own k s → Own k t
-step_own k (entry.Configure who given) s t is own h =
-    subst (λ (u : State). Own k u) (some_same _ t is)
-    (call_own k (call.Configure given) s (λ taken. own_config k given own (accepted_valid (is_valid given) _ taken)) h)
-step_own k (entry.Decode who chunk) s t is own h = subst (λ (u : State). Own k u) (some_same _ t is) (call_own k (call.Decode chunk) s (λ taken. tt) h)
-step_own k (entry.Flush who) s t is own h = subst (λ (u : State). Own k u) (some_same _ t is) (call_own k call.Flush s (λ taken. tt) h)
-step_own k (entry.Reset who) s t is own h =
-    subst (λ (u : State). Own k u) (some_same _ t is)
-    (removal_own k (removal_error s.control) removal.Reset s h)
-step_own k (entry.Close who) s t is own h =
-    subst (λ (u : State). Own k u) (some_same _ t is)
-    (removal_own k (removal_error s.control) removal.Close s h)
-step_own k (entry.Start epoch number) s t is own h = started_own k s.control.work epoch number s t refl is h
-step_own k (entry.Done epoch number moment x) s t is own h = done_step_own k s.control.running epoch number moment x s t is h
-step_own k entry.Turn s t is own h = turned_own k s.control.tasks s t refl is h
-step_own k (entry.Reclaim moment) s t is own h =
-    subst (λ (u : State). Own k u) (some_same _ t (cond_is (may_reclaim moment s.control) _ t is).1)
-    (removed_own k _ s (closed_own k (at_next_place s.control) (entered_own k s.control h.control)) h)
-
-opening_own : (k : Kind) (o : Opening) → Own k (opening_state o)
-opening_own k o = record { control = record { messages = tt; items = tt; tasks = tt }; given = bad_own k; busy = bad_own k }
-
--- ---- what entries show
-
-outputs_own : (k : Kind) (n : ℕ) (us : List media.Unit) → AllOf k us → AllOf k (units_in (outputs_from n us))
-outputs_own k n [] h = tt
-outputs_own k n (u ∷ us) h = (h.0, outputs_own k (n + 1) us h.1)
-
-units_append : (xs ys : List Event) → units_in (xs ++ ys) ≡ units_in xs ++ units_in ys
-units_append [] ys = refl
-units_append (x ∷ xs) ys =
-    ap (λ (us : List media.Unit). event_units x ++ us) (units_append xs ys)
-    ∙ sym (append_assoc (event_units x) (units_in xs) (units_in ys))
-
-refusal_none : (k : Kind) (o : Option DomError) → AllOf k (units_in (refusal o))
-refusal_none k None = tt
-refusal_none k (Some error) = tt
-
-rejection_none : (k : Kind) (place : ℕ) (o : Option DomError) → AllOf k (units_in (rejection place o))
-rejection_none k place None = tt
-rejection_none k place (Some error) = tt
-
-rejections_none : (k : Kind) (x : DomError) (ps : List ℕ) → AllOf k (units_in (rejections x ps))
-rejections_none k x [] = tt
-rejections_none k x (p ∷ ps) = rejections_none k x ps
-
-closing_none : (k : Kind) (x y : DomError) (ps : List ℕ) → AllOf k (units_in (rejections x ps ++ event.ErrorCall y ∷ []))
-closing_none k x y [] = tt
-closing_none k x y (p ∷ ps) = closing_none k x y ps
-
-removal_none : (k : Kind) (o : Option DomError) (ps : List ℕ) → AllOf k (units_in (removal_shows o ps))
-removal_none k None ps = rejections_none k dom.Abort ps
-removal_none k (Some error) ps = tt
-
-flushed_own : (k : Kind) (n promise : ℕ) (us : List media.Unit) → AllOf k us → AllOf k (units_in (outputs_from n us ++ event.Resolve promise ∷ []))
-flushed_own k n promise [] h = tt
-flushed_own k n promise (u ∷ us) h = (h.0, flushed_own k (n + 1) promise us h.1)
-
-task_shown_own : (k : Kind) (ts : List Task) (c : Control) → AreOwnTasks k ts → AllOf k (units_in (turn_shows ts c))
-task_shown_own k [] c h = tt
-task_shown_own k (task.Unblock ∷ ts) c h = tt
-task_shown_own k (task.Process ∷ ts) c h = tt
-task_shown_own k (task.Desaturate ∷ ts) c h = tt
-task_shown_own k (task.Output units ∷ ts) c h = outputs_own k _ units h.0
-task_shown_own k (task.Flushed promise units ∷ ts) c h = flushed_own k _ promise units h.0
-task_shown_own k (task.Dequeue ∷ ts) c h = tt
-task_shown_own k (task.Close error ∷ ts) c h = closing_none k error error c.pending
-
-shows_own : (k : Kind) (e : Entry) (s : State) → Own k s → AllOf k (units_in (shows e s))
-shows_own k (entry.Configure who given) s h = refusal_none k (configure_error given s.control)
-shows_own k (entry.Decode who chunk) s h = refusal_none k (decode_error chunk s.control)
-shows_own k (entry.Flush who) s h = rejection_none k s.control.place (flush_error s.control)
-shows_own k (entry.Reset who) s h = removal_none k (removal_error s.control) s.control.pending
-shows_own k (entry.Close who) s h = removal_none k (removal_error s.control) s.control.pending
-shows_own k (entry.Start epoch number) s h = tt
-shows_own k (entry.Done epoch number moment x) s h = tt
-shows_own k entry.Turn s h = task_shown_own k s.control.tasks s.control h.control.tasks
-shows_own k (entry.Reclaim moment) s h = closing_none k dom.QuotaExceeded dom.QuotaExceeded s.control.pending
-
-shown_own : (k : Kind) (es : List Entry) (s : State) → AllByRecursion (ConfiguresAs k) es → Own k s → AllOf k (units_shown (each_shown_from es s))
-shown_own k [] s own h = tt
-shown_own k (e ∷ es) s own h = all_append (IsOutputOf k) (units_in (shows e s)) _ (shows_own k e s h) (after (step e s) refl (λ t. shown_own k es t own.1))
-  where
-    after : (o : Option State) → step e s ≡ o → ((t : State) → Own k t → AllOf k (units_shown (each_shown_from es t))) → AllOf k (units_shown (unwrap_or (option_map (each_shown_from es) o) []))
-    after None is more = tt
-    after (Some t) is more = more t (step_own k e s t is own.0 h)
+units_own : (k : Kind) (xs : List Shown) → AllByRecursion (λ x. AllOf k (units_in x.events)) xs → AllOf k (units_shown xs)
+units_own k [] h = tt
+units_own k (x ∷ xs) h = all_append (IsOutputOf k) (units_in x.events) (units_shown xs) h.0 (units_own k xs h.1)
 
 pub outputs_of_kind : OutputsAreOfKind
-outputs_of_kind o h own = shown_own o.kind h (opening_state o) own (opening_own o.kind o)
+outputs_of_kind o h own = units_own o.kind (each_shown o h) (outputs_are (judge_of o.kind) o h (entries_own o.kind h own))

@@ -1,10 +1,8 @@
 -- Histories that follow: each entry is legal after those before it, where each end of an item is taken as it stands (our
 -- choice). What the outputs hold is left open.
-use Rattle.std.specs.Prelude.{ℕ, ◌≡◌, ◌==◌, ◌&&◌, Bool, true, false, pos, List, [], ◌∷◌, ◌++◌, replicate, Option, Some, None, is_some, option_map, option_and_then, unwrap_or, if◌then◌else◌}
+use Rattle.std.specs.Prelude.{ℕ, ◌≡◌, ◌==◌, ◌&&◌, true, false, pos, List, [], ◌∷◌, ◌++◌, replicate, Option, Some, None, is_some, option_map, option_and_then, unwrap_or, if◌then◌else◌}
 use Rattle.wc_config.specs.declared.config.Config.{Config}
-use Rattle.wc_config.specs.Configs.{is_supported, coder_id_of}
-use Rattle.codec_definitions.specs.declared.command.Command.TheVariants as command
-use Rattle.codec_definitions.specs.Answers.{answer_after}
+use Rattle.wc_config.specs.Configs.{is_supported}
 use Rattle.codec_definitions.specs.declared.unit.Unit as media
 use Rattle.codec_definitions.specs.declared.unit.Unit.TheVariants as unit
 use Rattle.wc_config.specs.declared.kind.Kind.{Kind}
@@ -39,19 +37,15 @@ ran_as kind.Configure units = if units == 0 then Some (ended.Ran []) else None
 ran_as kind.Coded units = Some (ended.Ran (blanks units))
 ran_as kind.Flush units = Some (ended.Ran (blanks units))
 
--- the definition of the codec that a config asks for answers a drain; that of a codec with no coder yet refuses it
-abbrev pub answers_drain : Config → Bool
-answers_drain c = unwrap_or (option_map (λ id. is_some (answer_after id c [] command.Drain)) (coder_id_of c)) true
-
 -- what the ends of items ask of the config that was last given
 abbrev pub known_of : Config → Known
-known_of c = record { supported = is_supported c; drains = answers_drain c }
+known_of c = record { supported = is_supported c }
 
--- a flush item is never refused where drains are answered
-abbrev pub refused_as : WorkKind → Known → Option Ended
-refused_as kind.Configure known = Some ended.Refused
-refused_as kind.Coded known = Some ended.Refused
-refused_as kind.Flush known = if known.drains then None else Some ended.Refused
+-- a flush item is never refused
+abbrev pub refused_as : WorkKind → Option Ended
+refused_as kind.Configure = Some ended.Refused
+refused_as kind.Coded = Some ended.Refused
+refused_as kind.Flush = None
 
 -- only a configure item is refused a coder, where its config is supported
 abbrev pub no_slot_as : WorkKind → Known → ℕ → Option Ended
@@ -62,7 +56,7 @@ no_slot_as kind.Flush known e = None
 -- how an item of this kind ends with this outcome as it stands; none where that does not follow
 abbrev pub ended_by : WorkKind → Known → Outcome → Option Ended
 ended_by k known (outcome.Ran units) = ran_as k units
-ended_by k known outcome.Refused = refused_as k known
+ended_by k known outcome.Refused = refused_as k
 ended_by k known (outcome.NoSlot e) = no_slot_as k known e
 ended_by k known outcome.NoMemory = Some ended.NoMemory
 

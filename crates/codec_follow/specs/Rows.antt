@@ -8,9 +8,9 @@ use Rattle.codec_model.specs.declared.entry.Entry.TheVariants as entry
 use Rattle.codec_model.specs.declared.entry.Event.TheVariants.{Output, Dequeue}
 use Rattle.codec_model.specs.Shown.{each_shown}
 use Rattle.codec_model.specs.Rows.{four, step_of, pcm, chunk, unit, ordinary, quiet_after}
-use Rattle.codec_model.specs.Replay.{IsLegal}
+use Rattle.codec_model.specs.Replay.{replay}
 use Rattle.wc_config.specs.declared.kind.Kind.TheVariants as kind
-use Rattle.codec_follow.specs.Follow.{follows, IsFollowed, each_filled}
+use Rattle.codec_follow.specs.Follow.{follows, each_filled}
 use Rattle.codec_follow.specs.Outputs.{empty_output}
 
 -- the ordinary run follows
@@ -51,6 +51,6 @@ raw_video = config.VideoDecoder (record { codec = codes "x-raw-i420"; width = So
 abbrev pub FlushIsAnswered : Type 0
 FlushIsAnswered = follows four (refusing pcm) ≡ None
 
--- raw video has no coder yet, and its definition refuses a drain: the refusal is legal, and follows
-abbrev pub VideoIsRefused : Type 0
-VideoIsRefused = IsLegal four (refusing raw_video) × IsFollowed four (refusing raw_video)
+-- nor is that of raw video, which has no coder yet: such a refusal is not legal, and does not follow
+abbrev pub VideoIsAnswered : Type 0
+VideoIsAnswered = (replay four (refusing raw_video) ≡ None) × (follows four (refusing raw_video) ≡ None)

@@ -1,10 +1,6 @@
 // Ends of items as they stand.
-ghost use Rattle.std.specs.Prelude.{◌≡◌, IfOk, is_some};
-ghost use Rattle.wc_config.specs.declared.config.AudioDecoderConfig.{AudioDecoderConfig};
-ghost use Rattle.wc_config.specs.declared.config.AudioEncoderConfig.{AudioEncoderConfig};
-ghost use Rattle.codec_definitions.specs.declared.command.Command.TheVariants as Command;
-ghost use Rattle.codec_definitions.specs.Answers.{audio_decoder_answer, audio_encoder_answer};
-ghost use Rattle.codec_follow.specs.Follow.{blank as the_blank, blanks as the_blanks, ran_as, ended_by, answers_drain};
+ghost use Rattle.std.specs.Prelude.{◌≡◌, IfOk};
+ghost use Rattle.codec_follow.specs.Follow.{blank as the_blank, blanks as the_blanks, ran_as, ended_by};
 ghost use Rattle.codec_follow.specs.Followed.{known_with, known_after, nothing_known as the_nothing};
 
 use crate::known::Known;
@@ -14,7 +10,6 @@ use coder_api::Unit;
 use std::alloc::Global;
 use wc_base::{DomError, List, NoMemory, try_push};
 use wc_chunk::Chunk;
-use wc_config::{CodecId, Config};
 
 // The place of an output whose content is not told.
 fn blank() -> Unit
@@ -73,51 +68,13 @@ pub(crate) fn ended_as(
         Outcome::Refused => Ok(match kind {
             WorkKind::Configure => Some(Ended::Refused),
             WorkKind::Coded => Some(Ended::Refused),
-            WorkKind::Flush => (!known.drains).then_some(Ended::Refused),
+            WorkKind::Flush => None,
         }),
         Outcome::NoSlot { entry } => Ok(match kind {
             WorkKind::Configure => known.supported.then_some(Ended::NoSlot(entry)),
-            WorkKind::Coded => None,
-            WorkKind::Flush => None,
+            WorkKind::Flush | WorkKind::Coded => None,
         }),
         Outcome::NoMemory => Ok(Some(Ended::NoMemory)),
-    }
-}
-
-// Whether this audio codec has a definition that answers a drain.
-fn has_drain(codec: CodecId) -> bool
-    ensures decoder { (c : AudioDecoderConfig)
-        → result ≡ is_some (audio_decoder_answer codec c Command.Drain) }
-    ensures encoder { (c : AudioEncoderConfig)
-        → result ≡ is_some (audio_encoder_answer codec c Command.Drain) }
-{
-    match codec {
-        CodecId::PcmU8 => true,
-        CodecId::PcmS16 => true,
-        CodecId::PcmS24 => true,
-        CodecId::PcmS32 => true,
-        CodecId::Alaw => true,
-        CodecId::Ulaw => true,
-        CodecId::Flac => false,
-        CodecId::RawI420 => false,
-        CodecId::RawI422 => false,
-        CodecId::RawI444 => false,
-        CodecId::RawNv12 => false,
-    }
-}
-
-// Whether the definition of the codec that a config asks for answers a drain.
-fn drains(config: &Config) -> bool
-    ensures { result ≡ answers_drain config.now }
-{
-    match config.coder_id() {
-        None => true,
-        Some(id) => match config {
-            Config::AudioDecoder(_) => has_drain(id.codec),
-            Config::AudioEncoder(_) => has_drain(id.codec),
-            Config::VideoDecoder(_) => false,
-            Config::Bad => false,
-        },
     }
 }
 
@@ -125,10 +82,7 @@ fn drains(config: &Config) -> bool
 pub(crate) fn nothing_known() -> Known
     ensures { result ≡ the_nothing }
 {
-    Known {
-        supported: false,
-        drains: true,
-    }
+    Known { supported: false }
 }
 
 /// What is known of the config that was last given, with one more item.
@@ -138,7 +92,6 @@ pub(crate) fn known_after_item(work: &Work, before: Known) -> Known
     match work {
         Work::Configure(config) => Known {
             supported: config.supported(),
-            drains: drains(config),
         },
         Work::Coded(_) => before,
         Work::Flush => before,

@@ -5,6 +5,4 @@
 pub(crate) struct Known {
     // It is supported.
     pub(crate) supported: bool,
-    // The definition of its codec answers a drain.
-    pub(crate) drains: bool,
 }

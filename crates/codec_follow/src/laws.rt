@@ -1,4 +1,5 @@
 // What holds between legal histories and histories that follow.
+ghost use Rattle.codec_follow.specs.Errors.{ServedGiveNoError};
 ghost use Rattle.codec_follow.specs.Laws.{LegalFollows, LegalFills, UnitsInOrder, OutputsAreOfKind};
 
 /// Laws: a legal history follows, and what it shows is what it shows as one that follows, with its own outputs; and units
@@ -12,4 +13,10 @@ pub fn legal_histories_follow()
 /// Law: what a codec shows is of its kind, where each of its configs is: samples whose rate is above 0, chunks, or pictures.
 pub fn outputs_are_of_their_kind()
     ensures { OutputsAreOfKind }
+{}
+
+/// Law: of a codec that is not reclaimed, where each item that ends had a free box and the codec's definition takes it, a
+/// config that is supported or an input, the error callback is called only for want of memory.
+pub fn served_items_give_no_error()
+    ensures { ServedGiveNoError }
 {}

@@ -1,6 +1,5 @@
 //! Histories that follow: each entry is legal after those before it, where each end of an item is taken as it stands. What
-//! a coder would give is not computed; outputs are blank. A flush item is never refused, unless its codec has no coder yet
-//! (FLAC and raw video), whose definition refuses each drain.
+//! a coder would give is not computed; outputs are blank. A flush item is never refused.
 #![tactic(auto)]
 
 mod ends;
@@ -11,6 +10,6 @@ mod outputs;
 mod rows;
 
 pub use follower::Follower;
-pub use laws::{legal_histories_follow, outputs_are_of_their_kind};
+pub use laws::{legal_histories_follow, outputs_are_of_their_kind, served_items_give_no_error};
 pub use outputs::empty_output;
 pub use rows::{decoding_followed, ordinary_followed};

@@ -1,5 +1,5 @@
 // The definitions on whole runs, computed by the checker.
-ghost use Rattle.codec_follow.specs.Rows.{OrdinaryFollows, OrdinaryFills, ThreeShown, ConfigureGivesNone, FlushIsAnswered, VideoIsRefused};
+ghost use Rattle.codec_follow.specs.Rows.{OrdinaryFollows, OrdinaryFills, ThreeShown, ConfigureGivesNone, FlushIsAnswered, VideoIsAnswered};
 
 /// One configure, one decode, one flush: the state after the run as it is followed, and what it shows with its output.
 pub fn ordinary_followed()
@@ -12,5 +12,5 @@ pub fn decoding_followed()
     ensures shown { ThreeShown }
     ensures configure { ConfigureGivesNone }
     ensures flush { FlushIsAnswered }
-    ensures video { VideoIsRefused }
+    ensures video { VideoIsAnswered }
 {}

@@ -3,9 +3,10 @@
 //! them called before any is resolved. It prints how many outputs were shown, or how many promises resolved.
 #![tactic(auto)]
 
-ghost use Rattle.std.specs.Prelude.{◌≡◌};
+ghost use Rattle.std.specs.Prelude.{◌≡◌, ℕ, Option, None, is_some, true};
 ghost use Rattle.codec_model.specs.Replay.{State};
-ghost use Rattle.codec_core.specs.Job.{IsJobOf};
+ghost use Rattle.codec_core.specs.Job.{IsJobOf, missing_id};
+ghost use Rattle.codec_core.specs.Owning.{IsOwnJob};
 
 use bytes::Bytes;
 use codec_core::{Core, Job};
@@ -56,7 +57,9 @@ fn call(core: &mut Core<SampleCoder>, call: Call) -> Result<(), NoMemory> {
 
 // Gives a job the box that it lacks.
 fn with_box(mut job: Job<SampleCoder>) -> Job<SampleCoder>
-    ensures { (s : State) → IsJobOf s job → IsJobOf s result }
+    ensures stays { (s : State) → IsJobOf s job → IsJobOf s result }
+    ensures own { (at : Option ℕ) → IsOwnJob at job → IsOwnJob at result }
+    ensures empty { is_some (missing_id result) ≡ true → result.coder ≡ None }
 {
     if job.lacks().is_some() {
         let _ = job.take_box();

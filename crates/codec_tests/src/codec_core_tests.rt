@@ -1,10 +1,11 @@
-ghost use Rattle.std.specs.Prelude.{◌≡◌, unwrap_or, option_map};
+ghost use Rattle.std.specs.Prelude.{◌≡◌, ℕ, Option, None, is_some, true, unwrap_or, option_map};
 ghost use Rattle.coder_api.specs.Meaning.{Configured, Stopped, new_state};
 ghost use Rattle.wc_config.specs.declared.config.Config.TheVariants.{AudioDecoder};
 ghost use Rattle.wc_config.specs.declared.codec.Role.TheVariants as role;
 ghost use Rattle.wc_config.specs.declared.codec.CodecId.TheVariants as codec;
 ghost use Rattle.codec_model.specs.Replay.{State};
-ghost use Rattle.codec_core.specs.Job.{IsJobOf};
+ghost use Rattle.codec_core.specs.Job.{IsJobOf, missing_id};
+ghost use Rattle.codec_core.specs.Owning.{IsOwnJob};
 
 use codec_core::{Core, Job, Reply};
 use codec_model::{Call, CodecState, Event, Kind, PromiseState, Removal, TurnWord, shown_list};
@@ -88,7 +89,9 @@ fn pcm(alloc: Global) -> Result<Call, AllocError> {
 
 // Gives a job the box that it lacks.
 fn with_box(mut job: Job<Quiet>) -> Job<Quiet>
-    ensures { (s : State) → IsJobOf s job → IsJobOf s result }
+    ensures stays { (s : State) → IsJobOf s job → IsJobOf s result }
+    ensures own { (at : Option ℕ) → IsOwnJob at job → IsOwnJob at result }
+    ensures empty { is_some (missing_id result) ≡ true → result.coder ≡ None }
 {
     if job.lacks().is_some() {
         let _ = job.take_box();

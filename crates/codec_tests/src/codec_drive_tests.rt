@@ -1,6 +1,8 @@
 // A decoder's jobs, done with ample memory.
+ghost use Rattle.std.specs.Prelude.{◌≡◌, ℕ, Option, None, is_some, true};
 ghost use Rattle.codec_model.specs.Replay.{State};
-ghost use Rattle.codec_core.specs.Job.{IsJobOf};
+ghost use Rattle.codec_core.specs.Job.{IsJobOf, missing_id};
+ghost use Rattle.codec_core.specs.Owning.{IsOwnJob};
 
 use bytes::Bytes;
 use codec_core::{Core, Job};
@@ -36,7 +38,9 @@ fn chunk(alloc: Global, content: &[u8]) -> Result<Call, Fail> {
 
 // Gives a job the box that it lacks.
 fn with_box(mut job: Job<SampleCoder>) -> Job<SampleCoder>
-    ensures { (s : State) → IsJobOf s job → IsJobOf s result }
+    ensures stays { (s : State) → IsJobOf s job → IsJobOf s result }
+    ensures own { (at : Option ℕ) → IsOwnJob at job → IsOwnJob at result }
+    ensures empty { is_some (missing_id result) ≡ true → result.coder ≡ None }
 {
     if job.lacks().is_some() {
         let _ = job.take_box();

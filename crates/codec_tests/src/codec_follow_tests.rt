@@ -222,9 +222,8 @@ fn flush_is_not_refused(rt: HostRuntime) -> Result<(), Fail> {
     Ok(())
 }
 
-// Raw video has no coder yet, and its definition refuses a drain.
 #[test]
-fn flush_with_no_coder_yet(rt: HostRuntime) -> Result<(), Fail> {
+fn flush_of_raw_video_is_not_refused(rt: HostRuntime) -> Result<(), Fail> {
     let alloc = rt.alloc();
     let config = Config::VideoDecoder(VideoDecoderConfig {
         codec: Text::of(String::from_str(alloc, "x-raw-i420")?),
@@ -236,7 +235,7 @@ fn flush_with_no_coder_yet(rt: HostRuntime) -> Result<(), Fail> {
     let entries = refusing(alloc, Entry::Configure { who: WHO, config })?;
     assert_eq!(rt;
         followed(alloc, entries.as_slice()).expect(&rt, "memory"),
-        8
+        7
     );
     Ok(())
 }

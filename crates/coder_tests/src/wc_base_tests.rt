@@ -12,7 +12,7 @@ fn listed_reads_and_missing_names_fail(rt: HostRuntime) -> Result<(), Fail> {
     let alloc = rt.alloc();
     let short = (String::from_str(alloc, "a")?, vec![in alloc; 1, 2, 3]?);
     let long = (String::from_str(alloc, "b")?, vec![in alloc; 1, 2, 3, 4]?);
-    let mut files = MemFiles::open(vec![in alloc; short, long]?, vec![in alloc; 1]?);
+    let mut files = MemFiles::open(alloc, vec![in alloc; short, long]?, vec![in alloc; 1]?);
     assert_eq!(rt;
         read(&rt, &mut files, "a")?.as_slice(),
         [1, 2, 3].as_slice()
@@ -41,7 +41,7 @@ fn system_files_are_read_up_to_the_limit(rt: HostRuntime) -> Result<(), Fail> {
     let name = format!(in alloc; "wc_base_{id}")?;
     let path = env::temp_dir(&rt)?.join(alloc, name.as_str())?;
     let text = String::from_str(alloc, path.to_str().unwrap_or(""))?;
-    let mut files = SystemFiles::new(&rt);
+    let mut files = SystemFiles::new(alloc, &rt);
     fs::write(&rt, path.as_path(), "abc")?;
     let whole = read(&rt, &mut files, text.as_str());
     fs::write(&rt, path.as_path(), "abcd")?;

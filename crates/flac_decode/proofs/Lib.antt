@@ -2,3 +2,4 @@ pub mod ProductLaws
 pub mod RestoreLaws
 pub mod FrameLaws
 pub mod FrameEndLaws
+mod Served

@@ -1,4 +1,4 @@
 pub mod Bounds
+pub mod Coder
 pub mod FrameEnd
-pub mod Output
 pub mod Reading

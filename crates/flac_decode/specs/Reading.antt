@@ -6,7 +6,7 @@ use Rattle.flac_definitions.specs.Header.{channels_of}
 use Rattle.flac_definitions.specs.Prediction.{samples_behind}
 use Rattle.flac_definitions.specs.Options.{◌>>=◌}
 use Rattle.flac_definitions.specs.declared.header.FrameHeader.{FrameHeader}
-use Rattle.flac_decode.specs.Output.{bytes_of_frame}
+use Rattle.codec_definitions.specs.Flac.{bytes_of_frame}
 use Rattle.flac_decode.specs.declared.fault.FrameFault.{FrameFault}
 use Rattle.flac_decode.specs.declared.fault.FrameFault.TheVariants as fault
 

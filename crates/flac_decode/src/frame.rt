@@ -6,7 +6,7 @@ ghost use Rattle.flac_decode.specs.Reading.{Gives, Fills};
 ghost use Rattle.flac_definitions.specs.Subframe.{channels_at};
 ghost use Rattle.flac_definitions.specs.Stereo.{channel_depth, is_side};
 ghost use Rattle.flac_definitions.specs.Frame.{footer_at, frame_at, frame_of};
-ghost use Rattle.flac_decode.specs.Output.{sample_size, bytes_of_frame};
+ghost use Rattle.codec_definitions.specs.Flac.{sample_size, bytes_of_frame};
 ghost use Rattle.flac_decode.specs.Reading.{Decodes, ReadsFrame, FillsFrame, IsWithinLimits, IsOfStream, IsWant};
 
 use crate::fault::FrameFault;
@@ -212,7 +212,7 @@ fn read_footer(r: &mut BitReader<'_>) -> Result<(), FrameFault>
 }
 
 /// Gives the samples' bytes in place of `out`.
-#[tactic(auto, unfolding(crate::specs::Output::bytes_of_frame))]
+#[tactic(auto, unfolding(codec_definitions::specs::Flac::bytes_of_frame))]
 fn write_frame(header: &FrameHeader, samples: &[i64], out: &mut Vec<u8>) -> Result<(), FrameFault>
     requires block { header.now.block < 65536 }
     requires some { 0 < header.now.depth }

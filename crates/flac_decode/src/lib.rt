@@ -1,6 +1,8 @@
-//! Decodes FLAC frames (RFC 9639, section 9).
+//! The decoder of FLAC, and what it is made of: frames, decoded (RFC 9639, section 9).
 #![tactic(auto)]
 
+mod chunk;
+mod coder;
 mod end;
 mod fault;
 mod fields;
@@ -11,6 +13,7 @@ mod predictor;
 mod stereo;
 mod subframe;
 
+pub use coder::FlacDecoder;
 pub use end::frame_end;
 pub use fault::FrameFault;
 pub use frame::decode_frame;

@@ -2,7 +2,7 @@
 ghost use Rattle.std.specs.Prelude.{◌≡◌, ◌⊎◌, ◌*ℤ◌, ◌+◌, ◌*◌, ◌<◌, ◌≤◌, ◌^◌, pos, length, unsigned_abs};
 ghost use Rattle.codec_definitions.specs.Pcm.{unsigned, spelled};
 ghost use Rattle.flac_decode.specs.Bounds.{AreSmall};
-ghost use Rattle.flac_decode.specs.Output.{interchannel_bytes, interleaved_bytes};
+ghost use Rattle.codec_definitions.specs.Flac.{interchannel_bytes, interleaved_bytes};
 
 /// Writes samples that stand channel by channel, frame by frame.
 pub fn write_samples(

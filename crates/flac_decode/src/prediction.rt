@@ -1,5 +1,5 @@
 // Samples from predictions and a residual.
-ghost use Rattle.std.specs.Prelude.{◌≡◌, ℕ, ◌+◌, ◌-◌, ◌*◌, ◌^◌, ◌<◌, ◌≤◌, ◌*ℤ◌, ◌+ℤ◌, true, pos, length, take, drop, reverse, unsigned_abs};
+ghost use Rattle.std.specs.Prelude.{◌≡◌, ℕ, ◌+◌, ◌-◌, ◌*◌, ◌^◌, ◌<◌, ◌≤◌, ◌*ℤ◌, ◌+ℤ◌, true, pos, length, take, drop, reverse, unsigned_abs, slice_index_or as get_or};
 ghost use Rattle.std.specs.Int.{int_shr};
 ghost use Rattle.flac_definitions.specs.Prediction.{samples_behind, sum_of_products, fits_depth};
 ghost use Rattle.flac_decode.specs.Reading.{RestoresBehind};
@@ -26,13 +26,40 @@ pub fn restore<const N: usize>(
     ensures narrow { result ≡ true → AreSmall (depth - 1) samples.new }
     ensures samples { RestoresBehind N coefficients.now shift depth residual.now result samples.old samples.new }
 {
+    restore_in::<N>(coefficients, shift, depth, residual, samples)
+}
+
+/// The same; where it is inlined, the coefficients and the shift may be constants.
+#[inline(always)]
+pub fn restore_in<const N: usize>(
+    coefficients: &[i64],
+    shift: u32,
+    depth: u32,
+    residual: &[i32],
+    samples: &mut [i64],
+) -> bool
+    requires count { N ≤ 32 }
+    requires coefficients { AreSmall 14 coefficients.now }
+    requires places { length coefficients.now ≡ N }
+    requires shift { shift < 16 }
+    requires depth { depth ≤ 33 }
+    requires some { 0 < depth }
+    requires residual { length residual.now + N ≡ length samples.old }
+    requires warm { AreSmall 32 (take N samples.old) }
+    requires narrow { AreSmall (depth - 1) (take N samples.old) }
+    ensures narrow { result ≡ true → AreSmall (depth - 1) samples.new }
+    ensures samples { RestoresBehind N coefficients.now shift depth residual.now result samples.old samples.new }
+{
+    // The sample just computed, which need not be read back.
+    let mut last = if N > 0 { samples[N - 1] } else { 0 };
     for i in N..samples.len() {
-        let sum = sum_of_products::<N>(coefficients, samples, i);
+        let sum = sum_of_products::<N>(coefficients, samples, i, last);
         let sample = sample_of(sum, shift, residual[i - N]);
         if !fits_depth(depth, sample) {
             return false;
         }
         samples[i] = sample;
+        last = sample;
     }
     true
 }
@@ -94,8 +121,14 @@ pub fn fits_depth(depth: u32, sample: i64) -> bool
 /// The sum of the products of coefficients and the samples before a place, from the last one back. The product of the
 /// last sample is added last, since that sample was just computed.
 #[inline(always)]
-fn sum_of_products<const N: usize>(coefficients: &[i64], samples: &[i64], place: usize) -> i64
+fn sum_of_products<const N: usize>(
+    coefficients: &[i64],
+    samples: &[i64],
+    place: usize,
+    last: i64,
+) -> i64
     requires count { N ≤ 32 }
+    requires last { 0 < N → last ≡ get_or samples.now (place - 1) (pos 0) }
     requires coefficients { AreSmall 14 coefficients.now }
     requires places { length coefficients.now ≡ N }
     requires there { place ≤ length samples.now }
@@ -107,9 +140,25 @@ fn sum_of_products<const N: usize>(coefficients: &[i64], samples: &[i64], place:
     let mut sum = 0i64;
     for j in 0..N {
         let k = N - 1 - j;
-        sum += product(coefficients[k], samples[place - 1 - k]);
+        let sample = sample_before(samples, place, k, last);
+        sum += product(coefficients[k], sample);
     }
     sum
+}
+
+/// The sample before a place, with so many between them; the last one is at hand.
+#[inline(always)]
+fn sample_before(samples: &[i64], place: usize, between: usize, last: i64) -> i64
+    requires behind { between < place }
+    requires there { place ≤ length samples.now }
+    requires last { between ≡ 0 → last ≡ get_or samples.now (place - 1) (pos 0) }
+    ensures { result ≡ get_or samples.now (place - 1 - between) (pos 0) }
+{
+    if between == 0 {
+        last
+    } else {
+        samples[place - 1 - between]
+    }
 }
 
 /// The sum of the products of coefficients and the samples before a place, from the last one back. The product of the

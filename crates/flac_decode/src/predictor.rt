@@ -11,9 +11,9 @@ ghost use Rattle.flac_definitions.specs.Prediction.{fixed_coefficients};
 
 use crate::fault::FrameFault;
 use crate::fields::{read_bits, read_samples};
-use crate::prediction::{restore, restore_any_order};
+use crate::prediction::{restore, restore_any_order, restore_in};
 use flac_bits::BitReader;
-use flac_rice::{ResidualFault, read_residual};
+use flac_rice::read_residual_into;
 
 /// The residual of a block.
 fn read_block_residual(
@@ -22,14 +22,17 @@ fn read_block_residual(
     order: u32,
     residual: &mut Vec<i32>,
 ) -> Result<(), FrameFault>
+    requires { order ≤ block }
     ensures read { Fills (without_fault (residual_at block order r.old)) result r.new residual.new.items }
     ensures length { OnOk result (length residual.new.items ≡ block - order) }
     ensures bytes { r.new.bytes ≡ r.old.bytes }
 {
-    residual.clear();
-    match read_residual(r, block, order, residual) {
+    // What is there already is written over.
+    if residual.resize((block - order) as usize, 0).is_err() {
+        return Err(FrameFault::NoMemory);
+    }
+    match read_residual_into(r, block, order, residual.as_mut_slice()) {
         Ok(()) => Ok(()),
-        Err(ResidualFault::NoMemory) => Err(FrameFault::NoMemory),
         Err(_) => Err(FrameFault::Refused),
     }
 }
@@ -109,6 +112,57 @@ fn read_predicted_samples(
     }
 }
 
+/// The same behind a fixed predictor, whose coefficients are constants in a loop of its own.
+fn predict_fixed(order: u32, depth: u32, residual: &[i32], samples: &mut [i64]) -> bool
+    requires order { order ≤ 4 }
+    requires depth { depth ≤ 33 }
+    requires some { 0 < depth }
+    requires residual { length residual.now + order ≡ length samples.old }
+    requires warm { AreSmall 32 (take order samples.old) }
+    requires narrow { AreSmall (depth - 1) (take order samples.old) }
+    ensures narrow { result ≡ true → AreSmall (depth - 1) samples.new }
+    ensures samples { RestoresBehind order (fixed_coefficients order) 0 depth residual.now result samples.old samples.new }
+{
+    match order {
+        0 => restore_in::<0>(fixed_coefficients(0), 0, depth, residual, samples),
+        1 => restore_in::<1>(fixed_coefficients(1), 0, depth, residual, samples),
+        2 => restore_in::<2>(fixed_coefficients(2), 0, depth, residual, samples),
+        3 => restore_in::<3>(fixed_coefficients(3), 0, depth, residual, samples),
+        _ => restore_in::<4>(fixed_coefficients(4), 0, depth, residual, samples),
+    }
+}
+
+/// Reads a residual, and fills in the samples behind those that are there, by a fixed predictor.
+fn read_fixed_samples(
+    r: &mut BitReader<'_>,
+    order: u32,
+    depth: u32,
+    residual: &mut Vec<i32>,
+    samples: &mut [i64],
+) -> Result<(), FrameFault>
+    requires order { order ≤ 4 }
+    requires depth { depth ≤ 33 }
+    requires some { 0 < depth }
+    requires block { length samples.old < 2 ^ 32 }
+    requires fits { order ≤ length samples.old }
+    requires warm { AreSmall 32 (take order samples.old) }
+    requires narrow { AreSmall (depth - 1) (take order samples.old) }
+    ensures narrow { OnOk result (AreSmall (depth - 1) samples.new) }
+    ensures read { Fills (predictor_at (fixed_coefficients order) 0 depth (length samples.old) (take order samples.old) r.old) result r.new samples.new }
+    ensures bytes { r.new.bytes ≡ r.old.bytes }
+{
+    let count = fixed_coefficients(order).len() as u32;
+    if let Err(e) = read_block_residual(r, samples.len() as u32, count, residual) {
+        return Err(e);
+    }
+    if predict_fixed(order, depth, residual.as_slice(), samples) {
+        Ok(())
+    } else {
+        Err(FrameFault::Refused)
+    }
+}
+
+#[inline(always)]
 fn fixed_coefficients(order: u32) -> &'static [i64]
     requires { order ≤ 4 }
     ensures values { result.now ≡ fixed_coefficients order }
@@ -147,7 +201,7 @@ pub fn read_fixed(
     if let Err(e) = read_samples(r, depth, &mut samples[..order as usize]) {
         return Err(e);
     }
-    read_predicted_samples(r, fixed_coefficients(order), 0, depth, residual, samples)
+    read_fixed_samples(r, order, depth, residual, samples)
 }
 
 /// Coefficients and a shift.

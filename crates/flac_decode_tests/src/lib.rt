@@ -2,6 +2,10 @@
 #![tactic(auto)]
 
 #[cfg(test)]
+mod code_tests;
+#[cfg(test)]
+mod coder_tests;
+#[cfg(test)]
 mod frames;
 #[cfg(test)]
 mod row_tests;

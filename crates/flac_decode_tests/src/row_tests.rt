@@ -10,12 +10,12 @@ use wc_base::NoMemory;
 use wc_config::StreamInfo;
 
 /// The frame of the first example file of RFC 9639 (appendix D.1): one verbatim sample a channel, with wasted bits.
-const FIRST: [u8; 15] = [
+pub(crate) const FIRST: [u8; 15] = [
     0xff, 0xf8, 0x69, 0x18, 0x00, 0x00, 0xbf, 0x03, 0x58, 0xfd, 0x03, 0x12, 0x8b, 0xaa, 0x9a,
 ];
 
 /// The same with a byte behind it.
-const LONGER: [u8; 16] = [
+pub(crate) const LONGER: [u8; 16] = [
     0xff, 0xf8, 0x69, 0x18, 0x00, 0x00, 0xbf, 0x03, 0x58, 0xfd, 0x03, 0x12, 0x8b, 0xaa, 0x9a, 0x00,
 ];
 
@@ -25,11 +25,11 @@ const OTHER_SUM: [u8; 15] = [
 ];
 
 /// A frame in mid/side: both channels are constant, and the side is 3.
-const MIDDLE: [u8; 16] = [
+pub(crate) const MIDDLE: [u8; 16] = [
     0xff, 0xf8, 0x60, 0xa8, 0x00, 0x01, 0xf4, 0x00, 0x00, 0x01, 0x00, 0x00, 0x01, 0x80, 0x58, 0x24,
 ];
 
-fn described(rate: u32, channels: u32, depth: u32) -> StreamInfo
+pub(crate) fn described(rate: u32, channels: u32, depth: u32) -> StreamInfo
     ensures { result.depth ≡ depth }
 {
     StreamInfo {
@@ -46,7 +46,7 @@ fn described(rate: u32, channels: u32, depth: u32) -> StreamInfo
 }
 
 /// The samples a channel of a frame and the bytes of all, or nothing where it is refused.
-fn decoded(
+pub(crate) fn decoded(
     alloc: Global,
     frame: &[u8],
     info: &StreamInfo,

@@ -1,3 +1,4 @@
+pub mod Cutting
 pub mod Reading
 pub mod ResidualLaws
 pub mod ValueSpelling

@@ -13,6 +13,11 @@ abbrev pub Fills : Result (List ℤ × Place) ResidualFault → Result ℕ Resid
 Fills read (Ok at) bytes values = read ≡ Ok (values, record { bytes = bytes; at = at })
 Fills read (Err e) bytes values = read ≡ Err e
 
+-- the same, of a reader
+abbrev pub FillsIn : Result (List ℤ × Place) ResidualFault → Result (Unit {0}) ResidualFault → List ℤ → Place → Type 0
+FillsIn read (Ok t) values p = read ≡ Ok (values, p)
+FillsIn read (Err e) values p = read ≡ Err e
+
 -- a value, and the place behind it
 abbrev pub ReadsValue : Result (ℤ × Place) ResidualFault → Result (ℤ × ℕ) ResidualFault → List ℕ → Type 0
 ReadsValue read (Ok x) bytes = read ≡ Ok (x.0, record { bytes = bytes; at = x.1 })

@@ -8,4 +8,4 @@ mod value;
 
 pub use flac_definitions::ResidualFault;
 pub use laws::residuals_are_spelled;
-pub use residual::read_residual;
+pub use residual::{read_residual, read_residual_into};

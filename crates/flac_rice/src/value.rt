@@ -22,7 +22,7 @@ pub fn values_into(
     ensures filled { Fills (each_at (value_at parameter) (length out.old) (place_in bytes.now at)) result bytes.now out.new }
     ensures there { IfOk result (λ at. at ≤ 8 * length bytes.now) }
 {
-    // A loop of its own for each parameter of four bits: its shifts are constants.
+    // A loop of its own for each parameter that is common: its shifts are constants.
     match parameter {
         0 => values_with(bytes, at, 0, out),
         1 => values_with(bytes, at, 1, out),
@@ -39,6 +39,12 @@ pub fn values_into(
         12 => values_with(bytes, at, 12, out),
         13 => values_with(bytes, at, 13, out),
         14 => values_with(bytes, at, 14, out),
+        15 => values_with(bytes, at, 15, out),
+        16 => values_with(bytes, at, 16, out),
+        17 => values_with(bytes, at, 17, out),
+        18 => values_with(bytes, at, 18, out),
+        19 => values_with(bytes, at, 19, out),
+        20 => values_with(bytes, at, 20, out),
         _ => values_with(bytes, at, parameter, out),
     }
 }

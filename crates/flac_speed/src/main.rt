@@ -1,12 +1,13 @@
 //! Decodes the FLAC frames of a file in memory, to measure what a sample costs and to compare the samples with another
 //! decoder's: `flac_speed decode FILE` prints how many samples a channel came out, `flac_speed write FILE` writes their
-//! bytes, and `flac_speed read FILE` only counts the frames. The file has the description of a FLAC decoder's config (42
+//! bytes, `flac_speed each FILE` writes a line for each frame (its samples a channel and the checksum of its bytes, or `-`
+//! where it is refused), and `flac_speed read FILE` only counts the frames. The file has the description of a FLAC decoder's config (42
 //! bytes), and then each frame behind its size in four bytes, the most significant first.
 #![tactic(auto)]
 
 ghost use Rattle.std.specs.Prelude.{◌<◌, ◌≤◌};
 
-use flac_decode::decode_frame;
+use flac_decode::{FrameFault, decode_frame};
 use std::alloc::Global;
 use std::io::{BufWriter, Write};
 use std::process::ExitCode;
@@ -20,6 +21,7 @@ enum Work {
     Read,
     Decode,
     Write,
+    Each,
 }
 
 fn work_of(word: &str) -> Option<Work> {
@@ -27,6 +29,7 @@ fn work_of(word: &str) -> Option<Work> {
         "read" => Some(Work::Read),
         "decode" => Some(Work::Decode),
         "write" => Some(Work::Write),
+        "each" => Some(Work::Each),
         _ => None,
     }
 }
@@ -39,7 +42,16 @@ struct Buffers {
     out: Vec<u8>,
 }
 
-/// Works on one frame: how much is counted for it, if it is not refused.
+/// The checksum of bytes (FNV-1a, 64 bits).
+fn checksum(bytes: &[u8]) -> u64 {
+    let mut sum: u64 = 0xcbf2_9ce4_8422_2325;
+    for byte in bytes {
+        sum = (sum ^ u64::from(*byte)).wrapping_mul(0x100_0000_01b3);
+    }
+    sum
+}
+
+/// Works on one frame: how much is counted for it, if it is not refused or a line is written for each.
 fn work_on<W: Write>(
     work: Work,
     frame: &[u8],
@@ -50,21 +62,23 @@ fn work_on<W: Write>(
     requires some { 0 < info.now.depth }
     requires depth { info.now.depth ≤ 32 }
 {
-    if work == Work::Read {
-        return Ok(Some(1));
-    }
-    match decode_frame(
-        frame,
-        info,
-        &mut buffers.residual,
-        &mut buffers.samples,
-        &mut buffers.out,
-    ) {
+    let Buffers {
+        residual,
+        samples,
+        out,
+    } = buffers;
+    match decode_frame(frame, info, residual, samples, out) {
         Ok(block) => {
-            if work == Work::Write {
-                writer.write_all(&buffers.out)?;
+            match work {
+                Work::Write => writer.write_all(out)?,
+                Work::Each => writeln!(writer, "{block} {:016x}", checksum(out))?,
+                Work::Read | Work::Decode => {}
             }
             Ok(Some(u64::from(block)))
+        }
+        Err(FrameFault::Refused) if work == Work::Each => {
+            writeln!(writer, "-")?;
+            Ok(Some(0))
         }
         Err(_) => Ok(None),
     }
@@ -94,7 +108,12 @@ fn work_on_all<W: Write>(
         if size > more.len() {
             return Ok(None);
         }
-        let Some(counted) = work_on(work, &more[..size], &info, &mut buffers, writer)? else {
+        let counted = if work == Work::Read {
+            Some(1)
+        } else {
+            work_on(work, &more[..size], &info, &mut buffers, writer)?
+        };
+        let Some(counted) = counted else {
             return Ok(None);
         };
         count = count.wrapping_add(counted);
@@ -123,10 +142,9 @@ fn run(rt: &HostRuntime, words: &[String]) -> io::Result<Option<u64>> {
     let mut writer = BufWriter::new(rt.alloc(), io::writer(rt))?;
     let counted = work_on_all(rt.alloc(), work, &bytes, &mut writer)?;
     writer.flush()?;
-    Ok(if work == Work::Write {
-        Some(0)
-    } else {
-        counted
+    Ok(match work {
+        Work::Read | Work::Decode => counted,
+        Work::Write | Work::Each => counted.map(|_| 0),
     })
 }
 

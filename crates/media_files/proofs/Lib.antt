@@ -1,3 +1,4 @@
 mod Long
 mod Reading
 mod OneReading
+pub mod SomeReading

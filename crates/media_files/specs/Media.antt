@@ -1,6 +1,6 @@
 -- What the chunk files of a script give: the chunks of each, or the first fault. The files are taken in order of first
 -- mention; of each its length is tried first, then its grammar, the lengths of its chunks, and the bytes of all media so far.
-use Rattle.std.specs.Prelude.{ℕ, ◌+◌, ◌-◌, ◌≡◌, ◌<◌, ◌≤◌, ◌⊎◌, Bool, true, false, nat_le, List, [], ◌∷◌, length, sum_by, Option, Some, None, IfSome, MatchOption, Result, Ok, Err}
+use Rattle.std.specs.Prelude.{ℕ, ◌+◌, ◌-◌, ◌≡◌, ◌<◌, ◌≤◌, ◌⊎◌, Bool, true, false, nat_le, List, [], ◌∷◌, ◌++◌, length, take, sum_by, Option, Some, None, IfSome, MatchOption, Result, Ok, Err}
 use Rattle.std.specs.List.{list_all, slice_get}
 use Rattle.wc_base.specs.Causes.{Rose, RoseBy}
 use Rattle.wc_chunk.specs.declared.chunk.Chunk.{Chunk}
@@ -68,16 +68,25 @@ FilesGive files room (name ∷ names) (Err e) =
 abbrev pub GivesMedia : (List ℕ → Option (List ℕ)) → ScriptData → Answers → Type 0
 GivesMedia files s answer = FilesGive files (most_media - s.inline) s.chunk_files answer
 
--- The name is that of a chunk file that the script mentions.
-abbrev pub IsMentioned : List ℕ → ScriptData → Type 0
-IsMentioned name s = (n : ℕ) × (slice_get s.chunk_files n ≡ Some name)
+-- The name is that of a chunk file that the script mentions, before which each gave its chunks.
+pub record IsReached (content : Option (List ℕ → Option (List ℕ))) (s : ScriptData) (name : List ℕ) : Type 0 where
+  pub number : ℕ
+  pub is_name : slice_get s.chunk_files number ≡ Some name
+  pub before : IfSome content (λ files. (media : List (List Chunk)) × FilesGive files (most_media - s.inline) (take number s.chunk_files) (Ok media))
+
+-- What is known, after an answer, of the names whose read failed: that of a file that was not read came, and none where no
+-- file was at fault for that. Where memory was wanted nothing is known.
+abbrev pub FailedBy : {T : Type 0} → List (List ℕ) → List (List ℕ) → Result T (Stop Fault) → Type 0
+FailedBy before now (Err (stop.Fault (fault.Unread name))) = now ≡ before ++ name ∷ []
+FailedBy before now (Err stop.NoMemory) = Unit {0}
+FailedBy before now _ = now ≡ before
 
 -- When a fault may come: each as the files hold it, where they tell; a file that was not read only where the count of
--- faults rose, and one that is too long, where it is not told, only where the count of bytes read rose by as much. No other
+-- faults rose, after those before it gave their chunks; and one that is too long, where it is not told, only where the count of bytes read rose by as much. No other
 -- fault comes.
 abbrev pub MayFail : Option (List ℕ → Option (List ℕ)) → ScriptData → ℕ → ℕ → ℕ → ℕ → Stop Fault → Type 0
 MayFail content s faults_before faults_after bytes_before bytes_after (stop.Fault (fault.Unread name)) =
-    IsMentioned name s × Rose faults_before faults_after
+    IsReached content s name × Rose faults_before faults_after
 MayFail content s faults_before faults_after bytes_before bytes_after (stop.Fault (fault.TooMany counted.File)) =
     MatchOption content (RoseBy (most_file + 1) bytes_before bytes_after)
     (λ files. GivesMedia files s (Err (stop.Fault (fault.TooMany counted.File))))

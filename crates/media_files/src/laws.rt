@@ -1,11 +1,12 @@
 // What the definitions give.
-ghost use Rattle.media_files.specs.Laws.{OneReading};
+ghost use Rattle.media_files.specs.Laws.{OneReading, SomeReading};
 
 use chunk_files::bytes_have_one_reading;
 
-/// The chunk files of a script give one list of chunks for each, or one fault, and never both.
+/// Whatever the files hold, the chunk files of a script give one list of chunks for each, or one fault, and never both.
 pub fn media_have_one_reading()
-    ensures { OneReading }
+    ensures one { OneReading }
+    ensures some { SomeReading }
 {
     bytes_have_one_reading();
 }

@@ -1,7 +1,7 @@
 // Reads the chunk files of a script.
 ghost use Rattle.std.specs.Prelude.{◌≡◌, ◌≢◌, ◌⊎◌, ◌≤◌, ◌<◌, ◌+◌, true, ◌-◌, IfOk, IfErr, IfSome, IfNone, Some, Ok, Err, length};
 ghost use Rattle.wc_base.specs.Causes.{Rose, RoseBy};
-ghost use Rattle.media_files.specs.Media.{are_small, media_of, FileGives, FilesGive, GivesMedia, MayFail, MayFailAt};
+ghost use Rattle.media_files.specs.Media.{are_small, media_of, FailedBy, FileGives, FilesGive, GivesMedia, MayFail, MayFailAt};
 ghost use Rattle.media_files.specs.Media as spec;
 ghost use Rattle.script_types.specs.Sound.{most_media};
 
@@ -92,6 +92,7 @@ fn read_file<F: Files>(
     ensures left { IfOk result (λ r. r.1 ≡ room - media_of r.0) }
     ensures err { IfErr result (λ e. MayFailAt (F.content files.old) room name.now
         (F.faults files.old) (F.faults files.new) (F.bytes_read files.old) (F.bytes_read files.new) e) }
+    ensures names { FailedBy (F.failed_names files.old) (F.failed_names files.new) result }
 {
     match files.read_all(alloc, name, MOST_FILE) {
         Ok(bytes) => read_bytes(alloc, name, &bytes, room),
@@ -103,7 +104,7 @@ fn read_file<F: Files>(
 
 /// Reads the chunk files that the script mentions, in order of first mention: the chunks of each.
 ///
-/// `Unread` where a file is not there or a read of it failed. `TooMany` bytes of a `File` where it has more than
+/// `Unread` where a file is not there or a read of it failed, with its name. `TooMany` bytes of a `File` where it has more than
 /// 268,435,456, `Chunks` for one that is no chunk file, `TooMany` of a `Chunk` of more than 16,777,216 bytes, and of
 /// `Media` where the chunks read so far and all inline data have together more than 268,435,456 bytes; the first that
 /// applies, file after file.
@@ -120,6 +121,7 @@ pub fn read_media<F: Files>(
     ensures each { IfOk result (λ m. length m.items ≡ length script.now.chunk_files) }
     ensures err { IfErr result (λ e. MayFail (F.content files.old) script.now
         (F.faults files.old) (F.faults files.new) (F.bytes_read files.old) (F.bytes_read files.new) e) }
+    ensures names { FailedBy (F.failed_names files.old) (F.failed_names files.new) result }
 {
     let mut made = Vec::new(alloc);
     let mut room = room_for_files(script);

@@ -3,3 +3,4 @@ pub mod Grown
 pub mod Moves
 pub mod Items
 pub mod Orders
+pub mod Same

@@ -158,7 +158,7 @@ history_there v k = ap length (history_at k v.codecs)
 entries_new : (v : Course) (k p n : ℕ) (e f : Entry) → slice_get (at n (histories (with_entry k e v).codecs)) p ≡ Some f → (slice_get (at n (histories v.codecs)) p ≡ Some f) ⊎ IsNew k e (histories v.codecs) n p f
 entries_new v k p n e f is = result_more n k p e f (histories v.codecs) (ap (λ (l : List (List Entry)). slice_get (at n l) p) (sym (histories_more k e v.slots v.codecs)) ∙ is)
 
-longer_history : (v : Course) (k n : ℕ) (e : Entry) → (more : List Entry) × (at n (histories (with_entry k e v).codecs) ≡ at n (histories v.codecs) ++ more)
+pub longer_history : (v : Course) (k n : ℕ) (e : Entry) → (more : List Entry) × (at n (histories (with_entry k e v).codecs) ≡ at n (histories v.codecs) ++ more)
 longer_history v k n e = let g = at_grows n k e (histories v.codecs) in (g.0, ap (at n) (histories_more k e v.slots v.codecs) ∙ g.1)
 
 -- the registry is of the same boxes
@@ -174,7 +174,7 @@ made_stays v k e = by_step (step_by e (codec_at k v.codecs))
 same_history : (v : Course) (k n : ℕ) (e : Entry) → n ≢ k → at n (histories (with_entry k e v).codecs) ≡ at n (histories v.codecs)
 same_history v k n e other = ap (at n) (histories_more k e v.slots v.codecs) ∙ at_other n k e (histories v.codecs) other
 
-this_history : (v : Course) (k : ℕ) (e : Entry) → k < length v.codecs → at k (histories (with_entry k e v).codecs) ≡ at k (histories v.codecs) ++ e ∷ []
+pub this_history : (v : Course) (k : ℕ) (e : Entry) → k < length v.codecs → at k (histories (with_entry k e v).codecs) ≡ at k (histories v.codecs) ++ e ∷ []
 this_history v k e lt = ap (at k) (histories_more k e v.slots v.codecs) ∙ at_same k e (histories v.codecs) (let c = histories_count v.codecs in omega (arith, lt, c))
 
 -- ---- what grows

@@ -1,2 +1,4 @@
 pub mod Sound
+pub mod SoundSteps
 pub mod Course
+pub mod Same

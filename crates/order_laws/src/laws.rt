@@ -1,34 +1,47 @@
 // What following a script's order makes.
-ghost use Rattle.std.specs.Prelude.{ℕ, ◌≡◌, List};
+ghost use Rattle.std.specs.Prelude.{ℕ, ◌≡◌, List, true};
 ghost use Rattle.codec_accounts.specs.Owed.{at};
 ghost use Rattle.codec_model.specs.Replay.{IsLegal};
-ghost use Rattle.trace_text.specs.Fits.{Fits, FollowsTheOrder, recorded_of};
+ghost use Rattle.trace_text.specs.Fits.{Fits, FollowsTheOrder, IsLegalRun, recorded_of};
 ghost use Rattle.trace_text.specs.Follow.{Course, Follows, nothing_yet, opening_at};
 ghost use Rattle.trace_text.specs.declared.run.Run.{Run};
 ghost use Rattle.wc_chunk.specs.declared.chunk.Chunk.{Chunk};
 ghost use Rattle.wc_config.specs.declared.codec.CoderId.{CoderId};
-ghost use Rattle.order_laws.specs.Sound.{IsSound};
+ghost use Rattle.script_types.specs.Sound.{is_sound};
 ghost use Rattle.order_laws.specs.Course.{IsCourse};
+ghost use Rattle.order_laws.specs.Same.{SameBoxes, SameWants};
 ghost use Rattle.script_types.specs.declared.script.OrderItem.{OrderItem};
 ghost use Rattle.script_types.specs.declared.script.ScriptData.{ScriptData};
 
-/// A law: a run that follows the order of a sound script, with these chunks of its chunk files, fits the script, and each
+/// A law: a run that follows the order of a script in which nothing is at fault, with these chunks of its chunk files, fits the script, and each
 /// codec's history in such a run is legal.
 pub fn following_fits()
     ensures fits { (script : ScriptData) (media : List (List Chunk)) (made : List CoderId)
         (run : Run)
-        → IsSound script → FollowsTheOrder script media made run → Fits script media made run }
+        → is_sound script ≡ true → FollowsTheOrder script media made run
+        → Fits script media made run }
     ensures legal { (script : ScriptData) (media : List (List Chunk)) (made : List CoderId)
         (run : Run) (k : ℕ)
-        → IsSound script → FollowsTheOrder script media made run
+        → is_sound script ≡ true → FollowsTheOrder script media made run
         → IsLegal (opening_at script k) (at k (recorded_of run).codecs) }
 {}
 
-/// A law: a course that follows some items from the beginning of a sound script on has the script's codecs, with legal
+/// A law: a course that follows some items from the beginning of a script on in which nothing is at fault has the script's codecs, with legal
 /// histories, and boxes that may be given back.
 pub fn following_stands()
     ensures { (script : ScriptData) (media : List (List Chunk)) (made : List CoderId)
         (items : List OrderItem) (course : Course)
-        → IsSound script → Follows script media items (nothing_yet script made) course
+        → is_sound script ≡ true → Follows script media items (nothing_yet script made) course
         → IsCourse script made course }
+{}
+
+/// A law: a run by order is a function of the script, the chunks of its chunk files, how many boxes of each id there are,
+/// and which ends say that memory was wanted. Two legal runs that agree in these are equal.
+pub fn runs_by_order_are_one()
+    ensures { (script : ScriptData) (media : List (List Chunk)) (made others : List CoderId)
+        (run again : Run)
+        → SameBoxes made others → FollowsTheOrder script media made run
+        → FollowsTheOrder script media others again → IsLegalRun script run
+        → IsLegalRun script again
+        → SameWants (recorded_of run).codecs (recorded_of again).codecs → run ≡ again }
 {}

@@ -3,4 +3,4 @@
 
 mod laws;
 
-pub use laws::{following_fits, following_stands};
+pub use laws::{following_fits, following_stands, runs_by_order_are_one};

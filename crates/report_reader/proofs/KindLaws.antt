@@ -28,6 +28,7 @@ use Rattle.codec_accounts.specs.Owed.{at}
 use Rattle.trace_text.specs.Follow.{Recorded, steps_in}
 use Rattle.trace_text.specs.FitsLaws.{calls_by_places}
 use Rattle.trace_text.specs.Fits.{CallsAreIn, ArgumentsAreIn, HasArguments, IsResultOf, called, entry_in, step_in, Fits, IsLegalTrace, AreLegalTraces, IsLegalRun}
+use Rattle.run_ranges.specs.Counts.{caller_of_step}
 use Rattle.report_reader.specs.Told.{IsPlainTrace}
 
 abbrev some : {A : Type 0} → A → Option A
@@ -39,12 +40,6 @@ some_same x y e = cc
 all_from : {X : Type 0} (P : X → Type 0) (xs : List X) → ((i : ℕ) (x : X) → slice_get xs i ≡ Some x → P x) → AllByRecursion P xs
 all_from P [] h = tt
 all_from P (x ∷ xs) h = (h 0 x refl, all_from P xs (λ i y is. h (suc i) y is))
-
--- the caller whose step stands at a place
-pub caller_of_step : (cs : List CallerItem) (i j : ℕ) (x : Step) → slice_get (steps_in cs i) j ≡ Some x → (c : CallerItem) × (slice_get cs i ≡ Some c) × (slice_get c.steps j ≡ Some x)
-caller_of_step [] i j x is = absurd cc
-caller_of_step (c ∷ cs) zero j x is = (c, refl, is)
-caller_of_step (c ∷ cs) (suc i) j x is = caller_of_step cs i j x is
 
 suits_kind : (c : Config) (k : Kind) → suits c k ≡ true → IsConfigOf k c
 suits_kind (config.AudioDecoder c) word.AudioDecoder h = tt

@@ -28,9 +28,10 @@ use Rattle.trace_text.specs.Fits.{HasArguments, Fits, IsLegalTrace, AreLegalTrac
 use Rattle.report_text.specs.declared.line.CallWord.TheVariants as call
 use Rattle.trace_text.specs.Report.{entry_line_of}
 use Rattle.report_reader.specs.Read.{call_of, entry_of}
-use Rattle.report_reader.specs.Told.{HoldsArguments, IsToldTrace, IsWithinTypes, IsTold}
+use Rattle.report_reader.specs.Told.{HoldsArguments, IsToldTrace, IsTold}
 use Rattle.report_reader.proofs.KindLaws.{legal_plain}
-use Rattle.report_reader.proofs.ThereLaws.{traces_count, lines_fit}
+use Rattle.run_ranges.specs.Counts.{traces_count}
+use Rattle.run_ranges.specs.Ranges.{AreWithin, LegalRunsFit}
 use Rattle.script_types.specs.Sound.{is_sound}
 
 abbrev some : Entry → Option Entry
@@ -140,6 +141,7 @@ pub record HistoryLaws : Type 0 where
   pub follow : LegalFollows
   pub fill : LegalFills
   pub kinds : OutputsAreOfKind
+  pub lines : LegalRunsFit
 
 -- ---- codecs
 
@@ -157,12 +159,12 @@ traces_told laws script files [] (t ∷ ts) legal h = absurd legal
 traces_told laws script files (c ∷ cs) [] legal h = absurd legal
 traces_told laws script files (c ∷ cs) (t ∷ ts) legal h = (trace_told laws script files c t legal.0 (λ p e is. h 0 p e is), traces_told laws script files cs ts legal.1 (λ k p e is. h (suc k) p e is))
 
-pub legal_told : HistoryLaws → (script : ScriptData) (files : List (List Chunk)) (made : List CoderId) (run : Run) → is_sound script ≡ true → IsLegalRun script run → Fits script files made run → IsWithinTypes script run → IsTold script files run
-legal_told laws script files made run sound legal fits within = record {
+pub legal_told : HistoryLaws → (script : ScriptData) (files : List (List Chunk)) (made : List CoderId) (run : Run) → is_sound script ≡ true → AreWithin script files made → IsLegalRun script run → Fits script files made run → IsTold script files run
+legal_told laws script files made run sound within legal fits = record {
   told = record {
     callers = legal.callers;
     codecs = traces_count script.codecs run.codecs legal.codecs;
     traces = traces_told laws script files script.codecs run.codecs legal.codecs (λ k p e is who names. fits.arguments k p e who is names);
   };
-  whole = record { plain = legal_plain laws.kinds script files made run sound legal fits; fits = lines_fit script files made run sound legal fits within };
+  whole = record { plain = legal_plain laws.kinds script files made run sound legal fits; fits = laws.lines script files made run sound within legal fits };
 }

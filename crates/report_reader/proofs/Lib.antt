@@ -14,4 +14,3 @@ pub mod FaultLaws
 pub mod RowLaws
 pub mod CodecLaws
 pub mod KindLaws
-pub mod ThereLaws

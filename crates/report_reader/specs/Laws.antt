@@ -12,7 +12,8 @@ use Rattle.report_lines.specs.Fits.{AreNames}
 use Rattle.report_reader.specs.declared.fault.ReportFault.TheVariants as fault
 use Rattle.report_reader.specs.Read.{run_of}
 use Rattle.report_reader.specs.Fault.{IsFault}
-use Rattle.report_reader.specs.Told.{IsToldRun, IsPlainTrace, IsWithinTypes, IsTold}
+use Rattle.run_ranges.specs.Ranges.{AreWithin}
+use Rattle.report_reader.specs.Told.{IsToldRun, IsPlainTrace, IsTold}
 
 -- the lines of a run show that run, where its histories are told and its outputs are of its codecs' kinds
 abbrev pub RunAgain : Type 0
@@ -26,16 +27,17 @@ ReportsDetermineRuns = (script : ScriptData) (media : List (List Chunk)) (a b : 
 abbrev pub SoundNames : Type 0
 SoundNames = (script : ScriptData) → IsTrue (is_sound script) → AreNames script
 
--- a legal run that fits its script, in which nothing is at fault, is told where its lines are within their types
+-- a legal run that fits its script, in which nothing is at fault, is told by its report, where what it is made of is within
+-- its types
 abbrev pub LegalRunsAreTold : Type 0
 LegalRunsAreTold =
-    (script : ScriptData) (media : List (List Chunk)) (made : List CoderId) (run : Run) → IsTrue (is_sound script) → IsLegalRun script run → Fits script media made run → IsWithinTypes script run → IsTold script media run
+    (script : ScriptData) (media : List (List Chunk)) (made : List CoderId) (run : Run) → IsTrue (is_sound script) → AreWithin script media made → IsLegalRun script run → Fits script media made run → IsTold script media run
 
--- two such runs of one script with its chunk files that have the same report are equal
+-- two such runs of one script with its chunk files that have the same report are equal, whatever boxes were made for each
 abbrev pub LegalReportsDetermineRuns : Type 0
 LegalReportsDetermineRuns =
-    (script : ScriptData) (media : List (List Chunk)) (made : List CoderId) (a b : Run) → IsTrue (is_sound script)
-    → IsLegalRun script a → Fits script media made a → IsWithinTypes script a → IsLegalRun script b → Fits script media made b → IsWithinTypes script b → report_of script a ≡ report_of script b → a ≡ b
+    (script : ScriptData) (media : List (List Chunk)) (made other : List CoderId) (a b : Run) → IsTrue (is_sound script) → AreWithin script media made → AreWithin script media other
+    → IsLegalRun script a → Fits script media made a → IsLegalRun script b → Fits script media other b → report_of script a ≡ report_of script b → a ≡ b
 
 -- at most one line is at fault
 abbrev pub FaultIsOne : Type 0

@@ -10,7 +10,6 @@ use Rattle.script_types.specs.declared.script.ScriptData.{ScriptData}
 use Rattle.trace_text.specs.declared.run.CodecTrace.{CodecTrace}
 use Rattle.trace_text.specs.declared.run.Run.{Run}
 use Rattle.trace_text.specs.Report.{entry_line_of, lines_of}
-use Rattle.report_text.specs.declared.line.Line.{Line}
 use Rattle.report_lines.specs.Fits.{FitsLine}
 use Rattle.report_reader.specs.Read.{entry_of}
 
@@ -34,14 +33,6 @@ pub record IsToldRun (script : ScriptData) (media : List (List Chunk)) (run : Ru
   pub callers : length run.callers ≡ length script.callers
   pub codecs : length run.codecs ≡ length script.codecs
   pub traces : AllByRecursion (IsToldTrace script media) run.codecs
-
--- A line's numbers are within their types, its bytes are bytes, and the codec string of a config has no blank and no line
--- feed: it fits some script, which has the callers and codecs that the line names.
-abbrev pub IsLineWithinTypes : Line → Type 0
-IsLineWithinTypes l = (other : ScriptData) × FitsLine other l
-
-abbrev pub IsWithinTypes : ScriptData → Run → Type 0
-IsWithinTypes script run = AllByRecursion IsLineWithinTypes (lines_of run)
 
 -- The run's outputs are of their codecs' kinds, and its lines fit the script.
 pub record IsWithoutLoss (script : ScriptData) (run : Run) : Type 0 where

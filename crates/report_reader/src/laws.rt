@@ -3,6 +3,7 @@ ghost use Rattle.report_reader.specs.Laws.{RunAgain, ReportsDetermineRuns, Sound
 
 use codec_follow::{legal_histories_follow, outputs_are_of_their_kind};
 use report_lines::lines_are_read_again;
+use run_ranges::legal_runs_fit;
 
 /// Laws: the lines of a run that is told show that run, and two runs of one script that are told are equal where their
 /// reports are. The script's names are words and differ.
@@ -19,10 +20,10 @@ pub fn names_of_sound_scripts()
 {}
 
 /// Laws: a legal run that fits its script, in which nothing is at fault, is told by its report. So two such runs of one
-/// script with the same report are equal.
+/// script with the same report are equal, whatever boxes were made for each.
 ///
-/// Assumed is that its lines are within their types (`IsWithinTypes`): numbers within theirs, bytes that are bytes, and codec
-/// strings without blanks and line feeds.
+/// That holds where the script's moments, rates, channels, sizes, timestamps and durations, and those of its chunk files,
+/// are within their types, and the boxes are fewer than 2^64 (`AreWithin`): nothing is asked of the run itself.
 pub fn legal_runs_are_told()
     ensures told { LegalRunsAreTold }
     ensures determine { LegalReportsDetermineRuns }
@@ -30,6 +31,7 @@ pub fn legal_runs_are_told()
     legal_histories_follow();
     outputs_are_of_their_kind();
     lines_are_read_again();
+    legal_runs_fit();
 }
 
 /// Law: of bytes that are no report of a run at most one line is at fault.

@@ -1,5 +1,5 @@
 -- Samples of data, copied in another size and layout.
-use Rattle.std.proofs.Common.{ℕ, zero, suc, ◌≡◌, ◌≤◌, ◌<◌, ◌*◌, ◌+◌, ◌-◌, ◌==◌, ◌⊎◌, Bool, true, false, cond, List, [], ◌∷◌, ◌++◌, length, take, drop, refl, ap, sym, subst, ◌∙◌, arith, inl, inr, add-zero}
+use Rattle.std.proofs.Common.{ℕ, zero, suc, ◌≡◌, ◌≤◌, ◌<◌, ◌*◌, ◌+◌, ◌-◌, ◌==◌, ◌⊎◌, Bool, true, false, cond, List, [], ◌∷◌, ◌++◌, length, take, drop, refl, ap, sym, subst, ◌∙◌, arith, inl, inr, add-zero, append-nil}
 use Rattle.std.specs.List.{flat_map, range_with_len}
 use Rattle.std.proofs.lemmas.Bool.{eqb-true}
 use Rattle.std.proofs.lemmas.Slice.{take-put_mid}
@@ -52,6 +52,16 @@ one_piece f to piece at k m i before is end within =
 pub piece_is : (from part new : List ℕ) (s d e n : ℕ) → part ≡ take s (drop (s * n) from) → length part ≡ s → e ≡ d → new ≡ resized_sample (length part) e part → new ≡ resized_at s d from n
 piece_is from part new s d e n is long same here =
     here ∙ (ap (λ (k : ℕ). resized_sample k e part) long ∙ (ap (λ (k : ℕ). resized_sample s k part) same ∙ ap (λ (l : List ℕ). resized_sample s d l) is))
+
+-- the two samples that are read, one after another
+pub pair_is : (from one other new : List ℕ) (s d a b step : ℕ) → one ≡ take s (drop (s * a) from) → length one ≡ s → other ≡ take s (drop (s * b) from) → b ≡ a + step → new ≡ resized_sample (length one) d one ++ resized_sample (length one) d other → new ≡ strided_samples s d from a step 2
+pair_is from one other new s d a b step is long next step_on here =
+    let f : ℕ → List ℕ = resized_at s d from in
+    let front : resized_sample (length one) d one ≡ f a = ap (λ (k : ℕ). resized_sample k d one) long ∙ ap (resized_sample s d) is in
+    let back : resized_sample (length one) d other ≡ f b = ap (λ (k : ℕ). resized_sample k d other) long ∙ ap (resized_sample s d) next in
+    let first : a ≡ a + 0 * step = omega arith in
+    let second : b ≡ a + 1 * step = omega (arith, step_on) in
+    here ∙ (ap (λ (l : List ℕ). l ++ resized_sample (length one) d other) (front ∙ ap f first) ∙ ap (λ (l : List ℕ). f (a + 0 * step) ++ l) (back ∙ (ap f second ∙ sym (append-nil (f (a + 1 * step))))))
 
 pub part_len : (xs : List ℕ) (a n m : ℕ) → m ≡ n → a + n ≤ length xs → length (take m (drop a xs)) ≡ n
 part_len xs a n m e within = ap (λ (k : ℕ). length (take k (drop a xs))) e ∙ length-take-le n (drop a xs) (let d = length-drop a xs in omega (arith, d, within))

@@ -1,14 +1,10 @@
 -- A sample cut to another size.
-use Rattle.std.proofs.Common.{ℕ, ℤ, pos, ◌≡◌, ◌<◌, ◌^◌, ◌*◌, ◌+◌, ◌-◌, ◌/◌, ◌%◌, ◌+ℤ◌, Bool, true, false, List, [], ◌∷◌, ◌++◌, append_assoc, length, drop, ◌||◌, ◌==◌, ◌⊎◌, ◌≢◌, inl, inr, ap, sym, ◌∙◌, refl, lit<, arith}
+use Rattle.std.proofs.Common.{ℕ, ℤ, pos, ◌≡◌, ◌<◌, ◌^◌, ◌*◌, ◌+◌, ◌/◌, ◌%◌, ◌+ℤ◌, Bool, true, false, List, [], ◌∷◌, length, ◌||◌, ◌==◌, ◌⊎◌, ◌≢◌, inl, inr, ap, sym, ◌∙◌, refl, lit<, arith}
 use Rattle.std.proofs.lemmas.Bool.{eqb-true}
-use Rattle.std.specs.List.{flat_map, range_with_len}
-use Rattle.wc_base.specs.declared.media.SoundShape.{SoundShape}
-use Rattle.sample_conversion.specs.declared.size.SampleSize.{SampleSize}
 use Rattle.sample_conversion.specs.declared.size.SampleSize.TheVariants as size
-use Rattle.codec_definitions.specs.Pcm.{little_endian, bytes_of, signed, unsigned, sample_of, spelled, converted, resized_at, format_size, place_of}
-use Rattle.sample_conversion.proofs.Samples.{one_more}
+use Rattle.codec_definitions.specs.Pcm.{little_endian, bytes_of, signed, unsigned, sample_of, spelled, converted}
 use Rattle.sample_conversion.proofs.Sizes.{from_middle, to_middle, kept_8, kept_16, kept_32, raised_8_16, raised_8_24, raised_8_32, raised_16_24, raised_16_32, lowered_16_8, lowered_32_8, lowered_32_16, lowered_32_24}
-use Rattle.sample_conversion.specs.Sizes.{AreBytes, size_of, is_format_size, padded_of, cut_of, sample_bytes}
+use Rattle.sample_conversion.specs.Sizes.{AreBytes, is_format_size, padded_of, cut_of}
 
 pub bytes_1 : (m x : ℕ) → m % 256 ≡ x → bytes_of 1 m ≡ x ∷ []
 bytes_1 m x a = rw a refl
@@ -134,23 +130,3 @@ narrowed_4 (a ∷ []) f h = cut_8_32 a (f 0 0 (lit< tt))
 narrowed_4 (a ∷ b ∷ []) f h = cut_16_32 a b (f 0 0 (lit< tt)) (f 1 0 (lit< tt))
 narrowed_4 (a ∷ b ∷ c ∷ d ∷ []) f h = cut_32_32 a b c d (f 0 0 (lit< tt)) (f 1 0 (lit< tt)) (f 2 0 (lit< tt)) (f 3 0 (lit< tt))
 narrowed_4 s f h = absurd (no_size (length s) h (omega arith) (omega arith) (omega arith))
-
-pub narrowed : (k : SampleSize) (s : List ℕ) → AreBytes s → is_format_size (length s) ≡ true → cut_of k (padded_of s) ≡ spelled (size_of k) (converted (8 * length s) (8 * size_of k) (sample_of (length s) s))
-narrowed size.One s f h = narrowed_1 s f h
-narrowed size.Two s f h = narrowed_2 s f h
-narrowed size.Three s f h = narrowed_3 s f h
-narrowed size.Four s f h = narrowed_4 s f h
-
--- a sample that was cut is the sample in that size
-pub pushed : (k : SampleSize) (s old new part wide padded : List ℕ) (size : ℕ) → AreBytes s → is_format_size (length s) ≡ true → new ≡ old ++ part → part ≡ drop (4 - size) wide → size ≡ size_of k → drop (4 - size_of k) wide ≡ cut_of k padded → padded ≡ padded_of s →
-    new ≡ old ++ spelled (size_of k) (converted (8 * length s) (8 * size_of k) (sample_of (length s) s))
-pushed k s old new part wide padded size f h added last count turned start =
-    added ∙ ap (λ (l : List ℕ). old ++ l) (last ∙ (ap (λ (n : ℕ). drop (4 - n) wide) count ∙ (turned ∙ (ap (cut_of k) start ∙ narrowed k s f h))))
-
-pub sample_resized : (k : SampleSize) (shape : SoundShape) (bytes s : List ℕ) (frame channel : ℕ) → s ≡ sample_bytes shape bytes frame channel → length s ≡ format_size shape.format →
-    spelled (size_of k) (converted (8 * length s) (8 * size_of k) (sample_of (length s) s)) ≡ resized_at (format_size shape.format) (size_of k) bytes (place_of shape frame channel)
-sample_resized k shape bytes s frame channel value size =
-    ap (λ (n : ℕ). spelled (size_of k) (converted (8 * n) (8 * size_of k) (sample_of n s))) size ∙ ap (λ (l : List ℕ). spelled (size_of k) (converted (8 * format_size shape.format) (8 * size_of k) (sample_of (format_size shape.format) l))) value
-
-pub grown : (f : ℕ → List ℕ) (base out new : List ℕ) (n : ℕ) → out ≡ base ++ flat_map f (range_with_len 0 n) → new ≡ out ++ f n → new ≡ base ++ flat_map f (range_with_len 0 (n + 1))
-grown f base out new n so_far added = added ∙ (ap (λ (l : List ℕ). l ++ f n) so_far ∙ (append_assoc base (flat_map f (range_with_len 0 n)) (f n) ∙ ap (λ (l : List ℕ). base ++ l) (sym (one_more f n))))

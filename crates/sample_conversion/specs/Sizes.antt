@@ -1,9 +1,8 @@
 -- Bytes a sample, and how a sample is brought to another size.
-use Rattle.std.specs.Prelude.{ℕ, ℤ, ◌≡◌, ◌≤◌, ◌<◌, ◌+◌, ◌*◌, ◌%◌, ◌==◌, ◌||◌, ◌&&◌, not, Bool, List, [], ◌∷◌, length, take, drop, slice_index, if◌then◌else◌}
+use Rattle.std.specs.Prelude.{ℕ, ℤ, ◌≡◌, ◌≤◌, ◌<◌, ◌+◌, ◌*◌, ◌%◌, ◌==◌, ◌||◌, ◌&&◌, not, Bool, List, [], ◌∷◌, length, drop, slice_index, if◌then◌else◌}
 use Rattle.wc_base.specs.declared.media.SampleFormat.{SampleFormat}
-use Rattle.wc_base.specs.declared.media.SoundShape.{SoundShape}
 use Rattle.std.specs.List.{All}
-use Rattle.codec_definitions.specs.Pcm.{format_size, is_planar, place_of, sample_of, spelled, converted}
+use Rattle.codec_definitions.specs.Pcm.{format_size, is_planar, sample_of, spelled, converted}
 use Rattle.sample_conversion.specs.declared.size.SampleSize.{SampleSize}
 use Rattle.sample_conversion.specs.declared.size.SampleSize.TheVariants as size
 
@@ -34,11 +33,6 @@ cut_of size.One wide = (slice_index wide 3 + 128) % 256 ∷ []
 cut_of size.Two wide = drop 2 wide
 cut_of size.Three wide = drop 1 wide
 cut_of size.Four wide = wide
-
--- the bytes of a channel's sample of a frame
-abbrev pub sample_bytes : SoundShape → List ℕ → ℕ → ℕ → List ℕ
-sample_bytes shape bytes frame channel =
-    take (format_size shape.format) (drop (format_size shape.format * place_of shape frame channel) bytes)
 
 abbrev pub AreBytes : List ℕ → Type 0
 AreBytes bytes = All (λ b. b < 256) bytes

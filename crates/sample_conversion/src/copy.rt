@@ -1,12 +1,11 @@
 // Samples, copied in another size and layout: a loop for each pair of sizes, in which nothing is
 // decided for a sample, and one copy of bytes where sizes and layouts agree.
-ghost use Rattle.std.specs.Prelude.{ℕ, ◌≡◌, ◌<◌, ◌≤◌, ◌*◌, ◌+◌, ◌^◌, true, length};
+ghost use Rattle.std.specs.Prelude.{ℕ, ◌≡◌, ◌<◌, ◌≤◌, ◌*◌, ◌+◌, ◌^◌, ◌++◌, true, length};
 ghost use Rattle.codec_definitions.specs.Pcm.{is_whole, place_of};
-ghost use Rattle.sample_conversion.specs.Sizes.{size_of, is_format_size};
+ghost use Rattle.sample_conversion.specs.Sizes.{size_of, is_format_size, padded_of};
 ghost use Rattle.sample_conversion.specs.Layouts.{channel_of, frames_of, is_sample_size, last_bytes};
 ghost use Rattle.sample_conversion.specs.Layouts.{resized_sample, strided_samples, plane_frames, frame_step_of};
 
-use crate::interleave::padded;
 use crate::shape::{format_size, is_planar};
 use crate::size::SampleSize;
 use wc_base::SoundShape;
@@ -238,6 +237,10 @@ fn each_frame<const S: usize, const D: usize>(
     if channels == 0 {
         return;
     }
+    if channels == 2 {
+        each_pair::<S, D>(from, first, step, to, frames);
+        return;
+    }
     let _long = from.len();
     for k in 0..frames {
         let place = D * channels * k;
@@ -251,6 +254,48 @@ fn each_frame<const S: usize, const D: usize>(
     }
 }
 
+/// The same for two channels.
+fn each_pair<const S: usize, const D: usize>(
+    from: &[u8],
+    first: usize,
+    step: usize,
+    to: &mut [u8],
+    frames: usize,
+)
+    requires from { is_format_size S ≡ true }
+    requires to { is_sample_size D ≡ true }
+    requires one { (k : ℕ) → k < frames → S * (first + k) + S ≤ length from.now }
+    requires other { (k : ℕ) → k < frames → S * (first + k + step) + S ≤ length from.now }
+    requires room { length to.old ≡ D * 2 * frames }
+    ensures { to.new ≡ plane_frames S D from.now first step frames 2 }
+{
+    let _long = from.len();
+    for k in 0..frames {
+        let one = S * (first + k);
+        let other = S * (first + k + step);
+        let place = D * 2 * k;
+        pair::<D>(
+            &from[one..one + S],
+            &from[other..other + S],
+            &mut to[place..place + D * 2],
+        );
+    }
+}
+
+/// Writes two samples of one size in another.
+fn pair<const D: usize>(one: &[u8], other: &[u8], to: &mut [u8])
+    requires from { is_format_size (length one.now) ≡ true }
+    requires same { length other.now ≡ length one.now }
+    requires to { is_sample_size D ≡ true }
+    requires room { length to.old ≡ D * 2 }
+    ensures { to.new ≡ resized_sample (length one.now) D one.now
+        ++ resized_sample (length one.now) D other.now }
+{
+    let (front, back) = to.split_at_mut(D);
+    convert(one, front);
+    convert(other, back);
+}
+
 /// Writes one sample in another size.
 fn convert(from: &[u8], to: &mut [u8])
     requires from { is_format_size (length from.now) ≡ true }
@@ -258,6 +303,18 @@ fn convert(from: &[u8], to: &mut [u8])
     ensures { to.new ≡ resized_sample (length from.now) (length to.old) from.now }
 {
     put(padded(from), to);
+}
+
+/// A sample's bytes at the end of four. A byte with its middle at 128 becomes one in two's complement.
+fn padded(sample: &[u8]) -> [u8; 4]
+    requires { is_format_size (length sample.now) ≡ true }
+    ensures { result ≡ padded_of sample.now }
+{
+    match sample.len() {
+        1 => [0, 0, 0, sample[0].wrapping_add(128)],
+        2 => [0, 0, sample[0], sample[1]],
+        _ => [sample[0], sample[1], sample[2], sample[3]],
+    }
 }
 
 /// Writes the last of four bytes; a single one gets its middle at 128.

@@ -1,6 +1,6 @@
 // Where the samples of data stand.
-ghost use Rattle.std.specs.Prelude.{◌≡◌, ◌≤◌, ◌<◌, ◌*◌, true};
-ghost use Rattle.codec_definitions.specs.Pcm.{format_size, is_planar, place_of, is_whole};
+ghost use Rattle.std.specs.Prelude.{◌≡◌, ◌≤◌, true};
+ghost use Rattle.codec_definitions.specs.Pcm.{format_size, is_planar, is_whole};
 ghost use Rattle.sample_conversion.specs.Sizes.{is_format_size};
 
 use wc_base::{SampleFormat, SoundShape};
@@ -34,19 +34,4 @@ pub fn is_whole(shape: &SoundShape, bytes: &[u8]) -> bool
 {
     let samples = shape.frames as usize * shape.channels as usize;
     bytes.len() == samples * format_size(shape.format)
-}
-
-/// Where a channel's sample of a frame stands among all.
-pub fn place_of(shape: &SoundShape, frame: u32, channel: u32) -> usize
-    requires channels { shape.now.channels ≤ 32 }
-    requires frame { frame < shape.now.frames }
-    requires channel { channel < shape.now.channels }
-    ensures value { result ≡ place_of shape.now frame channel }
-    ensures within { result < shape.now.frames * shape.now.channels }
-{
-    if is_planar(shape.format) {
-        channel as usize * shape.frames as usize + frame as usize
-    } else {
-        frame as usize * shape.channels as usize + channel as usize
-    }
 }

@@ -69,7 +69,7 @@ const ONE: &[u8] =
 fn files(alloc: Global, y: &[u8], reads: Vec<u64>) -> Result<MemFiles, Fail> {
     let x = (String::from_str(alloc, "x")?, ONE.to_vec(alloc)?);
     let y = (String::from_str(alloc, "y")?, y.to_vec(alloc)?);
-    Ok(MemFiles::open(vec![in alloc; x, y]?, reads))
+    Ok(MemFiles::open(alloc, vec![in alloc; x, y]?, reads))
 }
 
 fn fault_of(

@@ -19,13 +19,15 @@ abbrev pub found : List (List ℕ × List ℕ) → List ℕ → Option (List ℕ
 found [] name = None
 found (file ∷ files) name = if pointwise nat_eq file.0 name then Some file.1 else found files name
 
--- the files, the numbers of the reads that fail, and how many reads were made, failed, and brought how many bytes
+-- the files, the numbers of the reads that fail, how many reads were made, failed, and brought how many bytes, and the
+-- names whose read failed
 pub record Held : Type 0 where
   pub files : List (List ℕ × List ℕ)
   pub fails : List ℕ
   pub calls : ℕ
   pub faults : ℕ
   pub bytes_read : ℕ
+  pub failed : List (List ℕ)
 
 -- the bytes, where they are there and not too many
 abbrev pub within : ℕ → Option (List ℕ) → Result (List ℕ) FileFault
@@ -42,7 +44,9 @@ faults_after n (Ok bytes) = n
 faults_after n (Err Failed) = up n
 faults_after n (Err e) = n
 
--- of files that do not tell what they hold: how many reads failed, and how many bytes were brought
+-- of files that do not tell what they hold: how many reads failed, how many bytes were brought, and the names whose read
+-- failed
 pub record Counts : Type 0 where
   pub faults : ℕ
   pub bytes_read : ℕ
+  pub failed : List (List ℕ)

@@ -1,4 +1,5 @@
 pub mod Causes
+pub mod Failures
 pub mod Told
 pub mod Held
 pub mod Kept

@@ -1,6 +1,7 @@
 // Files are read whole, by name. They may tell what they hold, and they count their faults and the bytes read.
-ghost use Rattle.std.specs.Prelude.{◌≡◌, ◌≤◌, ◌<◌, ◌+◌, List, ℕ, Option, ◌≢◌, length, map, Some, None, IfOk, IfSome, IsSomeAnd, MatchOption, IfErr, OnErr, IsErrOf, option_copied};
+ghost use Rattle.std.specs.Prelude.{◌≡◌, ◌≤◌, ◌<◌, ◌+◌, List, ℕ, Option, ◌≢◌, length, map, Some, None, IfOk, IfSome, IsSomeAnd, MatchOption, IfErr, OnErr, [], IsErrOf, option_copied, Err, string_bytes, ◌⊎◌};
 ghost use Rattle.wc_base.specs.Causes.{Rose, RoseBy};
+ghost use Rattle.wc_base.specs.Failures.{failed_after};
 ghost use Rattle.wc_base.specs.Held.{found, plain, answer_of, faults_after};
 ghost use Rattle.wc_base.specs.Up.{up, up_by};
 
@@ -32,9 +33,13 @@ pub trait Files {
     /// How many bytes were read.
     ghost bytes_read: { Self → ℕ };
 
+    /// The names of the files whose read was answered with `Failed`, the first one first.
+    ghost failed_names: { Self → List (List ℕ) };
+
     /// All bytes of the file, if they are at most `limit`.
     ///
-    /// `Failed` comes only where the count of faults rose. `TooLong` comes only where the file is longer than `limit`;
+    /// `Failed` comes only where the count of faults rose; the name then stands behind those whose read failed before,
+    /// and no other answer changes these. `TooLong` comes only where the file is longer than `limit`;
     /// where the content is not told, only where the count of bytes read rose by more than `limit`.
     fn read_all(&mut self, alloc: Global, name: &str, limit: u64) -> Result<Vec<u8>, FileFault>
         ensures kept { content self.new ≡ content self.old }
@@ -45,6 +50,7 @@ pub trait Files {
         ensures bytes_later { bytes_read self.old ≤ bytes_read self.new }
         ensures failed { IsErrOf result FileFault.Failed
             → Rose (faults self.old) (faults self.new) }
+        ensures names { failed_names self.new ≡ failed_after (failed_names self.old) name.now result }
         ensures too_long { IsErrOf result FileFault.TooLong → MatchOption (content self.old)
             (RoseBy (limit + 1) (bytes_read self.old) (bytes_read self.new))
             (λ files. IsSomeAnd (files name.now) (λ bytes. limit < length bytes)) };
@@ -61,20 +67,21 @@ pub struct MemFiles {
     calls: u64,
     faults: u64,
     bytes_read: u64,
+    failed: Vec<String>,
 }
 
 impl Model for MemFiles {
-    ghost use Rattle.std.specs.Prelude.{map};
+    ghost use Rattle.std.specs.Prelude.{map, string_bytes};
     ghost use Rattle.wc_base.specs.Held.{Held, plain};
 
     ghost Value = { Held };
 
-    ghost view = { λ s. record { files = map plain s.entries.items; fails = s.fails.items; calls = s.calls; faults = s.faults; bytes_read = s.bytes_read } };
+    ghost view = { λ s. record { files = map plain s.entries.items; fails = s.fails.items; calls = s.calls; faults = s.faults; bytes_read = s.bytes_read; failed = map string_bytes s.failed.items } };
 }
 
 impl MemFiles {
     /// The files with these names and bytes, of which the reads in `fails` fail. It takes no memory.
-    pub fn open(entries: Vec<(String, Vec<u8>)>, fails: Vec<u64>) -> MemFiles
+    pub fn open(alloc: Global, entries: Vec<(String, Vec<u8>)>, fails: Vec<u64>) -> MemFiles
         ensures { result
             ≡ record {
               files = map plain entries.items;
@@ -82,6 +89,7 @@ impl MemFiles {
               calls = 0;
               faults = 0;
               bytes_read = 0;
+              failed = [];
             } }
     {
         MemFiles {
@@ -90,6 +98,7 @@ impl MemFiles {
             calls: 0,
             faults: 0,
             bytes_read: 0,
+            failed: Vec::new(alloc),
         }
     }
 }
@@ -100,6 +109,8 @@ impl Files for MemFiles {
     ghost faults = { λ s. s.faults };
 
     ghost bytes_read = { λ s. s.bytes_read };
+
+    ghost failed_names = { λ s. s.failed };
 
     fn read_all(&mut self, alloc: Global, name: &str, limit: u64) -> Result<Vec<u8>, FileFault>
         ensures ok { IfOk result (λ v. answer_of self.old name.now limit ≡ Ok v.items) }
@@ -120,18 +131,17 @@ impl Files for MemFiles {
         ensures faults_later { self.old.faults ≤ self.new.faults }
         ensures bytes_later { self.old.bytes_read ≤ self.new.bytes_read }
         ensures failed { IsErrOf result FileFault.Failed → Rose self.old.faults self.new.faults }
+        ensures names { self.new.failed ≡ failed_after self.old.failed name.now result }
         ensures too_long { IsErrOf result FileFault.TooLong →
             IsSomeAnd (found self.old.files name.now) (λ bytes. limit < length bytes) }
     {
         let listed = self.fails.contains(&self.calls);
         self.calls = self.calls.saturating_add(1);
         if listed {
-            self.faults = self.faults.saturating_add(1);
-            return Err(FileFault::Failed);
+            return Err(failure(alloc, name, &mut self.faults, &mut self.failed));
         }
         let Some(bytes) = find(&self.entries, name) else {
-            self.faults = self.faults.saturating_add(1);
-            return Err(FileFault::Failed);
+            return Err(failure(alloc, name, &mut self.faults, &mut self.failed));
         };
         let len = bytes.len() as u64;
         if len > limit {
@@ -142,6 +152,24 @@ impl Files for MemFiles {
         };
         self.bytes_read = self.bytes_read.saturating_add(len);
         Ok(copy)
+    }
+}
+
+// Counts the fault of a read, and notes the file's name, if there is memory for it.
+fn failure(alloc: Global, name: &str, faults: &mut u64, failed: &mut Vec<String>) -> FileFault
+    ensures count { faults.new ≡ up faults.old }
+    ensures later { faults.old ≤ faults.new }
+    ensures answer { result ≡ FileFault.Failed ⊎ result ≡ FileFault.NoMemory }
+    ensures names { map string_bytes failed.new.items
+        ≡ failed_after {T = ℕ} (map string_bytes failed.old.items) name.now (Err result) }
+{
+    *faults = faults.saturating_add(1);
+    let Ok(name) = String::from_str(alloc, name) else {
+        return FileFault::NoMemory;
+    };
+    match failed.push(name) {
+        Ok(()) => FileFault::Failed,
+        Err(_) => FileFault::NoMemory,
     }
 }
 
@@ -166,26 +194,29 @@ pub struct SystemFiles<'a, R: rt::Files> {
     rt: &'a R,
     faults: u64,
     bytes_read: u64,
+    failed: Vec<String>,
 }
 
-// A contract sees the counts of faults and of bytes read alone.
+// A contract sees the counts of faults and of bytes read alone, and the names whose read failed.
 impl<'a, R: rt::Files> Model for SystemFiles<'a, R> {
+    ghost use Rattle.std.specs.Prelude.{map, string_bytes};
     ghost use Rattle.wc_base.specs.Held.{Counts};
 
     ghost Value = { Counts };
 
-    ghost view = { λ s. record { faults = s.faults; bytes_read = s.bytes_read } };
+    ghost view = { λ s. record { faults = s.faults; bytes_read = s.bytes_read; failed = map string_bytes s.failed.items } };
 }
 
 impl<'a, R: rt::Files> SystemFiles<'a, R> {
     /// The files of the runtime, with no fault and no byte read so far.
-    pub fn new(rt: &'a R) -> SystemFiles<'a, R>
-        ensures { result ≡ record { faults = 0; bytes_read = 0 } }
+    pub fn new(alloc: Global, rt: &'a R) -> SystemFiles<'a, R>
+        ensures { result ≡ record { faults = 0; bytes_read = 0; failed = [] } }
     {
         SystemFiles {
             rt,
             faults: 0,
             bytes_read: 0,
+            failed: Vec::new(alloc),
         }
     }
 }
@@ -197,13 +228,20 @@ impl<R: rt::Files> Files for SystemFiles<'_, R> {
 
     ghost bytes_read = { λ s. s.bytes_read };
 
+    ghost failed_names = { λ s. s.failed };
+
     fn read_all(&mut self, alloc: Global, name: &str, limit: u64) -> Result<Vec<u8>, FileFault> {
         match fs::open(self.rt, name) {
-            Ok(file) => read_to_limit(alloc, file, limit, &mut self.faults, &mut self.bytes_read),
-            Err(_) => {
-                self.faults = self.faults.saturating_add(1);
-                Err(FileFault::Failed)
-            }
+            Ok(file) => read_to_limit(
+                alloc,
+                name,
+                file,
+                limit,
+                &mut self.faults,
+                &mut self.bytes_read,
+                &mut self.failed,
+            ),
+            Err(_) => Err(failure(alloc, name, &mut self.faults, &mut self.failed)),
         }
     }
 }
@@ -211,16 +249,20 @@ impl<R: rt::Files> Files for SystemFiles<'_, R> {
 // Reads to the end, and at most one byte past the limit.
 fn read_to_limit<F: Read + Drop>(
     alloc: Global,
+    name: &str,
     file: F,
     limit: u64,
     faults: &mut u64,
     bytes_read: &mut u64,
+    failed: &mut Vec<String>,
 ) -> Result<Vec<u8>, FileFault>
     ensures whole { IfOk result (λ v. IfSome (F.remaining file) (λ bytes. v.items ≡ bytes)) }
     ensures at_most { IfOk result (λ v. length v.items ≤ limit) }
     ensures faults_later { faults.old ≤ faults.new }
     ensures bytes_later { bytes_read.old ≤ bytes_read.new }
     ensures failed { IsErrOf result FileFault.Failed → Rose faults.old faults.new }
+    ensures names { map string_bytes failed.new.items
+        ≡ failed_after (map string_bytes failed.old.items) name.now result }
     ensures too_long { IsErrOf result FileFault.TooLong
         → RoseBy (limit + 1) bytes_read.old bytes_read.new }
     ensures long { IsErrOf result FileFault.TooLong
@@ -234,9 +276,6 @@ fn read_to_limit<F: Read + Drop>(
         Ok(_) if len > limit => Err(FileFault::TooLong),
         Ok(_) => Ok(bytes),
         Err(e) if e.kind() == ErrorKind::OutOfMemory => Err(FileFault::NoMemory),
-        Err(_) => {
-            *faults = faults.saturating_add(1);
-            Err(FileFault::Failed)
-        }
+        Err(_) => Err(failure(alloc, name, faults, failed)),
     }
 }

@@ -4,44 +4,18 @@ use Rattle.std.specs.Prelude.{length, slice_get, unwrap_or}
 use Rattle.std.specs.List.{list_all}
 use Rattle.std.proofs.lemmas.Bool.{and_parts, and_from, ltb-true}
 use Rattle.std.proofs.lemmas.Option.{slice_get_within}
-use Rattle.script_types.specs.declared.script.CallerItem.{CallerItem}
 use Rattle.script_types.specs.declared.script.CodecItem.{CodecItem}
 use Rattle.script_types.specs.declared.script.OrderItem.{OrderItem}
 use Rattle.script_types.specs.declared.script.OrderItem.TheVariants as item
 use Rattle.script_types.specs.declared.script.ScriptData.{ScriptData}
 use Rattle.script_types.specs.declared.steps.Step.{Step}
 use Rattle.script_types.specs.declared.steps.Step.TheVariants as step
-use Rattle.script_types.specs.declared.steps.Variable.{Variable}
-use Rattle.script_types.specs.declared.steps.VariableKind.TheVariants as holds
-use Rattle.script_types.specs.Names.{decodes, is_promise}
-use Rattle.script_types.specs.Sound.{is_sound, are_sound_codecs, is_sound_step, is_sound_item, is_variable, suits, any_kind}
-use Rattle.script_types.specs.SoundLaws.{Defines, parts_of, codec_within, step_at, few_steps, variable_is, promise_kind, promise_of_flush, item_at}
-use Rattle.trace_text.specs.Follow.{steps_in, steps_of}
-use Rattle.trace_text.specs.Fits.{step_in, called}
-use Rattle.order_laws.specs.Sound.{IsSound, promise_of, IsFlush}
+use Rattle.script_types.specs.Sound.{is_sound, are_sound_codecs, is_sound_step, is_sound_item, any_kind}
+use Rattle.script_types.specs.SoundLaws.{parts_of, codec_within, few_steps, item_at}
+use Rattle.trace_text.specs.Follow.{steps_of}
+use Rattle.trace_text.specs.Fits.{step_in}
+use Rattle.order_laws.specs.SoundSteps.{stands_in, sound_step, sound_of}
 use Rattle.wc_replay.specs.Player.{IsPlayable, IsInRange, LooksInRange, is_openable}
-use Rattle.codec_accounts.specs.ListLaws.{taken_before, get_from_front}
-
--- ---- steps by their caller's number
-
-record StandsIn (callers : List CallerItem) (i j : ℕ) (x : Step) : Type 0 where
-  pub caller : CallerItem
-  pub is_caller : slice_get callers i ≡ Some caller
-  pub its_steps : steps_in callers i ≡ caller.steps
-  pub is_step : slice_get caller.steps j ≡ Some x
-
-stands_in : (callers : List CallerItem) (i j : ℕ) (x : Step) → slice_get (steps_in callers i) j ≡ Some x → StandsIn callers i j x
-stands_in [] i j x h = absurd cc
-stands_in (c ∷ cs) zero j x h = record { caller = c; is_caller = refl; its_steps = refl; is_step = h }
-stands_in (c ∷ cs) (suc i) j x h =
-    let rest = stands_in cs i j x h in
-    record { caller = rest.caller; is_caller = rest.is_caller; its_steps = rest.its_steps; is_step = rest.is_step }
-
--- a step is sound after its caller's earlier steps
-sound_step : (s : ScriptData) (c j : ℕ) (x : Step) → is_sound s ≡ true → step_in s c j ≡ Some x → is_sound_step s.codecs (take j (steps_of s c)) x ≡ true
-sound_step s c j x h is =
-    let there = stands_in s.callers c j x is in
-    ap (λ (ss : List Step). is_sound_step s.codecs (take j ss) x) there.its_steps ∙ step_at s c j there.caller x h there.is_caller there.is_step
 
 few_before : (s : ScriptData) (c j : ℕ) (x : Step) → is_sound s ≡ true → step_in s c j ≡ Some x → j < 4294967296
 few_before s c j x h is =
@@ -49,18 +23,6 @@ few_before s c j x h is =
     omega (arith, few_steps s c there.caller h there.is_caller, slice_get_within there.caller.steps j x there.is_step)
 
 -- ---- what steps name
-
-called_within : (codecs : List CodecItem) (before : List Step) (x : Step) (k : ℕ) → is_sound_step codecs before x ≡ true → called x ≡ Some k → k < length codecs
-called_within codecs before (step.Configure on config) k h is = let same : on ≡ k = cc in subst (λ (i : ℕ). i < length codecs) same (codec_within codecs (suits config) on h)
-called_within codecs before (step.Decode on chunk) k h is = let same : on ≡ k = cc in subst (λ (i : ℕ). i < length codecs) same (codec_within codecs decodes on (and_parts _ _ h).0)
-called_within codecs before (step.Flush on bind) k h is = let same : on ≡ k = cc in subst (λ (i : ℕ). i < length codecs) same (codec_within codecs any_kind on (and_parts _ _ h).0)
-called_within codecs before (step.Reset on) k h is = let same : on ≡ k = cc in subst (λ (i : ℕ). i < length codecs) same (codec_within codecs any_kind on h)
-called_within codecs before (step.Close on) k h is = let same : on ≡ k = cc in subst (λ (i : ℕ). i < length codecs) same (codec_within codecs any_kind on h)
-called_within codecs before (step.Chunk bind source) k h is = absurd cc
-called_within codecs before (step.Poll promise) k h is = absurd cc
-called_within codecs before (step.Await promise) k h is = absurd cc
-called_within codecs before (step.State on) k h is = absurd cc
-called_within codecs before (step.Media y) k h is = absurd cc
 
 looks_within : (codecs : List CodecItem) (before : List Step) (x : Step) → is_sound_step codecs before x ≡ true → LooksInRange (length codecs) x
 looks_within codecs before (step.State on) h = codec_within codecs any_kind on h
@@ -73,40 +35,6 @@ looks_within codecs before (step.Await promise) h = tt
 looks_within codecs before (step.Reset on) h = tt
 looks_within codecs before (step.Close on) h = tt
 looks_within codecs before (step.Media y) h = tt
-
--- ---- promises
-
-looked_at : (codecs : List CodecItem) (before : List Step) (x : Step) (v : Variable) → is_sound_step codecs before x ≡ true → promise_of x ≡ Some v → is_variable before is_promise v ≡ true
-looked_at codecs before (step.Poll promise) v h is = let same : promise ≡ v = cc in subst (λ (u : Variable). is_variable before is_promise u ≡ true) same h
-looked_at codecs before (step.Await promise) v h is = let same : promise ≡ v = cc in subst (λ (u : Variable). is_variable before is_promise u ≡ true) same h
-looked_at codecs before (step.Configure on config) v h is = absurd cc
-looked_at codecs before (step.Chunk bind source) v h is = absurd cc
-looked_at codecs before (step.Decode on chunk) v h is = absurd cc
-looked_at codecs before (step.Flush on bind) v h is = absurd cc
-looked_at codecs before (step.Reset on) v h is = absurd cc
-looked_at codecs before (step.Close on) v h is = absurd cc
-looked_at codecs before (step.State on) v h is = absurd cc
-looked_at codecs before (step.Media y) v h is = absurd cc
-
--- an earlier step of the same caller defines the promise
-promise_defined : (s : ScriptData) (c j : ℕ) (x : Step) (v : Variable) → is_sound s ≡ true → step_in s c j ≡ Some x → promise_of x ≡ Some v → Defines (take j (steps_of s c)) v.step holds.Promise
-promise_defined s c j x v h is looks =
-    let found = variable_is (take j (steps_of s c)) is_promise v (looked_at s.codecs (take j (steps_of s c)) x v (sound_step s c j x h is) looks) in
-    subst (Defines (take j (steps_of s c)) v.step) (promise_kind v.kind found.1) found.0
-
-promise_made : (s : ScriptData) (c j : ℕ) (x : Step) (v : Variable) → is_sound s ≡ true → step_in s c j ≡ Some x → promise_of x ≡ Some v → (y : Step) × (step_in s c v.step ≡ Some y) × IsFlush y
-promise_made s c j x v h is looks =
-    let made = promise_defined s c j x v h is looks in
-    let stands = get_from_front (steps_of s c) j v.step made.definer made.stands in
-    let flush = promise_of_flush s.codecs (take v.step (steps_of s c)) made.definer made.name (sound_step s c v.step made.definer h stands) made.defines in
-    (made.definer, stands, subst IsFlush (sym flush.1) tt)
-
-sound_of : (s : ScriptData) → is_sound s ≡ true → IsSound s
-sound_of s h = record {
-  called = λ c j k x is calls. called_within s.codecs (take j (steps_of s c)) x k (sound_step s c j x h is) calls;
-  earlier = λ c j x v is looks. (let made = promise_defined s c j x v h is looks in taken_before (steps_of s c) j v.step made.definer made.stands);
-  promised = λ c j x v is looks. promise_made s c j x v h is looks;
-}
 
 -- ---- the order
 
@@ -124,6 +52,7 @@ items_within s (Some items) i x h is at = item_within (length s.codecs) (length 
 pub playable_of : (s : ScriptData) → is_sound s ≡ true → IsPlayable s
 playable_of s h = record {
   sound = sound_of s h;
+  faultless = h;
   looks = λ c j x is. looks_within s.codecs (take j (steps_of s c)) x (sound_step s c j x h is);
   few = λ c j x is. few_before s c j x h is;
   items = λ i x at. items_within s s.order i x h refl at;

@@ -27,13 +27,14 @@ use Rattle.codec_model.specs.declared.entry.Work.{Work}
 use Rattle.codec_model.specs.Control.{Control, kind_of, front, start_item, may_start, may_reclaim}
 use Rattle.codec_model.specs.Replay.{State, missing_coder, entry_of, removal_entry, removal_error, answer_to, turn_step}
 use Rattle.codec_core.specs.Codec.{Codec, item_parts, state_at, Makes, KeepsRunning, kept_box, handed_back, closes_now}
+use Rattle.codec_core.specs.Owning.{asked_of, IsOwnJob, KeepsAsked}
 use Rattle.codec_core.specs.Job.{JobValue, DoneValue, IsJobOf, EndsBy, outcome_of, stopped_box, missing_id}
 use Rattle.codec_accounts.specs.Boxes.{Act, Other, act_of, lacking, start_act, removal_act, closes_codec}
 use Rattle.codec_accounts.specs.Registry.{BoxOut}
 use Rattle.codec_accounts.specs.Codec.{Holding, CodecValue, state_of, next_by, BoxStep, Keep, Give, Renew, is_old, box_step, after_give, slots_after, holding_after, step_by, after_entry, slots_by, IsGivable}
 use Rattle.trace_text.specs.Follow.{outcome_for, start_entry, end_of, done_entry, turn_on, turn_entry, reclaim_entry}
 use Rattle.wc_replay.specs.Desk as desk
-use Rattle.wc_replay.specs.Desk.{box_out, holding_with, box_of, holding_of, JobMatches, LacksBox, IsRefused, IsDesk, more, renewal, codec_by, registry_by}
+use Rattle.wc_replay.specs.Desk.{box_out, holding_with, box_of, holding_of, JobMatches, LacksBox, IsRefused, OwnsJob, IsDesk, more, renewal, codec_by, registry_by}
 
 -- what contracts see
 abbrev pub seen : Codec → Option JobValue → Option ℕ → CodecValue
@@ -64,18 +65,27 @@ kept_away : (stays : Bool) (slot : Option Lent) (job : Option JobValue) → (is_
 kept_away true slot job away out = away out
 kept_away false slot job away out = refl
 
+job_owned : (old new : Codec) (job : Option JobValue) → KeepsAsked old new → JobMatches (state_at old) job → OwnsJob old job → OwnsJob new job
+job_owned old new None keeps matches own = own
+job_owned old new (Some job) keeps matches own = subst (λ (at : Option ℕ). IsOwnJob at job) (sym (keeps (ap is_some matches.is_running))) own
+
 -- an entry that keeps the running item keeps a desk
-pub desk_stays : (old new : Codec) (e : Entry) (job : Option JobValue) (refusal : Option ℕ) (stays : Bool) → IsDesk old job refusal → Makes old new e → KeepsRunning (state_at old) (state_at new) → new.slot ≡ kept_box stays old.slot → IsDesk new job refusal
-desk_stays old new e job refusal stays d made keeps slot = record {
+pub desk_stays : (old new : Codec) (e : Entry) (job : Option JobValue) (refusal : Option ℕ) (stays : Bool) → IsDesk old job refusal → Makes old new e → KeepsRunning (state_at old) (state_at new) → KeepsAsked old new → new.slot ≡ kept_box stays old.slot → IsDesk new job refusal
+desk_stays old new e job refusal stays d made keeps asked slot = record {
   legal = made.legal;
   matches = job_matches (state_at old) (state_at new) job keeps d.matches;
   refused = d.refused;
+  own = job_owned old new job asked d.matches d.own;
   away = λ out. slot ∙ kept_away stays old.slot job d.away out;
 }
 
 -- places for more calls change nothing that a desk speaks of
 pub desk_reserved : (old mid : Codec) (n : ℕ) (job : Option JobValue) (refusal : Option ℕ) → mid ≡ record old { spare = n } → IsDesk old job refusal → IsDesk mid job refusal
-desk_reserved old mid n job refusal is d = subst (λ (c : Codec). IsDesk c job refusal) (sym is) (record { legal = d.legal; matches = d.matches; refused = d.refused; away = d.away })
+desk_reserved old mid n job refusal is d = subst (λ (c : Codec). IsDesk c job refusal) (sym is) (record { legal = d.legal; matches = d.matches; refused = d.refused; own = owned job d.own; away = d.away })
+  where
+    owned : (j : Option JobValue) → OwnsJob old j → OwnsJob (record old { spare = n }) j
+    owned None own = own
+    owned (Some j) own = own
 
 pub seen_reserved : (old mid : Codec) (n : ℕ) (job : Option JobValue) (refusal : Option ℕ) → mid ≡ record old { spare = n } → seen mid job refusal ≡ seen old job refusal
 seen_reserved old mid n job refusal is = ap (λ (c : Codec). seen c job refusal) is
@@ -131,15 +141,15 @@ pub record Parts (k : ℕ) (e : Entry) (old new : Codec) (job : Option JobValue)
   pub givable : (history : List SlotEntry) (place : ℕ) (box : Option BoxOut) → place ≡ length old.history → box ≡ option_map box_out (handed_back (not goes) old.slot) → IsGivable history (next_by k (seen old job refusal)) (seen old job refusal).holding.box → IsGivable history (by.Codec k place) box
   pub registry : (s : SlotsValue) (place : ℕ) (box : Option BoxOut) → place ≡ length old.history → box ≡ option_map box_out (handed_back (not goes) old.slot) → after_give (by.Codec k place) box s ≡ slots_by k e s (seen old job refusal)
 
-pub parts_of : (k : ℕ) (e : Entry) (old new : Codec) (job : Option JobValue) (refusal : Option ℕ) (goes : Bool) → IsDesk old job refusal → Makes old new e → KeepsRunning (state_at old) (state_at new) → act_of e (state_at old) ≡ removal_act goes → new.slot ≡ kept_box (not goes) old.slot
+pub parts_of : (k : ℕ) (e : Entry) (old new : Codec) (job : Option JobValue) (refusal : Option ℕ) (goes : Bool) → IsDesk old job refusal → Makes old new e → KeepsRunning (state_at old) (state_at new) → KeepsAsked old new → act_of e (state_at old) ≡ removal_act goes → new.slot ≡ kept_box (not goes) old.slot
     → Parts k e old new job refusal goes
-parts_of k e old new job refusal goes d made keeps act slot =
+parts_of k e old new job refusal goes d made keeps asked act slot =
     let t = state_at old in
     let h = holding_of old.slot job refusal in
     let step : step_by e (seen old job refusal) ≡ box_step (removal_act goes) t.control refusal = ap (λ (a : Act). box_step a t.control refusal) act in
     let lets : option_map box_out (handed_back (not goes) old.slot) ≡ given_by (box_step (removal_act goes) t.control refusal) h.box = part_box goes old.slot job refusal t d.matches d.away in
     record {
-      desk = desk_stays old new e job refusal (not goes) d made keeps slot;
+      desk = desk_stays old new e job refusal (not goes) d made keeps asked slot;
       codec = λ s. seen_more old new e job job refusal refusal (holding_after (next_by k (seen old job refusal)) (step_by e (seen old job refusal)) h s) made
           (ap (λ (x : Option Lent). holding_of x job refusal) slot
           ∙ (part_holding goes old.slot job refusal t (next_by k (seen old job refusal)) s d.matches d.refused

@@ -7,6 +7,7 @@ use Rattle.codec_model.specs.declared.entry.Entry.{Entry}
 use Rattle.codec_model.specs.Replay.{State, replay}
 use Rattle.codec_core.specs.Codec.{Codec, state_at}
 use Rattle.codec_core.specs.Job.{JobValue, IsJobOf, missing_id}
+use Rattle.codec_core.specs.Owning.{asked_of, IsOwnJob}
 use Rattle.codec_accounts.specs.Registry.{BoxOut}
 use Rattle.codec_accounts.specs.Codec.{Holding, CodecValue, BoxStep, Keep, Renew, after_entry, slots_by}
 
@@ -30,9 +31,9 @@ abbrev pub JobMatches : State → Option JobValue → Type 0
 JobMatches s None = s.control.running ≡ None
 JobMatches s (Some job) = IsJobOf s job
 
--- a job that was refused a box lacks one and has none
+-- a job that lacks a box has none; one that was refused a box lacks one
 abbrev pub LacksBox : JobValue → Option ℕ → Type 0
-LacksBox job None = Unit {0}
+LacksBox job None = is_some (missing_id job) ≡ true → job.coder ≡ None
 LacksBox job (Some entry) = (is_some (missing_id job) ≡ true) × (job.coder ≡ None)
 
 -- only a job may have been refused a box
@@ -40,11 +41,17 @@ abbrev pub IsRefused : Option JobValue → Option ℕ → Type 0
 IsRefused None refusal = refusal ≡ None
 IsRefused (Some job) refusal = LacksBox job refusal
 
+-- a job that is out is the codec's own
+abbrev pub OwnsJob : Codec → Option JobValue → Type 0
+OwnsJob core None = Unit {0}
+OwnsJob core (Some job) = IsOwnJob (asked_of core) job
+
 -- the job is out exactly while an item is running
 pub record IsDesk (core : Codec) (job : Option JobValue) (refusal : Option ℕ) : Type 0 where
   pub legal : replay core.opening core.history ≡ Some (state_at core)
   pub matches : JobMatches (state_at core) job
   pub refused : IsRefused job refusal
+  pub own : OwnsJob core job
   -- while an item is running its codec has no box
   pub away : is_some job ≡ true → core.slot ≡ None
 

@@ -1,7 +1,8 @@
 -- A replay: its codecs, its callers and its registry.
-use Rattle.std.specs.Prelude.{ℕ, ◌≡◌, ◌<◌, ◌&&◌, nat_le, Bool, List, [], ◌∷◌, map, length, slice_get, Option, Some, None}
+use Rattle.std.specs.Prelude.{ℕ, ◌≡◌, ◌<◌, ◌&&◌, nat_le, Bool, true, List, [], ◌∷◌, map, length, slice_get, Option, Some, None}
 use Rattle.script_types.specs.declared.script.OrderItem.{OrderItem}
 use Rattle.script_types.specs.declared.script.OrderItem.TheVariants as item
+use Rattle.script_types.specs.Sound.{is_sound}
 use Rattle.script_types.specs.declared.script.CallerItem.{CallerItem}
 use Rattle.script_types.specs.declared.script.CodecItem.{CodecItem}
 use Rattle.script_types.specs.declared.script.ScriptData.{ScriptData}
@@ -34,6 +35,7 @@ LooksInRange n x = Unit {0}
 -- The script is sound, each look at a state names one of its codecs, each step's number fits in 32 bits, and every item of
 -- the order names one of the codecs, if it names one.
 pub record IsPlayable (s : ScriptData) : Type 0 where
+  pub faultless : is_sound s ≡ true
   pub sound : IsSound s
   pub looks : (c j : ℕ) (x : Step) → step_in s c j ≡ Some x → LooksInRange (length s.codecs) x
   pub few : (c j : ℕ) (x : Step) → step_in s c j ≡ Some x → j < 4294967296

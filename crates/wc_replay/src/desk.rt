@@ -1,7 +1,8 @@
 // A codec at work in a replay.
-ghost use Rattle.std.specs.Prelude.{◌≡◌, ◌≤◌, Bool, [], ◌∷◌, ◌++◌, IfOk, IfSome, OnOk, OnErr, OnSome, IfNone, length, None, Some, is_some, is_none, not, option_map, true};
+ghost use Rattle.std.specs.Prelude.{◌≡◌, ◌≤◌, Bool, [], ◌∷◌, ◌++◌, ℕ, Option, IfOk, IfSome, OnOk, OnErr, OnSome, IfNone, length, None, Some, is_some, is_none, not, option_map, true};
 ghost use Rattle.codec_accounts.specs.Codec.{new_codec, state_of, next_by, after_entry, slots_by, IsGivable};
-ghost use Rattle.codec_core.specs.Codec.{state_at, Makes as CoreMakes, KeepsRunning, kept_box, handed_back, closes_now};
+ghost use Rattle.codec_core.specs.Codec.{state_at, Makes as CoreMakes, KeepsRunning, IsAskedAt, kept_box, handed_back, closes_now};
+ghost use Rattle.codec_core.specs.Owning.{IsOwnJob, KeepsAsked};
 ghost use Rattle.codec_core.specs.Job.{IsJobOf, IsEndOf, outcome_of};
 ghost use Rattle.codec_model.specs.declared.entry.Entry.TheVariants as entry;
 ghost use Rattle.codec_model.specs.Control.{kind_of};
@@ -217,6 +218,7 @@ fn ask<C: Coder>(core: &mut Core<C>, who: Who, call: Call) -> Result<Answer, NoM
     ensures error { IfOk result
         (λ a. a.error ≡ exception_of call (call_error call (state_at core.old).control)) }
     ensures running { KeepsRunning (state_at core.old) (state_at core.new) }
+    ensures asked { KeepsAsked core.old core.new }
     ensures slot { core.new.slot ≡ core.old.slot }
     ensures err { OnErr result (core.new ≡ core.old) }
 {
@@ -244,6 +246,7 @@ fn remove<C: Coder>(core: &mut Core<C>, who: Who, removal: Removal) -> (Answer, 
     ensures slot { core.new.slot
         ≡ kept_box (is_some (removal_error (state_at core.old).control)) core.old.slot }
     ensures running { KeepsRunning (state_at core.old) (state_at core.new) }
+    ensures asked { KeepsAsked core.old core.new }
 {
     match core.remove(who, removal) {
         Ok(removed) => {
@@ -261,6 +264,7 @@ fn remove<C: Coder>(core: &mut Core<C>, who: Who, removal: Removal) -> (Answer, 
 fn end_of_job<C: Coder>(alloc: Global, job: Job<C>, refusal: Option<u64>) -> DoneJob<C>
     requires { LacksBox job refusal }
     ensures end { (s : State) → IsJobOf s job → IsEndOf s result }
+    ensures own { (at : Option ℕ) → IsOwnJob at job → IsAskedAt at result.coder }
     ensures outcome { (s : State) → IsJobOf s job → (wants : Bool)
         ×
         (outcome_of result.ended
@@ -292,6 +296,7 @@ fn run_task<C: Coder>(core: &mut Core<C>) -> Option<(u64, Option<SlotBox<C>>)>
     ensures slot { OnSome result
         (core.new.slot ≡ kept_box (not (closes_now (state_at core.old).control)) core.old.slot) }
     ensures running { OnSome result (KeepsRunning (state_at core.old) (state_at core.new)) }
+    ensures asked { OnSome result (KeepsAsked core.old core.new) }
 {
     let turned = core.turn()?;
     let place = turned.place;

@@ -24,6 +24,7 @@ use Rattle.wc_script.specs.Faults.{at}
 use Rattle.wc_script.specs.Callers.{heading_of, steps_of, caller_of, callers_of}
 use Rattle.wc_script.specs.Walk.{count_of}
 use Rattle.wc_script.proofs.Proceeds.{proceeds, read_at, both, all_more}
+use Rattle.script_steps.specs.Soundness.{StepsAreSound}
 use Rattle.wc_script.proofs.StepLaws.{SoundSteps, steps_sound}
 
 -- ---- the name
@@ -53,14 +54,14 @@ record OneCaller (codecs : List CodecItem) (cs : List CallerItem) (fs : List (Li
 no_steps : (codecs : List CodecItem) (fs : List (List ℕ)) (room : Room) → SoundSteps codecs fs room (record { steps = []; files = fs; room = room })
 no_steps codecs fs room = record { steps = refl; count = omega arith; small = refl; media = omega arith; files = refl; apart = λ a. a }
 
-one_caller : (codecs : List CodecItem) (cs : List CallerItem) (fs : List (List ℕ)) (room : Room) (d : Data) (h : Heard) → caller_of codecs cs fs room d ≡ Ok h → OneCaller codecs cs fs room h
+one_caller : StepsAreSound → (codecs : List CodecItem) (cs : List CallerItem) (fs : List (List ℕ)) (room : Room) (d : Data) (h : Heard) → caller_of codecs cs fs room d ≡ Ok h → OneCaller codecs cs fs room h
 unfolding caller_of
-one_caller codecs cs fs room d h e =
+one_caller law codecs cs fs room d h e =
     let name = proceeds (at (place.Caller (length cs)) (heading_of codecs cs d)) _ h e in
     let start : Walked = record { steps = []; files = fs; room = room } in
     let w = proceeds (steps_of codecs (length cs) start name.value.1) _ h name.rest in
     let new = new_name codecs cs d name.value (read_at (place.Caller (length cs)) (heading_of codecs cs d) name.value name.first) in
-    let t = steps_sound codecs (length cs) fs room start name.value.1 w.value (no_steps codecs fs room) w.first in
+    let t = steps_sound law codecs (length cs) fs room start name.value.1 w.value (no_steps codecs fs room) w.first in
     subst (λ x. OneCaller codecs cs fs room x) (same_Ok _ h w.rest) (record {
       sound = all_true (is_name name.value.0) _ new.0 (all_true _ (are_sound_steps codecs [] w.value.steps) new.1 t.steps);
       steps = t;
@@ -115,13 +116,13 @@ pub record CallersRead (codecs : List CodecItem) (cs : List CallerItem) (ds : It
   pub sound : SoundCallers codecs r.0 r.1.0 r.1.1
   pub count : length r.0 ≡ length cs + count_of ds
 
-pub callers_sound : (codecs : List CodecItem) (cs : List CallerItem) (fs : List (List ℕ)) (room : Room) (ds : Items) (r : List CallerItem × (List (List ℕ) × Room)) → SoundCallers codecs cs fs room
+pub callers_sound : StepsAreSound → (codecs : List CodecItem) (cs : List CallerItem) (fs : List (List ℕ)) (room : Room) (ds : Items) (r : List CallerItem × (List (List ℕ) × Room)) → SoundCallers codecs cs fs room
     → callers_of codecs cs fs room ds ≡ Ok r → CallersRead codecs cs ds r
-callers_sound codecs cs fs room no_items r t h =
+callers_sound law codecs cs fs room no_items r t h =
     subst (λ x. CallersRead codecs cs no_items x) (same_Ok (cs, (fs, room)) r h) (record { sound = t; count = omega arith })
-callers_sound codecs cs fs room (item d ds) r t h =
+callers_sound law codecs cs fs room (item d ds) r t h =
     let c = proceeds (caller_of codecs cs fs room d) _ r h in
-    let o = one_caller codecs cs fs room d c.value c.first in
-    let u = callers_sound codecs (cs ++ c.value.caller ∷ []) c.value.files c.value.room ds r (caller_kept codecs cs fs room c.value t o) c.rest in
+    let o = one_caller law codecs cs fs room d c.value c.first in
+    let u = callers_sound law codecs (cs ++ c.value.caller ∷ []) c.value.files c.value.room ds r (caller_kept codecs cs fs room c.value t o) c.rest in
     let n = length_push cs c.value.caller in
     record { sound = u.sound; count = omega (arith, n, u.count) }

@@ -17,7 +17,6 @@ use Rattle.script_types.specs.declared.script.OrderItem.{OrderItem}
 use Rattle.script_types.specs.declared.script.ScriptData.{ScriptData}
 use Rattle.script_types.specs.Limits.{limit_of}
 use Rattle.script_types.specs.Sound.{most_codecs, most_callers, most_steps, most_order, most_media, are_sound_codecs, are_sound_callers, are_small, bytes_of_caller, files_in, is_count, are_apart, are_sound_files, is_sound_item, counts_agree, is_sound_order, are_few, is_small_media, is_sound}
-use Rattle.script_types.specs.declared.fault.Wrong.{Wrong}
 use Rattle.script_types.specs.declared.fault.Wrong.TheVariants as wrong
 use Rattle.script_steps.specs.Members.{needed, array_in}
 use Rattle.script_steps.specs.Sources.{has}
@@ -28,6 +27,7 @@ use Rattle.wc_script.specs.Order.{order_of}
 use Rattle.wc_script.specs.Walk.{count_of, few, Parts, order_if_there, parts_with, parts_of, ordered, whole_room, walk_of}
 use Rattle.wc_script.proofs.Proceeds.{proceeds, read_at}
 use Rattle.wc_script.proofs.CodecLaws.{codecs_sound}
+use Rattle.script_steps.specs.Soundness.{StepsAreSound}
 use Rattle.wc_script.proofs.CallerLaws.{SoundCallers, callers_sound}
 use Rattle.wc_script.proofs.OrderLaws.{items_sound}
 
@@ -99,16 +99,16 @@ counted_files : (n : ℕ) (o : Option ℕ) → o ≡ Some n → is_count n o ≡
 counted_files n None h = absurd cc
 counted_files n (Some m) h = eq-eqb m n (same_Some m n h)
 
-pub walk_is_sound : (d : Data) (s : ScriptData) → walk_of d ≡ Ok s → is_sound s ≡ true
+pub walk_is_sound : StepsAreSound → (d : Data) (s : ScriptData) → walk_of d ≡ Ok s → is_sound s ≡ true
 unfolding walk_of
-walk_is_sound d s h =
+walk_is_sound law d s h =
     let parts = proceeds (parts_of d) _ s h in
     let codecs = proceeds (codecs_of 0 [] parts.value.codecs) _ s parts.rest in
     let r = proceeds (callers_of codecs.value [] [] whole_room parts.value.callers) _ s codecs.rest in
     let order = proceeds (ordered codecs.value r.value.0 parts.value.order) _ s r.rest in
     let few_are = few_parts d parts.value parts.first in
     let cs = codecs_sound 0 [] parts.value.codecs codecs.value refl codecs.first in
-    let t = callers_sound codecs.value [] [] whole_room parts.value.callers r.value (no_callers codecs.value) r.first in
+    let t = callers_sound law codecs.value [] [] whole_room parts.value.callers r.value (no_callers codecs.value) r.first in
     let a : length codecs.value ≡ count_of parts.value.codecs = omega (arith, cs.count) in
     let b : length r.value.0 ≡ count_of parts.value.callers = omega (arith, t.count) in
     let steps : nat_le (sum_by (λ c. length c.steps) r.value.0) most_steps ≡ true = le-leb _ _ (omega (arith, t.sound.steps)) in

@@ -21,7 +21,7 @@ use Rattle.script_types.specs.declared.fault.Fault.TheVariants as fault
 use Rattle.script_steps.specs.Words.{inline_data, byte_count}
 use Rattle.script_steps.specs.Steps.{step_of}
 use Rattle.script_steps.specs.Chains.{same_Ok, all_true}
-use Rattle.script_steps.proofs.StepLaws.{step_sound}
+use Rattle.script_steps.specs.Soundness.{StepsAreSound}
 use Rattle.wc_script.specs.declared.callers.Room.{Room}
 use Rattle.wc_script.specs.declared.callers.Walked.{Walked}
 use Rattle.wc_script.specs.Faults.{at}
@@ -94,14 +94,14 @@ record OneStep (codecs : List CodecItem) (w : Walked) (v : Walked) : Type 0 wher
   pub files : file_after (length w.files) step ≡ Some (length v.files)
   pub apart : are_apart [] w.files ≡ true → are_apart [] v.files ≡ true
 
-one_step : (codecs : List CodecItem) (i : ℕ) (w v : Walked) (d : Data) → counted_step_of codecs i w d ≡ Ok v → OneStep codecs w v
+one_step : StepsAreSound → (codecs : List CodecItem) (i : ℕ) (w v : Walked) (d : Data) → counted_step_of codecs i w d ≡ Ok v → OneStep codecs w v
 unfolding counted_step_of
-one_step codecs i w v d h =
+one_step law codecs i w v d h =
     let p = place.Step i (length w.steps) in
     let room = proceeds (room_after w.room (byte_count (inline_data d))) _ v h in
     let s = proceeds (at p (step_of codecs w.files w.steps d)) _ v room.rest in
     let read = read_at p (step_of codecs w.files w.steps d) s.value s.first in
-    let t = step_sound codecs w.files w.steps d s.value.0 s.value.1 read in
+    let t = law codecs w.files w.steps d s.value.0 s.value.1 read in
     subst (λ x. OneStep codecs w x) (same_Ok _ v s.rest) (record {
       step = s.value.0;
       steps = refl;
@@ -128,13 +128,13 @@ step_kept codecs fs room w v t o =
       apart = λ a. o.apart (t.apart a);
     }
 
-pub steps_sound : (codecs : List CodecItem) (i : ℕ) (fs : List (List ℕ)) (room : Room) (w : Walked) (ds : Items) (v : Walked) → SoundSteps codecs fs room w
+pub steps_sound : StepsAreSound → (codecs : List CodecItem) (i : ℕ) (fs : List (List ℕ)) (room : Room) (w : Walked) (ds : Items) (v : Walked) → SoundSteps codecs fs room w
     → steps_of codecs i w ds ≡ Ok v → SoundSteps codecs fs room v
-steps_sound codecs i fs room w no_items v t h = subst (λ x. SoundSteps codecs fs room x) (same_Ok w v h) t
-steps_sound codecs i fs room w (item d ds) v t h =
+steps_sound law codecs i fs room w no_items v t h = subst (λ x. SoundSteps codecs fs room x) (same_Ok w v h) t
+steps_sound law codecs i fs room w (item d ds) v t h =
     let u = proceeds (counted_step_of codecs i w d) _ v h in
-    let o = one_step codecs i w u.value d u.first in
-    steps_sound codecs i fs room u.value ds v (step_kept codecs fs room w u.value t o) u.rest
+    let o = one_step law codecs i w u.value d u.first in
+    steps_sound law codecs i fs room u.value ds v (step_kept codecs fs room w u.value t o) u.rest
 
 -- ---- how many files and steps there are after one more step
 
@@ -159,16 +159,16 @@ file_grows n k (step.Close on) h = grind (arith, same_Some n k h)
 file_grows n k (step.State on) h = grind (arith, same_Some n k h)
 file_grows n k (step.Media s) h = grind (arith, same_Some n k h)
 
-pub files_grow : (codecs : List CodecItem) (i : ℕ) (w v : Walked) (d : Data) → counted_step_of codecs i w d ≡ Ok v → length w.files + w.room.steps ≤ 100000
+pub files_grow : StepsAreSound → (codecs : List CodecItem) (i : ℕ) (w v : Walked) (d : Data) → counted_step_of codecs i w d ≡ Ok v → length w.files + w.room.steps ≤ 100000
     → length v.files + v.room.steps ≤ 100000
-files_grow codecs i w v d h le =
-    let o = one_step codecs i w v d h in
+files_grow law codecs i w v d h le =
+    let o = one_step law codecs i w v d h in
     let more = file_grows (length w.files) (length v.files) o.step o.files in
     omega (arith, o.room.steps)
 
-pub steps_grow : (codecs : List CodecItem) (i : ℕ) (w v : Walked) (d : Data) → counted_step_of codecs i w d ≡ Ok v → length w.steps + w.room.steps ≤ 100000
+pub steps_grow : StepsAreSound → (codecs : List CodecItem) (i : ℕ) (w v : Walked) (d : Data) → counted_step_of codecs i w d ≡ Ok v → length w.steps + w.room.steps ≤ 100000
     → length v.steps + v.room.steps ≤ 100000
-steps_grow codecs i w v d h le =
-    let o = one_step codecs i w v d h in
+steps_grow law codecs i w v d h le =
+    let o = one_step law codecs i w v d h in
     let n : length v.steps ≡ length w.steps + 1 = ap length o.steps ∙ length_push w.steps o.step in
     omega (arith, o.room.steps)

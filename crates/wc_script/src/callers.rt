@@ -13,7 +13,7 @@ use crate::faults::fault_at;
 use bytes::Bytes;
 use script_steps::{
     Files, StepWord, Variables, array_member, is_caller_name, is_codec_name, name_member,
-    read_inline_data, read_step, word_member,
+    read_inline_data, read_step, steps_are_sound, word_member,
 };
 use script_types::{
     CallerItem, CodecItem, Counted, Fault, Place, Step, Stop, Wrong, copied, limit_of,
@@ -173,6 +173,7 @@ fn read_next_step(
     ensures files { OnOk result (length walked.new.files + walked.new.room.steps ≤ 100000) }
     ensures steps { OnOk result (length walked.new.steps + walked.new.room.steps ≤ 100000) }
 {
+    steps_are_sound();
     read_counted_step(alloc, codecs, i, walked, value)
 }
 

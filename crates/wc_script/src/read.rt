@@ -8,6 +8,7 @@ ghost use Rattle.wc_script.specs.Read.{value_of, script_of};
 ghost use Rattle.script_types.specs.Reading.{Gives};
 
 use crate::walk::read_value;
+use script_steps::steps_are_sound;
 use script_types::{Fault, Script, ScriptData, Stop};
 use serde_json::Value;
 use std::alloc::Global;
@@ -28,6 +29,7 @@ fn read_sound(alloc: Global, value: &Value) -> Result<ScriptData, Stop<Fault>>
     ensures sound { IfOk result (λ s. is_sound s ≡ true) }
     ensures own { IfErr result (λ e. IsOfScript e) }
 {
+    steps_are_sound();
     read_value(alloc, value)
 }
 

@@ -3,14 +3,14 @@ use Rattle.std.proofs.Common.{◌≡◌, ◌≢◌, ◌⊎◌, inl, inr, ℕ, ze
 use Rattle.std.specs.Prelude.{IsSomeAnd}
 use Rattle.wc_base.specs.Causes.{Rose}
 use Rattle.script_types.specs.declared.script.ScriptData.{ScriptData}
-use Rattle.media_files.specs.Laws.{OneReading}
+use Rattle.media_files.specs.Laws.{OneReading, SomeReading}
 use Rattle.script_types.specs.declared.fault.Counted.TheVariants as counted
 use Rattle.script_types.specs.declared.fault.Fault.{Fault}
 use Rattle.script_types.specs.declared.fault.Fault.TheVariants as fault
 use Rattle.chunk_files.specs.declared.fault.Stop.TheVariants as stop
 use Rattle.wcrun.specs.Refusals.{status_of, line_of, usage_line, memory_line}
 use Rattle.wcrun.specs.Outcome.{Ready, Outcome, Playable, playable_of, ready_of, Becomes, IsOutcome}
-use Rattle.wcrun.specs.Headline.{Reading, Writing, Holding, ComesTo, Comes, Decides, IsComplete, status_for}
+use Rattle.wcrun.specs.Headline.{Reading, Writing, Holding, IfFile, ComesTo, Comes, Decides, IsComplete, status_for}
 use Rattle.wcrun.specs.Writing.{WritesText, WritesLine}
 use Rattle.wcrun.proofs.Files.{of_there, told, if_file, of_file}
 
@@ -21,6 +21,14 @@ same_becomes one files (Err e) a b is js = is ∙ sym js
 pub one_outcome : OneReading → (files : Holding) (bytes : List ℕ) (a b : Outcome) → IsOutcome files bytes a → IsOutcome files bytes b → a ≡ b
 one_outcome one files bytes a b h g = same_becomes one files (playable_of bytes) a b h g
 
+some_becomes : SomeReading → (files : Holding) (p : Playable) → (outcome : Outcome) × Becomes files p outcome
+some_becomes some files (Ok s) = let media = some files s in (ready_of s media.0, (media.0, media.1, refl))
+some_becomes some files (Err e) = (Err e, refl)
+
+-- the bytes of a script file come to something
+pub some_outcome : SomeReading → (r : Reading) → IfFile r (λ files bytes. (outcome : Outcome) × IsOutcome files bytes outcome)
+some_outcome some r = if_file r _ (λ name files bytes is holds there. some_becomes some files (playable_of bytes))
+
 not_none : (r : Reading) (name : List ℕ) → r.command ≡ None → r.command ≡ Some name → ⊥
 not_none r name none is = let e : ◌≡◌ {A = Option (List ℕ)} None (Some name) = sym none ∙ is in absurd cc
 
@@ -30,7 +38,7 @@ Caused r x files bytes = ((status_of x ≡ 4) × Rose r.faults_before r.faults_a
 
 caused : (r : Reading) (x : Fault) (name : List ℕ) (files : Holding) (bytes : List ℕ) → Comes r x
     → r.command ≡ Some name → r.content ≡ Some files → files name ≡ Some bytes → Caused r x files bytes
-caused r (fault.Unread n) name files bytes (named, rose) is holds there = inl (refl, rose)
+caused r (fault.Unread n) name files bytes (named, failed) is holds there = inl (refl, failed.0)
 caused r (fault.TooMany counted.Script) name files bytes h is holds there =
     inr (of_there (List ℕ) _ (files name) bytes (told _ _ r.content files (of_there (List ℕ) _ r.command name h is) holds) there)
 caused r (fault.TooMany counted.File) name files bytes h is holds there =
@@ -48,11 +56,12 @@ no_usage P (Some name) h none = absurd cc
 
 -- ---- a report
 
-pub decides_report : OneReading → (r : Reading) (w : Writing) (ready : Ready) (text : List ℕ) → ComesTo r (Ok ready) → WritesText text w → Decides r w
-decides_report one r w ready text c p = record {
+pub decides_report : OneReading → SomeReading → (r : Reading) (w : Writing) (ready : Ready) (text : List ℕ) → ComesTo r (Ok ready) → WritesText text w → Decides r w
+decides_report one some r w ready text c p = record {
   words = λ none n5 n6. absurd (no_usage _ r.command c none);
   file = if_file r _ (λ name files bytes is holds there outcome h n4 n5 n6.
       zero_of w.answer p.only n5 n6 ∙ sym (ap status_for (one_outcome one files bytes outcome (Ok ready) h (of_file r _ name files bytes c is holds there))));
+  some = some_outcome some r;
 }
 
 pub complete_report : (r : Reading) (w : Writing) (text : List ℕ) → WritesText text w → IsComplete r w
@@ -72,11 +81,12 @@ has_command r (fault.TooMany counted.Script) c none = no_usage _ r.command c non
 has_command r (fault.TooMany counted.File) c none = no_usage _ r.command c none
 has_command r x c none = no_usage _ r.command c none
 
-pub decides_fault : OneReading → (r : Reading) (w : Writing) (x : Fault) → Comes r x → WritesLine (status_of x) (line_of x) w → Decides r w
-decides_fault one r w x c p = record {
+pub decides_fault : OneReading → SomeReading → (r : Reading) (w : Writing) (x : Fault) → Comes r x → WritesLine (status_of x) (line_of x) w → Decides r w
+decides_fault one some r w x c p = record {
   words = λ none n5 n6. absurd (has_command r x c none);
   file = if_file r _ (λ name files bytes is holds there outcome h n4 n5 n6.
       decided r w x one files bytes outcome h (caused r x name files bytes c is holds there) (p.done n5 n6) n4);
+  some = some_outcome some r;
 }
 
 not_faulty : (r : Reading) (x : Fault) (one : OneReading) (files : Holding) (bytes : List ℕ) (ready : Ready) → IsOutcome files bytes (Ok ready)
@@ -94,6 +104,7 @@ pub decides_usage : (r : Reading) (w : Writing) → r.command ≡ None → Write
 decides_usage r w none p = record {
   words = λ no_word n5 n6. p.done n5 n6;
   file = if_file r _ (λ name files bytes is holds there outcome h n4 n5 n6. absurd (not_none r name none is));
+  some = if_file r _ (λ name files bytes is holds there. absurd (not_none r name none is));
 }
 
 pub complete_usage : (r : Reading) (w : Writing) → r.command ≡ None → IsComplete r w
@@ -104,10 +115,11 @@ complete_usage r w none = if_file r _ (λ name files bytes is holds there ready 
 no_answer : (w : Writing) → WritesLine 6 memory_line w → w.answer ≢ 5 → w.answer ≢ 6 → ⊥
 no_answer w p n5 n6 = n6 (p.done n5 n6)
 
-pub decides_memory : (r : Reading) (w : Writing) → WritesLine 6 memory_line w → Decides r w
-decides_memory r w p = record {
+pub decides_memory : SomeReading → (r : Reading) (w : Writing) → WritesLine 6 memory_line w → Decides r w
+decides_memory some r w p = record {
   words = λ none n5 n6. absurd (no_answer w p n5 n6);
   file = if_file r _ (λ name files bytes is holds there outcome h n4 n5 n6. absurd (no_answer w p n5 n6));
+  some = some_outcome some r;
 }
 
 pub complete_memory : (r : Reading) (w : Writing) → WritesLine 6 memory_line w → IsComplete r w

@@ -1,5 +1,5 @@
 -- How a script is read, from its file and its chunk files.
-use Rattle.std.proofs.Common.{◌≡◌, ◌≢◌, ◌<◌, ◌≤◌, inr, ℕ, List, length, Bool, true, false, Option, Some, None, IfSome, Result, Ok, Err, refl, sym, ap, subst, ◌∙◌, arith}
+use Rattle.std.proofs.Common.{◌≡◌, ◌≢◌, ◌<◌, ◌≤◌, inr, ℕ, List, [], ◌∷◌, ◌++◌, length, Bool, true, false, Option, Some, None, IfSome, Result, Ok, Err, refl, sym, ap, subst, ◌∙◌, arith}
 use Rattle.std.specs.Prelude.{IsSomeAnd, MatchOption, nat_lt, if◌then◌else◌}
 use Rattle.wc_base.specs.Causes.{RoseBy}
 use Rattle.script_types.specs.declared.fault.Counted.TheVariants as counted
@@ -8,7 +8,7 @@ use Rattle.script_types.specs.declared.fault.Fault.TheVariants as fault
 use Rattle.chunk_files.specs.declared.fault.Stop.{Stop}
 use Rattle.chunk_files.specs.declared.fault.Stop.TheVariants as stop
 use Rattle.script_types.specs.declared.script.ScriptData.{ScriptData}
-use Rattle.media_files.specs.Media.{GivesMedia, IsMentioned, MayFail}
+use Rattle.media_files.specs.Media.{FailedBy, GivesMedia, IsReached, MayFail}
 use Rattle.wc_script.specs.Faults.{IsOfScript}
 use Rattle.wc_script.specs.Read.{script_of}
 use Rattle.wcrun.specs.Headline.{Reading, reading, Holding, ComesTo, Comes}
@@ -32,22 +32,29 @@ long_file : (content : Option Holding) (name : List ℕ) (s : ScriptData) (outco
 long_file None name s outcome a b c le h g = rose_since 268435457 a b c le g
 long_file (Some held) name s outcome a b c le h g = at_name held s outcome (held name) h g
 
-named_at : (s : ScriptData) (name : List ℕ) (b : Option (List ℕ)) → IsSomeAnd b (λ bytes. playable_of bytes ≡ Ok s) → IsMentioned name s → IsSomeAnd b (λ bytes. (t : ScriptData) × (playable_of bytes ≡ Ok t) × IsMentioned name t)
-named_at s name None h m = elim h [ ]
-named_at s name (Some bytes) h m = (s, h, m)
+named_at : (content : Option Holding) (s : ScriptData) (name : List ℕ) (b : Option (List ℕ)) → IsSomeAnd b (λ bytes. playable_of bytes ≡ Ok s) → IsReached content s name → IsSomeAnd b (λ bytes. (t : ScriptData) × (playable_of bytes ≡ Ok t) × IsReached content t name)
+named_at content s name None h m = elim h [ ]
+named_at content s name (Some bytes) h m = (s, h, m)
 
-named_in : (content : Option Holding) (file name : List ℕ) (s : ScriptData) → Spells content file s → IsMentioned name s → IfSome content (λ held. IsSomeAnd (held file) (λ bytes. (t : ScriptData) × (playable_of bytes ≡ Ok t) × IsMentioned name t))
+named_in : (content : Option Holding) (file name : List ℕ) (s : ScriptData) → Spells content file s → IsReached content s name → IfSome content (λ held. IsSomeAnd (held file) (λ bytes. (t : ScriptData) × (playable_of bytes ≡ Ok t) × IsReached content t name))
 named_in None file name s h m = tt
-named_in (Some held) file name s h m = named_at s name (held file) h m
+named_in (Some held) file name s h m = named_at (Some held) s name (held file) h m
+
+-- what is known of names after an error, whatever else the answer could have held
+pub failed_as : (T : Type 0) (xb xc : List (List ℕ)) (e : Stop Fault) → FailedBy {T = T} xb xc (Err e) → FailedBy {T = Unit {0}} xb xc (Err e)
+failed_as T xb xc stop.NoMemory h = h
+failed_as T xb xc (stop.Fault (fault.Unread n)) h = h
+failed_as T xb xc (stop.Fault x) h = h
 
 -- why there is no replay of a script that can be replayed
-pub stops : (content : Option Holding) (name : List ℕ) (s : ScriptData) (fa fb fc ba bb bc : ℕ) (e : Stop Fault) → fa ≤ fb → ba ≤ bb → Spells content name s
-    → MayStopFor content s fb fc bb bc e → MayStop (reading (Some name) content fa fc ba bc) e
-stops content name s fa fb fc ba bb bc stop.NoMemory le le' h g = tt
-stops content name s fa fb fc ba bb bc (stop.Fault (fault.Unread n)) le le' h (m, rose) = (inr (named_in content name n s h m), rose_since 1 fa fb fc le rose)
-stops content name s fa fb fc ba bb bc (stop.Fault (fault.TooMany counted.Script)) le le' h g = elim g [ ]
-stops content name s fa fb fc ba bb bc (stop.Fault (fault.TooMany counted.File)) le le' h g = long_file content name s _ ba bb bc le' h g
-stops content name s fa fb fc ba bb bc (stop.Fault x) le le' h g = comes_to content name s _ h g
+pub stops : (content : Option Holding) (name : List ℕ) (s : ScriptData) (fa fb fc ba bb bc : ℕ) (xa xb xc : List (List ℕ)) (e : Stop Fault) → fa ≤ fb → ba ≤ bb → xb ≡ xa → Spells content name s
+    → MayStopFor content s fb fc bb bc e → FailedBy {T = Unit {0}} xb xc (Err e) → MayStop (reading (Some name) content fa fc ba bc xa xc) e
+stops content name s fa fb fc ba bb bc xa xb xc stop.NoMemory le le' same h g f = tt
+stops content name s fa fb fc ba bb bc xa xb xc (stop.Fault (fault.Unread n)) le le' same h (m, rose) f =
+    (inr (named_in content name n s h m), (rose_since 1 fa fb fc le rose, f ∙ ap (λ (l : List (List ℕ)). l ++ n ∷ []) same))
+stops content name s fa fb fc ba bb bc xa xb xc (stop.Fault (fault.TooMany counted.Script)) le le' same h g f = elim g [ ]
+stops content name s fa fb fc ba bb bc xa xb xc (stop.Fault (fault.TooMany counted.File)) le le' same h g f = long_file content name s _ ba bb bc le' h g
+stops content name s fa fb fc ba bb bc xa xb xc (stop.Fault x) le le' same h g f = comes_to content name s _ h g
 
 -- ---- the chunk files
 
@@ -87,11 +94,11 @@ by_script r (fault.TooMany counted.File) o h = elim o [ ]
 by_script r x o h = h
 
 -- a script that was read can not be replayed
-pub script_stops : (content : Option Holding) (name bytes : List ℕ) (fa fc ba bc : ℕ) (e : Stop Fault) → IfSome content (λ held. held name ≡ Some bytes)
-    → IsOfScript e → (e ≢ stop.NoMemory → playable_of bytes ≡ Err e) → MayStop (reading (Some name) content fa fc ba bc) e
-script_stops content name bytes fa fc ba bc stop.NoMemory h o k = tt
-script_stops content name bytes fa fc ba bc (stop.Fault x) h o k =
-    by_script (reading (Some name) content fa fc ba bc) x o (refused_in content name bytes (stop.Fault x) h (k (λ is. absurd cc)))
+pub script_stops : (content : Option Holding) (name bytes : List ℕ) (fa fc ba bc : ℕ) (xa xc : List (List ℕ)) (e : Stop Fault) → IfSome content (λ held. held name ≡ Some bytes)
+    → IsOfScript e → (e ≢ stop.NoMemory → playable_of bytes ≡ Err e) → MayStop (reading (Some name) content fa fc ba bc xa xc) e
+script_stops content name bytes fa fc ba bc xa xc stop.NoMemory h o k = tt
+script_stops content name bytes fa fc ba bc xa xc (stop.Fault x) h o k =
+    by_script (reading (Some name) content fa fc ba bc xa xc) x o (refused_in content name bytes (stop.Fault x) h (k (λ is. absurd cc)))
 
 long_at : (held : Holding) (b : Option (List ℕ)) → IsSomeAnd b (λ bytes. 16777216 < length bytes) → IsSomeAnd b (λ bytes. IsOutcome held bytes (Err (stop.Fault (fault.TooMany counted.Script))))
 long_at held None h = elim h [ ]

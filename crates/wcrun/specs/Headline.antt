@@ -2,7 +2,7 @@
 --
 -- Status 0 is a whole report, 6 is want of memory, 5 is a failed sink, and 2, 3, 4 and 7 are refusals. What is said of the
 -- bytes of files and of the sink holds where they tell them.
-use Rattle.std.specs.Prelude.{ℕ, ◌≡◌, ◌≢◌, ◌⊎◌, List, [], ◌++◌, Option, Some, None, IfSome, IsSomeAnd, MatchOption, Result, Ok, Err}
+use Rattle.std.specs.Prelude.{ℕ, ◌≡◌, ◌≢◌, ◌⊎◌, List, [], ◌∷◌, ◌++◌, Option, Some, None, IfSome, IsSomeAnd, MatchOption, Result, Ok, Err}
 use Rattle.wc_base.specs.Causes.{Rose, RoseBy}
 use Rattle.wc_base.specs.Told.{appended, AppendsPart}
 use Rattle.wc_config.specs.declared.codec.CoderId.{CoderId}
@@ -14,12 +14,12 @@ use Rattle.script_types.specs.declared.script.ScriptData.{ScriptData}
 use Rattle.trace_text.specs.declared.run.Run.{Run}
 use Rattle.trace_text.specs.Fits.{IsLegalRun, Fits}
 use Rattle.trace_text.specs.Report.{report_of}
-use Rattle.media_files.specs.Media.{IsMentioned}
+use Rattle.media_files.specs.Media.{IsReached}
 use Rattle.wcrun.specs.Refusals.{status_of, line_of, usage_line, memory_line}
 use Rattle.wcrun.specs.Outcome.{Ready, Outcome, playable_of, IsOutcome}
 
--- What a call was told to do, and what it read: the file that the words name, what the files hold, where they tell it, and
--- their counts of faults and of bytes, before the call and after it.
+-- What a call was told to do, and what it read: the file that the words name, what the files hold, where they tell it,
+-- their counts of faults and of bytes, and the names whose read failed, before the call and after it.
 pub record Reading : Type 0 where
   pub command : Option (List ℕ)
   pub content : Option (List ℕ → Option (List ℕ))
@@ -27,6 +27,8 @@ pub record Reading : Type 0 where
   pub faults_after : ℕ
   pub bytes_before : ℕ
   pub bytes_after : ℕ
+  pub failed_before : List (List ℕ)
+  pub failed_after : List (List ℕ)
 
 -- What a call wrote: the sink's bytes, where it tells them, and its count of faults, before the call and after it, and the
 -- status.
@@ -37,9 +39,17 @@ pub record Writing : Type 0 where
   pub faults_after : ℕ
   pub answer : ℕ
 
-abbrev pub reading : Option (List ℕ) → Option (List ℕ → Option (List ℕ)) → ℕ → ℕ → ℕ → ℕ → Reading
-reading command content faults_before faults_after bytes_before bytes_after =
-    record { command = command; content = content; faults_before = faults_before; faults_after = faults_after; bytes_before = bytes_before; bytes_after = bytes_after }
+abbrev pub reading : Option (List ℕ) → Option (List ℕ → Option (List ℕ)) → ℕ → ℕ → ℕ → ℕ → List (List ℕ) → List (List ℕ) → Reading
+reading command content faults_before faults_after bytes_before bytes_after failed_before failed_after = record {
+  command = command;
+  content = content;
+  faults_before = faults_before;
+  faults_after = faults_after;
+  bytes_before = bytes_before;
+  bytes_after = bytes_after;
+  failed_before = failed_before;
+  failed_after = failed_after;
+}
 
 abbrev pub writing : Option (List ℕ) → Option (List ℕ) → ℕ → ℕ → ℕ → Writing
 writing before after faults_before faults_after answer =
@@ -88,14 +98,18 @@ pub record IsCut (r : Reading) (coders : List CoderId) (text : List ℕ) : Type 
   pub begun : (part ≡ []) ⊎ IsBegun r coders part
   pub whole : text ≡ part ++ memory_line
 
--- The name is that of the script file, or of a chunk file that its script mentions.
+-- The name is that of the script file, or of a chunk file that its script mentions, before which each gave its chunks.
 abbrev pub IsNamed : Reading → List ℕ → Type 0
-IsNamed r name = (r.command ≡ Some name) ⊎ OfFile r (λ files bytes. (s : ScriptData) × (playable_of bytes ≡ Ok s) × IsMentioned name s)
+IsNamed r name = (r.command ≡ Some name) ⊎ OfFile r (λ files bytes. (s : ScriptData) × (playable_of bytes ≡ Ok s) × IsReached r.content s name)
 
--- When a fault may come: each as the file's bytes come to it. A file that was not read only where the count of faults
--- rose; and one that is too long, where it is not told, only where the count of bytes read rose by as much.
+-- In this call a read of the file of this name failed, and no other read.
+abbrev pub HasFailed : Reading → List ℕ → Type 0
+HasFailed r name = Rose r.faults_before r.faults_after × (r.failed_after ≡ r.failed_before ++ name ∷ [])
+
+-- When a fault may come: each as the file's bytes come to it. A file that was not read only where a read of this very
+-- file failed; and one that is too long, where it is not told, only where the count of bytes read rose by as much.
 abbrev pub Comes : Reading → Fault → Type 0
-Comes r (fault.Unread name) = IsNamed r name × Rose r.faults_before r.faults_after
+Comes r (fault.Unread name) = IsNamed r name × HasFailed r name
 Comes r (fault.TooMany counted.Script) =
     IsSomeAnd r.command (λ name. MatchOption r.content (RoseBy 16777217 r.bytes_before r.bytes_after) (λ files.
     IsSomeAnd (files name) (λ bytes. IsOutcome files bytes (Err (stop.Fault (fault.TooMany counted.Script))))))
@@ -160,11 +174,13 @@ status_for (Err stop.NoMemory) = 6
 
 -- Where no read, no write and no memory fails, the words and what the files hold alone give the status: so 2 comes exactly
 -- where the words are no command, 7 exactly where a count is above its limit, and 3 exactly where the bytes spell no script
--- that is built and has an order, a chunk file is none, or a chunk file lacks a chunk that is taken.
+-- that is built and has an order, a chunk file is none, or a chunk file lacks a chunk that is taken. Whatever the files
+-- hold, the file's bytes come to something.
 pub record Decides (r : Reading) (w : Writing) : Type 0 where
   pub words : r.command ≡ None → w.answer ≢ 5 → w.answer ≢ 6 → w.answer ≡ 2
   pub file : IfFile r (λ files bytes. (outcome : Outcome) → IsOutcome files bytes outcome
       → w.answer ≢ 4 → w.answer ≢ 5 → w.answer ≢ 6 → w.answer ≡ status_for outcome)
+  pub some : IfFile r (λ files bytes. (outcome : Outcome) × IsOutcome files bytes outcome)
 
 -- Where the file's bytes come to a script that can be replayed, and no count of faults rose, the status is 0 or want of
 -- memory.

@@ -7,7 +7,7 @@ use Rattle.script_types.specs.declared.fault.Fault.TheVariants as fault
 use Rattle.chunk_files.specs.declared.fault.Stop.{Stop}
 use Rattle.chunk_files.specs.declared.fault.Stop.TheVariants as stop
 use Rattle.script_types.specs.declared.script.ScriptData.{ScriptData}
-use Rattle.media_files.specs.Media.{IsMentioned}
+use Rattle.media_files.specs.Media.{IsReached}
 use Rattle.wcrun.specs.Headline.{Reading, Comes, Holding}
 use Rattle.wcrun.specs.Outcome.{Becomes}
 
@@ -19,7 +19,7 @@ MayStop r stop.NoMemory = Unit {0}
 -- When there is no run of a script that can be replayed, by its chunk files.
 abbrev pub MayStopFor : Option Holding → ScriptData → ℕ → ℕ → ℕ → ℕ → Stop Fault → Type 0
 MayStopFor content s faults_before faults_after bytes_before bytes_after (stop.Fault (fault.Unread name)) =
-    IsMentioned name s × Rose faults_before faults_after
+    IsReached content s name × Rose faults_before faults_after
 MayStopFor content s faults_before faults_after bytes_before bytes_after (stop.Fault (fault.TooMany counted.File)) =
     MatchOption content (RoseBy 268435457 bytes_before bytes_after)
     (λ files. Becomes files (Ok s) (Err (stop.Fault (fault.TooMany counted.File))))

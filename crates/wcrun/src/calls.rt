@@ -27,10 +27,12 @@ fn replayed<F: Files, C: Coder>(
     coders: Vec<C>,
 ) -> Result<Replayed, Stop<Fault>>
     ensures ok { IfOk result (λ d. IsRunOf (reading (Some name.now) (F.content files.old) (F.faults files.old)
-        (F.faults files.new) (F.bytes_read files.old) (F.bytes_read files.new)) (map C.coder coders.items)
+        (F.faults files.new) (F.bytes_read files.old) (F.bytes_read files.new)
+        (F.failed_names files.old) (F.failed_names files.new)) (map C.coder coders.items)
         (record { script = d.prepared.script; media = d.prepared.media.items }) d.run) }
     ensures stop { IfErr result (λ e. MayStop (reading (Some name.now) (F.content files.old) (F.faults files.old)
-        (F.faults files.new) (F.bytes_read files.old) (F.bytes_read files.new)) e) }
+        (F.faults files.new) (F.bytes_read files.old) (F.bytes_read files.new)
+        (F.failed_names files.old) (F.failed_names files.new)) e) }
 {
     let prepared = prepare(alloc, name, files)?;
     let run = replay(alloc, &prepared.script, &prepared.media, coders)?;
@@ -104,15 +106,18 @@ fn replay_named<F: Files, S: Sink, C: Coder>(
 ) -> u8
     ensures headline { Headline
         (reading (Some name.now) (F.content files.old) (F.faults files.old) (F.faults files.new)
-        (F.bytes_read files.old) (F.bytes_read files.new)) (map C.coder coders.items)
+        (F.bytes_read files.old) (F.bytes_read files.new)
+        (F.failed_names files.old) (F.failed_names files.new)) (map C.coder coders.items)
         (writing (S.told sink.old) (S.told sink.new) (S.faults sink.old) (S.faults sink.new) result) }
     ensures decided { Decides
         (reading (Some name.now) (F.content files.old) (F.faults files.old) (F.faults files.new)
-        (F.bytes_read files.old) (F.bytes_read files.new))
+        (F.bytes_read files.old) (F.bytes_read files.new)
+        (F.failed_names files.old) (F.failed_names files.new))
         (writing (S.told sink.old) (S.told sink.new) (S.faults sink.old) (S.faults sink.new) result) }
     ensures complete { IsComplete
         (reading (Some name.now) (F.content files.old) (F.faults files.old) (F.faults files.new)
-        (F.bytes_read files.old) (F.bytes_read files.new))
+        (F.bytes_read files.old) (F.bytes_read files.new)
+        (F.failed_names files.old) (F.failed_names files.new))
         (writing (S.told sink.old) (S.told sink.new) (S.faults sink.old) (S.faults sink.new) result) }
 {
     // The law by which what the files hold decides the status.
@@ -141,15 +146,18 @@ pub fn top<F: Files, S: Sink, C: Coder>(
 ) -> u8
     ensures headline { Headline
         (reading (command_of (words_of words.now)) (F.content files.old) (F.faults files.old) (F.faults files.new)
-        (F.bytes_read files.old) (F.bytes_read files.new)) (map C.coder coders.items)
+        (F.bytes_read files.old) (F.bytes_read files.new)
+        (F.failed_names files.old) (F.failed_names files.new)) (map C.coder coders.items)
         (writing (S.told sink.old) (S.told sink.new) (S.faults sink.old) (S.faults sink.new) result) }
     ensures decided { Decides
         (reading (command_of (words_of words.now)) (F.content files.old) (F.faults files.old) (F.faults files.new)
-        (F.bytes_read files.old) (F.bytes_read files.new))
+        (F.bytes_read files.old) (F.bytes_read files.new)
+        (F.failed_names files.old) (F.failed_names files.new))
         (writing (S.told sink.old) (S.told sink.new) (S.faults sink.old) (S.faults sink.new) result) }
     ensures complete { IsComplete
         (reading (command_of (words_of words.now)) (F.content files.old) (F.faults files.old) (F.faults files.new)
-        (F.bytes_read files.old) (F.bytes_read files.new))
+        (F.bytes_read files.old) (F.bytes_read files.new)
+        (F.failed_names files.old) (F.failed_names files.new))
         (writing (S.told sink.old) (S.told sink.new) (S.faults sink.old) (S.faults sink.new) result) }
 {
     match file_to_replay(words) {

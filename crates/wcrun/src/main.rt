@@ -6,6 +6,8 @@ mod calls;
 mod command;
 #[cfg(test)]
 mod faults;
+#[cfg(test)]
+mod flac_rows;
 mod prepare;
 mod prepared;
 mod refusal;
@@ -17,6 +19,7 @@ mod tests;
 pub use calls::top;
 use calls::want_memory;
 use coder_api::CoderBox;
+use flac_decode::FlacDecoder;
 use g711::Law;
 pub use refusal::Refusal;
 use sample_coder::{Coding, SampleCoder};
@@ -46,16 +49,26 @@ const CODECS: [CodecId; 11] = [
     CodecId::RawNv12,
 ];
 
-// The coder of a codec: each codec has an arm here, and None says that its coder is not built.
-fn coding_of(codec: CodecId) -> Option<Coding> {
+// A coder that is built.
+#[derive(Clone, Copy)]
+enum CoderKind {
+    Samples(Coding),
+    FlacDecoder,
+}
+
+// The coder of a role and a codec: each codec has an arm here, and None says that its coder is not built.
+fn kind_of(role: Role, codec: CodecId) -> Option<CoderKind> {
     match codec {
-        CodecId::PcmU8 => Some(Coding::Pcm(SampleSize::One)),
-        CodecId::PcmS16 => Some(Coding::Pcm(SampleSize::Two)),
-        CodecId::PcmS24 => Some(Coding::Pcm(SampleSize::Three)),
-        CodecId::PcmS32 => Some(Coding::Pcm(SampleSize::Four)),
-        CodecId::Alaw => Some(Coding::G711(Law::Alaw)),
-        CodecId::Ulaw => Some(Coding::G711(Law::Ulaw)),
-        CodecId::Flac => None,
+        CodecId::PcmU8 => Some(CoderKind::Samples(Coding::Pcm(SampleSize::One))),
+        CodecId::PcmS16 => Some(CoderKind::Samples(Coding::Pcm(SampleSize::Two))),
+        CodecId::PcmS24 => Some(CoderKind::Samples(Coding::Pcm(SampleSize::Three))),
+        CodecId::PcmS32 => Some(CoderKind::Samples(Coding::Pcm(SampleSize::Four))),
+        CodecId::Alaw => Some(CoderKind::Samples(Coding::G711(Law::Alaw))),
+        CodecId::Ulaw => Some(CoderKind::Samples(Coding::G711(Law::Ulaw))),
+        CodecId::Flac => match role {
+            Role::Decode => Some(CoderKind::FlacDecoder),
+            Role::Encode => None,
+        },
         CodecId::RawI420 | CodecId::RawI422 | CodecId::RawI444 | CodecId::RawNv12 => None,
     }
 }
@@ -84,18 +97,25 @@ fn main(rt: HostRuntime) -> ExitCode {
     for role in [Role::Decode, Role::Encode] {
         for _ in 0..BOXES {
             for codec in CODECS {
-                if let Some(coding) = coding_of(codec) {
-                    let coder = match Box::new(alloc, SampleCoder::new(role, coding)) {
+                let coder = match kind_of(role, codec) {
+                    Some(CoderKind::Samples(coding)) => {
+                        match Box::new(alloc, SampleCoder::new(role, coding)) {
+                            Ok(coder) => CoderBox::of(coder),
+                            Err(_) => return ExitCode::from(want_memory(&mut sink)),
+                        }
+                    }
+                    Some(CoderKind::FlacDecoder) => match Box::new(alloc, FlacDecoder::new(alloc)) {
                         Ok(coder) => CoderBox::of(coder),
                         Err(_) => return ExitCode::from(want_memory(&mut sink)),
-                    };
-                    if coders.push(coder).is_err() {
-                        return ExitCode::from(want_memory(&mut sink));
-                    }
+                    },
+                    None => continue,
+                };
+                if coders.push(coder).is_err() {
+                    return ExitCode::from(want_memory(&mut sink));
                 }
             }
         }
     }
-    let mut files = SystemFiles::new(&rt);
+    let mut files = SystemFiles::new(alloc, &rt);
     ExitCode::from(top(alloc, &words, &mut files, &mut sink, coders))
 }

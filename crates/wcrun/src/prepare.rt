@@ -2,6 +2,7 @@
 ghost use Rattle.std.specs.Prelude.{◌≡◌, ◌≤◌, ◌⊎◌, IfOk, IfErr, IfSome, IsSome, IsSomeAnd, Some, None, Ok, Err, length, ◌≢◌};
 ghost use Rattle.script_types.specs.Built.{unbuilt_in};
 ghost use Rattle.trace_text.specs.Missing.{missing_in};
+ghost use Rattle.media_files.specs.Media.{FailedBy};
 ghost use Rattle.wcrun.specs.Headline.{reading, ComesTo};
 ghost use Rattle.wc_script.specs.Faults.{IsOfScript};
 ghost use Rattle.wcrun.specs.Outcome.{playable_of, Becomes, name_of};
@@ -69,7 +70,9 @@ fn read_named<F: Files>(alloc: Global, name: &str, files: &mut F) -> Result<Scri
     ensures order { IfOk result (λ s. IsSome s.order) }
     ensures built { IfOk result (λ s. unbuilt_in s ≡ None) }
     ensures stop { IfErr result (λ e. MayStop (reading (Some name.now) (F.content files.old) (F.faults files.old) (F.faults files.new)
-        (F.bytes_read files.old) (F.bytes_read files.new)) e) }
+        (F.bytes_read files.old) (F.bytes_read files.new)
+        (F.failed_names files.old) (F.failed_names files.new)) e) }
+    ensures names { FailedBy (F.failed_names files.old) (F.failed_names files.new) result }
 {
     match files.read_all(alloc, name, LIMIT) {
         Ok(bytes) => read_playable(alloc, &bytes),
@@ -118,6 +121,7 @@ fn read_chunk_files<F: Files>(
     ensures there { IfOk result (λ m. missing_in script.now m.items ≡ None) }
     ensures stop { IfErr result (λ e. MayStopFor (F.content files.old) script.now (F.faults files.old) (F.faults files.new)
         (F.bytes_read files.old) (F.bytes_read files.new) e) }
+    ensures names { FailedBy (F.failed_names files.old) (F.failed_names files.new) result }
 {
     match read_media(alloc, script, files) {
         Err(stop) => Err(stop),
@@ -131,13 +135,15 @@ fn read_chunk_files<F: Files>(
 /// The script of the file with this name, and the chunks of its chunk files, where it can be replayed.
 pub fn prepare<F: Files>(alloc: Global, name: &str, files: &mut F) -> Result<Prepared, Stop<Fault>>
     ensures ok { IfOk result (λ p. ComesTo (reading (Some name.now) (F.content files.old) (F.faults files.old) (F.faults files.new)
-        (F.bytes_read files.old) (F.bytes_read files.new)) (Ok (record { script = p.script; media = p.media.items }))) }
+        (F.bytes_read files.old) (F.bytes_read files.new)
+        (F.failed_names files.old) (F.failed_names files.new)) (Ok (record { script = p.script; media = p.media.items }))) }
     ensures order { IfOk result (λ p. IsSome p.script.order) }
     ensures built { IfOk result (λ p. unbuilt_in p.script ≡ None) }
     ensures each { IfOk result (λ p. length p.media.items ≡ length p.script.chunk_files) }
     ensures there { IfOk result (λ p. missing_in p.script p.media.items ≡ None) }
     ensures stop { IfErr result (λ e. MayStop (reading (Some name.now) (F.content files.old) (F.faults files.old) (F.faults files.new)
-        (F.bytes_read files.old) (F.bytes_read files.new)) e) }
+        (F.bytes_read files.old) (F.bytes_read files.new)
+        (F.failed_names files.old) (F.failed_names files.new)) e) }
 {
     let script = read_named(alloc, name, files)?;
     match read_chunk_files(alloc, &script, files) {

@@ -489,8 +489,7 @@ end
 // A supported config of a coder of which there is no box.
 const CODER_WITHOUT_A_BOX: &str =
     r#"{"codecs":[{"name":"d","kind":"audio-decoder"}],"callers":[{"name":"a","steps":[
-{"do":"configure","on":"d","config":{"codec":"flac","sampleRate":44100,"numberOfChannels":2,
-"description":"664c6143800000221000100000000f00000f0ac442f0000000013e84b41807dc690307586a3dad1a2e0f"}}]}],
+{"do":"configure","on":"d","config":{"codec":"alaw","sampleRate":8000,"numberOfChannels":1}}]}],
 "order":["a",{"start":"d"},{"done":"d","at":5},{"turn":"d"}]}"#;
 
 const CODER_WITHOUT_A_BOX_REPORT: &str = "wcrun report 1
@@ -504,7 +503,7 @@ codec d audio-decoder 4
   error QuotaExceededError
 pool
 slots
-0 d.1 acquire decode:flac none 0 0
+0 d.1 acquire decode:alaw none 0 0
 held 0
 end
 ";

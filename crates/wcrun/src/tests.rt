@@ -1,6 +1,7 @@
 // Whole calls on files and sinks in memory.
 use crate::top;
 use coder_api::CoderBox;
+use flac_decode::FlacDecoder;
 use g711::Law;
 use sample_coder::{Coding, SampleCoder};
 use sample_conversion::SampleSize;
@@ -107,7 +108,7 @@ held 0
 end
 ";
 
-// Ends a call on files that hold one script, with these reads and writes failing, and with two coders.
+// Ends a call on files that hold one script, with these reads and writes failing, and with three coders.
 pub(crate) fn call(
     alloc: Global,
     file: Vec<u8>,
@@ -131,13 +132,14 @@ pub(crate) fn call_on(
     for word in words {
         given.push(String::from_str(alloc, word)?)?;
     }
-    let mut files = MemFiles::open(entries, reads);
+    let mut files = MemFiles::open(alloc, entries, reads);
     let mut sink = MemSink::open(alloc, 4096, writes)?;
     let mut coders = Vec::new(alloc);
     for coding in [Coding::Pcm(SampleSize::Two), Coding::G711(Law::Ulaw)] {
         let coder = Box::new(alloc, SampleCoder::new(Role::Decode, coding))?;
         coders.push(CoderBox::of(coder))?;
     }
+    coders.push(CoderBox::of(Box::new(alloc, FlacDecoder::new(alloc))?))?;
     let status = top(alloc, &given, &mut files, &mut sink, coders);
     Ok((status, sink))
 }

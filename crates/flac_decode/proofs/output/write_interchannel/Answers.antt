@@ -3,7 +3,7 @@ use mir.Val.{SFits}
 use mir.Syntax.{w64}
 use Rattle.std.proofs.lemmas.Int.{to_z-of_z}
 use Rattle.codec_definitions.specs.Pcm.{spelled}
-use Rattle.flac_decode.specs.Output.{sample_bytes}
+use Rattle.codec_definitions.specs.Flac.{sample_bytes}
 use Rattle.flac_decode.proofs.FrameLaws.{part_next}
 use Rattle.flac_decode.proofs.output.write_interchannel.Goals as goal
 

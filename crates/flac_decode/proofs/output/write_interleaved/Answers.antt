@@ -1,5 +1,5 @@
 use Rattle.std.proofs.Common.{◌*◌, ◌∙◌}
-use Rattle.flac_decode.specs.Output.{interchannel_bytes}
+use Rattle.codec_definitions.specs.Flac.{interchannel_bytes}
 use Rattle.flac_decode.proofs.FrameLaws.{part_next}
 use Rattle.flac_decode.proofs.output.write_interleaved.Goals as goal
 

@@ -1,6 +1,6 @@
 use Rattle.std.proofs.Common.{◌≡◌, ◌*◌, length, take}
 use Rattle.std.specs.List.{flat_map, range_with_len}
-use Rattle.flac_decode.specs.Output.{interchannel_bytes}
+use Rattle.codec_definitions.specs.Flac.{interchannel_bytes}
 use Rattle.flac_decode.proofs.output.write_interleaved.Given as goal
 
 abbrev pub invariant-loop-i : goal.invariant-loop-i

@@ -1,5 +1,4 @@
 use Rattle.std.proofs.Common.{◌+◌, ◌-◌, ◌++◌, ◌∷◌, [], IfSome, Ok, List, length, sym, ap, subst, rules, arith}
-use Rattle.std.proofs.lemmas.List.{drop_all}
 use Rattle.wc_chunk.specs.declared.chunk.Chunk.{Chunk}
 use Rattle.media_files.specs.Media.{FileGives, MayFailAt}
 use Rattle.media_files.proofs.Reading.{Continues, goes_on, ends, fails}
@@ -23,8 +22,9 @@ loop-n-preserved g c =
       faults = search rules;
       bytes = search rules;
       each = search rules;
+      names = search rules;
       continues = subst (λ (l : List (List Chunk)). Continues (g.F.Files.content c.args.files.now) (268435456 - c.args.script.now.inline) c.args.script.now.chunk_files c.in-Ok.left (c.loop-n.n + 1) l) (sym c.in_ok-push-in-Ok.ensures.items) went;
     }
 
 pub returns-clause-ok : goal.returns-clause-ok
-returns-clause-ok g c = ends (g.F.Files.content c.args.files.now) _ c.args.script.now.chunk_files c.loop-n.room c.loop-n.n c.loop-n.made.items (drop_all c.loop-n.n c.args.script.now.chunk_files (omega (arith, ap length c.files-name-items.ensures.files))) c.loop-n.invariant.continues
+returns-clause-ok g c = ends (g.F.Files.content c.args.files.now) _ c.args.script.now.chunk_files c.loop-n.room c.loop-n.n c.loop-n.made.items (omega (arith, ap length c.files-name-items.ensures.files)) c.loop-n.invariant.continues

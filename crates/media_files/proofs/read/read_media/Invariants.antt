@@ -8,5 +8,6 @@ invariant-loop-n g l = record {
   faults : g.F.Files.faults l.fn.files ≤ g.F.Files.faults l.files;
   bytes : g.F.Files.bytes_read l.fn.files ≤ g.F.Files.bytes_read l.files;
   each : length l.made.items ≡ l.n;
+  names : g.F.Files.failed_names l.files ≡ g.F.Files.failed_names l.fn.files;
   continues : Continues (g.F.Files.content l.fn.files) (268435456 - l.fn.script.inline) l.fn.script.chunk_files l.room l.n l.made.items;
 }

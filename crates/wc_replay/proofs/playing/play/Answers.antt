@@ -29,4 +29,4 @@ returns-clause-shows g c =
     let player = c.take_items.new.player in
     let follows : Follows s media (order_items s) (nothing_yet s ids) player = subst (λ (v : Course). Follows s media (order_items s) v player) c.in_ok-player.ensures c.in_ok-take_items.ensures in
     IfOk-weaker c.run_of.result (λ (run : Run). IsRunOf player run) (λ (run : Run). AreShownTraces s.codecs run.codecs)
-    (λ run is. run_shows s ids player run (c.following_stands.ensures s media ids (order_items s) player c.requires.playable.sound follows) is) c.run_of.ensures
+    (λ run is. run_shows s ids player run (c.following_stands.ensures s media ids (order_items s) player c.requires.playable.faultless follows) is) c.run_of.ensures

@@ -26,8 +26,8 @@ returns-clause-legal g c =
     let playable : IsPlayable s = subst IsPlayable (sym c.data.ensures.data) (playable_of c.args.script.now c.data.ensures.sound) in
     subst (λ (script : ScriptData). IfOk c.play.result (λ (run : Run). IsLegalRun script run)) c.data.ensures.data
     (if_ok_three c.play.result (λ (run : Run). FollowsTheOrder s media ids run) (λ (run : Run). AreShownTraces s.codecs run.codecs) (λ (run : Run). run.held ≡ 0) (λ (run : Run). IsLegalRun s run)
-    (λ run follows shows held. legal_run_of s media ids run follows (c.following_stands.ensures s media ids (order_items s) follows.course playable.sound follows.follows)
-    (λ k. c.following_fits.ensures.legal s media ids run k playable.sound follows) shows held) said.follows said.shows said.held)
+    (λ run follows shows held. legal_run_of s media ids run follows (c.following_stands.ensures s media ids (order_items s) follows.course playable.faultless follows.follows)
+    (λ k. c.following_fits.ensures.legal s media ids run k playable.faultless follows) shows held) said.follows said.shows said.held)
 
 pub returns-clause-fits : goal.returns-clause-fits
 returns-clause-fits g c =
@@ -36,4 +36,4 @@ returns-clause-fits g c =
     let ids = map g.C.Coder.coder c.args.coders.items in
     let playable : IsPlayable s = subst IsPlayable (sym c.data.ensures.data) (playable_of c.args.script.now c.data.ensures.sound) in
     subst (λ (script : ScriptData). IfOk c.play.result (λ (run : Run). Fits script media ids run)) c.data.ensures.data
-    (IfOk-weaker c.play.result (λ (run : Run). FollowsTheOrder s media ids run) (λ (run : Run). Fits s media ids run) (λ run follows. c.following_fits.ensures.fits s media ids run playable.sound follows) c.play.ensures.follows)
+    (IfOk-weaker c.play.result (λ (run : Run). FollowsTheOrder s media ids run) (λ (run : Run). Fits s media ids run) (λ run follows. c.following_fits.ensures.fits s media ids run playable.faultless follows) c.play.ensures.follows)

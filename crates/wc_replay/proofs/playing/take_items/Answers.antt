@@ -10,19 +10,19 @@ use Rattle.wc_replay.proofs.playing.take_items.Goals as goal
 
 pub take-requires-clause-codecs : goal.take-requires-clause-codecs
 take-requires-clause-codecs g c κs within =
-    (c.following_stands.ensures c.args.script.now c.args.media.now c.args.player.now.slots.made (take c.loop-item.item-index (order_items c.args.script.now)) c.loop-item.player c.requires.playable.sound c.loop-item.invariant).codecs
+    (c.following_stands.ensures c.args.script.now c.args.media.now c.args.player.now.slots.made (take c.loop-item.item-index (order_items c.args.script.now)) c.loop-item.player c.requires.playable.faultless c.loop-item.invariant).codecs
 
 pub take-requires-clause-range : goal.take-requires-clause-range
 take-requires-clause-range g c κs within =
     let s = c.args.script.now in
     let i = c.loop-item.item-index in
     let x = slice_index_or c.items_of-item-items.result.now i (item.Caller 0) in
-    let course = c.following_stands.ensures s c.args.media.now c.args.player.now.slots.made (take i (order_items s)) c.loop-item.player c.requires.playable.sound c.loop-item.invariant in
+    let course = c.following_stands.ensures s c.args.media.now c.args.player.now.slots.made (take i (order_items s)) c.loop-item.player c.requires.playable.faultless c.loop-item.invariant in
     subst (λ (n : ℕ). IsInRange n x) (sym course.codecs) (c.requires.playable.items i x (item_at (order_items s) c.items_of-item-items.result.now i (item.Caller 0) c.items_of-item-items.ensures c.loop-item-test.true))
 
 pub take-requires-clause-givable : goal.take-requires-clause-givable
 take-requires-clause-givable g c κs within =
-    (c.following_stands.ensures c.args.script.now c.args.media.now c.args.player.now.slots.made (take c.loop-item.item-index (order_items c.args.script.now)) c.loop-item.player c.requires.playable.sound c.loop-item.invariant).givable
+    (c.following_stands.ensures c.args.script.now c.args.media.now c.args.player.now.slots.made (take c.loop-item.item-index (order_items c.args.script.now)) c.loop-item.player c.requires.playable.faultless c.loop-item.invariant).givable
 
 pub loop-item-preserved : goal.loop-item-preserved
 loop-item-preserved g c =

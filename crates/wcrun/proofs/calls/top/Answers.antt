@@ -13,5 +13,5 @@ returns-in-None-clause-decided g c = decides_usage _ _ (sym c.in-None.ensures) c
 
 pub returns-in-None-clause-complete : goal.returns-in-None-clause-complete
 returns-in-None-clause-complete g c =
-    complete_usage (reading (command_of (words_of c.args.words.now)) (g.F.Files.content c.args.files.now) (g.F.Files.faults c.args.files.now) (g.F.Files.faults c.args.files.now) (g.F.Files.bytes_read c.args.files.now) (g.F.Files.bytes_read c.args.files.now))
+    complete_usage (reading (command_of (words_of c.args.words.now)) (g.F.Files.content c.args.files.now) (g.F.Files.faults c.args.files.now) (g.F.Files.faults c.args.files.now) (g.F.Files.bytes_read c.args.files.now) (g.F.Files.bytes_read c.args.files.now) (g.F.Files.failed_names c.args.files.now) (g.F.Files.failed_names c.args.files.now))
     (writing (g.S.Sink.told c.args.sink.now) (g.S.Sink.told c.usage.new.sink) (g.S.Sink.faults c.args.sink.now) (g.S.Sink.faults c.usage.new.sink) c.usage.result) (sym c.in-None.ensures)

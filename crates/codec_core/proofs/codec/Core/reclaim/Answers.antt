@@ -1,8 +1,11 @@
-use Rattle.std.proofs.Common.{None, arith}
+use Rattle.std.proofs.Common.{◌∙◌, None, true, refl, ap, subst, length, rules, arith}
 use Rattle.codec_model.specs.declared.entry.Entry.TheVariants as entry
 use Rattle.codec_core.proofs.Steps.{Moved, reclaim_moves, makes_more, reclaim_reclaims}
 use Rattle.codec_core.proofs.Recorded.{core_more, next_fits, reclaim_shows_it, reclaim_ends}
 use Rattle.codec_core.proofs.Laws.{reclaim_keeps_running}
+use Rattle.codec_core.specs.Job.{stopped_box}
+use Rattle.codec_core.specs.Codec.{Codec}
+use Rattle.codec_core.proofs.Owning.{AtHome, at_home, asked_stays, back_at, back_removal}
 use Rattle.codec_core.proofs.codec.Core.reclaim.Given.{Over}
 use Rattle.codec_core.proofs.codec.Core.reclaim.Goals as goal
 
@@ -21,7 +24,8 @@ invariant_of-self-2 g c =
     (core_more c.self.inside.trace c.self.inside.slot None c.self.inside.machine c.reclaim.new.self c.self.inside.spare (entry.Reclaim c.args.now) _ c.self.invariant.kept c.self.invariant.shows (moved g c)
     (reclaim_shows_it c.self.inside.trace.entries c.self.inside.slot c.self.inside.machine c.args.now _ c.self.invariant.kept c.in_ok-answer.ensures.answer.is_shown)
     (omega (arith, c.in_ok-answer.ensures.left, c.self.invariant.places, reclaim_reclaims c.self.inside.machine c.reclaim.new.self c.args.now c.in_ok-answer.ensures.may c.in_ok-answer.ensures.made))
-    c.self.invariant.fits)
+    c.self.invariant.fits
+    tt)
 
 pub returns-clause-made : goal.returns-clause-made
 returns-clause-made g c =
@@ -30,3 +34,18 @@ returns-clause-made g c =
 
 pub returns-clause-running : goal.returns-clause-running
 returns-clause-running g c = reclaim_keeps_running c.args.now _ _ (returns-clause-made g c).steps
+
+pub returns-clause-asked : goal.returns-clause-asked
+returns-clause-asked g c = asked_stays _ _ _ true (returns-clause-made g c) refl
+
+home : (g : Over) (c : goal.After-push g) → AtHome c.args.self.now
+home g c = subst AtHome c.self.view_is (at_home c.self.inside.trace c.self.inside.slot c.self.inside.machine c.self.inside.spare c.self.invariant)
+
+new : (g : Over) (c : goal.After-push g) → Codec
+new g c = record { opening = c.reclaim.new.self.opening; history = c.push.new.self.entries; spare = c.self.inside.spare; slot = c.hand_back-coder.new.slot }
+
+pub returns-clause-lets : goal.returns-clause-lets
+unfolding new
+returns-clause-lets g c =
+    back_at (new g c) c.in_ok-answer.answer.place (length c.args.self.now.history) c.hand_back-coder.result (stopped_box c.args.self.now.slot) (search rules) (c.hand_back-coder.ensures.taken ∙ ap (λ (v : Codec). stopped_box v.slot) c.self.view_is)
+    (back_removal c.args.self.now (new g c) (entry.Reclaim c.args.now) true (returns-clause-made g c) refl (home g c))

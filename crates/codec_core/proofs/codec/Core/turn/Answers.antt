@@ -1,13 +1,14 @@
-use Rattle.std.proofs.Common.{◌≡◌, ◌∙◌, Some, ap, sym, arith, Bool, not}
+use Rattle.std.proofs.Common.{◌≡◌, ◌∙◌, Some, refl, ap, sym, subst, rules, arith, Bool, not}
 use Rattle.std.specs.Prelude.{Option, option_map}
 use Rattle.codec_model.specs.declared.entry.Answer.{Answer}
 use Rattle.codec_model.specs.declared.entry.Entry.TheVariants as entry
-use Rattle.codec_model.specs.Control.{turn_closes}
+use Rattle.codec_model.specs.Control.{Control, turn_closes}
 use Rattle.codec_model.specs.Shown.{closes}
-use Rattle.codec_core.specs.Codec.{kept_box}
+use Rattle.codec_core.specs.Codec.{Codec, state_at, kept_box, handed_back}
 use Rattle.codec_core.proofs.Steps.{Moved, turn_moves, makes_more, turn_reclaims}
 use Rattle.codec_core.proofs.Recorded.{core_more, next_fits, turn_shows_it, turn_ends}
 use Rattle.codec_core.proofs.Laws.{turn_keeps_running}
+use Rattle.codec_core.proofs.Owning.{AtHome, at_home, control_is, own_more, turn_act, asked_stays, back_turn}
 use Rattle.codec_core.proofs.codec.Core.turn.Given.{Over}
 use Rattle.codec_core.proofs.codec.Core.turn.Goals as goal
 
@@ -31,7 +32,9 @@ invariant_of-self-2 g c =
     (core_more c.self.inside.trace c.self.inside.slot c.hand_back-coder.new.slot c.self.inside.machine c.turn.new.self c.self.inside.spare entry.Turn _ c.self.invariant.kept c.self.invariant.shows (moved g c)
     (turn_shows_it c.self.inside.trace.entries c.self.inside.slot c.self.inside.machine _ c.self.invariant.kept c.in_ok-answer.ensures.answer.is_shown)
     (omega (arith, c.in_ok-answer.ensures.left, c.self.invariant.places, turn_reclaims c.self.inside.machine c.turn.new.self c.turn.ensures.after))
-    c.self.invariant.fits)
+    c.self.invariant.fits
+    (own_more c.self.inside.trace.entries c.self.inside.slot c.hand_back-coder.new.slot c.self.inside.machine c.turn.new.self entry.Turn c.self.invariant.kept c.closes-closes.result (moved g c)
+    (turn_act c.self.invariant.kept.state c.closes-closes.result (ap (λ (k : Control). turn_closes k.tasks) c.self.invariant.kept.is_control ∙ closes_is g c)) (c.hand_back-coder.ensures.left) c.self.invariant.own))
 
 pub returns-clause-some : goal.returns-clause-some
 returns-clause-some g c =
@@ -40,3 +43,17 @@ returns-clause-some g c =
 
 pub returns-clause-running : goal.returns-clause-running
 returns-clause-running g c = turn_keeps_running _ _ (returns-clause-some g c).steps
+
+pub returns-clause-asked : goal.returns-clause-asked
+returns-clause-asked g c = asked_stays _ _ _ _ (returns-clause-some g c) refl
+
+home : (g : Over) (c : goal.After-push g) → AtHome c.args.self.now
+home g c = subst AtHome c.self.view_is (at_home c.self.inside.trace c.self.inside.slot c.self.inside.machine c.self.inside.spare c.self.invariant)
+
+here : (g : Over) (c : goal.After-push g) → (state_at c.args.self.now).control ≡ c.self.inside.machine
+here g c = ap (λ (v : Codec). (state_at v).control) (sym c.self.view_is) ∙ control_is c.self.inside.trace c.self.inside.slot c.self.inside.machine c.self.inside.spare c.self.invariant
+
+pub returns-clause-lets : goal.returns-clause-lets
+returns-clause-lets g c =
+    back_turn c.args.self.now _ c.closes-closes.result c.in_ok-answer.answer.place c.hand_back-coder.result _ (returns-clause-some g c) (ap (λ (k : Control). turn_closes k.tasks) (here g c) ∙ closes_is g c) (home g c) (search rules)
+    (c.hand_back-coder.ensures.taken ∙ ap (λ (v : Codec). handed_back (not c.closes-closes.result) v.slot) c.self.view_is) c.removed_if-removed.ensures

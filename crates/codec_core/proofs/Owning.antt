@@ -1,0 +1,256 @@
+-- Whose box a codec's box is, entry after entry.
+use Rattle.std.proofs.Common.{ℕ, ◌≡◌, not, Bool, true, false, eqb, cond, List, [], ◌∷◌, ◌++◌, length, Option, Some, None, is_some, is_none, refl, ap, sym, subst, ◌∙◌}
+use Rattle.std.specs.Prelude.{option_and_then, unwrap_or, IfSome}
+use Rattle.wc_base.specs.declared.who.By.{By}
+use Rattle.wc_base.specs.declared.who.By.TheVariants as by
+use Rattle.wc_base.specs.declared.who.Who.{Who}
+use Rattle.wc_config.specs.declared.codec.CoderId.{CoderId}
+use Rattle.coder_api.specs.Lent.{Lent, stopped_lent}
+use Rattle.codec_model.specs.declared.entry.Opening.{Opening}
+use Rattle.codec_model.specs.declared.entry.Entry.{Entry}
+use Rattle.codec_model.specs.declared.entry.Entry.TheVariants as entry
+use Rattle.codec_model.specs.declared.entry.Call.{Call}
+use Rattle.codec_model.specs.declared.entry.Call.TheVariants as call
+use Rattle.codec_model.specs.declared.entry.Removal.{Removal}
+use Rattle.codec_model.specs.declared.entry.Removal.TheVariants as removal
+use Rattle.codec_model.specs.declared.entry.Outcome.{Outcome}
+use Rattle.codec_model.specs.declared.entry.Running.{Running}
+use Rattle.codec_model.specs.declared.entry.Task.{Task}
+use Rattle.codec_model.specs.declared.entry.Task.TheVariants as task
+use Rattle.codec_model.specs.Control.{Control, start_item, turn_closes}
+use Rattle.codec_model.specs.Replay.{State, opening_state, step, replay, entry_of, removal_entry, removal_error}
+use Rattle.codec_model.specs.ShownLaws.{replay_more}
+use Rattle.codec_accounts.specs.Boxes.{Act, Asks, Begins, Ends, Removes, Other, Kept, stays, act_of, lets, lacking, start_act, removal_act, closes_codec, acts_of}
+use Rattle.codec_accounts.specs.Codec.{is_old}
+use Rattle.codec_accounts.specs.Asked.{Asked, asked_by, asked_in, asked_at}
+use Rattle.codec_accounts.specs.AskedLaws.{IsAsked, asked_is, asked_more, lets_now, LetsGo}
+use Rattle.codec_core.specs.Job.{JobValue, DoneValue, missing_id, stopped_box, IsEndOf, outcome_of}
+use Rattle.codec_core.specs.Codec.{Codec, state_at, Makes, IsBy, IsAskedAt, IsKept, IsCore, RemovedValue, kept_box, handed_back, removed_if}
+use Rattle.codec_core.specs.Trace.{TraceValue}
+use Rattle.codec_core.proofs.Steps.{Moved, state_is, makes_more}
+use Rattle.codec_core.specs.Owning.{asked_of, IsOwnJob, GoesBack, KeepsAsked}
+
+-- ---- the state before an entry
+
+before_step : (e : Entry) (o : Option State) (t : State) → option_and_then (step e) o ≡ Some t → (u : State) × (o ≡ Some u)
+before_step e None t h = absurd cc
+before_step e (Some u) t h = (u, refl)
+
+-- the history before an entry that was made replays to its state
+pub legal_before : (old new : Codec) (e : Entry) → Makes old new e → replay old.opening old.history ≡ Some (state_at old)
+legal_before old new e makes =
+    let again : replay old.opening (old.history ++ e ∷ []) ≡ Some (state_at new) = subst (λ (o : Opening). replay o (old.history ++ e ∷ []) ≡ Some (state_at new)) makes.same_opening (subst (λ (h : List Entry). replay new.opening h ≡ Some (state_at new)) makes.longer makes.legal) in
+    let before = before_step e (replay old.opening old.history) (state_at new) (sym (replay_more old.history (opening_state old.opening) e) ∙ again) in
+    let here : state_at old ≡ before.0 = ap (λ (o : Option State). unwrap_or o (opening_state old.opening)) before.1 in
+    before.1 ∙ ap (λ (s : State). Some s) (sym here)
+
+-- ---- what entries are to the box
+
+pub call_act : (who : Who) (x : Call) (t : State) → act_of (entry_of who x) t ≡ removal_act false
+call_act who (call.Configure config) t = refl
+call_act who (call.Decode chunk) t = refl
+call_act who call.Flush t = refl
+
+pub removal_is : (who : Who) (r : Removal) (t : State) → act_of (removal_entry who r) t ≡ removal_act (is_none (removal_error t.control))
+removal_is who removal.Reset t = refl
+removal_is who removal.Close t = refl
+
+closes_is : (ts : List Task) (b : Bool) → turn_closes ts ≡ Some b → closes_codec ts ≡ b
+closes_is [] b h = absurd cc
+closes_is (x ∷ ts) b h = cc
+
+pub turn_act : (t : State) (b : Bool) → turn_closes t.control.tasks ≡ Some b → act_of entry.Turn t ≡ removal_act b
+turn_act t b h = ap removal_act (closes_is t.control.tasks b h)
+
+-- ---- one entry more
+
+asked_next : (old new : Codec) (e : Entry) (a : Act) → Makes old new e → act_of e (state_at old) ≡ a → asked_of new ≡ (asked_by a (length old.history) (asked_in (acts_of old.opening old.history))).since
+asked_next old new e a makes act =
+    ap (λ (o : Opening). asked_at o new.history) makes.same_opening
+    ∙ (ap (asked_at old.opening) makes.longer
+    ∙ (asked_more old.opening old.history (state_at old) e (legal_before old new e makes)
+    ∙ ap (λ (x : Act). (asked_by x (length old.history) (asked_in (acts_of old.opening old.history))).since) act))
+
+known : (old new : Codec) (e : Entry) → Makes old new e → IsAsked 0 (length old.history) (state_at old) (asked_in (acts_of old.opening old.history)) (stays 0 0 false (acts_of old.opening old.history) Kept)
+known old new e makes = asked_is 0 old.opening old.history (state_at old) (legal_before old new e makes)
+
+removal_since : (b runs : Bool) (n : ℕ) (x : Asked) → runs ≡ true → x.runs ≡ runs → (asked_by (removal_act b) n x).since ≡ x.since
+removal_since true runs n x r is = ap (λ (q : Bool). cond q x.since None) (is ∙ r)
+removal_since false runs n x r is = refl
+
+-- a removal or an entry that lets no box go leaves the box of the item at work
+pub asked_stays : (old new : Codec) (e : Entry) (b : Bool) → Makes old new e → act_of e (state_at old) ≡ removal_act b → KeepsAsked old new
+asked_stays old new e b makes act = λ runs.
+    asked_next old new e (removal_act b) makes act
+    ∙ removal_since b (is_some (state_at old).control.running) (length old.history) (asked_in (acts_of old.opening old.history)) runs (known old new e makes).runs
+
+-- the box at home after a removal, or an entry that lets no box go
+pub own_removal : (old new : Codec) (e : Entry) (b : Bool) → Makes old new e → act_of e (state_at old) ≡ removal_act b → IsAskedAt (asked_of old) old.slot → IsAskedAt (asked_of new) (kept_box (not b) old.slot)
+own_removal old new e true makes act own = tt
+own_removal old new e false makes act own = subst (λ (at : Option ℕ). IsAskedAt at old.slot) (sym (asked_next old new e Other makes act)) own
+
+place_of : (c : By) (at : Option ℕ) → IsBy c at → (p : ℕ) × (at ≡ Some p) × IsBy c (Some p)
+place_of (by.Codec codec place) at h = (place, h, refl)
+place_of (by.Caller who) at h = elim h [ ]
+
+-- an entry that lets a box go hands it back
+back_by : (old new : Codec) (e : Entry) (lent : Lent) → Makes old new e → LetsGo (act_of e (state_at old)) (state_at old) → IsBy lent.by (asked_of old) → GoesBack new (length old.history) (Some lent)
+back_by old new e lent makes goes own =
+    let at = place_of lent.by (asked_of old) own in
+    let back = lets_now old.opening old.history (state_at old) (state_at new) e at.0 (legal_before old new e makes) makes.steps at.1 goes in
+    (at.0, at.2, ap (λ (o : Opening). lets o new.history at.0) makes.same_opening ∙ (ap (λ (h : List Entry). lets old.opening h at.0) makes.longer ∙ back))
+
+none_idle : (slot : Option Lent) (o : Option Running) (lent : Lent) → slot ≡ Some lent → ((r : Running) → o ≡ Some r → slot ≡ None) → is_some o ≡ false
+none_idle slot None lent is home = refl
+none_idle slot (Some r) lent is home = let e : ◌≡◌ {A = Option Lent} (Some lent) None = sym is ∙ home r refl in absurd cc
+
+-- a codec's box is its own, and with an item at work it has none
+pub record AtHome (c : Codec) : Type 0 where
+  pub own : IsAskedAt (asked_of c) c.slot
+  pub out : (r : Running) → (state_at c).control.running ≡ Some r → c.slot ≡ None
+
+back_slot : (old new : Codec) (e : Entry) (slot : Option Lent) → old.slot ≡ slot → Makes old new e → act_of e (state_at old) ≡ Removes → ((r : Running) → (state_at old).control.running ≡ Some r → old.slot ≡ None)
+    → IsAskedAt (asked_of old) slot → GoesBack new (length old.history) (stopped_box slot)
+back_slot old new e None is makes act home own = tt
+back_slot old new e (Some lent) is makes act home own =
+    back_by old new e (stopped_lent lent) makes (subst (λ (a : Act). LetsGo a (state_at old)) (sym act) (none_idle old.slot (state_at old).control.running lent is home)) own
+
+pub back_removal : (old new : Codec) (e : Entry) (b : Bool) → Makes old new e → act_of e (state_at old) ≡ removal_act b → AtHome old → GoesBack new (length old.history) (handed_back (not b) old.slot)
+back_removal old new e true makes act home = back_slot old new e old.slot refl makes act home.out home.own
+back_removal old new e false makes act home = tt
+
+-- a removal's answer
+pub back_at : (new : Codec) (at n : ℕ) (x y : Option Lent) → at ≡ n → x ≡ y → GoesBack new n y → GoesBack new at x
+back_at new at n x y is same back = subst (λ (m : ℕ). GoesBack new m x) (sym is) (subst (GoesBack new n) (sym same) back)
+
+back_if : (new : Codec) (b : Bool) (at : ℕ) (coder : Option Lent) (x : Option RemovedValue) → x ≡ removed_if b at coder → GoesBack new at coder → IfSome x (λ r. GoesBack new r.place r.coder)
+back_if new true at coder x is back = subst (λ (o : Option RemovedValue). IfSome o (λ r. GoesBack new r.place r.coder)) (sym is) back
+back_if new false at coder x is back = subst (λ (o : Option RemovedValue). IfSome o (λ r. GoesBack new r.place r.coder)) (sym is) tt
+
+pub back_turn : (old new : Codec) (b : Bool) (at : ℕ) (coder : Option Lent) (x : Option RemovedValue) → Makes old new entry.Turn → turn_closes (state_at old).control.tasks ≡ Some b → AtHome old → at ≡ length old.history
+    → coder ≡ handed_back (not b) old.slot → x ≡ removed_if b at coder → IfSome x (λ r. GoesBack new r.place r.coder)
+back_turn old new b at coder x makes closes home is same answer =
+    back_if new b at coder x answer (back_at new at (length old.history) coder (handed_back (not b) old.slot) is same (back_removal old new entry.Turn b makes (turn_act (state_at old) b closes) home))
+
+-- ---- of what is kept
+
+module _ (t : TraceValue) (slot : Option Lent) (k : Control) (spare : ℕ) (is : IsCore t slot k spare) where
+  abbrev pub seen : Codec
+  seen = record { opening = k.opening; history = t.entries; spare = spare; slot = slot }
+
+  pub control_is : (state_at seen).control ≡ k
+  control_is = ap (λ (s : State). s.control) (state_is t.entries slot k spare is.kept) ∙ is.kept.is_control
+
+  pub at_home : AtHome seen
+  at_home = record {
+    own = is.own;
+    out = λ r e. is.kept.home.out r (ap (λ (s : State). s.control.running) (sym (state_is t.entries slot k spare is.kept)) ∙ e);
+  }
+
+not_none : {X : Type 0} (o : Option X) → not (is_none o) ≡ is_some o
+not_none None = refl
+not_none (Some x) = refl
+
+-- the box at home after an entry that moves the history on
+pub own_more : (h : List Entry) (slot next : Option Lent) (k k' : Control) (e : Entry) (kept : IsKept h slot k) (b : Bool) → Moved next e kept.state k' → act_of e kept.state ≡ removal_act b → next ≡ kept_box (not b) slot
+    → IsAskedAt (asked_at k.opening h) slot → IsAskedAt (asked_at k'.opening (h ++ e ∷ [])) next
+own_more h slot next k k' e kept b moved act is own =
+    let old : Codec = record { opening = k.opening; history = h; spare = 0; slot = slot } in
+    let new : Codec = record { opening = k'.opening; history = h ++ e ∷ []; spare = 0; slot = next } in
+    let here = ap (act_of e) (state_is h slot k 0 kept) ∙ act in
+    subst (IsAskedAt (asked_of new)) (sym is) (own_removal old new e b (makes_more h slot next k k' e kept moved 0 0) here own)
+
+pub removal_box : (o : Option Lent) (slot : Option Lent) (b : Bool) → o ≡ kept_box b slot → (c : Bool) → c ≡ b → o ≡ kept_box c slot
+removal_box o slot b is c same = is ∙ ap (λ (x : Bool). kept_box x slot) (sym same)
+
+pub own_removed : (h : List Entry) (slot next : Option Lent) (k k' : Control) (who : Who) (r : Removal) (kept : IsKept h slot k) → Moved next (removal_entry who r) kept.state k' → next ≡ kept_box (is_some (removal_error k)) slot
+    → IsAskedAt (asked_at k.opening h) slot → IsAskedAt (asked_at k'.opening (h ++ removal_entry who r ∷ [])) next
+own_removed h slot next k k' who r kept moved is own =
+    let b = is_none (removal_error kept.state.control) in
+    let same : not b ≡ is_some (removal_error k) = not_none (removal_error kept.state.control) ∙ ap (λ (c : Control). is_some (removal_error c)) kept.is_control in
+    own_more h slot next k k' (removal_entry who r) kept b moved (removal_is who r kept.state) (removal_box next slot (is_some (removal_error k)) is (not b) same) own
+
+pub back_removed : (old new : Codec) (who : Who) (r : Removal) (at : ℕ) (coder : Option Lent) → Makes old new (removal_entry who r) → AtHome old → at ≡ length old.history → coder ≡ handed_back (is_some (removal_error (state_at old).control)) old.slot
+    → GoesBack new at coder
+back_removed old new who r at coder makes home is same =
+    let b = is_none (removal_error (state_at old).control) in
+    back_at new at (length old.history) coder (handed_back (not b) old.slot) is (same ∙ ap (λ (x : Bool). handed_back x old.slot) (sym (not_none (removal_error (state_at old).control))))
+    (back_removal old new (removal_entry who r) b makes (removal_is who r (state_at old)) home)
+
+-- ---- a start
+
+start_is : (old : Codec) (epoch item : ℕ) (o : Option CoderId) → o ≡ lacking (state_at old).given (start_item (state_at old).control) → act_of (entry.Start epoch item) (state_at old) ≡ start_act o
+start_is old epoch item o is = ap start_act (sym is)
+
+asks_since : (old new : Codec) (epoch item : ℕ) (o : Option CoderId) → Makes old new (entry.Start epoch item) → act_of (entry.Start epoch item) (state_at old) ≡ start_act o → is_some o ≡ true → asked_of new ≡ Some (length old.history)
+asks_since old new epoch item None makes act some = absurd cc
+asks_since old new epoch item (Some id) makes act some = asked_next old new (entry.Start epoch item) (Asks id) makes act
+
+begins_since : (old new : Codec) (epoch item : ℕ) (o : Option CoderId) → Makes old new (entry.Start epoch item) → act_of (entry.Start epoch item) (state_at old) ≡ start_act o → o ≡ None → asked_of new ≡ asked_of old
+begins_since old new epoch item o makes act none = asked_next old new (entry.Start epoch item) Begins makes (act ∙ ap start_act none)
+
+pub own_start : (old new : Codec) (job : JobValue) → Makes old new (entry.Start job.epoch job.number) → missing_id job ≡ lacking (state_at old).given (start_item (state_at old).control)
+    → job.place ≡ length old.history → job.coder ≡ old.slot → IsAskedAt (asked_of old) old.slot → IsOwnJob (asked_of new) job
+own_start old new job makes lacks place coder own =
+    let act = start_is old job.epoch job.number (missing_id job) lacks in
+    record {
+      asks = λ some. asks_since old new job.epoch job.number (missing_id job) makes act some ∙ ap (λ (n : ℕ). Some n) (sym place);
+      has = λ none. subst (λ (at : Option ℕ). IsAskedAt at job.coder) (sym (begins_since old new job.epoch job.number (missing_id job) makes act none)) (subst (IsAskedAt (asked_of old)) (sym coder) own);
+    }
+
+goes_start : (o : Option CoderId) (t : State) (a : Act) → a ≡ start_act o → is_some o ≡ true → LetsGo a t
+goes_start None t a is some = absurd cc
+goes_start (Some id) t a is some = subst (λ (x : Act). LetsGo x t) (sym is) tt
+
+back_job : (old new : Codec) (e : Entry) (slot : Option Lent) → Makes old new e → LetsGo (act_of e (state_at old)) (state_at old) → IsAskedAt (asked_of old) slot → GoesBack new (length old.history) slot
+back_job old new e None makes goes own = tt
+back_job old new e (Some lent) makes goes own = back_by old new e lent makes goes own
+
+pub back_start : (old new : Codec) (job : JobValue) → Makes old new (entry.Start job.epoch job.number) → missing_id job ≡ lacking (state_at old).given (start_item (state_at old).control)
+    → job.place ≡ length old.history → job.coder ≡ old.slot → IsAskedAt (asked_of old) old.slot → is_some (missing_id job) ≡ true → GoesBack new job.place job.coder
+back_start old new job makes lacks place coder own = λ some.
+    let goes = goes_start (missing_id job) (state_at old) (act_of (entry.Start job.epoch job.number) (state_at old)) (start_is old job.epoch job.number (missing_id job) lacks) some in
+    let back = back_job old new (entry.Start job.epoch job.number) old.slot makes goes own in
+    subst (λ (n : ℕ). GoesBack new n job.coder) (sym place) (subst (GoesBack new (length old.history)) (sym coder) back)
+
+-- ---- an end
+
+old_is : (s : State) (d : DoneValue) (b : Bool) → IsEndOf s d → eqb d.epoch s.control.epoch ≡ b → is_old s.control.running s.control.epoch ≡ not b
+old_is s d b end is =
+    ap (λ (o : Option Running). is_old o s.control.epoch) end.is_running
+    ∙ (ap (λ (n : ℕ). not (eqb n s.control.epoch)) end.same_epoch ∙ ap not is)
+
+back_ended : (old new : Codec) (d : DoneValue) (moment : ℕ) (coder : Option Lent) → Makes old new (entry.Done d.epoch d.number moment (outcome_of d.ended)) → is_old (state_at old).control.running (state_at old).control.epoch ≡ true
+    → IsAskedAt (asked_of old) coder → GoesBack new (length old.history) (stopped_box coder)
+back_ended old new d moment None makes is own = tt
+back_ended old new d moment (Some lent) makes is own = back_by old new (entry.Done d.epoch d.number moment (outcome_of d.ended)) (stopped_lent lent) makes is own
+
+pub back_done : (old new : Codec) (d : DoneValue) (moment : ℕ) (b : Bool) → Makes old new (entry.Done d.epoch d.number moment (outcome_of d.ended)) → IsEndOf (state_at old) d → eqb d.epoch (state_at old).control.epoch ≡ b
+    → IsAskedAt (asked_of old) d.coder → GoesBack new (length old.history) (handed_back b d.coder)
+back_done old new d moment true makes end is own = tt
+back_done old new d moment false makes end is own = back_ended old new d moment d.coder makes (old_is (state_at old) d false end is) own
+
+pub own_done : (old new : Codec) (d : DoneValue) (moment : ℕ) (b : Bool) → Makes old new (entry.Done d.epoch d.number moment (outcome_of d.ended)) → IsEndOf (state_at old) d → eqb d.epoch (state_at old).control.epoch ≡ b
+    → IsAskedAt (asked_of old) d.coder → IsAskedAt (asked_of new) (kept_box b d.coder)
+own_done old new d moment false makes end is own = tt
+own_done old new d moment true makes end is own =
+    let e = entry.Done d.epoch d.number moment (outcome_of d.ended) in
+    let x = asked_in (acts_of old.opening old.history) in
+    let fresh : x.old ≡ false = (known old new e makes).old ∙ old_is (state_at old) d true end is in
+    let since = asked_next old new e Ends makes refl ∙ ap (λ (q : Bool). cond q None x.since) fresh in
+    subst (λ (at : Option ℕ). IsAskedAt at d.coder) (sym since) own
+
+-- ---- jobs
+
+pub job_same : (at : Option ℕ) (a b : Option Lent) → stopped_box b ≡ stopped_box a → IsAskedAt at a → IsAskedAt at b
+job_same at None None is own = own
+job_same at None (Some y) is own = absurd cc
+job_same at (Some x) None is own = absurd cc
+job_same at (Some x) (Some y) is own =
+    subst (λ (c : By). IsBy c at) (by_same is) own
+  where
+    some_lent : (p q : Lent) → Some p ≡ Some q → p ≡ q
+    some_lent p q h = cc
+
+    by_same : Some (stopped_lent y) ≡ Some (stopped_lent x) → x.by ≡ y.by
+    by_same h = ap (λ (l : Lent). l.by) (sym (some_lent (stopped_lent y) (stopped_lent x) h))

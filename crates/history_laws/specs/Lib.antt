@@ -1,0 +1,5 @@
+pub mod Outputs
+pub mod Answers
+pub mod OutputLaws
+pub mod Numbers
+pub mod NumberLaws

@@ -1,0 +1,227 @@
+-- No number of a codec's state is above the number of its entries.
+use Rattle.std.proofs.Common.{ℕ, zero, suc, ◌≡◌, ◌+◌, ◌-◌, ◌≤◌, ◌&&◌, not, Bool, true, false, eqb, cond, List, [], ◌∷◌, ◌++◌, length, length-append, Option, Some, None, refl, ap, sym, subst, ◌∙◌, arith}
+use Rattle.std.specs.Prelude.{max, unwrap_or, option_and_then}
+use Rattle.std.specs.List.{AllByRecursion}
+use Rattle.wc_base.specs.declared.error.DomError.{DomError}
+use Rattle.wc_base.specs.Options.{cond_is, some_same}
+use Rattle.codec_definitions.specs.declared.unit.Unit as media
+use Rattle.codec_model.specs.declared.entry.Opening.{Opening}
+use Rattle.codec_model.specs.declared.entry.Removal.{Removal}
+use Rattle.codec_model.specs.declared.entry.Removal.TheVariants as removal
+use Rattle.codec_model.specs.declared.entry.Call.{Call}
+use Rattle.codec_model.specs.declared.entry.Call.TheVariants as call
+use Rattle.codec_model.specs.declared.entry.Entry.{Entry}
+use Rattle.codec_model.specs.declared.entry.Entry.TheVariants as entry
+use Rattle.codec_model.specs.declared.entry.Work.{Work}
+use Rattle.codec_model.specs.declared.entry.Work.TheVariants as work
+use Rattle.codec_model.specs.declared.entry.WorkKind.{WorkKind}
+use Rattle.codec_model.specs.declared.entry.WorkKind.TheVariants as item
+use Rattle.codec_model.specs.declared.entry.Message.{Message}
+use Rattle.codec_model.specs.declared.entry.Item.{Item}
+use Rattle.codec_model.specs.declared.entry.Running.{Running}
+use Rattle.codec_model.specs.declared.entry.Task.{Task}
+use Rattle.codec_model.specs.declared.entry.Task.TheVariants as task
+use Rattle.codec_model.specs.declared.entry.Ended.{Ended}
+use Rattle.codec_model.specs.declared.entry.Ended.TheVariants as ended
+use Rattle.codec_model.specs.declared.entry.Outcome.{Outcome}
+use Rattle.codec_model.specs.Control.{Control, is_taken, after_message, process_queue, at_next_place, run_task, done_running, after_end, start_first, after_reset, after_close, may_reclaim, may_start}
+use Rattle.codec_model.specs.Replay.{State, opening_state, step, replay, replay_from, done_ended, ended_of, removal_error, after_call, call_error, accepted, remove_or_refuse, start_step, done_step, turn_step}
+use Rattle.history_laws.specs.Numbers.{AreItemsUpTo, IsUpTo}
+use Rattle.history_laws.specs.OutputLaws.{all_append}
+
+items_up : (n : ℕ) (is : List Item) → AreItemsUpTo n is → AreItemsUpTo (n + 1) is
+items_up n [] h = tt
+items_up n (i ∷ is) h = (omega (arith, h.0), items_up n is h.1)
+
+up : (n : ℕ) (c : Control) → IsUpTo n c → IsUpTo (n + 1) c
+up n c h = record {
+  place = omega (arith, h.place);
+  epoch = omega (arith, h.epoch);
+  size = omega (arith, h.size);
+  next = omega (arith, h.next);
+  queued = items_up n c.work h.queued;
+  running = λ r is. (omega (arith, (h.running r is).0), omega (arith, (h.running r is).1));
+}
+
+-- an entry takes its place
+entered : (n : ℕ) (c : Control) → IsUpTo n c → IsUpTo (n + 1) (at_next_place c)
+entered n c h = let more = up n c h in record {
+  place = omega (arith, h.place);
+  epoch = more.epoch;
+  size = more.size;
+  next = more.next;
+  queued = more.queued;
+  running = more.running;
+}
+
+longer : {X : Type 0} (xs : List X) (x : X) → length (xs ++ x ∷ []) ≡ length xs + 1
+longer xs x = length-append xs (x ∷ [])
+
+-- ---- messages
+
+-- the same, but for the queue of messages, which is this one
+record IsUpToWith (n : ℕ) (ms : List Message) (c : Control) : Type 0 where
+  place : c.place ≤ n
+  epoch : c.epoch ≤ n
+  size : c.size ≤ n
+  next : c.next_item + length ms ≤ n
+  queued : AreItemsUpTo n c.work
+  running : (r : Running) → c.running ≡ Some r → (r.epoch ≤ n) × (r.number ≤ n)
+
+item_up : (n : ℕ) (at : ℕ) (w : Work) (ms : List Message) (c : Control) → IsUpToWith n (record { place = at; work = w } ∷ ms) c → AreItemsUpTo n (c.work ++ record { number = c.next_item; place = at; work = w } ∷ [])
+item_up n at w ms c h = all_append (λ (i : Item). i.number ≤ n) c.work (record { number = c.next_item; place = at; work = w } ∷ []) h.queued (omega (arith, h.next), tt)
+
+taken_up : (n : ℕ) (at : ℕ) (w : Work) (ms : List Message) (c : Control) → IsUpToWith n (record { place = at; work = w } ∷ ms) c → IsUpToWith n ms (record (after_message (record { place = at; work = w }) c) { messages = ms })
+taken_up n at (work.Configure config) ms c h = record { place = h.place; epoch = h.epoch; size = h.size; next = omega (arith, h.next); queued = item_up n at (work.Configure config) ms c h; running = h.running }
+taken_up n at (work.Coded chunk) ms c h = record { place = h.place; epoch = h.epoch; size = omega (arith, h.size); next = omega (arith, h.next); queued = item_up n at (work.Coded chunk) ms c h; running = h.running }
+taken_up n at work.Flush ms c h = record { place = h.place; epoch = h.epoch; size = h.size; next = omega (arith, h.next); queued = item_up n at work.Flush ms c h; running = h.running }
+
+with_queue : (n : ℕ) (ms : List Message) (c : Control) → c.messages ≡ ms → IsUpToWith n ms c → IsUpTo n c
+with_queue n ms c e h = record { place = h.place; epoch = h.epoch; size = h.size; next = rw e (h.next); queued = h.queued; running = h.running }
+
+process_up : (n : ℕ) (ms : List Message) (c : Control) → c.messages ≡ ms → IsUpToWith n ms c → IsUpTo n (process_queue ms c)
+process_up n [] c e h = with_queue n [] c e h
+process_up n (m ∷ ms) c e h =
+    by (is_taken m c) (process_up n ms (record (after_message m c) { messages = ms }) refl (taken_up n m.place m.work ms c h))
+  where
+    by : (b : Bool) → IsUpTo n (process_queue ms (record (after_message m c) { messages = ms })) → IsUpTo n (cond b (process_queue ms (record (after_message m c) { messages = ms })) c)
+    by true rest = rest
+    by false rest = with_queue n (m ∷ ms) c e h
+
+processed_up : (n : ℕ) (c : Control) → IsUpTo n c → IsUpTo n (process_queue c.messages c)
+processed_up n c h = process_up n c.messages c refl (record { place = h.place; epoch = h.epoch; size = h.size; next = h.next; queued = h.queued; running = h.running })
+
+-- ---- calls
+
+-- one message more, in a state that differs from another in nothing that counts but its size
+queued_up : (n : ℕ) (m : Message) (c d : Control) → d.place ≡ c.place → d.epoch ≡ c.epoch → d.size ≤ c.size + 1 → d.next_item ≡ c.next_item → d.messages ≡ c.messages → d.work ≡ c.work → d.running ≡ c.running → IsUpTo n c → IsUpTo (n + 1) (record (at_next_place d) { messages = d.messages ++ m ∷ [] })
+queued_up n m c d place epoch size next messages items busy h = record {
+  place = omega (arith, h.place, place);
+  epoch = omega (arith, h.epoch, epoch);
+  size = omega (arith, h.size, size);
+  next = omega (arith, h.next, next, longer d.messages m, ap length messages);
+  queued = rw items (items_up n c.work h.queued);
+  running = λ r is. let old = h.running r (sym busy ∙ is) in (omega (arith, old.0), omega (arith, old.1));
+}
+
+accepted_up : (n : ℕ) (x : Call) (c : Control) → IsUpTo n c → IsUpTo (n + 1) (accepted x c)
+accepted_up n (call.Configure given) c h = processed_up (n + 1) _ (queued_up n (record { place = c.place; work = work.Configure given }) c (record c { phase = _; key_required = _ }) refl refl (omega arith) refl refl refl refl h)
+accepted_up n (call.Decode chunk) c h = processed_up (n + 1) _ (queued_up n (record { place = c.place; work = work.Coded chunk }) c (record c { key_required = false; size = c.size + 1 }) refl refl (omega arith) refl refl refl refl h)
+accepted_up n call.Flush c h = processed_up (n + 1) _ (queued_up n (record { place = c.place; work = work.Flush }) c (record c { key_required = _; pending = _ }) refl refl (omega arith) refl refl refl refl h)
+
+called_up : (n : ℕ) (o : Option DomError) (x : Call) (c : Control) → IsUpTo n c → IsUpTo (n + 1) (after_call o x c)
+called_up n None x c h = accepted_up n x c h
+called_up n (Some error) x c h = entered n c h
+
+-- ---- removals
+
+reset_up : (n : ℕ) (c : Control) → IsUpTo n c → IsUpTo (n + 1) (after_reset (at_next_place c))
+reset_up n c h = record {
+  place = omega (arith, h.place);
+  epoch = omega (arith, h.epoch);
+  size = omega arith;
+  next = omega arith;
+  queued = tt;
+  running = (up n c h).running;
+}
+
+closed_up : (n : ℕ) (c : Control) → IsUpTo n c → IsUpTo (n + 1) (after_close (at_next_place c))
+closed_up n c h = let r = reset_up n c h in record { place = r.place; epoch = r.epoch; size = r.size; next = r.next; queued = r.queued; running = r.running }
+
+removal_up : (n : ℕ) (o : Option DomError) (r : Removal) (s : State) → IsUpTo n s.control → IsUpTo (n + 1) (remove_or_refuse o r s).control
+removal_up n None removal.Reset s h = reset_up n s.control h
+removal_up n None removal.Close s h = closed_up n s.control h
+removal_up n (Some error) r s h = entered n s.control h
+
+-- ---- starts and ends
+
+started_up : (n : ℕ) (is : List Item) (epoch number : ℕ) (s t : State) → s.control.work ≡ is → start_step is epoch number s ≡ Some t → IsUpTo n s.control → IsUpTo (n + 1) t.control
+started_up n [] epoch number s t e step h = absurd cc
+started_up n (i ∷ is) epoch number s t e step h =
+    let made = cond_is (may_start s.control && eqb epoch s.control.epoch && eqb number i.number) _ t step in
+    let items : AreItemsUpTo n (i ∷ is) = subst (AreItemsUpTo n) e h.queued in
+    let more = entered n s.control h in
+    let begun : IsUpTo (n + 1) (start_first (i ∷ is) (at_next_place s.control)) = record {
+      place = more.place;
+      epoch = more.epoch;
+      size = more.size;
+      next = more.next;
+      queued = items_up n is items.1;
+      running = λ r is. let same = some_same _ r is in (subst (λ (x : Running). x.epoch ≤ n + 1) same (omega (arith, h.epoch)), subst (λ (x : Running). x.number ≤ n + 1) same (omega (arith, items.0)));
+    } in
+    subst (λ (u : State). IsUpTo (n + 1) u.control) (some_same _ t made.1)
+    (subst (λ (l : List Item). IsUpTo (n + 1) (start_first l (at_next_place s.control))) (sym e) begun)
+
+-- the same in all that counts
+same_up : (n : ℕ) (c d : Control) → d.place ≡ c.place → d.epoch ≡ c.epoch → d.size ≡ c.size → d.next_item ≡ c.next_item → d.messages ≡ c.messages → d.work ≡ c.work → d.running ≡ c.running → IsUpTo n c → IsUpTo n d
+same_up n c d place epoch size next messages items busy h = record {
+  place = omega (arith, h.place, place);
+  epoch = omega (arith, h.epoch, epoch);
+  size = omega (arith, h.size, size);
+  next = omega (arith, h.next, next, ap length messages);
+  queued = rw items (h.queued);
+  running = λ r is. h.running r (sym busy ∙ is);
+}
+
+-- the same with nothing at work
+idle_up : (n : ℕ) (c : Control) → IsUpTo n c → IsUpTo n (record c { running = None })
+idle_up n c h = record { place = h.place; epoch = h.epoch; size = h.size; next = h.next; queued = h.queued; running = λ r is. absurd cc }
+
+done_up : (n : ℕ) (r : Running) (e : Ended) (moment : ℕ) (c : Control) → IsUpTo n c → IsUpTo (n + 1) (done_running r e moment (at_next_place c))
+done_up n r e moment c h = by (eqb r.epoch c.epoch)
+  where
+    by : (b : Bool) → IsUpTo (n + 1) (cond b (after_end r e (record (at_next_place c) { running = None; progress = Some (max moment (unwrap_or c.progress moment)) })) (record (at_next_place c) { running = None }))
+    by true = same_up (n + 1) (record (at_next_place c) { running = None }) _ refl refl refl refl refl refl refl (idle_up (n + 1) (at_next_place c) (entered n c h))
+    by false = idle_up (n + 1) (at_next_place c) (entered n c h)
+
+ended_up : (n : ℕ) (r : Running) (o : Option Ended) (moment : ℕ) (s t : State) → done_ended r o moment s ≡ Some t → IsUpTo n s.control → IsUpTo (n + 1) t.control
+ended_up n r None moment s t step h = absurd cc
+ended_up n r (Some e) moment s t step h = subst (λ (u : State). IsUpTo (n + 1) u.control) (some_same _ t step) (done_up n r e moment s.control h)
+
+done_step_up : (n : ℕ) (o : Option Running) (epoch number moment : ℕ) (x : Outcome) (s t : State) → done_step o epoch number moment x s ≡ Some t → IsUpTo n s.control → IsUpTo (n + 1) t.control
+done_step_up n None epoch number moment x s t step h = absurd cc
+done_step_up n (Some r) epoch number moment x s t step h = ended_up n r (ended_of r.kind s.running_given x) moment s t (cond_is (eqb r.epoch epoch && eqb r.number number) (done_ended r (ended_of r.kind s.running_given x) moment s) t step).1 h
+
+-- ---- turns
+
+run_up : (n : ℕ) (t : Task) (ts : List Task) (c : Control) → IsUpTo n c → IsUpTo (n + 1) (run_task t (record (at_next_place c) { tasks = ts }))
+run_up n task.Unblock ts c h = same_up (n + 1) (at_next_place c) _ refl refl refl refl refl refl refl (entered n c h)
+run_up n task.Process ts c h = processed_up (n + 1) _ (same_up (n + 1) (at_next_place c) _ refl refl refl refl refl refl refl (entered n c h))
+run_up n task.Desaturate ts c h = processed_up (n + 1) _ (same_up (n + 1) (at_next_place c) _ refl refl refl refl refl refl refl (entered n c h))
+run_up n (task.Output units) ts c h = same_up (n + 1) (at_next_place c) _ refl refl refl refl refl refl refl (entered n c h)
+run_up n (task.Flushed promise units) ts c h = same_up (n + 1) (at_next_place c) _ refl refl refl refl refl refl refl (entered n c h)
+run_up n task.Dequeue ts c h = same_up (n + 1) (at_next_place c) _ refl refl refl refl refl refl refl (entered n c h)
+run_up n (task.Close x) ts c h = let r = closed_up n c h in record { place = r.place; epoch = r.epoch; size = r.size; next = r.next; queued = r.queued; running = r.running }
+
+turned_up : (n : ℕ) (ts : List Task) (s t : State) → s.control.tasks ≡ ts → turn_step ts s ≡ Some t → IsUpTo n s.control → IsUpTo (n + 1) t.control
+turned_up n [] s t e step h = absurd cc
+turned_up n (x ∷ ts) s t e step h = by x step e
+  where
+    ran : (y : Task) → s.control.tasks ≡ y ∷ ts → IsUpTo (n + 1) (Rattle.codec_model.specs.Control.run_front (at_next_place s.control))
+    ran y is = rw is (run_up n y ts s.control h)
+
+    by : (y : Task) → turn_step (y ∷ ts) s ≡ Some t → s.control.tasks ≡ y ∷ ts → IsUpTo (n + 1) t.control
+    by (task.Close error) made is = subst (λ (u : State). IsUpTo (n + 1) u.control) (some_same _ t made) (ran (task.Close error) is)
+    by task.Unblock made is = subst (λ (u : State). IsUpTo (n + 1) u.control) (some_same _ t made) (ran task.Unblock is)
+    by task.Process made is = subst (λ (u : State). IsUpTo (n + 1) u.control) (some_same _ t made) (ran task.Process is)
+    by task.Desaturate made is = subst (λ (u : State). IsUpTo (n + 1) u.control) (some_same _ t made) (ran task.Desaturate is)
+    by (task.Output units) made is = subst (λ (u : State). IsUpTo (n + 1) u.control) (some_same _ t made) (ran (task.Output units) is)
+    by (task.Flushed promise units) made is = subst (λ (u : State). IsUpTo (n + 1) u.control) (some_same _ t made) (ran (task.Flushed promise units) is)
+    by task.Dequeue made is = subst (λ (u : State). IsUpTo (n + 1) u.control) (some_same _ t made) (ran task.Dequeue is)
+
+-- ---- entries
+
+pub step_up : (n : ℕ) (e : Entry) (s t : State) → step e s ≡ Some t → IsUpTo n s.control → IsUpTo (n + 1) t.control
+step_up n (entry.Configure who given) s t is h = subst (λ (u : State). IsUpTo (n + 1) u.control) (some_same _ t is) (called_up n (call_error (call.Configure given) s.control) (call.Configure given) s.control h)
+step_up n (entry.Decode who chunk) s t is h = subst (λ (u : State). IsUpTo (n + 1) u.control) (some_same _ t is) (called_up n (call_error (call.Decode chunk) s.control) (call.Decode chunk) s.control h)
+step_up n (entry.Flush who) s t is h = subst (λ (u : State). IsUpTo (n + 1) u.control) (some_same _ t is) (called_up n (call_error call.Flush s.control) call.Flush s.control h)
+step_up n (entry.Reset who) s t is h = subst (λ (u : State). IsUpTo (n + 1) u.control) (some_same _ t is) (removal_up n (removal_error s.control) removal.Reset s h)
+step_up n (entry.Close who) s t is h = subst (λ (u : State). IsUpTo (n + 1) u.control) (some_same _ t is) (removal_up n (removal_error s.control) removal.Close s h)
+step_up n (entry.Start epoch number) s t is h = started_up n s.control.work epoch number s t refl is h
+step_up n (entry.Done epoch number moment x) s t is h = done_step_up n s.control.running epoch number moment x s t is h
+step_up n entry.Turn s t is h = turned_up n s.control.tasks s t refl is h
+step_up n (entry.Reclaim moment) s t is h =
+    subst (λ (u : State). IsUpTo (n + 1) u.control) (some_same _ t (cond_is (may_reclaim moment s.control) _ t is).1) (closed_up n s.control h)
+
+pub opening_up : (o : Opening) → IsUpTo 0 (opening_state o).control
+opening_up o = record { place = omega arith; epoch = omega arith; size = omega arith; next = omega arith; queued = tt; running = λ r is. absurd cc }

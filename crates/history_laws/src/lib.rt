@@ -1,0 +1,2 @@
+//! Laws of one codec's legal histories: what their outputs are, and how great their numbers.
+#![tactic(auto)]

@@ -1,0 +1,207 @@
+-- The lines of one codec's legal history are within their types.
+use Rattle.std.proofs.Common.{ℕ, ◌≡◌, ◌<◌, ◌≤◌, ◌+◌, ◌^◌, ◌&&◌, true, eqb, List, [], ◌∷◌, ◌++◌, length, Option, Some, None, is_some, refl, subst, ◌∙◌, arith}
+use Rattle.std.specs.Prelude.{flat_map, option_map, option_and_then, unwrap_or}
+use Rattle.std.specs.List.{AllByRecursion, zip}
+use Rattle.std.proofs.lemmas.Bool.{and_parts, eqb-true}
+use Rattle.wc_base.specs.Options.{cond_is}
+use Rattle.wc_base.specs.declared.error.DomError.{DomError}
+use Rattle.wc_base.specs.declared.error.DomError.TheVariants as dom
+use Rattle.codec_definitions.specs.declared.unit.Unit as media
+use Rattle.codec_definitions.specs.declared.unit.Unit.TheVariants as unit
+use Rattle.codec_definitions.specs.declared.command.Command.{Command}
+use Rattle.codec_model.specs.declared.entry.Opening.{Opening}
+use Rattle.codec_model.specs.declared.entry.Entry.{Entry}
+use Rattle.codec_model.specs.declared.entry.Entry.TheVariants as entry
+use Rattle.codec_model.specs.declared.entry.Event.{Event}
+use Rattle.codec_model.specs.declared.entry.Event.TheVariants as event
+use Rattle.codec_model.specs.declared.entry.Shown.{Shown}
+use Rattle.codec_model.specs.declared.entry.WorkKind.{WorkKind}
+use Rattle.codec_model.specs.declared.entry.Item.{Item}
+use Rattle.codec_model.specs.declared.entry.Running.{Running}
+use Rattle.codec_model.specs.declared.entry.Task.{Task}
+use Rattle.codec_model.specs.declared.entry.Task.TheVariants as task
+use Rattle.codec_model.specs.declared.entry.Ended.{Ended}
+use Rattle.codec_model.specs.declared.entry.Ended.TheVariants as ended
+use Rattle.codec_model.specs.declared.entry.Outcome.{Outcome}
+use Rattle.codec_model.specs.declared.entry.Outcome.TheVariants as outcome
+use Rattle.codec_model.specs.Control.{Control, may_start}
+use Rattle.codec_model.specs.Replay.{State, Given, step, replay, replay_from, start_step, done_step, done_ended, ended_of, ended_run, answer_to, configure_error, decode_error, flush_error, removal_error}
+use Rattle.codec_model.specs.Shown.{refusal, rejection, rejections, outputs_from, turn_shows, removal_shows, shows, units_in, shown_at, each_shown_from}
+use Rattle.codec_model.specs.ShownLaws.{replay_append}
+use Rattle.codec_model.specs.Facts.{NamesEarlier, IsNeverStuck, Always}
+use Rattle.codec_model.specs.Earlier.{pending_below, resolved_below}
+use Rattle.script_types.specs.declared.script.ScriptData.{ScriptData}
+use Rattle.trace_text.specs.Report.{entry_line_of, output_lines, event_lines, lines_from, entry_lines}
+use Rattle.report_lines.specs.Fits.{FitsWho, FitsOutcome, FitsEntryLine, FitsLine}
+use Rattle.history_laws.specs.Answers.{answer_where}
+use Rattle.history_laws.specs.Numbers.{AreItemsUpTo, IsUpTo}
+use Rattle.history_laws.specs.NumberLaws.{step_up}
+use Rattle.history_laws.specs.OutputLaws.{all_append}
+use Rattle.run_ranges.proofs.UnitRanges.{IsUnitWithin, are_given}
+
+-- ---- what a history does not tell
+
+abbrev pub IsOutcomeWithin : Outcome → Type 0
+IsOutcomeWithin (outcome.NoSlot n) = n < 2 ^ 64
+IsOutcomeWithin o = Unit {0}
+
+-- the caller, moment and refusal of an entry are within their types, where it has one
+abbrev pub IsEntryWithin : ScriptData → Entry → Type 0
+IsEntryWithin s (entry.Configure who config) = FitsWho s who
+IsEntryWithin s (entry.Decode who chunk) = FitsWho s who
+IsEntryWithin s (entry.Flush who) = FitsWho s who
+IsEntryWithin s (entry.Reset who) = FitsWho s who
+IsEntryWithin s (entry.Close who) = FitsWho s who
+IsEntryWithin s (entry.Start epoch item) = Unit {0}
+IsEntryWithin s (entry.Done epoch item moment o) = (moment < 2 ^ 64) × IsOutcomeWithin o
+IsEntryWithin s entry.Turn = Unit {0}
+IsEntryWithin s (entry.Reclaim moment) = moment < 2 ^ 64
+
+-- ---- starts and ends
+
+started_small : (n : ℕ) (is : List Item) (epoch number : ℕ) (s t : State) → s.control.work ≡ is → start_step is epoch number s ≡ Some t → IsUpTo n s.control → (epoch ≤ n) × (number ≤ n)
+started_small n [] epoch number s t e made h = absurd cc
+started_small n (i ∷ is) epoch number s t e made h =
+    let tests = (cond_is (may_start s.control && eqb epoch s.control.epoch && eqb number i.number) _ t made).0 in
+    let last = and_parts (may_start s.control && eqb epoch s.control.epoch) (eqb number i.number) tests in
+    let first = and_parts (may_start s.control) (eqb epoch s.control.epoch) last.0 in
+    let items : AreItemsUpTo n (i ∷ is) = subst (AreItemsUpTo n) e h.queued in
+    (omega (arith, h.epoch, eqb-true epoch s.control.epoch first.1), omega (arith, items.0, eqb-true number i.number last.1))
+
+all_any : (xs : List Command) → AllByRecursion (λ x. Unit {0}) xs
+all_any [] = tt
+all_any (x ∷ xs) = (tt, all_any xs)
+
+-- an item that ran gave one unit at most
+outcome_small : (k : WorkKind) (g : Given) (x : Outcome) (e : Ended) → ended_of k g x ≡ Some e → IsOutcomeWithin x → FitsOutcome x
+outcome_small k g (outcome.Ran units) e is own = by (answer_to k g) refl is
+  where
+    by : (a : Option (List media.Unit)) → answer_to k g ≡ a → ended_run units a ≡ Some e → units < 2 ^ 64
+    by None same made = absurd cc
+    by (Some us) same made =
+        let few : length us ≤ 1 = answer_where (λ x. Unit {0}) (λ vs. length vs ≤ 1) k g us (omega arith) (λ id before x vs any h. (are_given id g.config before x vs h).few) (all_any g.commands) same in
+        omega (arith, eqb-true units (length us) (cond_is (eqb units (length us)) (Some (ended.Ran us)) e made).0, few)
+outcome_small k g outcome.Refused e is own = tt
+outcome_small k g (outcome.NoSlot n) e is own = own
+outcome_small k g outcome.NoMemory e is own = tt
+
+ended_small : (n : ℕ) (o : Option Running) (epoch number moment : ℕ) (x : Outcome) (s t : State) → s.control.running ≡ o → done_step o epoch number moment x s ≡ Some t → IsUpTo n s.control → IsOutcomeWithin x → (epoch ≤ n) × (number ≤ n) × FitsOutcome x
+ended_small n None epoch number moment x s t busy made h own = absurd cc
+ended_small n (Some r) epoch number moment x s t busy made h own =
+    let parts = cond_is (eqb r.epoch epoch && eqb r.number number) (done_ended r (ended_of r.kind s.running_given x) moment s) t made in
+    let same = and_parts (eqb r.epoch epoch) (eqb r.number number) parts.0 in
+    let small = h.running r busy in
+    (omega (arith, small.0, eqb-true r.epoch epoch same.0), omega (arith, small.1, eqb-true r.number number same.1), by (ended_of r.kind s.running_given x) refl parts.1)
+  where
+    by : (e : Option Ended) → ended_of r.kind s.running_given x ≡ e → done_ended r e moment s ≡ Some t → FitsOutcome x
+    by None is done = absurd cc
+    by (Some e) is done = outcome_small r.kind s.running_given x e is own
+
+entry_fits : (script : ScriptData) (n : ℕ) (e : Entry) (s t : State) → step e s ≡ Some t → IsUpTo n s.control → n < 2 ^ 64 → IsEntryWithin script e → FitsEntryLine script (entry_line_of e (shown_at e s))
+entry_fits script n (entry.Configure who config) s t is h few own = own
+entry_fits script n (entry.Decode who chunk) s t is h few own = own
+entry_fits script n (entry.Flush who) s t is h few own = own
+entry_fits script n (entry.Reset who) s t is h few own = own
+entry_fits script n (entry.Close who) s t is h few own = own
+entry_fits script n (entry.Start epoch number) s t is h few own =
+    let small = started_small n s.control.work epoch number s t refl is h in (omega (arith, small.0, few), omega (arith, small.1, few))
+entry_fits script n (entry.Done epoch number moment x) s t is h few own =
+    let small = ended_small n s.control.running epoch number moment x s t refl is h own.1 in (omega (arith, small.0, few), omega (arith, small.1, few), own.0, small.2)
+entry_fits script n entry.Turn s t is h few own = tt
+entry_fits script n (entry.Reclaim moment) s t is h few own = own
+
+-- ---- events
+
+abbrev IsPromiseWithin : Event → Type 0
+IsPromiseWithin (event.Resolve promise) = promise < 2 ^ 64
+IsPromiseWithin (event.Reject promise error) = promise < 2 ^ 64
+IsPromiseWithin x = Unit {0}
+
+abbrev ArePromises : List Event → Type 0
+ArePromises xs = AllByRecursion IsPromiseWithin xs
+
+rejected_within : (n : ℕ) (error : DomError) (ps : List ℕ) → n ≤ 2 ^ 64 → AllByRecursion (λ p. p < n) ps → ArePromises (rejections error ps)
+rejected_within n error [] few h = tt
+rejected_within n error (p ∷ ps) few h = (omega (arith, h.0, few), rejected_within n error ps few h.1)
+
+closed_within : (n : ℕ) (x y : DomError) (ps : List ℕ) → n ≤ 2 ^ 64 → AllByRecursion (λ p. p < n) ps → ArePromises (rejections x ps ++ event.ErrorCall y ∷ [])
+closed_within n x y ps few h = all_append IsPromiseWithin (rejections x ps) (event.ErrorCall y ∷ []) (rejected_within n x ps few h) (tt, tt)
+
+outputs_within : (n : ℕ) (us : List media.Unit) → ArePromises (outputs_from n us)
+outputs_within n [] = tt
+outputs_within n (u ∷ us) = (tt, outputs_within (n + 1) us)
+
+refused_within : (o : Option DomError) → ArePromises (refusal o)
+refused_within None = tt
+refused_within (Some error) = (tt, tt)
+
+rejection_within : (place : ℕ) (o : Option DomError) → place < 2 ^ 64 → ArePromises (rejection place o)
+rejection_within place None few = tt
+rejection_within place (Some error) few = (few, tt)
+
+removal_within : (n : ℕ) (o : Option DomError) (ps : List ℕ) → n ≤ 2 ^ 64 → AllByRecursion (λ p. p < n) ps → ArePromises (removal_shows o ps)
+removal_within n None ps few h = rejected_within n dom.Abort ps few h
+removal_within n (Some error) ps few h = (tt, tt)
+
+turned_within : (ts : List Task) (c : Control) → c.tasks ≡ ts → c.place ≤ 2 ^ 64 → NamesEarlier c → ArePromises (turn_shows ts c)
+turned_within [] c is few h = tt
+turned_within (task.Unblock ∷ ts) c is few h = tt
+turned_within (task.Process ∷ ts) c is few h = tt
+turned_within (task.Desaturate ∷ ts) c is few h = tt
+turned_within (task.Output units ∷ ts) c is few h = outputs_within c.shown units
+turned_within (task.Flushed promise units ∷ ts) c is few h =
+    all_append IsPromiseWithin (outputs_from c.shown units) (event.Resolve promise ∷ []) (outputs_within c.shown units) (omega (arith, resolved_below c promise units ts h is, few), tt)
+turned_within (task.Dequeue ∷ ts) c is few h = (tt, tt)
+turned_within (task.Close error ∷ ts) c is few h = closed_within c.place error error c.pending few (pending_below c h)
+
+shown_promises : (n : ℕ) (e : Entry) (s : State) → IsUpTo n s.control → n < 2 ^ 64 → NamesEarlier s.control → ArePromises (shows e s)
+shown_promises n (entry.Configure who config) s h few names = refused_within (configure_error config s.control)
+shown_promises n (entry.Decode who chunk) s h few names = refused_within (decode_error chunk s.control)
+shown_promises n (entry.Flush who) s h few names = rejection_within s.control.place (flush_error s.control) (omega (arith, h.place, few))
+shown_promises n (entry.Reset who) s h few names = removal_within s.control.place (removal_error s.control) s.control.pending (omega (arith, h.place, few)) (pending_below s.control names)
+shown_promises n (entry.Close who) s h few names = removal_within s.control.place (removal_error s.control) s.control.pending (omega (arith, h.place, few)) (pending_below s.control names)
+shown_promises n (entry.Start epoch number) s h few names = tt
+shown_promises n (entry.Done epoch number moment x) s h few names = tt
+shown_promises n entry.Turn s h few names = turned_within s.control.tasks s.control refl (omega (arith, h.place, few)) names
+shown_promises n (entry.Reclaim moment) s h few names = closed_within s.control.place dom.QuotaExceeded dom.QuotaExceeded s.control.pending (omega (arith, h.place, few)) (pending_below s.control names)
+
+output_fits : (script : ScriptData) (u : media.Unit) → IsUnitWithin u → AllByRecursion (FitsLine script) (output_lines u)
+output_fits script (unit.Sound samples) own = (own, tt)
+output_fits script (unit.Image picture) own = (own, tt)
+output_fits script (unit.Coded chunk config) own = absurd own
+
+events_fit : (script : ScriptData) (xs : List Event) → ArePromises xs → AllByRecursion IsUnitWithin (units_in xs) → AllByRecursion (FitsLine script) (flat_map event_lines xs)
+events_fit script [] promises units = tt
+events_fit script (event.Refusal error ∷ xs) promises units = events_fit script xs promises.1 units
+events_fit script (event.Output number u ∷ xs) promises units = all_append (FitsLine script) (output_lines u) (flat_map event_lines xs) (output_fits script u units.0) (events_fit script xs promises.1 units.1)
+events_fit script (event.Resolve promise ∷ xs) promises units = (promises.0, events_fit script xs promises.1 units)
+events_fit script (event.Reject promise error ∷ xs) promises units = (promises.0, events_fit script xs promises.1 units)
+events_fit script (event.Dequeue ∷ xs) promises units = (tt, events_fit script xs promises.1 units)
+events_fit script (event.ErrorCall error ∷ xs) promises units = (tt, events_fit script xs promises.1 units)
+
+-- ---- a history
+
+abbrev AreUnits : List Shown → Type 0
+AreUnits xs = AllByRecursion (λ x. AllByRecursion IsUnitWithin (units_in x.events)) xs
+
+-- the entries behind others of a legal history, from the place of the first on
+pub lines_within : (script : ScriptData) (o : Opening) → Always IsNeverStuck → 1 ≤ o.saturation → (before es : List Entry) (s : State) (n : ℕ) → replay o before ≡ Some s → is_some (replay_from es s) ≡ true → IsUpTo n s.control → n + length es < 2 ^ 64
+    → AllByRecursion (IsEntryWithin script) es → AreUnits (each_shown_from es s) → AllByRecursion (FitsLine script) (lines_from entry_lines n (zip es (each_shown_from es s)))
+lines_within script o always some before [] s n r legal h few own units = tt
+lines_within script o always some before (e ∷ es) s n r legal h few own units =
+    by (step e s) refl legal units.1 (λ t made rest shown. lines_within script o always some (before ++ e ∷ []) es t (n + 1) (replay_append o before e s r ∙ made) rest (step_up n e s t made h) (omega (arith, few)) own.1 shown)
+  where
+    names : NamesEarlier s.control
+    names = (always o before s some r).names
+
+    small : n < 2 ^ 64
+    small = omega (arith, few)
+
+    by : (next : Option State) → step e s ≡ next → is_some (option_and_then (replay_from es) next) ≡ true → AreUnits (unwrap_or (option_map (each_shown_from es) next) [])
+        → ((t : State) → step e s ≡ Some t → is_some (replay_from es t) ≡ true → AreUnits (each_shown_from es t) → AllByRecursion (FitsLine script) (lines_from entry_lines (n + 1) (zip es (each_shown_from es t))))
+        → AllByRecursion (FitsLine script) (entry_lines n (e, shown_at e s) ++ lines_from entry_lines (n + 1) (zip es (unwrap_or (option_map (each_shown_from es) next) [])))
+    by None is there shown more = absurd cc
+    by (Some t) is there shown more = (
+      (small, entry_fits script n e s t is h small own.0),
+      all_append (FitsLine script) (flat_map event_lines (shows e s)) _ (events_fit script (shows e s) (shown_promises n e s h small names) units.0) (more t is there shown),
+    )

@@ -1,0 +1,120 @@
+-- The samples of a FLAC frame are within their types.
+use Rattle.std.proofs.Common.{ℕ, ℤ, ◌≡◌, ◌<◌, ◌+◌, ◌^◌, not, Bool, true, false, cond, List, Option, Some, None, Result, Ok, Err, refl, ap, subst, arith, lit<}
+use Rattle.std.specs.Prelude.{◌==◌}
+use Rattle.wc_base.specs.Options.{cond_is, some_same}
+use Rattle.wc_config.specs.declared.stream_info.StreamInfo.{StreamInfo}
+use Rattle.flac_definitions.specs.declared.fault.HeaderFault.{HeaderFault}
+use Rattle.flac_definitions.specs.declared.fault.HeaderFault.TheVariants as fault
+use Rattle.flac_definitions.specs.declared.fault.HeaderField.TheVariants as field
+use Rattle.flac_definitions.specs.declared.header.FrameHeader.{FrameHeader}
+use Rattle.flac_definitions.specs.Bits.{Place, number_at, start_of}
+use Rattle.flac_definitions.specs.Options.{◌>>=◌}
+use Rattle.flac_definitions.specs.Results.{or_fault, without_fault}
+use Rattle.flac_definitions.specs.Results as result
+use Rattle.flac_definitions.specs.GrammarLaws.{number}
+use Rattle.flac_definitions.specs.Header.{field_at, tested_at, is_long_block_size, common_block_size, block_size_at, codes_at, coded_number_at, sample_rate_at, header_sum_at, channels_of, depth_of, if_described, header_at}
+use Rattle.flac_definitions.specs.Subframe.{channels_at}
+use Rattle.flac_definitions.specs.Frame.{footer_at, with_header, frame_at, if_all_bytes, frame_of}
+
+-- ---- what readers gave, one after another
+
+bind_some : {A B : Type 0} (o : Option A) (f : A → Option B) (y : B) → (o >>= f) ≡ Some y → (x : A) × (o ≡ Some x) × (f x ≡ Some y)
+bind_some None f y h = absurd cc
+bind_some (Some x) f y h = (x, refl, h)
+
+bind_ok : {A B E : Type 0} (r : Result A E) (f : A → Result B E) (y : B) → result.◌>>=◌ r f ≡ Ok y → (x : A) × (r ≡ Ok x) × (f x ≡ Ok y)
+bind_ok (Ok x) f y h = (x, refl, h)
+bind_ok (Err e) f y h = absurd cc
+
+ok_same : {A E : Type 0} (x y : A) → (let r : Result A E = Ok x in r) ≡ Ok y → x ≡ y
+ok_same x y h = cc
+
+fault_or : {A E : Type 0} (e : E) (o : Option A) (y : A) → or_fault e o ≡ Ok y → o ≡ Some y
+fault_or e None y h = absurd cc
+fault_or e (Some x) y h = cc
+
+fault_none : {A E : Type 0} (r : Result A E) (y : A) → without_fault r ≡ Some y → r ≡ Ok y
+fault_none (Ok x) y h = cc
+fault_none (Err e) y h = absurd cc
+
+-- ---- the block size
+
+field_small : (n : ℕ) (p : Place) (x : ℕ × Place) → field_at n p ≡ Ok x → x.0 < 2 ^ n
+field_small n p x h = ((number n).sound p x.1 x.0 (fault_or _ (number_at n p) x h)).fine.0
+
+tested_small : (good : ℕ → Bool) (bad : ℕ → HeaderFault) (n : ℕ) (p : Place) (x : ℕ × Place) → tested_at good bad n p ≡ Ok x → x.0 < 2 ^ n
+tested_small good bad n p x h =
+    let found = bind_ok (field_at n p) _ x h in
+    passed (good found.0.0) found.0 found.2 (field_small n p found.0 found.1)
+  where
+    passed : (b : Bool) (y : ℕ × Place) → cond b (Ok y) (Err (bad p.at)) ≡ Ok x → y.0 < 2 ^ n → x.0 < 2 ^ n
+    passed true y e small = subst (λ (z : ℕ × Place). z.0 < 2 ^ n) (ok_same y x e) small
+    passed false y e small = absurd cc
+
+either : (b : Bool) (m n k : ℕ) → m < k → n < k → cond b m n < k
+either true m n k a c = a
+either false m n k a c = c
+
+common_small : (code : ℕ) → common_block_size code < 2 ^ 32
+common_small code =
+    either (code == 1) 192 _ (2 ^ 32) (lit< tt) (either (code == 2) 576 _ (2 ^ 32) (lit< tt) (either (code == 3) 1152 _ (2 ^ 32) (lit< tt) (either (code == 4) 2304 _ (2 ^ 32) (lit< tt)
+    (either (code == 5) 4608 _ (2 ^ 32) (lit< tt) (either (code == 8) 256 _ (2 ^ 32) (lit< tt) (either (code == 9) 512 _ (2 ^ 32) (lit< tt) (either (code == 10) 1024 _ (2 ^ 32) (lit< tt)
+    (either (code == 11) 2048 _ (2 ^ 32) (lit< tt) (either (code == 12) 4096 _ (2 ^ 32) (lit< tt) (either (code == 13) 8192 _ (2 ^ 32) (lit< tt) (either (code == 14) 16384 32768 (2 ^ 32) (lit< tt) (lit< tt))))))))))))
+
+block_small : (code : ℕ) (p : Place) (x : ℕ × Place) → block_size_at code p ≡ Ok x → x.0 < 2 ^ 32
+unfolding block_size_at
+block_small code p x h = by (code == 6) (code == 7) h
+  where
+    one_more : (n : ℕ) (r : Result (ℕ × Place) HeaderFault) → n < 2 ^ 32 → ((y : ℕ × Place) → r ≡ Ok y → y.0 < n) → result.◌>>=◌ r (λ y. Ok (y.0 + 1, y.1)) ≡ Ok x → x.0 < 2 ^ 32
+    one_more n r few small e =
+        let found = bind_ok r (λ y. Ok (y.0 + 1, y.1)) x e in
+        subst (λ (z : ℕ × Place). z.0 < 2 ^ 32) (ok_same (found.0.0 + 1, found.0.1) x found.2) (omega (arith, small found.0 found.1, few))
+
+    by : (a b : Bool) → cond a (result.◌>>=◌ (field_at 8 p) (λ y. Ok (y.0 + 1, y.1))) (cond b (result.◌>>=◌ (tested_at is_long_block_size fault.Reserved 16 p) (λ y. Ok (y.0 + 1, y.1))) (Ok (common_block_size code, p))) ≡ Ok x → x.0 < 2 ^ 32
+    by true b e = one_more (2 ^ 8) (field_at 8 p) (lit< tt) (λ y is. field_small 8 p y is) e
+    by false true e = one_more (2 ^ 16) (tested_at is_long_block_size fault.Reserved 16 p) (lit< tt) (λ y is. tested_small is_long_block_size fault.Reserved 16 p y is) e
+    by false false e = subst (λ (z : ℕ × Place). z.0 < 2 ^ 32) (ok_same (common_block_size code, p) x e) (common_small code)
+
+-- ---- headers and frames
+
+third : {A E : Type 0} (a b c : Bool) (d e f : E) (x y : A) → cond a (Err d) (cond b (Err e) (cond c (Err f) (Ok x))) ≡ Ok y → x ≡ y
+third true b c d e f x y h = absurd cc
+third false true c d e f x y h = absurd cc
+third false false true d e f x y h = absurd cc
+third false false false d e f x y h = cc
+
+described_same : (info : StreamInfo) (h y : FrameHeader × Place) → if_described info h ≡ Ok y → h ≡ y
+described_same info h y is =
+    third (not (h.0.rate == info.rate)) (not (channels_of h.0.assignment == info.channels)) (not (h.0.depth == info.depth)) (fault.Differs field.Rate) (fault.Differs field.Channels) (fault.Differs field.Depth) h y is
+
+header_small : (info : StreamInfo) (p : Place) (h : FrameHeader × Place) → header_at info p ≡ Ok h → h.0.block < 2 ^ 32
+unfolding header_at
+header_small info p h is =
+    let codes = bind_ok (codes_at p) _ h is in
+    let number = bind_ok (coded_number_at codes.0.1) _ h codes.2 in
+    let block = bind_ok (block_size_at codes.0.0.block number.0.1) _ h number.2 in
+    let rate = bind_ok (sample_rate_at info.rate codes.0.0.rate block.0.1) _ h block.2 in
+    let sum = bind_ok (header_sum_at p.at rate.0.1) _ h rate.2 in
+    let made : FrameHeader × Place = (record { block = block.0.0; rate = rate.0.0; assignment = codes.0.0.assignment; depth = depth_of info.depth codes.0.0.depth; number = number.0.0 }, sum.0.1) in
+    subst (λ (z : FrameHeader × Place). z.0.block < 2 ^ 32) (described_same info made h sum.2) (block_small codes.0.0.block number.0.1 block.0 block.1)
+
+given_header : (h : FrameHeader) (p : Place) (o : Option (List ℤ)) (g : (FrameHeader × List ℤ) × Place) → with_header h p o ≡ Some g → h ≡ g.0.0
+given_header h p None g is = absurd cc
+given_header h p (Some samples) g is = ap (λ (z : (FrameHeader × List ℤ) × Place). z.0.0) (some_same ((h, samples), p) g is)
+
+frame_small : (info : StreamInfo) (p : Place) (g : (FrameHeader × List ℤ) × Place) → frame_at info p ≡ Some g → g.0.0.block < 2 ^ 32
+unfolding frame_at
+frame_small info p g is =
+    let header = bind_some (without_fault (header_at info p)) _ g is in
+    let h : FrameHeader = header.0.0 in
+    let coded = bind_some (channels_at h.assignment h.depth h.block 0 (channels_of h.assignment) header.0.1) _ g header.2 in
+    let end = bind_some (footer_at coded.0.1) _ g coded.2 in
+    subst (λ (z : FrameHeader). z.block < 2 ^ 32) (given_header header.0.0 end.0.1 _ g end.2) (header_small info p header.0 (fault_none (header_at info p) header.0 header.1))
+
+-- a frame has fewer samples of a channel than 2 ^ 32
+pub block_within : (info : StreamInfo) (bytes : List ℕ) (f : FrameHeader × List ℤ) → frame_of info bytes ≡ Some f → f.0.block < 2 ^ 32
+block_within info bytes f is =
+    let read = (cond_is _ _ f is).1 in
+    let frame = bind_some (frame_at info (start_of bytes)) (if_all_bytes bytes) f read in
+    let whole = (cond_is _ (Some frame.0.0) f frame.2).1 in
+    subst (λ (z : FrameHeader × List ℤ). z.0.block < 2 ^ 32) (some_same frame.0.0 f whole) (frame_small info (start_of bytes) frame.0 frame.1)

@@ -1,0 +1,5 @@
+mod FlacRanges
+mod UnitRanges
+mod EntryRanges
+mod CourseRanges
+mod RunRanges

@@ -1,0 +1,224 @@
+-- The outputs that a codec's definition gives are within their types.
+use Rattle.std.proofs.Common.{ℕ, ℤ, zero, suc, ◌≡◌, ◌<◌, ◌≤◌, ◌+◌, ◌-◌, ◌*◌, ◌/◌, ◌%◌, ◌^◌, ◌&&◌, not, Bool, true, false, cond, List, [], ◌∷◌, ◌++◌, length, take, drop, bytes_eq, codes, Option, Some, None, refl, subst, arith, lit<}
+use Rattle.std.specs.Prelude.{slice_index_or as get_or, nat_lt, nat_le, ◌==◌, pos, ◌*ℤ◌, map}
+use Rattle.std.specs.List.{AllByRecursion, flat_map, range_with_len, list_any}
+use Rattle.std.proofs.lemmas.Bool.{and_parts, ltb-true}
+use Rattle.hex.specs.Hex.{IsBytes}
+use Rattle.wc_base.specs.Options.{cond_is, some_same}
+use Rattle.wc_base.specs.declared.media.Samples.{Samples}
+use Rattle.wc_config.specs.declared.codec.CoderId.{CoderId}
+use Rattle.wc_config.specs.declared.codec.CodecId.{CodecId}
+use Rattle.wc_config.specs.declared.codec.CodecId.TheVariants as codec
+use Rattle.wc_config.specs.declared.config.AudioDecoderConfig.{AudioDecoderConfig}
+use Rattle.wc_config.specs.declared.config.AudioEncoderConfig.{AudioEncoderConfig}
+use Rattle.wc_config.specs.declared.config.Config.{Config}
+use Rattle.wc_config.specs.declared.config.Config.TheVariants as config
+use Rattle.wc_config.specs.declared.stream_info.StreamInfo.{StreamInfo}
+use Rattle.wc_config.specs.Streams.{big_endian, stream_info_of, is_usable}
+use Rattle.wc_chunk.specs.declared.chunk.Chunk.{Chunk}
+use Rattle.codec_definitions.specs.declared.unit.Unit as media
+use Rattle.codec_definitions.specs.declared.unit.Unit.TheVariants as unit
+use Rattle.codec_definitions.specs.declared.command.Command.{Command}
+use Rattle.codec_definitions.specs.declared.command.Command.TheVariants as command
+use Rattle.codec_definitions.specs.Pcm.{bytes_of, spelled, converted, format_size}
+use Rattle.codec_definitions.specs.SampleCodecs.{SampleCodec, sample_codec, sample_decoder, sample_encoder, decoded_at, decoded}
+use Rattle.codec_definitions.specs.Flac.{sample_size, sample_bytes, interchannel_bytes, bytes_of_frame, described, flac_sound, unit_of_frame, flac_units, flac_decoder}
+use Rattle.wc_base.specs.declared.media.PictureFormat.{PictureFormat}
+use Rattle.wc_base.specs.declared.media.PictureShape.{PictureShape}
+use Rattle.picture_planes.specs.Planes.{picture_size}
+use Rattle.codec_definitions.specs.RawVideo.{picture_format, shape_in, raw_shape, chunks_since_drain, is_key, from_last_key, picture_byte, picture_of, last_picture, is_whole_chunk, picture_unit, raw_decoder}
+use Rattle.codec_definitions.specs.Answers.{undefined_answer, sample_decoder_by, sample_encoder_by, audio_decoder_answer, audio_encoder_answer, answer_after}
+use Rattle.flac_definitions.specs.Frame.{frame_of}
+use Rattle.flac_definitions.specs.Header.{channels_of}
+use Rattle.flac_definitions.specs.declared.header.FrameHeader.{FrameHeader}
+use Rattle.report_lines.specs.Fits.{FitsSound, FitsImage}
+use Rattle.history_laws.specs.Outputs.{IsOwnCommand, Judge}
+use Rattle.run_ranges.specs.Ranges.{IsSizeWithin, IsConfigWithin, IsChunkWithin}
+use Rattle.run_ranges.proofs.FlacRanges.{block_within}
+
+-- ---- bytes
+
+nothing_small : IsBytes []
+nothing_small zero = lit< tt
+nothing_small (suc i) = lit< tt
+
+one_small : (x : ℕ) (xs : List ℕ) → x < 256 → IsBytes xs → IsBytes (x ∷ xs)
+one_small x xs small all zero = small
+one_small x xs small all (suc i) = all i
+
+both_small : (xs ys : List ℕ) → IsBytes xs → IsBytes ys → IsBytes (xs ++ ys)
+both_small [] ys a b = b
+both_small (x ∷ xs) ys a b = one_small x (xs ++ ys) (a 0) (both_small xs ys (λ j. a (suc j)) b)
+
+bytes_small : (size n : ℕ) → IsBytes (bytes_of size n)
+bytes_small zero n = nothing_small
+bytes_small (suc size) n = one_small (n % 256) (bytes_of size (n / 256)) (omega arith) (bytes_small size (n / 256))
+
+spelled_small : (size : ℕ) (v : ℤ) → IsBytes (spelled size v)
+spelled_small size v = bytes_small size _
+
+flat_small : (f : ℕ → List ℕ) → ((i : ℕ) → IsBytes (f i)) → (a n : ℕ) → IsBytes (flat_map f (range_with_len a n))
+flat_small f h a zero = nothing_small
+flat_small f h a (suc n) = both_small (f a) (flat_map f (range_with_len (a + 1) n)) (h a) (flat_small f h (a + 1) n)
+
+decoded_small : (s : SampleCodec) (bytes : List ℕ) → IsBytes (decoded s bytes)
+decoded_small s bytes = flat_small (decoded_at s bytes) (λ i. spelled_small (format_size s.format) (converted s.bits (8 * format_size s.format) (s.value (take s.size (drop (s.size * i) bytes))))) 0 (length bytes / s.size)
+
+frame_bytes_small : (h : FrameHeader) (samples : List ℤ) → IsBytes (bytes_of_frame h samples)
+unfolding bytes_of_frame
+frame_bytes_small h samples =
+    let size = sample_size h.depth in
+    let up = 8 * size - h.depth in
+    flat_small (interchannel_bytes size up (channels_of h.assignment) h.block samples)
+    (λ i. flat_small (sample_bytes size up h.block samples i) (λ c. spelled_small size (get_or samples (c * h.block + i) (pos 0) *ℤ pos (2 ^ up))) 0 (channels_of h.assignment)) 0 h.block
+
+-- ---- units
+
+-- samples and pictures that are within their types; no codec gives another output for chunks
+abbrev pub IsUnitWithin : media.Unit → Type 0
+IsUnitWithin (unit.Sound samples) = FitsSound samples.shape samples.bytes
+IsUnitWithin (unit.Image picture) = FitsImage picture.shape picture.bytes
+IsUnitWithin u = ⊥
+
+-- The units that a command gives: one at most, and within its type where the config and the command's chunk are.
+pub record AreGiven (c : Config) (x : Command) (us : List media.Unit) : Type 0 where
+  pub few : length us ≤ 1
+  pub within : IsConfigWithin c → IsOwnCommand IsChunkWithin x → AllByRecursion IsUnitWithin us
+
+none_given : (c : Config) (x : Command) (us : List media.Unit) → ◌≡◌ {A = Option (List media.Unit)} (Some []) (Some us) → AreGiven c x us
+none_given c x us h = subst (AreGiven c x) (some_same [] us h) (record { few = omega arith; within = λ config chunk. tt })
+
+one_given : (c : Config) (x : Command) (u : media.Unit) (us : List media.Unit) → (IsConfigWithin c → IsOwnCommand IsChunkWithin x → IsUnitWithin u) → Some (u ∷ []) ≡ Some us → AreGiven c x us
+one_given c x u us within h = subst (AreGiven c x) (some_same (u ∷ []) us h) (record { few = omega arith; within = λ config chunk. (within config chunk, tt) })
+
+-- a codec without a definition yet
+undefined_given : (c : Config) (x : Command) (us : List media.Unit) → undefined_answer x ≡ Some us → AreGiven c x us
+undefined_given c (command.Chunk chunk) us h = absurd cc
+undefined_given c (command.Sound samples) us h = absurd cc
+undefined_given c (command.Image picture) us h = absurd cc
+undefined_given c command.Drain us h = none_given c command.Drain us h
+
+-- ---- codecs that code each sample by itself
+
+sound_or : (a b : Bool) (c : Config) (x : Command) (u : media.Unit) (us : List media.Unit) → (b ≡ true → IsConfigWithin c → IsOwnCommand IsChunkWithin x → IsUnitWithin u) → cond a (Some []) (cond b (Some (u ∷ [])) None) ≡ Some us → AreGiven c x us
+sound_or true b c x u us within h = none_given c x us h
+sound_or false true c x u us within h = one_given c x u us (within refl) h
+sound_or false false c x u us within h = absurd cc
+
+sample_decoded : (s : SampleCodec) (c : AudioDecoderConfig) (x : Command) (us : List media.Unit) → sample_decoder s c x ≡ Some us → AreGiven (config.AudioDecoder c) x us
+sample_decoded s c (command.Chunk chunk) us h =
+    let frame = s.size * c.channels in
+    let whole = length chunk.bytes % frame == 0 in
+    let few = nat_lt (length chunk.bytes / frame) (2 ^ 32) in
+    sound_or (length chunk.bytes == 0) (whole && few) (config.AudioDecoder c) (command.Chunk chunk) _ us
+    (λ fine own fits. record {
+      rate = own.0;
+      channels = own.1;
+      frames = ltb-true (length chunk.bytes / frame) (2 ^ 32) (and_parts whole few fine).1;
+      timestamp = fits.0;
+      are_bytes = decoded_small s chunk.bytes;
+    })
+    h
+sample_decoded s c (command.Sound samples) us h = absurd cc
+sample_decoded s c (command.Image picture) us h = absurd cc
+sample_decoded s c command.Drain us h = none_given (config.AudioDecoder c) command.Drain us h
+
+chunk_or : (b : Bool) (c : Config) (samples : Samples) (u : media.Unit) (us : List media.Unit) → cond b (Some (u ∷ [])) None ≡ Some us → AreGiven c (command.Sound samples) us
+chunk_or true c samples u us h = one_given c (command.Sound samples) u us (λ config own. absurd own) h
+chunk_or false c samples u us h = absurd cc
+
+sample_encoded : (s : SampleCodec) (c : AudioEncoderConfig) (x : Command) (us : List media.Unit) → sample_encoder s c x ≡ Some us → AreGiven (config.AudioEncoder c) x us
+sample_encoded s c (command.Chunk chunk) us h = absurd cc
+sample_encoded s c (command.Sound samples) us h = chunk_or _ (config.AudioEncoder c) samples _ us h
+sample_encoded s c (command.Image picture) us h = absurd cc
+sample_encoded s c command.Drain us h = none_given (config.AudioEncoder c) command.Drain us h
+
+decoded_by : (o : Option SampleCodec) (c : AudioDecoderConfig) (x : Command) (us : List media.Unit) → sample_decoder_by o c x ≡ Some us → AreGiven (config.AudioDecoder c) x us
+decoded_by None c x us h = undefined_given (config.AudioDecoder c) x us h
+decoded_by (Some s) c x us h = sample_decoded s c x us h
+
+encoded_by : (o : Option SampleCodec) (c : AudioEncoderConfig) (x : Command) (us : List media.Unit) → sample_encoder_by o c x ≡ Some us → AreGiven (config.AudioEncoder c) x us
+encoded_by None c x us h = undefined_given (config.AudioEncoder c) x us h
+encoded_by (Some s) c x us h = sample_encoded s c x us h
+
+-- ---- FLAC
+
+abbrev IsStreamWithin : StreamInfo → Type 0
+IsStreamWithin info = (info.rate < 2 ^ 32) × (info.channels < 2 ^ 32)
+
+described_within : (d : Option (List ℕ)) (info : StreamInfo) → described d ≡ Some info → IsStreamWithin info
+described_within None info h = absurd cc
+described_within (Some d) info h =
+    let said = stream_info_of (take 34 (drop 8 d)) in
+    let front = nat_le 42 (length d) && bytes_eq (take 4 d) (codes "fLaC") && (big_endian (take 4 (drop 4 d)) % 2 ^ 31 == 34) in
+    let read = cond_is (front && is_usable said) (Some said) info h in
+    subst IsStreamWithin (some_same said info read.1) (omega arith, omega arith)
+
+frame_decoded : (info : StreamInfo) (c : Config) (chunk : Chunk) (o : Option (FrameHeader × List ℤ)) (us : List media.Unit) → IsStreamWithin info → frame_of info chunk.bytes ≡ o → unit_of_frame info chunk o ≡ Some us → AreGiven c (command.Chunk chunk) us
+frame_decoded info c chunk None us own is h = absurd cc
+frame_decoded info c chunk (Some f) us own is h =
+    one_given c (command.Chunk chunk) (flac_sound info chunk f.0 f.1) us
+    (λ config fits. record { rate = own.0; channels = own.1; frames = block_within info chunk.bytes f is; timestamp = fits.0; are_bytes = frame_bytes_small f.0 f.1 }) h
+
+chunk_decoded : (o : Option StreamInfo) (c : Config) (chunk : Chunk) (us : List media.Unit) → ((info : StreamInfo) → o ≡ Some info → IsStreamWithin info) → flac_units o chunk ≡ Some us → AreGiven c (command.Chunk chunk) us
+chunk_decoded None c chunk us own h = absurd cc
+chunk_decoded (Some info) c chunk us own h = frame_decoded info c chunk (frame_of info chunk.bytes) us (own info refl) refl h
+
+flac_decoded : (c : AudioDecoderConfig) (x : Command) (us : List media.Unit) → flac_decoder (described c.description) x ≡ Some us → AreGiven (config.AudioDecoder c) x us
+flac_decoded c (command.Chunk chunk) us h = chunk_decoded (described c.description) (config.AudioDecoder c) chunk us (described_within c.description) h
+flac_decoded c (command.Sound samples) us h = absurd cc
+flac_decoded c (command.Image picture) us h = absurd cc
+flac_decoded c command.Drain us h = none_given (config.AudioDecoder c) command.Drain us h
+
+-- ---- raw video
+
+range_small : (f : ℕ → ℕ) → ((i : ℕ) → f i < 256) → (a n : ℕ) → IsBytes (map f (range_with_len a n))
+range_small f h a zero = nothing_small
+range_small f h a (suc n) = one_small (f a) (map f (range_with_len (a + 1) n)) (h a) (range_small f h (a + 1) n)
+
+-- the size of a picture is the config's
+shape_within : (f : Option PictureFormat) (width height : Option ℕ) (shape : PictureShape) → IsSizeWithin width → IsSizeWithin height → shape_in f width height ≡ Some shape → (shape.width < 2 ^ 32) × (shape.height < 2 ^ 32)
+shape_within None width height shape w h is = absurd cc
+shape_within (Some f) None height shape w h is = absurd cc
+shape_within (Some f) (Some width) None shape w h is = absurd cc
+shape_within (Some f) (Some width) (Some height) shape w h is = subst (λ (s : PictureShape). (s.width < 2 ^ 32) × (s.height < 2 ^ 32)) (some_same _ shape is) (w, h)
+
+picture_given : (c : Config) (shape : PictureShape) (chunk : Chunk) (size : ℕ) (chunks : List (List ℕ)) (us : List media.Unit) → (IsConfigWithin c → (shape.width < 2 ^ 32) × (shape.height < 2 ^ 32)) → picture_unit shape chunk (last_picture size chunks) ≡ Some us → AreGiven c (command.Chunk chunk) us
+picture_given c shape chunk size chunks us own h = by (list_any is_key chunks) h
+  where
+    small : (j : ℕ) → picture_byte (from_last_key chunks) j < 256
+    small j = omega arith
+
+    by : (b : Bool) → picture_unit shape chunk (cond b (Some (picture_of size (from_last_key chunks))) None) ≡ Some us → AreGiven c (command.Chunk chunk) us
+    by true e = one_given c (command.Chunk chunk) _ us
+        (λ config fits. record { width = (own config).0; height = (own config).1; timestamp = fits.0; duration = fits.1; are_bytes = range_small (picture_byte (from_last_key chunks)) small 0 size }) e
+    by false e = absurd cc
+
+raw_given : (o : Option PictureShape) (c : Config) (before : List Command) (x : Command) (us : List media.Unit) → ((shape : PictureShape) → o ≡ Some shape → IsConfigWithin c → (shape.width < 2 ^ 32) × (shape.height < 2 ^ 32)) → raw_decoder o before x ≡ Some us → AreGiven c x us
+raw_given None c before (command.Chunk chunk) us own h = absurd cc
+raw_given (Some shape) c before (command.Chunk chunk) us own h = by (is_whole_chunk (picture_size shape) chunk.bytes) h
+  where
+    by : (b : Bool) → cond (not b) None (picture_unit shape chunk (last_picture (picture_size shape) (chunks_since_drain before ++ chunk.bytes ∷ []))) ≡ Some us → AreGiven c (command.Chunk chunk) us
+    by true e = picture_given c shape chunk (picture_size shape) (chunks_since_drain before ++ chunk.bytes ∷ []) us (own shape refl) e
+    by false e = absurd cc
+raw_given o c before (command.Sound samples) us own h = absurd cc
+raw_given o c before (command.Image picture) us own h = absurd cc
+raw_given o c before command.Drain us own h = none_given c command.Drain us h
+
+-- ---- all definitions
+
+decoded_within : (id : CodecId) (c : AudioDecoderConfig) (x : Command) (us : List media.Unit) → audio_decoder_answer id c x ≡ Some us → AreGiven (config.AudioDecoder c) x us
+decoded_within codec.Flac c x us h = flac_decoded c x us h
+decoded_within id c x us h = decoded_by (sample_codec id) c x us h
+
+encoded_within : (id : CodecId) (c : AudioEncoderConfig) (x : Command) (us : List media.Unit) → audio_encoder_answer id c x ≡ Some us → AreGiven (config.AudioEncoder c) x us
+encoded_within id c x us h = encoded_by (sample_codec id) c x us h
+
+pub are_given : (id : CoderId) (c : Config) (before : List Command) (x : Command) (us : List media.Unit) → answer_after id c before x ≡ Some us → AreGiven c x us
+are_given id (config.AudioDecoder c) before x us h = decoded_within id.codec c x us h
+are_given id (config.AudioEncoder c) before x us h = encoded_within id.codec c x us h
+are_given id (config.VideoDecoder c) before x us h = raw_given (raw_shape id.codec c) (config.VideoDecoder c) before x us (λ shape is own. shape_within (picture_format id.codec) c.width c.height shape own.0 own.1 is) h
+are_given id config.Bad before x us h = undefined_given config.Bad x us h
+
+abbrev pub judge : Judge
+judge = record { config = IsConfigWithin; chunk = IsChunkWithin; output = IsUnitWithin; nothing = tt; gives = λ id c before x us own chunk_own h. (are_given id c before x us h).within own chunk_own }

@@ -1,0 +1,54 @@
+-- What of a script, its media and its boxes has to be within its type, so that all of a run is (our choice: the types are those
+-- that carry these values).
+use Rattle.std.specs.Prelude.{ℕ, ◌≡◌, ◌<◌, ◌^◌, List, length, Option, Some, None, IsTrue}
+use Rattle.std.specs.List.{AllByRecursion, slice_get}
+use Rattle.std.specs.Int.Signed.{mag}
+use Rattle.wc_config.specs.declared.codec.CoderId.{CoderId}
+use Rattle.wc_config.specs.declared.config.Config.{Config}
+use Rattle.wc_config.specs.declared.config.Config.TheVariants as config
+use Rattle.wc_chunk.specs.declared.chunk.Chunk.{Chunk}
+use Rattle.script_types.specs.declared.script.OrderItem.{OrderItem}
+use Rattle.script_types.specs.declared.script.OrderItem.TheVariants as item
+use Rattle.script_types.specs.declared.script.ScriptData.{ScriptData}
+use Rattle.script_types.specs.declared.steps.Step.{Step}
+use Rattle.script_types.specs.declared.steps.Step.TheVariants as step
+use Rattle.script_types.specs.Sound.{is_sound}
+use Rattle.trace_text.specs.declared.run.Run.{Run}
+use Rattle.trace_text.specs.Report.{lines_of}
+use Rattle.trace_text.specs.Fits.{Fits, IsLegalRun}
+use Rattle.report_lines.specs.FieldLaws.{FitsOrAbsent}
+use Rattle.report_lines.specs.Fits.{FitsLine}
+use Rattle.trace_text.specs.Follow.{steps_of, chunk_by, order_items}
+
+-- a moment of an item, if it has one, has 64 bits
+abbrev pub IsMoment : OrderItem → Type 0
+IsMoment (item.Done k moment) = moment < 2 ^ 64
+IsMoment (item.Reclaim k moment) = moment < 2 ^ 64
+IsMoment x = Unit {0}
+
+abbrev pub IsSizeWithin : Option ℕ → Type 0
+IsSizeWithin None = Unit {0}
+IsSizeWithin (Some n) = n < 2 ^ 32
+
+-- a decoder's rate and channels, or its width and height, have 32 bits
+abbrev pub IsConfigWithin : Config → Type 0
+IsConfigWithin (config.AudioDecoder c) = (c.rate < 2 ^ 32) × (c.channels < 2 ^ 32)
+IsConfigWithin (config.VideoDecoder c) = IsSizeWithin c.width × IsSizeWithin c.height
+IsConfigWithin x = Unit {0}
+
+-- a timestamp has 64 bits with its sign, and a duration 64
+abbrev pub IsChunkWithin : Chunk → Type 0
+IsChunkWithin c = (mag c.timestamp < 2 ^ 63) × FitsOrAbsent c.duration
+
+-- The script's moments, configs and chunks are within their types, those of its chunk files are, and there are no more boxes
+-- than a number of 64 bits counts.
+pub record AreWithin (s : ScriptData) (media : List (List Chunk)) (made : List CoderId) : Type 0 where
+  pub moments : (i : ℕ) (x : OrderItem) → slice_get (order_items s) i ≡ Some x → IsMoment x
+  pub configs : (c j on : ℕ) (config : Config) → slice_get (steps_of s c) j ≡ Some (step.Configure on config) → IsConfigWithin config
+  pub chunks : (c j : ℕ) (x : Step) (chunk : Chunk) → slice_get (steps_of s c) j ≡ Some x → chunk_by media x ≡ Some chunk → IsChunkWithin chunk
+  pub boxes : length made < 2 ^ 64
+
+-- the lines of a legal run that fits its script, in which nothing is at fault, fit the script
+abbrev pub LegalRunsFit : Type 0
+LegalRunsFit =
+    (script : ScriptData) (media : List (List Chunk)) (made : List CoderId) (run : Run) → IsTrue (is_sound script) → AreWithin script media made → IsLegalRun script run → Fits script media made run → AllByRecursion (FitsLine script) (lines_of run)
