@@ -138,7 +138,8 @@ def rows():
         yield kind, 2, 24, 44100, ["-8", "-b", "1152", "-r", "8"], 3000
 
 
-def cases(folder):
+def cases(folder, keep=False):
+    """Makes the cases, and keeps the files of `flac` beside them where that is asked for."""
     random.seed(11)
     os.makedirs(folder, exist_ok=True)
     with tempfile.TemporaryDirectory() as work:
@@ -153,6 +154,8 @@ def cases(folder):
             pack(coded, name)
             with open(f"{name}.stdout", "wb") as it:
                 it.write(output(samples, depth))
+            if keep:
+                os.replace(coded, f"{name}.flac")
 
 
 if __name__ == "__main__":
