@@ -83,6 +83,37 @@ later_window bytes at word valid u w h =
       front = ap (λ k. k % 2 ^ 64) whole ∙ ap (λ k. n * 2 ^ (s + u) % 2 ^ k) p ∙ shifted_mod n m (s + u) ∙ ap (λ k. k * 2 ^ (s + u)) rest ∙ ap (λ k. number_of (take m (drop (at + u) bits)) * 2 ^ k) (let q : s + u ≡ 64 - m = omega (arith, w.within) in q);
     }
 
+-- the number in a window's front
+pub front_number : (bytes : List ℕ) (at word valid n : ℕ) → IsWindow bytes at word valid → n ≤ valid → word / 2 ^ (64 - n) % 2 ^ n ≡ number_of (take n (drop at (bits_in bytes)))
+front_number bytes at word valid n w h =
+    ap (λ k. word / 2 ^ k % 2 ^ n) (let s : 64 - n ≡ 64 - 0 - n = omega arith in s)
+    ∙ part_of_window bytes at word valid 0 n w (omega arith)
+    ∙ ap (λ k. number_of (take n (drop k (bits_in bytes)))) (let s : at + 0 ≡ at = omega arith in s)
+
+-- a window, and the bits behind it from another one
+pub joined_window : (bytes : List ℕ) (at word valid next more : ℕ) → IsWindow bytes at word valid → IsWindow bytes (at + valid) next more → next < 2 ^ 64 → 64 ≤ valid + more → IsWindow bytes at (word + next / 2 ^ valid) 64
+joined_window bytes at word valid next more w v fits h =
+    let bits = bits_in bytes in
+    let n = 64 - valid in
+    let behind = take n (drop (at + valid) bits) in
+    let e : 64 - n ≡ valid = omega (arith, w.within) in
+    let small : next / 2 ^ valid < 2 ^ n = shr_below next n valid (subst (λ (k : ℕ). next < 2 ^ k) (let s : 64 ≡ n + valid = omega (arith, w.within) in s) fits) in
+    let low : next / 2 ^ valid ≡ number_of behind =
+    sym (mod-eq_of_lt small) ∙ ap (λ k. next / 2 ^ k % 2 ^ n) (sym e) ∙ front_number bytes (at + valid) next more n v (omega arith) in
+    let l : length behind ≡ n = omega (arith, length-take n (drop (at + valid) bits), length-drop (at + valid) bits, length-bits_in bytes, v.there, h) in
+    let cut : take 64 (drop at bits) ≡ take valid (drop at bits) ++ behind =
+    ap (λ k. take k (drop at bits)) (let s : 64 ≡ valid + n = omega (arith, w.within) in s)
+    ∙ take-add valid n (drop at bits)
+    ∙ ap (λ (xs : List Bool). take valid (drop at bits) ++ take n xs) (drop-drop valid at bits) in
+    let whole : number_of (take 64 (drop at bits)) ≡ number_of (take valid (drop at bits)) * 2 ^ n + number_of behind =
+    ap number_of cut ∙ number_of-append (take valid (drop at bits)) behind
+    ∙ ap (λ k. number_of (take valid (drop at bits)) * 2 ^ k + number_of behind) l in
+    record {
+      within = omega arith;
+      there = omega (arith, v.there, h);
+      front = omega (arith, w.front, low, whole);
+    }
+
 no_product : (a b c : ℕ) → 0 < b → a * b + c ≡ 0 → a ≡ 0
 no_product zero b c h e = refl
 no_product (suc a) b c h e = absurd (omega arith)
@@ -187,13 +218,6 @@ small_shift q k h l =
     let p : 2 ^ k ≤ 2 ^ 30 = pow-le-pow_right {n = 2} (omega arith) l in
     omega (arith, mul-le q (2 ^ k) 63 (2 ^ 30) (omega arith) p) in
     (mod-eq_of_lt (omega (arith, b)), b)
-
--- the number in a window's front
-pub front_number : (bytes : List ℕ) (at word valid n : ℕ) → IsWindow bytes at word valid → n ≤ valid → word / 2 ^ (64 - n) % 2 ^ n ≡ number_of (take n (drop at (bits_in bytes)))
-front_number bytes at word valid n w h =
-    ap (λ k. word / 2 ^ k % 2 ^ n) (let s : 64 - n ≡ 64 - 0 - n = omega arith in s)
-    ∙ part_of_window bytes at word valid 0 n w (omega arith)
-    ∙ ap (λ k. number_of (take n (drop k (bits_in bytes)))) (let s : at + 0 ≡ at = omega arith in s)
 
 pub number_in_window : (p : Place) (word valid n : ℕ) → IsWindow p.bytes p.at word valid → n ≤ valid → number_at n p ≡ Some (word / 2 ^ (64 - n) % 2 ^ n, forward n p)
 number_in_window p word valid n w h =

@@ -11,4 +11,4 @@ mod window;
 
 pub use reader::{BitReader, End, number_at, word_at, zeros_from};
 pub use sums::{crc8, crc16};
-pub use window::{Window, window_at};
+pub use window::{Window, fill_up, window_at};

@@ -15,7 +15,8 @@ pub struct Window {
 #[inline(always)]
 pub fn window_at(bytes: &[u8], at: u64) -> Window
     requires { at / 8 + 8 ≤ length bytes.now }
-    ensures { IsWindow bytes.now at result.word result.valid }
+    ensures window { IsWindow bytes.now at result.word result.valid }
+    ensures valid { result.valid ≡ 64 - at % 8 }
 {
     Window {
         word: word_at(bytes, (at / 8) as usize) << (at % 8) as u32,
@@ -33,6 +34,27 @@ pub fn refill(bytes: &[u8], at: u64, window: Window, n: u32) -> Window
         window_at(bytes, at)
     } else {
         window
+    }
+}
+
+/// A window, filled up to 64 bits where it has from 8 to 63 and the eight bytes behind it are there; `end` is the place
+/// behind it. What is loaded lies behind the window, so that a load need not wait for the length of the last code.
+#[inline(always)]
+pub fn fill_up(bytes: &[u8], end: u64, window: Window) -> Window
+    requires behind { window.valid ≤ end }
+    requires window { IsWindow bytes.now (end - window.valid) window.word window.valid }
+    ensures window { IsWindow bytes.now (end - window.valid) result.word result.valid }
+    ensures more { window.valid ≤ result.valid }
+    ensures full { 8 ≤ window.valid → end / 8 + 8 ≤ length bytes.now → result.valid ≡ 64 }
+{
+    let valid = window.valid;
+    if valid < 8 || valid >= 64 || (end / 8) as usize + 8 > bytes.len() {
+        return window;
+    }
+    let next = window_at(bytes, end);
+    Window {
+        word: window.word + (next.word >> valid),
+        valid: 64,
     }
 }
 

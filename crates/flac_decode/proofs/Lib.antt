@@ -3,3 +3,4 @@ pub mod RestoreLaws
 pub mod FrameLaws
 pub mod FrameEndLaws
 mod Served
+mod StereoLaws

@@ -1,5 +1,5 @@
 // Samples from predictions and a residual.
-ghost use Rattle.std.specs.Prelude.{◌≡◌, ℕ, ◌+◌, ◌-◌, ◌*◌, ◌^◌, ◌<◌, ◌≤◌, ◌*ℤ◌, ◌+ℤ◌, true, pos, length, take, drop, reverse, unsigned_abs, slice_index_or as get_or};
+ghost use Rattle.std.specs.Prelude.{◌≡◌, ℕ, ◌+◌, ◌-◌, ◌*◌, ◌^◌, ◌<◌, ◌≤◌, ◌*ℤ◌, ◌+ℤ◌, true, false, pos, length, take, drop, reverse, unsigned_abs, slice_index_or as get_or};
 ghost use Rattle.std.specs.Int.{int_shr};
 ghost use Rattle.flac_definitions.specs.Prediction.{samples_behind, sum_of_products, fits_depth};
 ghost use Rattle.flac_decode.specs.Reading.{RestoresBehind};
@@ -50,15 +50,19 @@ pub fn restore_in<const N: usize>(
     ensures narrow { result ≡ true → AreSmall (depth - 1) samples.new }
     ensures samples { RestoresBehind N coefficients.now shift depth residual.now result samples.old samples.new }
 {
-    // The sample just computed, which need not be read back.
+    // As a power and not as a shift, which would be done again for each sample.
+    let wide = 2u64.pow(depth);
+    // The two samples just computed, which need not be read back.
     let mut last = if N > 0 { samples[N - 1] } else { 0 };
+    let mut before = if N > 1 { samples[N - 2] } else { 0 };
     for i in N..samples.len() {
-        let sum = sum_of_products::<N>(coefficients, samples, i, last);
+        let sum = sum_of_products::<N>(coefficients, samples, i, last, before);
         let sample = sample_of(sum, shift, residual[i - N]);
-        if !fits_depth(depth, sample) {
+        if lift(depth, sample) >= wide {
             return false;
         }
         samples[i] = sample;
+        before = last;
         last = sample;
     }
     true
@@ -100,7 +104,8 @@ pub fn restore_any_order(
 fn sample_of(sum: i64, shift: u32, residual: i32) -> i64
     requires sum { unsigned_abs sum ≤ 2 ^ 51 }
     requires shift { shift < 16 }
-    ensures { result ≡ int_shr sum shift +ℤ residual }
+    ensures sample { result ≡ int_shr sum shift +ℤ residual }
+    ensures small { unsigned_abs result ≤ 2 ^ 60 }
 {
     (sum >> shift) + residual as i64
 }
@@ -118,6 +123,21 @@ pub fn fits_depth(depth: u32, sample: i64) -> bool
     -high <= sample && sample < high
 }
 
+/// A sample plus half of what its depth can tell: below 2^depth exactly where it fits. So a union of the bits of many tells
+/// whether all fit, and a loop need not decide for each.
+#[inline(always)]
+pub fn lift(depth: u32, sample: i64) -> u64
+    requires some { 0 < depth }
+    requires depth { depth ≤ 33 }
+    requires sample { unsigned_abs sample ≤ 2 ^ 60 }
+    ensures fits { result < 2 ^ depth → fits_depth depth sample ≡ true }
+    ensures small { result < 2 ^ depth → unsigned_abs sample ≤ 2 ^ 32 }
+    ensures narrow { result < 2 ^ depth → unsigned_abs sample ≤ 2 ^ (depth - 1) }
+    ensures bad { 2 ^ depth ≤ result → fits_depth depth sample ≡ false }
+{
+    (sample + (1 << (depth - 1))).cast_unsigned()
+}
+
 /// The sum of the products of coefficients and the samples before a place, from the last one back. The product of the
 /// last sample is added last, since that sample was just computed.
 #[inline(always)]
@@ -126,9 +146,11 @@ fn sum_of_products<const N: usize>(
     samples: &[i64],
     place: usize,
     last: i64,
+    before: i64,
 ) -> i64
     requires count { N ≤ 32 }
     requires last { 0 < N → last ≡ get_or samples.now (place - 1) (pos 0) }
+    requires before { 1 < N → before ≡ get_or samples.now (place - 2) (pos 0) }
     requires coefficients { AreSmall 14 coefficients.now }
     requires places { length coefficients.now ≡ N }
     requires there { place ≤ length samples.now }
@@ -140,22 +162,25 @@ fn sum_of_products<const N: usize>(
     let mut sum = 0i64;
     for j in 0..N {
         let k = N - 1 - j;
-        let sample = sample_before(samples, place, k, last);
+        let sample = sample_before(samples, place, k, last, before);
         sum += product(coefficients[k], sample);
     }
     sum
 }
 
-/// The sample before a place, with so many between them; the last one is at hand.
+/// The sample before a place, with so many between them; the last two are at hand.
 #[inline(always)]
-fn sample_before(samples: &[i64], place: usize, between: usize, last: i64) -> i64
+fn sample_before(samples: &[i64], place: usize, between: usize, last: i64, before: i64) -> i64
     requires behind { between < place }
     requires there { place ≤ length samples.now }
     requires last { between ≡ 0 → last ≡ get_or samples.now (place - 1) (pos 0) }
+    requires before { between ≡ 1 → before ≡ get_or samples.now (place - 2) (pos 0) }
     ensures { result ≡ get_or samples.now (place - 1 - between) (pos 0) }
 {
     if between == 0 {
         last
+    } else if between == 1 {
+        before
     } else {
         samples[place - 1 - between]
     }

@@ -4,7 +4,7 @@ ghost use Rattle.flac_decode.specs.Bounds.{AreSmall};
 ghost use Rattle.flac_decode.specs.Reading.{Combines};
 ghost use Rattle.flac_definitions.specs.Stereo.{channel_by, right_of_side, left_of_side, left_of_mid, right_of_mid, plain_channels, channel_pair};
 
-use crate::prediction::fits_depth;
+use crate::prediction::lift;
 
 /// The channels from the coded ones; false where a sample does not fit.
 #[tactic(auto, unfolding(flac_definitions::specs::Stereo::plain_channels))]
@@ -42,14 +42,13 @@ pub fn restore_right(depth: u32, left: &[i64], side: &mut [i64]) -> bool
     ensures small { result ≡ true → AreSmall 32 side.new }
     ensures channel { Combines (channel_by right_of_side depth left.now side.old) result side.new }
 {
+    let mut lifted = 0;
     for i in 0..side.len() {
         let right = difference(left[i], side[i]);
-        if !fits_depth(depth, right) {
-            return false;
-        }
+        lifted |= lift(depth, right);
         side[i] = right;
     }
-    true
+    all_fit(depth, lifted)
 }
 
 /// Puts the left channel in place of the side channel; false where a sample does not fit.
@@ -63,14 +62,13 @@ pub fn restore_left(depth: u32, right: &[i64], side: &mut [i64]) -> bool
     ensures small { result ≡ true → AreSmall 32 side.new }
     ensures channel { Combines (channel_by left_of_side depth right.now side.old) result side.new }
 {
+    let mut lifted = 0;
     for i in 0..side.len() {
         let left = total(side[i], right[i]);
-        if !fits_depth(depth, left) {
-            return false;
-        }
+        lifted |= lift(depth, left);
         side[i] = left;
     }
-    true
+    all_fit(depth, lifted)
 }
 
 /// Puts both channels in place of their middle and side; false where a sample does not fit.
@@ -87,26 +85,33 @@ pub fn restore_both(depth: u32, mid: &mut [i64], side: &mut [i64]) -> bool
     ensures right { result ≡ true → Combines (channel_by right_of_mid depth mid.old side.old) result side.new }
     ensures bad { result ≡ false → channel_pair (channel_by left_of_mid depth side.old mid.old) (channel_by right_of_mid depth mid.old side.old) ≡ None }
 {
+    let mut lifted = 0;
     for i in 0..side.len() {
         let right = right_of_mid(mid[i], side[i]);
         let left = left_of_mid(side[i], mid[i]);
-        if !fits_depth(depth, left) {
-            return false;
-        }
-        if !fits_depth(depth, right) {
-            return false;
-        }
+        lifted |= lift(depth, left) | lift(depth, right);
         mid[i] = left;
         side[i] = right;
     }
-    true
+    all_fit(depth, lifted)
+}
+
+/// Whether the lifted samples fit of which this is the union.
+#[inline(always)]
+fn all_fit(depth: u32, lifted: u64) -> bool
+    requires { depth ≤ 32 }
+    ensures fits { result ≡ true → lifted < 2 ^ depth }
+    ensures bad { result ≡ false → 2 ^ depth ≤ lifted }
+{
+    lifted < 1 << depth
 }
 
 #[inline(always)]
 fn difference(a: i64, b: i64) -> i64
     requires a { unsigned_abs a ≤ 2 ^ 32 }
     requires b { unsigned_abs b ≤ 2 ^ 32 }
-    ensures { result ≡ a -ℤ b }
+    ensures difference { result ≡ a -ℤ b }
+    ensures small { unsigned_abs result ≤ 2 ^ 34 }
 {
     a - b
 }
@@ -115,7 +120,8 @@ fn difference(a: i64, b: i64) -> i64
 fn total(a: i64, b: i64) -> i64
     requires a { unsigned_abs a ≤ 2 ^ 32 }
     requires b { unsigned_abs b ≤ 2 ^ 32 }
-    ensures { result ≡ a +ℤ b }
+    ensures total { result ≡ a +ℤ b }
+    ensures small { unsigned_abs result ≤ 2 ^ 34 }
 {
     a + b
 }
@@ -124,7 +130,8 @@ fn total(a: i64, b: i64) -> i64
 fn right_of_mid(mid: i64, side: i64) -> i64
     requires mid { unsigned_abs mid ≤ 2 ^ 32 }
     requires side { unsigned_abs side ≤ 2 ^ 32 }
-    ensures { result ≡ right_of_mid mid side }
+    ensures right { result ≡ right_of_mid mid side }
+    ensures small { unsigned_abs result ≤ 2 ^ 34 }
 {
     mid - (side >> 1)
 }
@@ -133,7 +140,8 @@ fn right_of_mid(mid: i64, side: i64) -> i64
 fn left_of_mid(side: i64, mid: i64) -> i64
     requires mid { unsigned_abs mid ≤ 2 ^ 32 }
     requires side { unsigned_abs side ≤ 2 ^ 32 }
-    ensures { result ≡ left_of_mid side mid }
+    ensures left { result ≡ left_of_mid side mid }
+    ensures small { unsigned_abs result ≤ 2 ^ 34 }
 {
     mid - (side >> 1) + side
 }

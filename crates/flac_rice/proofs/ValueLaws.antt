@@ -9,7 +9,9 @@ use Rattle.flac_definitions.specs.declared.fault.ResidualFault.TheVariants as fa
 use Rattle.flac_definitions.specs.Results.{◌>>=◌, or_fault}
 use Rattle.flac_definitions.specs.Residual.{behind_values, each_at, residual_at, behind_coding_method, behind_partition_order, can_be_partitioned, parameter_size, all_partitions_at, partition_at, partitions_at, plain_at, signed_number, value_at, value_in_range, unfolded_value}
 use Rattle.flac_bits.specs.Window.{IsWindow}
-use Rattle.flac_bits.specs.WindowLaws.{IsCode, code_at_front}
+use Rattle.flac_bits.specs.WindowLaws.{IsCode, code_at_front, no_window, later_window}
+use Rattle.flac_rice.specs.Reading.{IsAhead}
+use Rattle.flac_rice.specs.declared.value.Ahead.{Ahead}
 
 pub front_twice : (xs ys : List ℤ) (r : Result (List ℤ × Place) ResidualFault) → behind_values xs (behind_values ys r) ≡ behind_values (xs ++ ys) r
 front_twice xs ys (Ok x) = ap (λ (zs : List ℤ). Ok (zs, x.1)) (sym (append_assoc xs ys x.0))
@@ -70,6 +72,33 @@ value_at_front bytes at word valid k q z w fits e h f =
     let code : IsCode bytes at q k low = subst (λ (n : ℕ). IsCode bytes at n k (word * 2 ^ n % 2 ^ 64 / 2 ^ (63 - k) - 2 ^ k)) (sym e) (code_at_front bytes at word valid k w fits (omega (arith, e, h))) in
     value_of_code bytes at q k low code (omega (arith, w.there, h))
     ∙ ap (λ n. value_in_range at n (low, record { bytes = bytes; at = at + (q + 1 + k) })) (sym f)
+
+-- the same of bits ahead
+pub value_ahead : (bytes : List ℕ) (here end word valid k q z : ℕ) → IsAhead bytes end word valid → end - valid ≡ here → word < 2 ^ 64 → q ≡ count_leading_zeros 64 word → q + 1 + k ≤ valid
+    → z ≡ q * 2 ^ k + (word * 2 ^ q % 2 ^ 64 / 2 ^ (63 - k) - 2 ^ k)
+    → value_at k (record { bytes = bytes; at = here }) ≡ value_in_range here z (word * 2 ^ q % 2 ^ 64 / 2 ^ (63 - k) - 2 ^ k, record { bytes = bytes; at = end - (valid - (q + 1 + k)) })
+value_ahead bytes here end word valid k q z a e fits f h g =
+    let low = word * 2 ^ q % 2 ^ 64 / 2 ^ (63 - k) - 2 ^ k in
+    value_at_front bytes here word valid k q z (subst (λ (n : ℕ). IsWindow bytes n word valid) e a.window) fits f h g
+    ∙ ap (λ n. value_in_range here z (low, record { bytes = bytes; at = n })) (let s : here + (q + 1 + k) ≡ end - (valid - (q + 1 + k)) = omega (arith, a.behind) in s)
+
+-- the bits ahead, some further on
+pub later_ahead : (bytes : List ℕ) (end word valid u : ℕ) → IsAhead bytes end word valid → u ≤ valid → IsAhead bytes end (word * 2 ^ u % 2 ^ 64) (valid - u)
+later_ahead bytes end word valid u a h = record {
+  behind = omega (arith, a.behind);
+  window = subst (λ (n : ℕ). IsWindow bytes n (word * 2 ^ u % 2 ^ 64) (valid - u)) (let s : end - valid + u ≡ end - (valid - u) = omega (arith, a.behind) in s) (later_window bytes (end - valid) word valid u a.window h);
+}
+
+-- no bits ahead of a place
+pub nothing_ahead : (bytes : List ℕ) (at : ℕ) (a : Ahead) → a ≡ record { window = record { word = 0; valid = 0 }; end = at } → at ≤ 8 * length bytes → IsAhead bytes a.end a.window.word a.window.valid × (a.end - a.window.valid ≡ at)
+nothing_ahead bytes at a e h =
+    let v : a.window.valid ≡ 0 = ap (λ (b : Ahead). b.window.valid) e in
+    let f : a.end ≡ at = ap (λ (b : Ahead). b.end) e in
+    let w : a.window.word ≡ 0 = ap (λ (b : Ahead). b.window.word) e in
+    let p : a.end - a.window.valid ≡ at = omega (arith, v, f) in
+    let i : IsWindow bytes (a.end - a.window.valid) 0 0 = subst (λ (n : ℕ). IsWindow bytes n 0 0) (sym p) (no_window bytes at h) in
+    let j : IsWindow bytes (a.end - a.window.valid) a.window.word 0 = subst (λ (n : ℕ). IsWindow bytes (a.end - a.window.valid) n 0) (sym w) i in
+    (record { behind = omega (arith, v); window = subst (λ (n : ℕ). IsWindow bytes (a.end - a.window.valid) a.window.word n) (sym v) j }, p)
 
 pub plain_there : (bytes : List ℕ) (at k n : ℕ) → k ≤ 8 * length bytes - at → n ≡ number_of (take k (drop at (bits_in bytes))) → plain_at k (record { bytes = bytes; at = at }) ≡ Ok (signed_number k n, record { bytes = bytes; at = at + k })
 plain_there bytes at k n h e = rw (le-ltb (8 * length bytes - at) k h) (ap (λ (x : ℕ). Ok (signed_number k x, record { bytes = bytes; at = at + k })) (sym e))

@@ -1,4 +1,4 @@
-//! Decodes the FLAC frames of a file in memory, to measure what a sample costs and to compare the samples with another
+//! Decodes the FLAC frames of a file, to measure what a sample costs and to compare the samples with another
 //! decoder's: `flac_speed decode FILE` prints how many samples a channel came out, `flac_speed write FILE` writes their
 //! bytes, `flac_speed each FILE` writes a line for each frame (its samples a channel and the checksum of its bytes, or `-`
 //! where it is refused), and `flac_speed read FILE` only counts the frames. The file has the description of a FLAC decoder's config (42
@@ -9,10 +9,11 @@ ghost use Rattle.std.specs.Prelude.{◌<◌, ◌≤◌};
 
 use flac_decode::{FrameFault, decode_frame};
 use std::alloc::Global;
-use std::io::{BufWriter, Write};
+use std::fs::File;
+use std::io::{BufReader, BufWriter, Read, Write};
 use std::process::ExitCode;
 use std::rt::Env;
-use std::{env, fs, io};
+use std::{env, io};
 use wc_config::{StreamInfo, read_streaminfo};
 
 /// What is done with each frame.
@@ -84,14 +85,32 @@ fn work_on<W: Write>(
     }
 }
 
-/// Works on all frames; nothing where the file is no such file or a frame is refused.
-fn work_on_all<W: Write>(
+/// Reads the next frame, behind its size, to the front of `room`; none at the end of the file.
+fn next_frame<'a, R: Read>(reader: &mut R, room: &'a mut Vec<u8>) -> io::Result<Option<&'a [u8]>> {
+    let mut size = [0u8; 4];
+    if reader.read(&mut size[..1])? == 0 {
+        return Ok(None);
+    }
+    reader.read_exact(&mut size[1..])?;
+    let size = u32::from_be_bytes(size) as usize;
+    if room.len() < size {
+        room.resize(size, 0)?;
+    }
+    let frame = &mut room[..size];
+    reader.read_exact(frame)?;
+    Ok(Some(frame))
+}
+
+/// Works on all frames of a file; nothing where it has no description or a frame is refused.
+fn work_on_all<R: Read, W: Write>(
     alloc: Global,
     work: Work,
-    file: &[u8],
+    reader: &mut R,
     writer: &mut W,
 ) -> io::Result<Option<u64>> {
-    let (Some(info), Some(mut rest)) = (read_streaminfo(file), file.get(42..)) else {
+    let mut description = [0u8; 42];
+    reader.read_exact(&mut description)?;
+    let Some(info) = read_streaminfo(&description) else {
         return Ok(None);
     };
     if info.depth == 0 || info.depth > 32 {
@@ -102,22 +121,21 @@ fn work_on_all<W: Write>(
         samples: Vec::new(alloc),
         out: Vec::new(alloc),
     };
+    let mut room = Vec::new(alloc);
     let mut count = 0u64;
-    while let [a, b, c, d, more @ ..] = rest {
-        let size = u32::from_be_bytes([*a, *b, *c, *d]) as usize;
-        if size > more.len() {
-            return Ok(None);
-        }
+    for _ in 0..u32::MAX {
+        let Some(frame) = next_frame(reader, &mut room)? else {
+            break;
+        };
         let counted = if work == Work::Read {
             Some(1)
         } else {
-            work_on(work, &more[..size], &info, &mut buffers, writer)?
+            work_on(work, frame, &info, &mut buffers, writer)?
         };
         let Some(counted) = counted else {
             return Ok(None);
         };
         count = count.wrapping_add(counted);
-        rest = &more[size..];
     }
     Ok(Some(count))
 }
@@ -138,9 +156,9 @@ fn run(rt: &HostRuntime, words: &[String]) -> io::Result<Option<u64>> {
     let Some(work) = work_of(work.as_str()) else {
         return Ok(None);
     };
-    let bytes = fs::read(rt, file.as_str())?;
+    let mut reader = BufReader::new(rt.alloc(), File::open(rt, file.as_str())?)?;
     let mut writer = BufWriter::new(rt.alloc(), io::writer(rt))?;
-    let counted = work_on_all(rt.alloc(), work, &bytes, &mut writer)?;
+    let counted = work_on_all(rt.alloc(), work, &mut reader, &mut writer)?;
     writer.flush()?;
     Ok(match work {
         Work::Read | Work::Decode => counted,

@@ -21,7 +21,7 @@ returns-then-not-fits_depth-clause-samples c =
     let r = get_or residual (i - n) (pos 0) in
     let fr : SFits w32 r = search rules in
     let fs : SFits w64 s = search rules in
-    let is = sample_is cs (reverse (take i samples)) c.args.shift c.sum_of_any_products-sum.result r s c.sum_of_any_products-sum.ensures.sum c.sum_of_any_products-sum.ensures.small fr c.sample_of-sample.ensures in
+    let is = sample_is cs (reverse (take i samples)) c.args.shift c.sum_of_any_products-sum.result r s c.sum_of_any_products-sum.ensures.sum c.sum_of_any_products-sum.ensures.small fr c.sample_of-sample.ensures.sample in
     let bad : fits_depth c.args.depth s ≡ false = ap (λ (x : ℤ). fits_depth c.args.depth x) (sym (to_z-of_z w64 s fs)) ∙ sym c.fits_depth.ensures.fits ∙ c.if-not-fits_depth.true in
     sym c.loop-i.invariant.read ∙ restore_fails cs c.args.shift c.args.depth n i samples residual s (omega arith) (omega (arith, c.requires.residual, c.loop-i.invariant.size)) is bad
 
@@ -33,7 +33,7 @@ loop-i-preserved c =
     let fr : SFits w32 r = search rules in
     let fs : SFits w64 s = search rules in
     let back = to_z-of_z w64 s fs in
-    let is = sample_is cs (reverse (take i samples)) c.args.shift c.sum_of_any_products-sum.result r s c.sum_of_any_products-sum.ensures.sum c.sum_of_any_products-sum.ensures.small fr c.sample_of-sample.ensures in
+    let is = sample_is cs (reverse (take i samples)) c.args.shift c.sum_of_any_products-sum.result r s c.sum_of_any_products-sum.ensures.sum c.sum_of_any_products-sum.ensures.small fr c.sample_of-sample.ensures.sample in
     let good : fits_depth c.args.depth s ≡ true = ap (λ (x : ℤ). fits_depth c.args.depth x) (sym back) ∙ sym c.fits_depth.ensures.fits ∙ c.if-not-fits_depth.false in
     let hs : unsigned_abs s ≤ 2 ^ 32 = omega (arith, ap unsigned_abs back, c.fits_depth.ensures.small c.if-not-fits_depth.false) in
     let hn : unsigned_abs s ≤ 2 ^ (c.args.depth - 1) = omega (arith, ap unsigned_abs back, c.fits_depth.ensures.narrow c.if-not-fits_depth.false) in
