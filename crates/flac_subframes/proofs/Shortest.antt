@@ -182,9 +182,11 @@ next_choice depth xs most m o a before choice e s h =
     choice_as depth xs (first_shortest f before (fixed_candidates m xs o)) (first_shortest f a (flat_map (fixed_candidates most xs) (range_with_len 0 (o + 1)))) choice
     (ap (λ (k : ℕ). first_shortest f before (fixed_candidates k xs o)) s ∙ (ap (λ (x : Candidate). first_shortest f x (fixed_candidates most xs o)) e ∙ sym (next_order f a (fixed_candidates most xs) o))) h
 
-pub last_choice : (depth level : ℕ) (xs : List ℤ) (n : ℕ) (choice : Choice) → 0 < length xs → n ≡ min level 4 + 1
-    → IsChoice depth xs (first_shortest (candidate_bits depth xs) (plain_candidate xs) (flat_map (fixed_candidates (min level 6) xs) (range_with_len 0 n))) choice → IsChoice depth xs (best_candidate depth level xs) choice
-last_choice depth level xs n choice some e h =
+-- the orders behind the plain candidate
+pub whole_search : (depth level : ℕ) (xs : List ℤ) (most last : ℕ) (before : Candidate) → 0 < length xs → before ≡ plain_candidate xs → most ≡ min level 6 → last ≡ min level 4
+    → first_shortest (candidate_bits depth xs) before (flat_map (fixed_candidates most xs) (range_with_len 0 (last + 1))) ≡ best_candidate depth level xs
+whole_search depth level xs most last before some e m l =
     let f = candidate_bits depth xs in
-    choice_as depth xs (first_shortest f (plain_candidate xs) (flat_map (fixed_candidates (min level 6) xs) (range_with_len 0 n))) (best_candidate depth level xs) choice
-    (ap (λ (k : ℕ). first_shortest f (plain_candidate xs) (flat_map (fixed_candidates (min level 6) xs) (range_with_len 0 k))) e ∙ sym (start depth level xs some)) h
+    ap (λ (x : Candidate). first_shortest f x (flat_map (fixed_candidates most xs) (range_with_len 0 (last + 1)))) e
+    ∙ (ap (λ (k : ℕ). first_shortest f (plain_candidate xs) (flat_map (fixed_candidates k xs) (range_with_len 0 (last + 1)))) m
+    ∙ (ap (λ (k : ℕ). first_shortest f (plain_candidate xs) (flat_map (fixed_candidates (min level 6) xs) (range_with_len 0 (k + 1)))) l ∙ sym (start depth level xs some)))

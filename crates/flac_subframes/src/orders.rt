@@ -1,7 +1,7 @@
 // Residuals of fixed predictors, order by order.
-ghost use Rattle.std.specs.Prelude.{◌≡◌, ◌<◌, ◌≤◌, ◌+◌, ◌-◌, ◌*◌, ◌^◌, ◌+ℤ◌, ◌-ℤ◌, ◌*ℤ◌, ◌≤ℤ◌, pos, negsuc, true, false, length, map, IfOk, IfSome, IfNone};
+ghost use Rattle.std.specs.Prelude.{◌≡◌, ◌<◌, ◌≤◌, ◌+◌, ◌-◌, ◌*◌, ◌^◌, ◌+ℤ◌, ◌-ℤ◌, ◌*ℤ◌, ◌≤ℤ◌, pos, negsuc, true, false, length, take, map, IfOk, IfSome, IfNone};
 ghost use Rattle.std.specs.List.{range_with_len};
-ghost use Rattle.flac_subframes.specs.Fixed.{at, predicted, residual_at, residuals, are_in_range, is_in_range, AreWithin, differences};
+ghost use Rattle.flac_subframes.specs.Fixed.{at, predicted, residual_at, residuals, are_in_range, is_in_range, IsWithin, AreWithin, differences};
 
 use std::alloc::Global;
 use wc_base::NoMemory;
@@ -239,89 +239,77 @@ fn small_residual(alloc: Global, samples: &[i32], order: u32) -> Result<Vec<i32>
     let mut current = Vec::from_slice(alloc, samples)?;
     let mut bound = 1u32 << 25;
     for o in 0..order {
-        current = next_order(alloc, samples, o, current.as_slice(), bound)?;
+        to_next_order(samples, o, &mut current, bound);
         bound *= 2;
     }
     Ok(current)
 }
 
 /// Whether each is at most `most`, above and below 0.
-fn are_within(values: &[i32], most: u32) -> bool
+pub fn are_within(values: &[i32], most: u32) -> bool
     requires { most ≤ 2 ^ 30 }
     ensures { result ≡ true → AreWithin most values.now }
 {
-    let high = most as i32;
+    let mut all = true;
     for value in values {
-        if *value > high || *value < -high {
-            return false;
+        if !is_within(*value, most) {
+            all = false;
         }
     }
-    true
+    all
 }
 
-/// The residual of the next order from one of the orders 0 to 3.
-fn next_order(
-    alloc: Global,
-    samples: &[i32],
-    order: u32,
-    residual: &[i32],
-    most: u32,
-) -> Result<Vec<i32>, NoMemory>
+#[inline]
+fn is_within(value: i32, most: u32) -> bool
+    requires { most ≤ 2 ^ 30 }
+    ensures { result ≡ true → IsWithin most value }
+{
+    let high = most as i32;
+    value <= high && -high <= value
+}
+
+/// Puts the residual of the next order in the place of that of one of the orders 0 to 3.
+pub fn to_next_order(samples: &[i32], order: u32, residual: &mut Vec<i32>, most: u32)
     requires order { order ≤ 3 }
-    requires some { order < length samples.now }
-    requires residual { residual.now ≡ residuals order samples.now }
+    requires residual { residual.old.items ≡ residuals order samples.now }
     requires most { most ≤ 2 ^ 29 }
-    requires within { AreWithin most residual.now }
-    ensures value { IfOk result (λ v. v.items ≡ residuals (order + 1) samples.now) }
-    ensures within { IfOk result (λ v. AreWithin (2 * most) v.items) }
+    requires within { AreWithin most residual.old.items }
+    ensures value { residual.new.items ≡ residuals (order + 1) samples.now }
+    ensures within { AreWithin (2 * most) residual.new.items }
 {
-    let _count = samples.len();
-    differences(alloc, residual, most)
+    let _known = (samples.len(), order);
+    to_differences(residual, most);
 }
 
-/// The differences of neighbours.
-fn differences(alloc: Global, values: &[i32], most: u32) -> Result<Vec<i32>, NoMemory>
-    requires some { 0 < length values.now }
+/// Puts the differences of neighbours in the place of values.
+fn to_differences(values: &mut Vec<i32>, most: u32)
     requires most { most ≤ 2 ^ 29 }
-    requires within { AreWithin most values.now }
-    ensures value { IfOk result (λ v. v.items ≡ differences values.now) }
-    ensures within { IfOk result (λ v. AreWithin (2 * most) v.items) }
+    requires within { AreWithin most values.old.items }
+    ensures { values.new.items ≡ differences values.old.items }
 {
-    match made(alloc, values, most) {
-        Ok(out) => Ok(out),
-        Err(e) => Err(e),
-    }
+    let count = values.len();
+    fill_differences(values.as_mut_slice(), most);
+    values.truncate(count.saturating_sub(1));
 }
 
-fn made(alloc: Global, values: &[i32], most: u32) -> Result<Vec<i32>, NoMemory>
-    requires some { 0 < length values.now }
+/// Puts the difference to the next value in the place of each, but for the last.
+fn fill_differences(values: &mut [i32], most: u32)
     requires most { most ≤ 2 ^ 29 }
-    requires within { AreWithin most values.now }
-    ensures { IfOk result (λ v. v.items ≡ differences values.now) }
+    requires within { AreWithin most values.old }
+    ensures { take (length values.old - 1) values.new ≡ differences values.old }
 {
-    let mut out = Vec::from_elem(alloc, 0, values.len() - 1)?;
-    fill_differences(values, most, out.as_mut_slice());
-    Ok(out)
-}
-
-fn fill_differences(values: &[i32], most: u32, out: &mut [i32])
-    requires count { length out.old + 1 ≡ length values.now }
-    requires most { most ≤ 2 ^ 29 }
-    requires within { AreWithin most values.now }
-    ensures { out.new ≡ differences values.now }
-{
-    for j in 0..out.len() {
-        out[j] = difference(values, most, j);
+    for j in 1..values.len() {
+        values[j - 1] = difference(values[j - 1], values[j], most);
     }
 }
 
 #[inline]
-fn difference(values: &[i32], most: u32, j: usize) -> i32
-    requires short { j + 1 < length values.now }
+fn difference(before: i32, here: i32, most: u32) -> i32
     requires most { most ≤ 2 ^ 29 }
-    requires within { AreWithin most values.now }
-    ensures { result ≡ at values.now (j + 1) -ℤ at values.now j }
+    requires before { IsWithin most before }
+    requires here { IsWithin most here }
+    ensures { result ≡ here -ℤ before }
 {
     let _most = most;
-    values[j + 1] - values[j]
+    here - before
 }

@@ -1,18 +1,22 @@
-use Rattle.std.proofs.Common.{sym, arith, min}
-use Rattle.flac_subframes.specs.Candidates.{candidate_bits, plain_candidate}
-use Rattle.flac_subframes.proofs.Shortest.{choice_as, shortest_none, next_choice, last_choice}
+use Rattle.std.proofs.Common.{subst}
+use Rattle.std.specs.Result.{IfOk}
+use Rattle.flac_subframes.specs.Candidates.{IsChoice}
+use Rattle.flac_subframes.specs.declared.candidate.Candidate.{Candidate}
+use Rattle.flac_subframes.proofs.Shortest.{whole_search}
 use Rattle.flac_subframes.proofs.choice.best_choice.Goals as goal
 
-pub loop-order-init : goal.loop-order-init
-loop-order-init c =
-    let xs = c.args.samples.now in
-    choice_as c.args.depth xs _ _ c.plain_choice-best.result (sym (shortest_none (candidate_bits c.args.depth xs) (plain_candidate xs))) c.plain_choice-best.ensures
+pub returns-then-are_within : goal.returns-then-are_within
+returns-then-are_within c =
+    let a = c.args in
+    let xs = a.samples.now in
+    subst (λ (x : Candidate). IfOk c.with_small_orders.result (IsChoice a.depth xs x))
+    (whole_search a.depth a.level xs c.min-most.result c.min-last.result c.plain_choice-plain.result.candidate c.requires.some c.plain_choice-plain.ensures.candidate_is c.min-most.ensures c.min-last.ensures)
+    c.with_small_orders.ensures
 
-pub loop-order-preserved : goal.loop-order-preserved
-loop-order-preserved c =
-    let xs = c.args.samples.now in
-    next_choice c.args.depth xs (min c.args.level 6) c.min-most.result c.loop-order.order (plain_candidate xs) c.loop-order.best.candidate c.in_ok-best.best c.loop-order.invariant.candidate_is c.min-most.ensures c.in_ok-best.ensures
-
-pub returns : goal.returns
-returns c =
-    last_choice c.args.depth c.args.level c.args.samples.now c.loop-order.order c.loop-order.best c.requires.some (omega (arith, c.min-last.ensures)) c.loop-order.invariant
+pub returns-else-are_within : goal.returns-else-are_within
+returns-else-are_within c =
+    let a = c.args in
+    let xs = a.samples.now in
+    subst (λ (x : Candidate). IfOk c.with_orders.result (IsChoice a.depth xs x))
+    (whole_search a.depth a.level xs c.min-most.result c.min-last.result c.plain_choice-plain.result.candidate c.requires.some c.plain_choice-plain.ensures.candidate_is c.min-most.ensures c.min-last.ensures)
+    c.with_orders.ensures

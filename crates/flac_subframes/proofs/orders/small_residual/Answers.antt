@@ -10,8 +10,8 @@ loop-o-init c = record {
   within = subst (λ (l : List ℤ). AreWithin (2 ^ 25) l) (sym c.in_ok-current.ensures.items) c.requires.within;
 }
 
-pub next_order-requires-clause-most : goal.next_order-requires-clause-most
-next_order-requires-clause-most c = omega (arith, c.loop-o.invariant.bound, bound_fits c.loop-o.o (omega (arith, c.requires.order)))
+pub to_next_order-requires-clause-most : goal.to_next_order-requires-clause-most
+to_next_order-requires-clause-most c = omega (arith, c.loop-o.invariant.bound, bound_fits c.loop-o.o (omega (arith, c.requires.order)))
 
 pub overflow_mul-bound : goal.overflow_mul-bound
 overflow_mul-bound c = omega (arith, c.loop-o.invariant.bound, bound_fits c.loop-o.o (omega (arith, c.requires.order)))
@@ -21,9 +21,9 @@ loop-o-preserved c =
     let v = c.loop-o.invariant in
     let turned : 2 * c.loop-o.bound ≡ c.loop-o.bound * 2 = omega arith in
     record {
-      current = c.in_ok-current-2.ensures.value;
+      current = c.to_next_order.ensures.value;
       bound = bound_more c.loop-o.o c.loop-o.bound v.bound;
-      within = subst (λ (m : ℕ). AreWithin m c.in_ok-current-2.current.items) turned c.in_ok-current-2.ensures.within;
+      within = subst (λ (m : ℕ). AreWithin m c.to_next_order.new.residual.items) turned c.to_next_order.ensures.within;
     }
 
 pub returns-clause-range : goal.returns-clause-range

@@ -1,0 +1,10 @@
+use Rattle.std.proofs.Common.{ℕ, ◌≡◌, ◌<◌, length}
+use Rattle.flac_subframes.specs.Fixed.{at}
+use Rattle.flac_blocks.specs.Modes.{mid_of}
+use Rattle.flac_blocks.proofs.pair.fill_mids.Given as goal
+
+abbrev pub invariant-loop-i : goal.invariant-loop-i
+invariant-loop-i l = record {
+  count : length l.out ≡ length l.left;
+  values : (k : ℕ) → k < l.i → at l.out k ≡ mid_of (at l.left k) (at l.right k);
+}

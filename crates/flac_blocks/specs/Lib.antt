@@ -1,0 +1,3 @@
+pub mod CodedLaws
+pub mod Frames
+pub mod Modes

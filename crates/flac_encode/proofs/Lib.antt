@@ -1,0 +1,5 @@
+pub mod Counts
+pub mod Filled
+pub mod Meets
+pub mod Served
+pub mod Steps

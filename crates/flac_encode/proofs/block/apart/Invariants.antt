@@ -1,0 +1,11 @@
+use Rattle.std.proofs.Common.{◌≡◌}
+use Rattle.std.specs.List.{range_with_len, flat_map}
+use Rattle.flac_subframes.specs.Spelling.{HaveDepth}
+use Rattle.flac_encode.specs.Code.{channel_apart}
+use Rattle.flac_encode.proofs.block.apart.Given as goal
+
+abbrev pub invariant-loop-channel : goal.invariant-loop-channel
+invariant-loop-channel l = record {
+  values : l.out.items ≡ flat_map (channel_apart l.channels l.values) (range_with_len 0 l.channel);
+  fit : HaveDepth l.depth l.out.items;
+}

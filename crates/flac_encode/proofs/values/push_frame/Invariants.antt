@@ -1,0 +1,11 @@
+use Rattle.std.proofs.Common.{◌≡◌, ◌++◌, map}
+use Rattle.std.specs.List.{range_with_len}
+use Rattle.flac_subframes.specs.Spelling.{HaveDepth}
+use Rattle.flac_encode.specs.Blocks.{value_at}
+use Rattle.flac_encode.proofs.values.push_frame.Given as goal
+
+abbrev pub invariant-loop-channel : goal.invariant-loop-channel
+invariant-loop-channel l = record {
+  values : l.out.items ≡ l.fn.out.items ++ map (value_at l.config (record { shape = l.shape; bytes = l.bytes }) l.fn.frame) (range_with_len 0 l.channel);
+  fit : HaveDepth l.config.depth l.out.items;
+}

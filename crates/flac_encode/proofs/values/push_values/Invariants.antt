@@ -1,0 +1,11 @@
+use Rattle.std.proofs.Common.{◌≡◌, ◌++◌}
+use Rattle.std.specs.List.{range_with_len, flat_map}
+use Rattle.flac_subframes.specs.Spelling.{HaveDepth}
+use Rattle.flac_encode.specs.Blocks.{frame_values}
+use Rattle.flac_encode.proofs.values.push_values.Given as goal
+
+abbrev pub invariant-loop-frame : goal.invariant-loop-frame
+invariant-loop-frame l = record {
+  values : l.out.items ≡ l.fn.out.items ++ flat_map (frame_values l.config (record { shape = l.shape; bytes = l.bytes })) (range_with_len 0 l.frame);
+  fit : HaveDepth l.config.depth l.out.items;
+}

@@ -1,0 +1,26 @@
+-- The bytes of a block.
+use Rattle.std.specs.Prelude.{ℕ, ℤ, pos, ◌+◌, ◌*◌, ◌/◌, Bool, List, length, take, drop, map, get_or}
+use Rattle.std.specs.List.{flat_map, range_with_len}
+use Rattle.wc_config.specs.declared.config.AudioEncoderConfig.{AudioEncoderConfig}
+use Rattle.flac_definitions.specs.Bits.{number_of}
+use Rattle.flac_blocks.specs.Frames.{frame_bits}
+use Rattle.flac_blocks.specs.declared.mode.BlockFormat.{BlockFormat}
+
+abbrev pub format_of : AudioEncoderConfig → BlockFormat
+format_of c = record { rate = c.rate; channels = c.channels; depth = c.depth; level = c.level }
+
+-- the samples of a channel, of samples that stand frame by frame
+abbrev pub channel_apart : ℕ → List ℤ → ℕ → List ℤ
+channel_apart channels values c = map (λ i. get_or values (i * channels + c) (pos 0)) (range_with_len 0 (length values / channels))
+
+-- one channel after another
+abbrev pub apart : ℕ → List ℤ → List ℤ
+apart channels values = flat_map (channel_apart channels values) (range_with_len 0 channels)
+
+-- the bytes of bits that fill whole bytes
+abbrev pub bytes_with : List Bool → List ℕ
+bytes_with bits = map (λ i. number_of (take 8 (drop (8 * i) bits))) (range_with_len 0 (length bits / 8))
+
+-- the frame of a block of samples that stand frame by frame
+unfoldable pub flac_code : AudioEncoderConfig → ℕ → List ℤ → List ℕ
+flac_code c number values = bytes_with (frame_bits (format_of c) (length values / c.channels) number (apart c.channels values))

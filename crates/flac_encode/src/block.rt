@@ -1,0 +1,121 @@
+// One block, coded.
+ghost use Rattle.std.specs.Prelude.{◌≡◌, ◌<◌, ◌≤◌, ◌+◌, ◌*◌, ◌/◌, ◌%◌, ◌^◌, ◌++◌, true, length, map, IfOk, OnOk};
+ghost use Rattle.std.specs.List.{range_with_len, flat_map};
+ghost use Rattle.flac_definitions.specs.Bits.{bits_in};
+ghost use Rattle.flac_subframes.specs.Fixed.{at};
+ghost use Rattle.flac_subframes.specs.Spelling.{HasDepth, HaveDepth};
+ghost use Rattle.flac_blocks.specs.Modes.{IsFormat, IsBlock};
+ghost use Rattle.flac_blocks.specs.Frames.{frame_bits};
+ghost use Rattle.flac_encode.specs.Code.{format_of, channel_apart, apart, bytes_with, flac_code};
+ghost use Rattle.flac_encode.specs.Steps.{IsRanged};
+
+use crate::values::push_value;
+use bytes::Bytes;
+use flac_blocks::{BlockFormat, encode_block};
+use std::alloc::Global;
+use wc_base::NoMemory;
+use wc_config::AudioEncoderConfig;
+
+/// The bytes of the frame of a block of 1 to 65535 frames, whose samples stand frame by frame.
+pub fn code_block(
+    alloc: Global,
+    config: &AudioEncoderConfig,
+    number: u32,
+    values: &[i32],
+) -> Result<Bytes, NoMemory>
+    requires ranged { IsRanged config.now }
+    requires number { number < 2 ^ 31 }
+    requires some { 0 < length values.now }
+    requires few { length values.now ≤ 65535 * config.now.channels }
+    requires whole { length values.now % config.now.channels ≡ 0 }
+    requires fit { HaveDepth config.now.depth values.now }
+    ensures { IfOk result (λ b. b ≡ flac_code config.now number values.now) }
+{
+    let frames = values.len() / config.channels as usize;
+    let samples = apart(alloc, config.channels as usize, config.depth, values)?;
+    let bytes = encode_block(
+        alloc,
+        format_of(config),
+        frames as u32,
+        number,
+        samples.as_slice(),
+    )?;
+    bytes_are_of_bits(bytes.as_slice());
+    match Bytes::from_vec(bytes) {
+        Ok(bytes) => Ok(bytes),
+        Err(_) => Err(NoMemory),
+    }
+}
+
+/// A law: bytes are those of their bits.
+fn bytes_are_of_bits(bytes: &[u8])
+    ensures { bytes.now ≡ bytes_with (bits_in bytes.now) }
+{
+    let _count = bytes.len();
+}
+
+/// The format of a config's blocks.
+fn format_of(config: &AudioEncoderConfig) -> BlockFormat
+    requires { IsRanged config.now }
+    ensures value { result ≡ format_of config.now }
+    ensures format { IsFormat result }
+{
+    BlockFormat {
+        rate: config.rate,
+        channels: config.channels as u8,
+        depth: config.depth as u8,
+        level: config.level as u8,
+    }
+}
+
+/// Samples that stand frame by frame, one channel after another.
+fn apart(alloc: Global, channels: usize, depth: u32, values: &[i32]) -> Result<Vec<i32>, NoMemory>
+    requires some { 0 < channels }
+    requires few { channels ≤ 8 }
+    requires fit { HaveDepth depth values.now }
+    ensures value { IfOk result (λ v. v.items ≡ apart channels values.now) }
+    ensures fit { IfOk result (λ v. HaveDepth depth v.items) }
+{
+    let mut out = Vec::with_capacity(alloc, values.len())?;
+    for channel in 0..channels {
+        push_channel(channels, depth, values, channel, &mut out)?;
+    }
+    Ok(out)
+}
+
+/// Appends the samples of a channel.
+fn push_channel(
+    channels: usize,
+    depth: u32,
+    values: &[i32],
+    channel: usize,
+    out: &mut Vec<i32>,
+) -> Result<(), NoMemory>
+    requires some { 0 < channels }
+    requires few { channels ≤ 8 }
+    requires channel { channel < channels }
+    requires fit { HaveDepth depth values.now }
+    requires so_far { HaveDepth depth out.old.items }
+    ensures value { OnOk result
+        (out.new.items ≡ out.old.items ++ channel_apart channels values.now channel) }
+    ensures fit { OnOk result (HaveDepth depth out.new.items) }
+{
+    let _depth = depth;
+    for i in 0..values.len() / channels {
+        let value = sample_at(channels, values, channel, i);
+        push_value(value, out)?;
+    }
+    Ok(())
+}
+
+/// A channel's sample of a frame.
+#[inline]
+fn sample_at(channels: usize, values: &[i32], channel: usize, i: usize) -> i32
+    requires few { channels ≤ 8 }
+    requires channel { channel < channels }
+    requires within { i < length values.now / channels }
+    ensures value { result ≡ at values.now (i * channels + channel) }
+    ensures there { i * channels + channel < length values.now }
+{
+    values[i * channels + channel]
+}
