@@ -153,6 +153,9 @@ flush_came s media w c (step.Flush on bind) (result.Call k p error) flush made a
 flush_came s media w c (step.Flush on bind) result.Absent flush made answers = absurd answers
 flush_came s media w c (step.Flush on bind) (result.Local error) flush made answers = absurd made
 flush_came s media w c (step.Flush on bind) (result.Look k n end) flush made answers = absurd made
+flush_came s media w c (step.Flush on bind) (result.Copied n bytes) flush made answers = absurd made
+flush_came s media w c (step.Flush on bind) (result.CopiedFrame n layouts bytes) flush made answers = absurd made
+flush_came s media w c (step.Flush on bind) (result.Size n) flush made answers = absurd made
 flush_came s media w c (step.Flush on bind) (result.State k n state size) flush made answers = absurd made
 flush_came s media w c (step.Configure on config) r flush made answers = absurd flush
 flush_came s media w c (step.Chunk bind source) r flush made answers = absurd flush

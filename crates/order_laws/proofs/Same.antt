@@ -7,6 +7,7 @@ use Rattle.wc_base.specs.declared.who.By.{By}
 use Rattle.wc_base.specs.declared.who.Who.{Who}
 use Rattle.wc_config.specs.declared.codec.CoderId.{CoderId}
 use Rattle.wc_chunk.specs.declared.chunk.Chunk.{Chunk}
+use Rattle.wc_pool.specs.declared.entry.PoolEntry.{PoolEntry}
 use Rattle.coder_api.specs.declared.slot.SlotEntry.{SlotEntry}
 use Rattle.slot_registry.specs.Boxes.{is_out, made_of, out_of, least_free}
 use Rattle.slot_registry.specs.Slots.{SlotsValue, acquire_op, acquire_entry, acquired}
@@ -322,7 +323,7 @@ one_run s media made others run again boxes f g p q same =
     let is = recorded_alike s media made others run again boxes f g same in
     let callers = callers_same run.callers again.callers (ap (λ (r : Recorded). r.callers) is) in
     let codecs = traces_same s.codecs run.codecs again.codecs p.codecs q.codecs (ap (λ (r : Recorded). r.codecs) is) in
-    same_run run.callers again.callers run.codecs again.codecs run.slots again.slots run.held again.held callers codecs (ap (λ (r : Recorded). r.slots) is) (p.held ∙ sym q.held)
+    same_run run.callers again.callers run.codecs again.codecs run.pool again.pool run.slots again.slots run.held again.held callers codecs (p.pool ∙ sym q.pool) (ap (λ (r : Recorded). r.slots) is) (p.held ∙ sym q.held)
   where
-    same_run : (a b : List CallerTrace) (c d : List CodecTrace) (x y : List SlotEntry) (m n : ℕ) → a ≡ b → c ≡ d → x ≡ y → m ≡ n → ◌≡◌ {A = Run} (record { callers = a; codecs = c; slots = x; held = m }) (record { callers = b; codecs = d; slots = y; held = n })
-    same_run a b c d x y m n p q r s = cc
+    same_run : (a b : List CallerTrace) (c d : List CodecTrace) (u v : List PoolEntry) (x y : List SlotEntry) (m n : ℕ) → a ≡ b → c ≡ d → u ≡ v → x ≡ y → m ≡ n → ◌≡◌ {A = Run} (record { callers = a; codecs = c; pool = u; slots = x; held = m }) (record { callers = b; codecs = d; pool = v; slots = y; held = n })
+    same_run a b c d u v x y m n p q o r s = cc

@@ -1,5 +1,5 @@
 -- The text of a line ends with its only line feed.
-use Rattle.std.proofs.Common.{◌≡◌, ℕ, suc, ◌<◌, ◌^◌, Bool, true, false, eqb, List, [], ◌∷◌, ◌++◌, get_or, Option, Some, None, refl, sym, ap, ◌∙◌, arith, inl, inr, codes, decimal, append_assoc, ℤ, pos, negsuc}
+use Rattle.std.proofs.Common.{◌≡◌, ℕ, suc, ◌<◌, ◌^◌, Bool, true, false, cond, eqb, List, [], ◌∷◌, ◌++◌, get_or, Option, Some, None, refl, sym, ap, ◌∙◌, arith, inl, inr, codes, decimal, append_assoc, ℤ, pos, negsuc}
 use Rattle.std.specs.List.{list_all, AllPass}
 use Rattle.std.specs.Fmt.{signed_decimal}
 use Rattle.std.specs.Int.Signed.{mag}
@@ -15,6 +15,10 @@ use Rattle.wc_base.specs.declared.who.By.TheVariants as by
 use Rattle.wc_base.specs.declared.media.SoundShape.{SoundShape}
 use Rattle.wc_base.specs.declared.media.PictureShape.{PictureShape}
 use Rattle.wc_config.specs.declared.codec.CoderId.{CoderId}
+use Rattle.wc_video.specs.declared.layout.PlaneLayout.{PlaneLayout}
+use Rattle.wc_video.specs.declared.layout.Layouts.{Layouts}
+use Rattle.wc_pool.specs.declared.entry.PoolOp.{PoolOp}
+use Rattle.wc_pool.specs.declared.entry.PoolOp.TheVariants as pool
 use Rattle.coder_api.specs.declared.slot.SlotOp.{SlotOp}
 use Rattle.coder_api.specs.declared.slot.SlotOp.TheVariants as slot
 use Rattle.codec_model.specs.declared.entry.PromiseState.{PromiseState}
@@ -28,7 +32,7 @@ use Rattle.report_text.specs.declared.result.StepResult.{StepResult}
 use Rattle.report_text.specs.declared.result.StepResult.TheVariants as result
 use Rattle.report_text.specs.Words.{error_name, answer_text, kind_text, state_text, sample_format_text, picture_format_text, codec_text, role_text, chunk_type_text}
 use Rattle.report_text.specs.Names.{caller_name, codec_name, item_text, who_text, entry_name, look_name, coder_text, by_text}
-use Rattle.report_text.specs.Text.{promise_text, outcome_text, turn_text, result_text, slot_text, numbered_line}
+use Rattle.report_text.specs.Text.{promise_text, layout_text, third_text, layouts_text, outcome_text, turn_text, result_text, last_text, pool_text, slot_text, numbered_line}
 use Rattle.report_text.specs.Text.{number_or_dash, hex_or_dash, content_line, sound_text, picture_text, sound_duration}
 use Rattle.report_lines.specs.Words.{is_word_byte}
 use Rattle.report_lines.specs.FieldLaws.{FitsOrAbsent}
@@ -43,9 +47,9 @@ use Rattle.report_text.specs.declared.line.Line.TheVariants as line
 use Rattle.report_text.specs.Words.{call_word}
 use Rattle.report_text.specs.Text.{entry_text}
 use Rattle.report_text.specs.Text.{event_text, line_text}
-use Rattle.report_lines.specs.Fits.{is_no_feed, AreNames, IsCodec, FitsWho, FitsResult, FitsOutcome, FitsEntryLine, FitsSound, FitsImage, FitsEventLine, FitsBy, FitsOp, FitsLine}
+use Rattle.report_lines.specs.Fits.{is_no_feed, AreNames, IsCodec, FitsWho, FitsLayout, FitsLayouts, FitsResult, FitsOutcome, FitsEntryLine, FitsSound, FitsImage, FitsEventLine, FitsBy, FitsPoolOp, FitsOp, FitsLine}
 use Rattle.report_lines.specs.Laws.{IsOneLine}
-use Rattle.report_lines.proofs.WordTables.{error_is_word, answer_is_word, kind_is_word, state_is_word, call_is_word, sample_format_is_word, picture_format_is_word, codec_id_is_word, role_is_word, key_is_word}
+use Rattle.report_lines.proofs.WordTables.{error_is_word, answer_is_word, kind_is_word, state_is_word, call_is_word, sample_format_is_word, picture_format_is_word, codec_id_is_word, role_is_word, key_is_word, last_is_word}
 use Rattle.report_lines.proofs.LineLaws.{duration_fits}
 
 record Plain (w : List ℕ) : Type 0 where
@@ -114,11 +118,27 @@ promise_plain promise.Pending = sure refl
 promise_plain promise.Resolved = sure refl
 promise_plain (promise.Rejected e) = both (codes "rejected ") _ (sure refl) (word_plain (error_name e) (error_is_word e))
 
+layout_plain : (l : PlaneLayout) → FitsLayout l → Plain (layout_text l)
+layout_plain l fits = both _ _ (short_number l.offset fits.0) (both (codes ":") _ (sure refl) (short_number l.stride fits.1))
+
+third_plain : (l : Layouts) → FitsLayout l.third → Plain (third_text l)
+third_plain l fits = elim (eqb l.count 3) as (λ q. Plain (cond q (codes "," ++ layout_text l.third) [])) [
+  | true ↦ both (codes ",") _ (sure refl) (layout_plain l.third fits)
+  | false ↦ sure refl
+]
+
+layouts_plain : (l : Layouts) → FitsLayouts l → Plain (layouts_text l)
+layouts_plain l fits = both _ _ (layout_plain l.first fits.first) (both (codes ",") _ (sure refl) (both _ _ (layout_plain l.second fits.second) (third_plain l fits.third)))
+
 result_plain : (script : ScriptData) (r : StepResult) → AreNames script → FitsResult script r → Plain (result_text script.codecs r)
 result_plain script (result.Call n place error) names fits = both _ _ (entry_plain script n place names fits.0 fits.1) (both (codes " ") _ blank (answer error))
 result_plain script (result.Local error) names fits = answer error
 result_plain script (result.Look n len end) names fits = both _ _ (look_plain script n len names fits.0 fits.1) (both (codes " ") _ blank (promise_plain end))
 result_plain script (result.State n len state size) names fits = both _ _ (look_plain script n len names fits.0 fits.1) (both (codes " ") _ blank (both _ _ (word_plain (state_text state) (state_is_word state)) (both (codes " ") _ blank (number size fits.2))))
+result_plain script (result.Copied n bytes) names fits = both _ _ (both (codes "copied ") _ (sure refl) (both _ _ (number n fits.0) blank)) (hex bytes fits.1)
+result_plain script (result.CopiedFrame n layouts bytes) names fits =
+    both _ _ (both (codes "copied ") _ (sure refl) (both _ _ (number n fits.0) (both (codes " ") _ blank (both _ _ (layouts_plain layouts fits.1) blank)))) (hex bytes fits.2)
+result_plain script (result.Size n) names fits = both (codes "size ") _ (sure refl) (number n fits)
 result_plain script result.Absent names fits = sure refl
 
 outcome_plain : (o : Outcome) → FitsOutcome o → Plain (outcome_text o)
@@ -150,6 +170,12 @@ entry_line_plain script (entry_line.Reclaim moment) names fits = both (codes "re
 by_plain : (script : ScriptData) (who : By) → AreNames script → FitsBy script who → Plain (by_text script who)
 by_plain script (by.Caller who) names fits = who_plain script who names fits
 by_plain script (by.Codec n place) names fits = entry_plain script n place names fits.0 fits.1
+
+pool_plain : (op : PoolOp) → FitsPoolOp op → Plain (pool_text op)
+pool_plain (pool.Make resource reference) fits = both (codes "make ") _ (sure refl) (both _ _ (number resource fits.0) (both (codes " ") _ blank (number reference fits.1)))
+pool_plain (pool.Clone resource reference) fits = both (codes "clone ") _ (sure refl) (both _ _ (number resource fits.0) (both (codes " ") _ blank (number reference fits.1)))
+pool_plain (pool.End resource reference last) fits =
+    both (codes "end ") _ (sure refl) (both _ _ (number resource fits.0) (both (codes " ") _ blank (both _ _ (number reference fits.1) (both (codes " ") _ blank (word_plain (last_text last) (last_is_word last))))))
 
 coder_plain : (id : CoderId) → Plain (coder_text id)
 coder_plain id = both _ _ (word_plain (role_text id.role) (role_is_word id.role)) (both (codes ":") _ (sure refl) (word_plain (codec_text id.codec) (codec_id_is_word id.codec)))
@@ -208,6 +234,7 @@ line_one script (line.Codec n opening) names fits = behind (codes "codec ") _ (s
 line_one script (line.Entry place entry) names fits = numbered_one place _ fits.0 (entry_line_plain script entry names fits.1)
 line_one script (line.Event s) names fits = event_one s fits
 line_one script line.Pool names fits = behind (codes "pool") _ (sure refl) feed
+line_one script (line.Reference place entry) names fits = numbered_one place _ fits.0 (both _ _ (by_plain script entry.by names fits.1) (both (codes " ") _ blank (pool_plain entry.op fits.2)))
 line_one script line.Slots names fits = behind (codes "slots") _ (sure refl) feed
 line_one script (line.Slot place entry) names fits = numbered_one place _ fits.0 (both _ _ (by_plain script entry.by names fits.1) (both (codes " ") _ blank (slot_plain entry.op fits.2)))
 line_one script (line.Held n) names fits = behind (codes "held ") _ (sure refl) (behind _ _ (number n fits) feed)

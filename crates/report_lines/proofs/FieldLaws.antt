@@ -10,6 +10,7 @@ use Rattle.std.specs.Int.{IsInRange}
 use Rattle.std.specs.Int.Signed.{mag}
 use Rattle.std.proofs.lemmas.Str.{IsUtf8-from_ascii}
 use Rattle.std.proofs.lemmas.Str.Parse.{IsNumeralModel, numerals_by_value, parse_digits, not_in_digits}
+use Rattle.std.proofs.lemmas.List.Sums.{list_all-from_AllPass}
 use Rattle.std.proofs.lemmas.Fmt.{IsAscii-from_digits, digits_decimal, digits_value-decimal, decimal_nonempty}
 use Rattle.std.proofs.lemmas.Bool.{false≢true, ltb-true, lt-ltb, le-leb}
 use Rattle.hex.specs.Hex.{decode_of, IsBytes, encode_lower, is_hex_digit, lower_digits}
@@ -145,3 +146,15 @@ not_nil (b ∷ w) lt = refl
 
 pub decimal_not_nil : (n : ℕ) → n < 2 ^ 64 → bytes_eq (decimal n) [] ≡ false
 decimal_not_nil n lt = not_nil (decimal n) (decimal_nonempty n lt)
+
+-- ---- bytes in hex are a word
+
+hex_digit_is_word : (b : ℕ) → is_hex_digit b ≡ true → is_word_byte b ≡ true
+hex_digit_is_word b h = grind (arith, h)
+
+pub hex_word : (bytes : List ℕ) → IsBytes bytes → list_all is_word_byte (hex_or_dash bytes) ≡ true
+hex_word [] fits = refl
+hex_word (b ∷ bytes) fits =
+    let text : List ℕ = encode_lower (b ∷ bytes) in
+    let digits : AllPass is_hex_digit text = (decode_of-ok text (b ∷ bytes) (decode_of-encode_lower (b ∷ bytes) fits)).1 in
+    list_all-from_AllPass is_word_byte text (λ i d lt. hex_digit_is_word (get_or text i d) (digits i d lt))

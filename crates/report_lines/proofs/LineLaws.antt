@@ -1,7 +1,8 @@
 -- What is written as a line is read again.
-use Rattle.std.proofs.Common.{◌≡◌, ℕ, ◌*◌, ◌/◌, ◌<◌, ◌≤◌, ◌^◌, Bool, true, cond, ◌||◌, List, [], ◌∷◌, ◌++◌, length, get_or, Option, Some, None, refl, sym, ap, subst, ◌∙◌, arith, decimal, codes, append_assoc, position, ℤ}
+use Rattle.std.proofs.Common.{◌≡◌, ℕ, inl, inr, ◌*◌, ◌/◌, ◌<◌, ◌≤◌, ◌^◌, Bool, true, false, cond, List, [], ◌∷◌, ◌++◌, length, get_or, Option, Some, None, refl, sym, ap, subst, ◌∙◌, arith, decimal, codes, append_assoc, position, ℤ}
 use Rattle.std.specs.List.{list_all, position_or_len}
 use Rattle.std.specs.Str.{bytes_eq}
+use Rattle.std.specs.Char.{is_ascii_digit}
 use Rattle.std.specs.Fmt.{signed_decimal}
 use Rattle.std.specs.Int.Signed.{mag}
 use Rattle.std.proofs.lemmas.Bool.{lt-ltb, le-ltb}
@@ -16,6 +17,10 @@ use Rattle.wc_base.specs.declared.who.By.TheVariants as by
 use Rattle.wc_base.specs.declared.media.SoundShape.{SoundShape}
 use Rattle.wc_base.specs.declared.media.PictureShape.{PictureShape}
 use Rattle.wc_config.specs.declared.codec.CoderId.{CoderId}
+use Rattle.wc_video.specs.declared.layout.PlaneLayout.{PlaneLayout}
+use Rattle.wc_video.specs.declared.layout.Layouts.{Layouts}
+use Rattle.wc_pool.specs.declared.entry.PoolOp.{PoolOp}
+use Rattle.wc_pool.specs.declared.entry.PoolOp.TheVariants as pool
 use Rattle.coder_api.specs.declared.slot.SlotOp.{SlotOp}
 use Rattle.coder_api.specs.declared.slot.SlotOp.TheVariants as slot
 use Rattle.codec_model.specs.declared.entry.CodecState.{CodecState}
@@ -33,12 +38,12 @@ use Rattle.report_text.specs.declared.result.StepResult.{StepResult}
 use Rattle.report_text.specs.declared.result.StepResult.TheVariants as result
 use Rattle.report_text.specs.Words.{error_name, answer_text, kind_text, state_text, sample_format_text, picture_format_text, codec_text, role_text, chunk_type_text}
 use Rattle.report_text.specs.Names.{caller_name, codec_name}
-use Rattle.report_text.specs.Text.{promise_text, outcome_text, turn_text, slot_text, numbered_line, number_or_dash, hex_or_dash, sound_duration}
-use Rattle.report_lines.specs.Words.{◌>>=◌, after, is_word_byte}
+use Rattle.report_text.specs.Text.{promise_text, layout_text, third_text, layouts_text, last_text, outcome_text, turn_text, pool_text, slot_text, numbered_line, number_or_dash, hex_or_dash, sound_duration}
+use Rattle.report_lines.specs.Words.{◌>>=◌, after, is_word_byte, word_at}
 use Rattle.report_lines.specs.Fields.{short, number_or_dash_upto, bytes_upto}
 use Rattle.report_lines.specs.FieldLaws.{Lacks, FitsOrAbsent}
 use Rattle.report_lines.proofs.WordLaws.{upto_again, after_again, after_only, word_again, same_bytes, not_same}
-use Rattle.report_lines.proofs.FieldLaws.{number_again, short_again, signed_again, number_or_dash_again, bytes_again, decimal_digits, decimal_word, decimal_not_nil}
+use Rattle.report_lines.proofs.FieldLaws.{number_again, short_again, signed_again, number_or_dash_again, bytes_again, decimal_digits, decimal_word, decimal_not_nil, hex_word}
 use Rattle.report_text.specs.declared.line.CallWord.{CallWord}
 use Rattle.report_text.specs.declared.line.CallWord.TheVariants as call
 use Rattle.report_text.specs.declared.line.EntryLine.{EntryLine}
@@ -50,9 +55,9 @@ use Rattle.report_text.specs.declared.line.Line.TheVariants as line
 use Rattle.report_text.specs.Words.{call_word}
 use Rattle.report_text.specs.Text.{entry_text}
 use Rattle.report_text.specs.Text.{event_text, line_text}
-use Rattle.report_lines.specs.Reading.{caller_of, codec_of, error_at, answer_at, promise_at, look_at, look_line_at, call_result_at, outcome_at, turn_at, start_at, done_at, call_at, by_of, coder_at, refused_at, acquired_at, given_at, op_at, slot_at, dotted_line_at, worded_line_at, numbered_line_at, sound_at, image_at, chunk_at, output_at, config_at, reject_at, event_at, event_line_at, codec_at, caller_at, headed_line_at, only_line_at, line_at}
-use Rattle.report_lines.specs.Fits.{is_no_feed, AreNames, IsCaller, IsCodec, FitsWho, FitsResult, FitsOutcome, FitsEntryLine, FitsSound, FitsImage, FitsEventLine, FitsBy, FitsOp, FitsLine}
-use Rattle.report_lines.proofs.WordTables.{error_is_word, error_again, answer_is_word, answer_again, kind_is_word, kind_again, state_is_word, state_again, call_is_word, call_again, sample_format_is_word, sample_format_again, picture_format_is_word, picture_format_again, codec_id_is_word, codec_id_again, role_is_word, role_again, key_is_word, key_again}
+use Rattle.report_lines.specs.Reading.{caller_of, codec_of, error_at, answer_at, promise_at, look_at, look_line_at, call_result_at, layout_at, two_layouts_at, three_layouts_at, layouts_at, copied_bytes_at, copied_frame_at, copied_at, copied_line_at, outcome_at, turn_at, start_at, done_at, call_at, by_of, coder_at, refused_at, acquired_at, given_at, op_at, slot_at, made_at, cloned_at, ended_at, pool_op_at, reference_at, is_slot_word, is_pool_word, dotted_line_at, worded_result_at, worded_line_at, numbered_line_at, sound_at, image_at, chunk_at, output_at, config_at, reject_at, event_at, event_line_at, codec_at, caller_at, headed_line_at, only_line_at, line_at}
+use Rattle.report_lines.specs.Fits.{is_no_feed, AreNames, IsCaller, IsCodec, FitsWho, FitsLayout, no_layout, FitsLayouts, FitsResult, FitsOutcome, FitsEntryLine, FitsSound, FitsImage, FitsEventLine, FitsBy, FitsPoolOp, FitsOp, FitsLine}
+use Rattle.report_lines.proofs.WordTables.{error_is_word, error_again, answer_is_word, answer_again, kind_is_word, kind_again, state_is_word, state_again, call_is_word, call_again, sample_format_is_word, sample_format_again, picture_format_is_word, picture_format_again, codec_id_is_word, codec_id_again, role_is_word, role_again, key_is_word, key_again, last_is_word, last_again}
 
 -- ---- names
 
@@ -160,6 +165,100 @@ turn_again (Some turn.Flushed) rest = refl
 turn_again (Some turn.Dequeue) rest = refl
 turn_again (Some (turn.Close e)) rest = rw (error_at_again e rest) refl
 
+-- ---- copies
+
+dash_10 : ◌≡◌ {A = ℕ} 45 10 → ⊥
+dash_10 h = omega arith
+
+hex_read : (bytes rest : List ℕ) → IsBytes bytes → bytes_upto 10 (hex_or_dash bytes ++ 10 ∷ rest) ≡ Some (bytes, rest)
+hex_read bytes rest fits = bytes_again 10 bytes rest fits dash_10 refl
+
+abbrev two : PlaneLayout → PlaneLayout → Layouts
+two first second = record { count = 2; first = first; second = second; third = no_layout }
+
+abbrev three : PlaneLayout → PlaneLayout → PlaneLayout → Layouts
+three first second third = record { count = 3; first = first; second = second; third = third }
+
+-- a plane, a mark and what stands behind
+abbrev plane : PlaneLayout → ℕ → List ℕ → List ℕ
+plane l mark rest = decimal l.offset ++ 58 ∷ (decimal l.stride ++ mark ∷ rest)
+
+short_word : (n : ℕ) → n < 2 ^ 32 → list_all is_word_byte (decimal n) ≡ true
+short_word n lt = decimal_word n (omega (arith, lt))
+
+layout_again : (mark : ℕ) (l : PlaneLayout) (rest : List ℕ) → FitsLayout l → is_ascii_digit mark ≡ false → layout_at mark (plane l mark rest) ≡ Some (l, rest)
+unfolding layout_at
+layout_again mark l rest fits other = rw (short_again 58 l.offset _ fits.0 refl, short_again mark l.stride rest fits.1 other) refl
+
+two_again : (a b : PlaneLayout) (rest : List ℕ) → FitsLayout a → FitsLayout b → layouts_at (layouts_text (two a b) ++ 32 ∷ rest) ≡ Some (two a b, rest)
+unfolding layouts_at two_layouts_at
+two_again a b rest first second =
+    let regrouped : layouts_text (two a b) ++ 32 ∷ rest ≡ plane a 44 (plane b 32 rest) = simp append_assoc in
+    ap layouts_at regrouped
+    ∙ rw (
+      layout_again 44 a (plane b 32 rest) first refl,
+      word_again 58 (decimal b.offset) _ (short_word b.offset second.0) refl,
+      word_again 32 (decimal b.stride) rest (short_word b.stride second.1) refl,
+      layout_again 32 b rest second refl,
+    ) refl
+
+three_again : (a b c : PlaneLayout) (rest : List ℕ) → FitsLayout a → FitsLayout b → FitsLayout c → layouts_at (layouts_text (three a b c) ++ 32 ∷ rest) ≡ Some (three a b c, rest)
+unfolding layouts_at three_layouts_at
+three_again a b c rest first second third =
+    let regrouped : layouts_text (three a b c) ++ 32 ∷ rest ≡ plane a 44 (plane b 44 (plane c 32 rest)) = simp append_assoc in
+    ap layouts_at regrouped
+    ∙ rw (
+      layout_again 44 a (plane b 44 (plane c 32 rest)) first refl,
+      word_again 58 (decimal b.offset) _ (short_word b.offset second.0) refl,
+      word_again 44 (decimal b.stride) _ (short_word b.stride second.1) refl,
+      layout_again 44 b (plane c 32 rest) second refl,
+      layout_again 32 c rest third refl,
+    ) refl
+
+two_is : (l : Layouts) → l.count ≡ 2 → l.third ≡ no_layout → two l.first l.second ≡ l
+two_is l count third = rw (sym count, sym third) refl
+
+three_is : (l : Layouts) → l.count ≡ 3 → three l.first l.second l.third ≡ l
+three_is l count = rw (sym count) refl
+
+abbrev AreRead : List ℕ → Layouts → Type 0
+AreRead rest l = layouts_at (layouts_text l ++ 32 ∷ rest) ≡ Some (l, rest)
+
+layouts_again : (l : Layouts) (rest : List ℕ) → FitsLayouts l → AreRead rest l
+layouts_again l rest fits = elim fits.planes [
+  | inl both ↦ subst (AreRead rest) (two_is l both.0 both.1) (two_again l.first l.second rest fits.first fits.second)
+  | inr count ↦ subst (AreRead rest) (three_is l count) (three_again l.first l.second l.third rest fits.first fits.second fits.third)
+]
+
+-- what stands behind the first number
+abbrev behind_offset : Layouts → List ℕ → List ℕ
+behind_offset l rest = decimal l.first.stride ++ 44 ∷ (layout_text l.second ++ (third_text l ++ rest))
+
+layouts_begin : (l : Layouts) (rest : List ℕ) → FitsLayout l.first → word_at (layouts_text l ++ rest) ≡ Some (decimal l.first.offset, 58, behind_offset l rest)
+layouts_begin l rest fits =
+    let regrouped : layouts_text l ++ rest ≡ decimal l.first.offset ++ 58 ∷ behind_offset l rest = simp append_assoc in
+    ap word_at regrouped ∙ word_again 58 (decimal l.first.offset) (behind_offset l rest) (short_word l.first.offset fits.0) refl
+
+frame_again : (n : ℕ) (l : Layouts) (bytes rest : List ℕ) → n < 2 ^ 64 → FitsLayouts l → IsBytes bytes
+    → copied_at (decimal n ++ 32 ∷ (layouts_text l ++ 32 ∷ (hex_or_dash bytes ++ 10 ∷ rest))) ≡ Some (result.CopiedFrame n l bytes)
+unfolding copied_at copied_frame_at
+frame_again n l bytes rest lt fits are_bytes =
+    rw (
+      number_again 32 n _ lt refl,
+      layouts_begin l (32 ∷ (hex_or_dash bytes ++ 10 ∷ rest)) fits.first,
+      layouts_again l (hex_or_dash bytes ++ 10 ∷ rest) fits,
+      hex_read bytes rest are_bytes,
+    ) refl
+
+copied_again : (n : ℕ) (bytes rest : List ℕ) → n < 2 ^ 64 → IsBytes bytes → copied_at (decimal n ++ 32 ∷ (hex_or_dash bytes ++ 10 ∷ rest)) ≡ Some (result.Copied n bytes)
+unfolding copied_at copied_bytes_at
+copied_again n bytes rest lt are_bytes =
+    rw (
+      number_again 32 n _ lt refl,
+      word_again 10 (hex_or_dash bytes) rest (hex_word bytes are_bytes) refl,
+      hex_read bytes rest are_bytes,
+    ) refl
+
 -- ---- lines with a number
 
 -- a number comes first, and what follows is read by the mark behind its word
@@ -179,8 +278,22 @@ unfolding numbered_line_at
 looked_next script n name rest lt word =
     numbered_first script n (name ++ 58 ∷ rest) lt ∙ rw (number_again 32 n (name ++ 58 ∷ rest) lt refl, word_again 58 name rest word refl) refl
 
+-- an answer is not the word of a copy
+answer_no_copy : (a : Option DomError) (x y : Option Line) → cond (bytes_eq (answer_text a) (codes "copied")) x y ≡ y
+answer_no_copy None x y = refl
+answer_no_copy (Some dom.Abort) x y = refl
+answer_no_copy (Some dom.InvalidState) x y = refl
+answer_no_copy (Some dom.NotSupported) x y = refl
+answer_no_copy (Some dom.Encoding) x y = refl
+answer_no_copy (Some dom.Data) x y = refl
+answer_no_copy (Some dom.DataClone) x y = refl
+answer_no_copy (Some dom.QuotaExceeded) x y = refl
+answer_no_copy (Some dom.TypeErr) x y = refl
+answer_no_copy (Some dom.RangeErr) x y = refl
+answer_no_copy (Some dom.OutOfMemory) x y = refl
+
 worded_answer : (n : ℕ) (a : Option DomError) (rest : List ℕ) → worded_line_at n (answer_text a) rest ≡ Some (line.Result n (result.Local a))
-unfolding worded_line_at
+unfolding worded_line_at worded_result_at
 worded_answer n None rest = refl
 worded_answer n (Some dom.Abort) rest = refl
 worded_answer n (Some dom.InvalidState) rest = refl
@@ -193,37 +306,49 @@ worded_answer n (Some dom.TypeErr) rest = refl
 worded_answer n (Some dom.RangeErr) rest = refl
 worded_answer n (Some dom.OutOfMemory) rest = refl
 
+copied_next : (script : ScriptData) (n : ℕ) (r : StepResult) (text : List ℕ) → n < 2 ^ 64 → copied_at text ≡ Some r → only_line_at script (decimal n ++ 32 ∷ (codes "copied " ++ text)) ≡ Some (line.Result n r)
+unfolding numbered_line_at copied_line_at
+copied_next script n r text lt found = numbered_first script n (codes "copied " ++ text) lt ∙ rw (number_again 32 n (codes "copied " ++ text) lt refl, found) refl
+
 result_again : (script : ScriptData) (step : ℕ) (r : StepResult) (rest : List ℕ) → AreNames script → step < 2 ^ 64 → FitsResult script r → only_line_at script (line_text script (line.Result step r) ++ rest) ≡ Some (line.Result step r)
-unfolding dotted_line_at look_line_at numbered_line_at call_result_at worded_line_at
+unfolding dotted_line_at look_line_at numbered_line_at call_result_at worded_line_at worded_result_at
 result_again script step (result.Call n place error) rest names lt fits = simp append_assoc (
     dotted_next script step (codec_name script.codecs n) (decimal place ++ 32 ∷ (answer_text error ++ 10 ∷ rest)) lt (names.codecs_are_words n fits.0.0)
     ∙ rw (number_again 32 place _ fits.1 refl, word_again 10 (answer_text error) rest (answer_is_word error) refl, codec_again script n names fits.0, answer_again error) refl)
 result_again script step (result.Local error) rest names lt fits = simp append_assoc (
     numbered_first script step (answer_text error ++ 10 ∷ rest) lt
-    ∙ rw (number_again 32 step _ lt refl, word_again 10 (answer_text error) rest (answer_is_word error) refl) (worded_answer step error rest))
+    ∙ rw (number_again 32 step _ lt refl, word_again 10 (answer_text error) rest (answer_is_word error) refl) (answer_no_copy error _ _ ∙ worded_answer step error rest))
 result_again script step (result.Look n len end) rest names lt fits = simp append_assoc (
     looked_next script step (codec_name script.codecs n) (decimal len ++ 32 ∷ (promise_text end ++ 10 ∷ rest)) lt (names.codecs_are_words n fits.0.0)
     ∙ rw (codec_again script n names fits.0, number_again 32 len _ fits.1 refl, look_again n len end rest) refl)
 result_again script step (result.State n len state size) rest names lt fits = simp append_assoc (
     looked_next script step (codec_name script.codecs n) (decimal len ++ 32 ∷ (state_text state ++ 32 ∷ (decimal size ++ 10 ∷ rest))) lt (names.codecs_are_words n fits.0.0)
     ∙ rw (codec_again script n names fits.0, number_again 32 len _ fits.1 refl, state_look_again n len size state rest fits.2) refl)
+result_again script step (result.Copied n bytes) rest names lt fits =
+    let regrouped : line_text script (line.Result step (result.Copied n bytes)) ++ rest ≡ decimal step ++ 32 ∷ (codes "copied " ++ (decimal n ++ 32 ∷ (hex_or_dash bytes ++ 10 ∷ rest))) = simp append_assoc in
+    ap (only_line_at script) regrouped ∙ copied_next script step (result.Copied n bytes) _ lt (copied_again n bytes rest fits.0 fits.1)
+result_again script step (result.CopiedFrame n layouts bytes) rest names lt fits =
+    let regrouped : line_text script (line.Result step (result.CopiedFrame n layouts bytes)) ++ rest ≡ decimal step ++ 32 ∷ (codes "copied " ++ (decimal n ++ 32 ∷ (layouts_text layouts ++ 32 ∷ (hex_or_dash bytes ++ 10 ∷ rest)))) = simp append_assoc in
+    ap (only_line_at script) regrouped ∙ copied_next script step (result.CopiedFrame n layouts bytes) _ lt (frame_again n layouts bytes rest fits.0 fits.1 fits.2)
+result_again script step (result.Size size) rest names lt fits = simp append_assoc (
+    numbered_first script step _ lt ∙ rw (number_again 32 step _ lt refl, number_again 10 size rest fits refl) refl)
 result_again script step result.Absent rest names lt fits = simp append_assoc (
     numbered_first script step (codes "absent" ++ 10 ∷ rest) lt ∙ rw (number_again 32 step _ lt refl) refl)
 
--- a call's word is none of the registry's
-call_no_slot : (c : CallWord) (x y : Option Line) → cond (bytes_eq (call_word c) (codes "acquire") || bytes_eq (call_word c) (codes "give")) x y ≡ y
-call_no_slot call.Configure x y = refl
-call_no_slot call.Decode x y = refl
-call_no_slot call.Flush x y = refl
-call_no_slot call.Reset x y = refl
-call_no_slot call.Close x y = refl
+-- a call's word is none of the registry's and none of the pool's
+call_alone : (c : CallWord) (x y z : Option Line) → cond (is_slot_word (call_word c)) x (cond (is_pool_word (call_word c)) y z) ≡ z
+call_alone call.Configure x y z = refl
+call_alone call.Decode x y z = refl
+call_alone call.Flush x y z = refl
+call_alone call.Reset x y z = refl
+call_alone call.Close x y z = refl
 
 called_again : (script : ScriptData) (place : ℕ) (who : Who) (c : CallWord) (error : Option DomError) (rest : List ℕ) → AreNames script → FitsWho script who
     → dotted_line_at script place (caller_name script.callers who.caller) (decimal who.step ++ 32 ∷ (call_word c ++ 32 ∷ 61 ∷ 32 ∷ (answer_text error ++ 10 ∷ rest))) ≡ Some (line.Entry place (entry_line.Call who c error))
 unfolding dotted_line_at call_at
 called_again script place who c error rest names fits =
     rw (number_again 32 who.step _ (omega (arith, fits.1)) refl, word_again 32 (call_word c) _ (call_is_word c) refl)
-    (call_no_slot c _ _ ∙ rw (caller_again script who.caller names fits.0, short_is who.step fits.1, call_again c, answer_at_again error rest) refl)
+    (call_alone c _ _ _ ∙ rw (caller_again script who.caller names fits.0, short_is who.step fits.1, call_again c, answer_at_again error rest) refl)
 
 entry_again : (script : ScriptData) (place : ℕ) (e : EntryLine) (rest : List ℕ) → AreNames script → place < 2 ^ 64 → FitsEntryLine script e → only_line_at script (numbered_line place (entry_text script.callers e) ++ rest) ≡ Some (line.Entry place e)
 unfolding worded_line_at numbered_line_at start_at done_at
@@ -269,16 +394,35 @@ slot_again script place (by.Codec n m) op rest names lt fits fits_op =
     ∙ dotted_next script place (codec_name script.codecs n) (decimal m ++ 32 ∷ (slot_text op ++ 10 ∷ rest)) lt (names.codecs_are_words n fits.0.0)
     ∙ op_found script place (codec_name script.codecs n) m op rest (by.Codec n m) fits.1 fits_op (by_codec_again script n m names fits.0)
 
--- ---- what an entry showed
+-- ---- entries of the pool of media
 
-dash_10 : ◌≡◌ {A = ℕ} 45 10 → ⊥
-dash_10 h = omega arith
+pool_op_found : (script : ScriptData) (place : ℕ) (name : List ℕ) (m : ℕ) (op : PoolOp) (rest : List ℕ) (who : By) → m < 2 ^ 64 → FitsPoolOp op → by_of script name m ≡ Some who
+    → dotted_line_at script place name (decimal m ++ 32 ∷ (pool_text op ++ 10 ∷ rest)) ≡ Some (line.Reference place (record { by = who; op = op }))
+unfolding dotted_line_at reference_at pool_op_at made_at cloned_at ended_at
+pool_op_found script place name m (pool.Make resource reference) rest who lt fits found = simp append_assoc (
+    rw (number_again 32 m _ lt refl, found, number_again 32 resource _ fits.0 refl, number_again 10 reference rest fits.1 refl) refl)
+pool_op_found script place name m (pool.Clone resource reference) rest who lt fits found = simp append_assoc (
+    rw (number_again 32 m _ lt refl, found, number_again 32 resource _ fits.0 refl, number_again 10 reference rest fits.1 refl) refl)
+pool_op_found script place name m (pool.End resource reference last) rest who lt fits found = simp append_assoc (
+    rw (number_again 32 m _ lt refl, found, number_again 32 resource _ fits.0 refl, number_again 32 reference _ fits.1 refl, word_again 10 (last_text last) rest (last_is_word last) refl, last_again last) refl)
+
+reference_again : (script : ScriptData) (place : ℕ) (who : By) (op : PoolOp) (rest : List ℕ) → AreNames script → place < 2 ^ 64 → FitsBy script who → FitsPoolOp op
+    → only_line_at script (line_text script (line.Reference place (record { by = who; op = op })) ++ rest) ≡ Some (line.Reference place (record { by = who; op = op }))
+reference_again script place (by.Caller who) op rest names lt fits fits_op =
+    let regrouped : line_text script (line.Reference place (record { by = by.Caller who; op = op })) ++ rest ≡ decimal place ++ 32 ∷ (caller_name script.callers who.caller ++ 46 ∷ (decimal who.step ++ 32 ∷ (pool_text op ++ 10 ∷ rest))) = simp append_assoc in
+    ap (only_line_at script) regrouped
+    ∙ dotted_next script place (caller_name script.callers who.caller) (decimal who.step ++ 32 ∷ (pool_text op ++ 10 ∷ rest)) lt (names.callers_are_words who.caller fits.0.0)
+    ∙ pool_op_found script place (caller_name script.callers who.caller) who.step op rest (by.Caller who) (omega (arith, fits.1)) fits_op (by_again script who names fits)
+reference_again script place (by.Codec n m) op rest names lt fits fits_op =
+    let regrouped : line_text script (line.Reference place (record { by = by.Codec n m; op = op })) ++ rest ≡ decimal place ++ 32 ∷ (codec_name script.codecs n ++ 46 ∷ (decimal m ++ 32 ∷ (pool_text op ++ 10 ∷ rest))) = simp append_assoc in
+    ap (only_line_at script) regrouped
+    ∙ dotted_next script place (codec_name script.codecs n) (decimal m ++ 32 ∷ (pool_text op ++ 10 ∷ rest)) lt (names.codecs_are_words n fits.0.0)
+    ∙ pool_op_found script place (codec_name script.codecs n) m op rest (by.Codec n m) fits.1 fits_op (by_codec_again script n m names fits.0)
+
+-- ---- what an entry showed
 
 dash_32 : ◌≡◌ {A = ℕ} 45 32 → ⊥
 dash_32 h = omega arith
-
-hex_read : (bytes rest : List ℕ) → IsBytes bytes → bytes_upto 10 (hex_or_dash bytes ++ 10 ∷ rest) ≡ Some (bytes, rest)
-hex_read bytes rest fits = bytes_again 10 bytes rest fits dash_10 refl
 
 number_read : (n : Option ℕ) (rest : List ℕ) → FitsOrAbsent n → number_or_dash_upto 32 (number_or_dash n ++ 32 ∷ rest) ≡ Some (n, rest)
 number_read n rest fits = number_or_dash_again 32 n rest fits dash_32 refl
@@ -379,6 +523,7 @@ parsed_again script (line.Codec n opening) rest names fits = simp append_assoc (
 parsed_again script (line.Entry place entry) rest names fits = entry_again script place entry rest names fits.0 fits.1
 parsed_again script (line.Event s) rest names fits = event_again script s rest fits
 parsed_again script line.Pool rest names fits = refl
+parsed_again script (line.Reference place entry) rest names fits = reference_again script place entry.by entry.op rest names fits.0 fits.1 fits.2
 parsed_again script line.Slots rest names fits = refl
 parsed_again script (line.Slot place entry) rest names fits = slot_again script place entry.by entry.op rest names fits.0 fits.1 fits.2
 parsed_again script (line.Held n) rest names fits = simp append_assoc (rw (number_again 10 n rest fits refl) refl)

@@ -1,5 +1,5 @@
 -- What is read as a line fits the script.
-use Rattle.std.proofs.Common.{◌≡◌, ℕ, ◌^◌, ◌<◌, Bool, true, eqb, ltb, ◌||◌, List, [], length, Option, Some, None, codes, position}
+use Rattle.std.proofs.Common.{◌≡◌, ℕ, ◌^◌, ◌<◌, inl, inr, refl, arith, Bool, true, eqb, ltb, List, [], length, Option, Some, None, codes, position}
 use Rattle.std.specs.Prelude.{IfSome}
 use Rattle.std.specs.List.{list_all, position_or_len}
 use Rattle.std.specs.Str.{bytes_eq}
@@ -8,6 +8,8 @@ use Rattle.std.specs.Int.Signed.{mag}
 use Rattle.std.proofs.lemmas.Bool.{ltb-true}
 use Rattle.hex.specs.Hex.{IsBytes}
 use Rattle.wc_config.specs.declared.codec.CoderId.{CoderId}
+use Rattle.wc_video.specs.declared.layout.PlaneLayout.{PlaneLayout}
+use Rattle.wc_video.specs.declared.layout.Layouts.{Layouts}
 use Rattle.codec_model.specs.declared.entry.CodecState.{CodecState}
 use Rattle.script_types.specs.declared.script.ScriptData.{ScriptData}
 use Rattle.report_lines.specs.Words.{upto, after, word_at}
@@ -15,9 +17,9 @@ use Rattle.report_lines.specs.Fields.{short, number_upto, short_upto, signed_upt
 use Rattle.report_lines.specs.FieldLaws.{Lacks, FitsOrAbsent}
 use Rattle.report_lines.proofs.FieldFits.{bind_fits, bind_any, if_fits, upto_fits, number_fits, short_of_fits, short_fits, signed_fits, number_or_dash_fits, bytes_fits}
 use Rattle.report_text.specs.Text.{line_text}
-use Rattle.report_lines.specs.Reading.{caller_of, codec_of, error_at, answer_at, promise_at, look_as, look_at, look_line_at, call_result_at, outcome_at, turn_at, start_at, done_at, call_at, by_as, by_of, coder_at, refused_at, acquired_at, given_at, op_at, slot_at, dotted_line_at, worded_line_at, numbered_line_at, sound_at, image_at, chunk_at, output_at, without_feed, config_at, reject_at, event_at, event_line_at, codec_at, caller_at, headed_line_at, only_line_at, line_at}
-use Rattle.report_lines.specs.Vocabulary.{answer_of, kind_of, state_of, call_of, sample_format_of, picture_format_of, key_of}
-use Rattle.report_lines.specs.Fits.{is_no_feed, IsCaller, IsCodec, FitsResult, FitsOutcome, FitsEntryLine, FitsEventLine, FitsBy, FitsOp, FitsLine}
+use Rattle.report_lines.specs.Reading.{caller_of, codec_of, error_at, answer_at, promise_at, look_as, look_at, look_line_at, call_result_at, layout_at, two_layouts_at, three_layouts_at, layouts_at, copied_bytes_at, copied_frame_at, copied_at, copied_line_at, outcome_at, turn_at, start_at, done_at, call_at, by_as, by_of, coder_at, refused_at, acquired_at, given_at, op_at, slot_at, made_at, cloned_at, ended_at, pool_op_at, reference_at, is_slot_word, is_pool_word, dotted_line_at, worded_result_at, worded_line_at, numbered_line_at, sound_at, image_at, chunk_at, output_at, without_feed, config_at, reject_at, event_at, event_line_at, codec_at, caller_at, headed_line_at, only_line_at, line_at}
+use Rattle.report_lines.specs.Vocabulary.{answer_of, kind_of, state_of, call_of, sample_format_of, picture_format_of, key_of, last_of}
+use Rattle.report_lines.specs.Fits.{is_no_feed, IsCaller, IsCodec, FitsLayout, no_layout, FitsLayouts, FitsResult, FitsOutcome, FitsEntryLine, FitsEventLine, FitsBy, FitsPoolOp, FitsOp, FitsLine}
 
 abbrev IsLong : {X : Type 0} → ℕ × X → Type 0
 IsLong x = x.0 < 2 ^ 64
@@ -62,6 +64,65 @@ unfolding call_result_at
 call_result_fits script step name place w lt small =
     bind_fits (IsCodec script) (FitsLine script) (codec_of script.codecs name) _ (codec_fits script name)
     (λ n codec. bind_any (FitsLine script) (answer_of w) _ (λ error. (lt, (codec, small))))
+
+-- ---- copies
+
+abbrev HasLayout : {X : Type 0} → PlaneLayout × X → Type 0
+HasLayout x = FitsLayout x.0
+
+abbrev HaveLayouts : {X : Type 0} → Layouts × X → Type 0
+HaveLayouts x = FitsLayouts x.0
+
+layout_fits : (mark : ℕ) (bs : List ℕ) → IfSome (layout_at mark bs) HasLayout
+unfolding layout_at
+layout_fits mark bs =
+    bind_fits IsShort HasLayout (short_upto 58 bs) _ (short_fits 58 bs)
+    (λ offset o. bind_fits IsShort HasLayout (short_upto mark offset.1) _ (short_fits mark offset.1) (λ stride s. (o, s)))
+
+no_layout_fits : FitsLayout no_layout
+no_layout_fits = (omega arith, omega arith)
+
+two_layouts_fit : (first : PlaneLayout) (bs : List ℕ) → FitsLayout first → IfSome (two_layouts_at first bs) HaveLayouts
+unfolding two_layouts_at
+two_layouts_fit first bs fits =
+    bind_fits HasLayout HaveLayouts (layout_at 32 bs) _ (layout_fits 32 bs)
+    (λ second s. record { planes = inl (refl, refl); first = fits; second = s; third = no_layout_fits })
+
+three_layouts_fit : (first : PlaneLayout) (bs : List ℕ) → FitsLayout first → IfSome (three_layouts_at first bs) HaveLayouts
+unfolding three_layouts_at
+three_layouts_fit first bs fits =
+    bind_fits HasLayout HaveLayouts (layout_at 44 bs) _ (layout_fits 44 bs)
+    (λ second s. bind_fits HasLayout HaveLayouts (layout_at 32 second.1) _ (layout_fits 32 second.1)
+    (λ third t. record { planes = inr refl; first = fits; second = s; third = t }))
+
+layouts_fit : (bs : List ℕ) → IfSome (layouts_at bs) HaveLayouts
+unfolding layouts_at
+layouts_fit bs =
+    bind_fits HasLayout HaveLayouts (layout_at 44 bs) _ (layout_fits 44 bs)
+    (λ first f. bind_any HaveLayouts (word_at first.1) _
+    (λ offset. bind_any HaveLayouts (word_at offset.2) _
+    (λ stride. if_fits HaveLayouts (eqb stride.1 44) _ _ (λ is. three_layouts_fit first.0 first.1 f) (λ is. two_layouts_fit first.0 first.1 f))))
+
+copied_bytes_fit : (script : ScriptData) (n : ℕ) (bs : List ℕ) → n < 2 ^ 64 → IfSome (copied_bytes_at n bs) (FitsResult script)
+unfolding copied_bytes_at
+copied_bytes_fit script n bs lt = bind_fits (λ x. IsBytes x.0) (FitsResult script) (bytes_upto 10 bs) _ (bytes_fits 10 bs) (λ bytes b. (lt, b))
+
+copied_frame_fits : (script : ScriptData) (n : ℕ) (bs : List ℕ) → n < 2 ^ 64 → IfSome (copied_frame_at n bs) (FitsResult script)
+unfolding copied_frame_at
+copied_frame_fits script n bs lt =
+    bind_fits HaveLayouts (FitsResult script) (layouts_at bs) _ (layouts_fit bs)
+    (λ layouts l. bind_fits (λ x. IsBytes x.0) (FitsResult script) (bytes_upto 10 layouts.1) _ (bytes_fits 10 layouts.1) (λ bytes b. (lt, l, b)))
+
+copied_fits : (script : ScriptData) (bs : List ℕ) → IfSome (copied_at bs) (FitsResult script)
+unfolding copied_at
+copied_fits script bs =
+    bind_fits IsLong (FitsResult script) (number_upto 32 bs) _ (number_fits 32 bs)
+    (λ n lt. bind_any (FitsResult script) (word_at n.1) _
+    (λ w. if_fits (FitsResult script) (eqb w.1 58) _ _ (λ is. copied_frame_fits script n.0 n.1 lt) (λ is. copied_bytes_fit script n.0 n.1 lt)))
+
+copied_line_fits : (script : ScriptData) (step : ℕ) (bs : List ℕ) → step < 2 ^ 64 → IfSome (copied_line_at step bs) (FitsLine script)
+unfolding copied_line_at
+copied_line_fits script step bs lt = bind_fits (FitsResult script) (FitsLine script) (copied_at bs) _ (copied_fits script bs) (λ found fits. (lt, fits))
 
 -- ---- entries of codecs
 
@@ -133,6 +194,40 @@ slot_fits script place name m w bs lt small =
     bind_fits (FitsBy script) (FitsLine script) (by_of script name m) _ (by_fits script name m small)
     (λ who fits. bind_fits FitsOp (FitsLine script) (op_at w bs) _ (op_fits w bs) (λ op own. (lt, fits, own)))
 
+-- ---- entries of the pool of media
+
+made_fits : (bs : List ℕ) → IfSome (made_at bs) FitsPoolOp
+unfolding made_at
+made_fits bs =
+    bind_fits IsLong FitsPoolOp (number_upto 32 bs) _ (number_fits 32 bs)
+    (λ resource r. bind_fits IsLong FitsPoolOp (number_upto 10 resource.1) _ (number_fits 10 resource.1) (λ reference f. (r, f)))
+
+cloned_fits : (bs : List ℕ) → IfSome (cloned_at bs) FitsPoolOp
+unfolding cloned_at
+cloned_fits bs =
+    bind_fits IsLong FitsPoolOp (number_upto 32 bs) _ (number_fits 32 bs)
+    (λ resource r. bind_fits IsLong FitsPoolOp (number_upto 10 resource.1) _ (number_fits 10 resource.1) (λ reference f. (r, f)))
+
+ended_fits : (bs : List ℕ) → IfSome (ended_at bs) FitsPoolOp
+unfolding ended_at
+ended_fits bs =
+    bind_fits IsLong FitsPoolOp (number_upto 32 bs) _ (number_fits 32 bs)
+    (λ resource r. bind_fits IsLong FitsPoolOp (number_upto 32 resource.1) _ (number_fits 32 resource.1)
+    (λ reference f. bind_any FitsPoolOp (word_at reference.1) _
+    (λ w. bind_any FitsPoolOp (last_of w.0) _ (λ last. (r, f)))))
+
+pool_op_fits : (w bs : List ℕ) → IfSome (pool_op_at w bs) FitsPoolOp
+unfolding pool_op_at
+pool_op_fits w bs =
+    if_fits FitsPoolOp (bytes_eq w (codes "make")) _ _ (λ is. made_fits bs)
+    (λ is. if_fits FitsPoolOp (bytes_eq w (codes "clone")) _ _ (λ is. cloned_fits bs) (λ is. ended_fits bs))
+
+reference_fits : (script : ScriptData) (place : ℕ) (name : List ℕ) (m : ℕ) (w bs : List ℕ) → place < 2 ^ 64 → m < 2 ^ 64 → IfSome (reference_at script place name m w bs) (FitsLine script)
+unfolding reference_at
+reference_fits script place name m w bs lt small =
+    bind_fits (FitsBy script) (FitsLine script) (by_of script name m) _ (by_fits script name m small)
+    (λ who fits. bind_fits FitsPoolOp (FitsLine script) (pool_op_at w bs) _ (pool_op_fits w bs) (λ op own. (lt, fits, own)))
+
 -- ---- lines with a number
 
 dotted_fits : (script : ScriptData) (n : ℕ) (name bs : List ℕ) → n < 2 ^ 64 → IfSome (dotted_line_at script n name bs) (FitsLine script)
@@ -141,7 +236,14 @@ dotted_fits script n name bs lt =
     bind_fits IsLong (FitsLine script) (number_upto 32 bs) _ (number_fits 32 bs)
     (λ m small. bind_any (FitsLine script) (word_at m.1) _
     (λ w. if_fits (FitsLine script) (eqb w.1 10) _ _ (λ is. call_result_fits script n name m.0 w.0 lt small)
-    (λ is. if_fits (FitsLine script) (bytes_eq w.0 (codes "acquire") || bytes_eq w.0 (codes "give")) _ _ (λ is. slot_fits script n name m.0 w.0 w.2 lt small) (λ is. call_fits script n name m.0 w.0 w.2 lt))))
+    (λ is. if_fits (FitsLine script) (is_slot_word w.0) _ _ (λ is. slot_fits script n name m.0 w.0 w.2 lt small)
+    (λ is. if_fits (FitsLine script) (is_pool_word w.0) _ _ (λ is. reference_fits script n name m.0 w.0 w.2 lt small) (λ is. call_fits script n name m.0 w.0 w.2 lt)))))
+
+worded_result_fits : (script : ScriptData) (n : ℕ) (w rest : List ℕ) → n < 2 ^ 64 → IfSome (worded_result_at n w rest) (FitsLine script)
+unfolding worded_result_at
+worded_result_fits script n w rest lt =
+    if_fits (FitsLine script) (bytes_eq w (codes "size")) _ _ (λ is. bind_fits IsLong (FitsLine script) (number_upto 10 rest) _ (number_fits 10 rest) (λ m small. (lt, small)))
+    (λ is. if_fits (FitsLine script) (bytes_eq w (codes "absent")) _ _ (λ is. (lt, tt)) (λ is. bind_any (FitsLine script) (answer_of w) _ (λ a. (lt, tt))))
 
 worded_fits : (script : ScriptData) (n : ℕ) (w rest : List ℕ) → n < 2 ^ 64 → IfSome (worded_line_at n w rest) (FitsLine script)
 unfolding worded_line_at
@@ -150,7 +252,7 @@ worded_fits script n w rest lt =
     (λ is. if_fits (FitsLine script) (bytes_eq w (codes "done")) _ _ (λ is. bind_fits (FitsEntryLine script) (FitsLine script) (done_at rest) _ (done_fits script rest) (λ e fits. (lt, fits)))
     (λ is. if_fits (FitsLine script) (bytes_eq w (codes "turn")) _ _ (λ is. bind_any (FitsLine script) (turn_at rest) _ (λ t. (lt, tt)))
     (λ is. if_fits (FitsLine script) (bytes_eq w (codes "reclaim")) _ _ (λ is. bind_fits IsLong (FitsLine script) (number_upto 10 rest) _ (number_fits 10 rest) (λ m small. (lt, small)))
-    (λ is. if_fits (FitsLine script) (bytes_eq w (codes "absent")) _ _ (λ is. (lt, tt)) (λ is. bind_any (FitsLine script) (answer_of w) _ (λ a. (lt, tt)))))))
+    (λ is. worded_result_fits script n w rest lt))))
 
 numbered_fits : (script : ScriptData) (bs : List ℕ) → IfSome (numbered_line_at script bs) (FitsLine script)
 unfolding numbered_line_at
@@ -158,7 +260,8 @@ numbered_fits script bs =
     bind_fits IsLong (FitsLine script) (number_upto 32 bs) _ (number_fits 32 bs)
     (λ n lt. bind_any (FitsLine script) (word_at n.1) _
     (λ w. if_fits (FitsLine script) (eqb w.1 46) _ _ (λ is. dotted_fits script n.0 w.0 w.2 lt)
-    (λ is. if_fits (FitsLine script) (eqb w.1 58) _ _ (λ is. looked_fits script n.0 w.0 w.2 lt) (λ is. worded_fits script n.0 w.0 w.2 lt))))
+    (λ is. if_fits (FitsLine script) (eqb w.1 58) _ _ (λ is. looked_fits script n.0 w.0 w.2 lt)
+    (λ is. if_fits (FitsLine script) (bytes_eq w.0 (codes "copied")) _ _ (λ is. copied_line_fits script n.0 w.2 lt) (λ is. worded_fits script n.0 w.0 w.2 lt)))))
 
 -- ---- what an entry showed
 

@@ -20,7 +20,8 @@ use Rattle.report_lines.specs.Words.{is_word_byte}
 use Rattle.report_text.specs.declared.line.CallWord.{CallWord}
 use Rattle.report_text.specs.declared.line.CallWord.TheVariants as call
 use Rattle.report_text.specs.Words.{call_word}
-use Rattle.report_lines.specs.Vocabulary.{error_of, answer_of, kind_of, state_of, call_of, sample_format_of, picture_format_of, codec_id_of, role_of, key_of}
+use Rattle.report_text.specs.Text.{last_text}
+use Rattle.report_lines.specs.Vocabulary.{error_of, answer_of, kind_of, state_of, call_of, sample_format_of, picture_format_of, codec_id_of, role_of, key_of, last_of}
 
 pub error_is_word : (x : DomError) → list_all is_word_byte (error_name x) ≡ true
 error_is_word dom.Abort = refl
@@ -166,3 +167,11 @@ key_is_word false = refl
 pub key_again : (x : Bool) → key_of (chunk_type_text x) ≡ Some x
 key_again true = refl
 key_again false = refl
+
+pub last_is_word : (x : Bool) → list_all is_word_byte (last_text x) ≡ true
+last_is_word true = refl
+last_is_word false = refl
+
+pub last_again : (x : Bool) → last_of (last_text x) ≡ Some x
+last_again true = refl
+last_again false = refl

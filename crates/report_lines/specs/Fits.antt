@@ -1,5 +1,5 @@
 -- Which lines are read again: numbers within their types, numbers of callers and codecs that the script has, and bytes.
-use Rattle.std.specs.Prelude.{ℕ, ◌≡◌, ◌<◌, ◌^◌, ◌==◌, Bool, true, not, List, length}
+use Rattle.std.specs.Prelude.{ℕ, ◌≡◌, ◌<◌, ◌^◌, ◌⊎◌, ◌==◌, Bool, true, not, List, length}
 use Rattle.std.specs.List.{list_all}
 use Rattle.std.specs.Int.Signed.{mag}
 use Rattle.hex.specs.Hex.{IsBytes}
@@ -8,6 +8,10 @@ use Rattle.wc_base.specs.declared.who.By.{By}
 use Rattle.wc_base.specs.declared.who.By.TheVariants as by
 use Rattle.wc_base.specs.declared.media.SoundShape.{SoundShape}
 use Rattle.wc_base.specs.declared.media.PictureShape.{PictureShape}
+use Rattle.wc_video.specs.declared.layout.PlaneLayout.{PlaneLayout}
+use Rattle.wc_video.specs.declared.layout.Layouts.{Layouts}
+use Rattle.wc_pool.specs.declared.entry.PoolOp.{PoolOp}
+use Rattle.wc_pool.specs.declared.entry.PoolOp.TheVariants as pool
 use Rattle.coder_api.specs.declared.slot.SlotOp.{SlotOp}
 use Rattle.coder_api.specs.declared.slot.SlotOp.TheVariants as slot
 use Rattle.codec_model.specs.declared.entry.Outcome.{Outcome}
@@ -42,11 +46,27 @@ IsCodec script n = (n < length script.codecs) × (n < 2 ^ 32)
 abbrev pub FitsWho : ScriptData → Who → Type 0
 FitsWho script who = IsCaller script who.caller × (who.step < 2 ^ 32)
 
+abbrev pub FitsLayout : PlaneLayout → Type 0
+FitsLayout l = (l.offset < 2 ^ 32) × (l.stride < 2 ^ 32)
+
+abbrev pub no_layout : PlaneLayout
+no_layout = record { offset = 0; stride = 0 }
+
+-- the planes of a frame are three, or two with a third of zeros
+pub record FitsLayouts (l : Layouts) : Type 0 where
+  pub planes : ((l.count ≡ 2) × (l.third ≡ no_layout)) ⊎ (l.count ≡ 3)
+  pub first : FitsLayout l.first
+  pub second : FitsLayout l.second
+  pub third : FitsLayout l.third
+
 abbrev pub FitsResult : ScriptData → StepResult → Type 0
 FitsResult script (result.Call n place error) = IsCodec script n × (place < 2 ^ 64)
 FitsResult script (result.Local error) = Unit {0}
 FitsResult script (result.Look n len end) = IsCodec script n × (len < 2 ^ 64)
 FitsResult script (result.State n len state size) = IsCodec script n × (len < 2 ^ 64) × (size < 2 ^ 64)
+FitsResult script (result.Copied n bytes) = (n < 2 ^ 64) × IsBytes bytes
+FitsResult script (result.CopiedFrame n layouts bytes) = (n < 2 ^ 64) × FitsLayouts layouts × IsBytes bytes
+FitsResult script (result.Size n) = n < 2 ^ 64
 FitsResult script result.Absent = Unit {0}
 
 abbrev pub FitsOutcome : Outcome → Type 0
@@ -94,6 +114,11 @@ abbrev pub FitsBy : ScriptData → By → Type 0
 FitsBy script (by.Caller who) = FitsWho script who
 FitsBy script (by.Codec n place) = IsCodec script n × (place < 2 ^ 64)
 
+abbrev pub FitsPoolOp : PoolOp → Type 0
+FitsPoolOp (pool.Make resource reference) = (resource < 2 ^ 64) × (reference < 2 ^ 64)
+FitsPoolOp (pool.Clone resource reference) = (resource < 2 ^ 64) × (reference < 2 ^ 64)
+FitsPoolOp (pool.End resource reference last) = (resource < 2 ^ 64) × (reference < 2 ^ 64)
+
 abbrev pub FitsOp : SlotOp → Type 0
 FitsOp (slot.Acquire id number) = number < 2 ^ 64
 FitsOp (slot.Refused id out made) = (out < 2 ^ 64) × (made < 2 ^ 64)
@@ -107,6 +132,7 @@ FitsLine script (line.Codec n opening) = IsCodec script n × (opening.saturation
 FitsLine script (line.Entry place entry) = (place < 2 ^ 64) × FitsEntryLine script entry
 FitsLine script (line.Event shown) = FitsEventLine shown
 FitsLine script line.Pool = Unit {0}
+FitsLine script (line.Reference place entry) = (place < 2 ^ 64) × FitsBy script entry.by × FitsPoolOp entry.op
 FitsLine script line.Slots = Unit {0}
 FitsLine script (line.Slot place entry) = (place < 2 ^ 64) × FitsBy script entry.by × FitsOp entry.op
 FitsLine script (line.Held n) = n < 2 ^ 64

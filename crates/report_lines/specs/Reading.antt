@@ -1,12 +1,16 @@
 -- How the line in front of some bytes is read: its kind is told by its first word, or by the mark behind the word that
 -- follows its number. A line is taken only where its text, written again, stands in front.
-use Rattle.std.specs.Prelude.{ℕ, List, [], codes, Option, Some, None, ◌==◌, if◌then◌else◌, ◌||◌, position, bytes_eq}
+use Rattle.std.specs.Prelude.{ℕ, Bool, List, [], codes, Option, Some, None, ◌==◌, if◌then◌else◌, ◌||◌, position, bytes_eq}
 use Rattle.std.specs.List.{list_all}
 use Rattle.std.specs.Char.{is_ascii_digit}
 use Rattle.wc_base.specs.declared.error.DomError.{DomError}
 use Rattle.wc_base.specs.declared.who.By.{By}
 use Rattle.wc_base.specs.declared.who.By.TheVariants as by
 use Rattle.wc_config.specs.declared.codec.CoderId.{CoderId}
+use Rattle.wc_video.specs.declared.layout.PlaneLayout.{PlaneLayout}
+use Rattle.wc_video.specs.declared.layout.Layouts.{Layouts}
+use Rattle.wc_pool.specs.declared.entry.PoolOp.{PoolOp}
+use Rattle.wc_pool.specs.declared.entry.PoolOp.TheVariants as pool
 use Rattle.coder_api.specs.declared.slot.SlotOp.{SlotOp}
 use Rattle.coder_api.specs.declared.slot.SlotOp.TheVariants as slot
 use Rattle.codec_model.specs.declared.entry.CodecState.{CodecState}
@@ -30,8 +34,8 @@ use Rattle.report_text.specs.declared.line.EventLine.TheVariants as event_line
 use Rattle.report_text.specs.declared.line.Line.{Line}
 use Rattle.report_text.specs.declared.line.Line.TheVariants as line
 use Rattle.report_text.specs.Text.{line_text}
-use Rattle.report_lines.specs.Vocabulary.{error_of, answer_of, kind_of, state_of, call_of, sample_format_of, picture_format_of, codec_id_of, role_of, key_of}
-use Rattle.report_lines.specs.Fits.{is_no_feed}
+use Rattle.report_lines.specs.Vocabulary.{error_of, answer_of, kind_of, state_of, call_of, sample_format_of, picture_format_of, codec_id_of, role_of, key_of, last_of}
+use Rattle.report_lines.specs.Fits.{is_no_feed, no_layout}
 
 -- ---- names
 
@@ -85,6 +89,57 @@ call_result_at script step name place w = do
   error ← answer_of w
   Some (line.Result step (result.Call n place error))
 
+-- Copies.
+
+-- where a plane went, up to the mark
+unfoldable pub layout_at : ℕ → List ℕ → Option (PlaneLayout × List ℕ)
+layout_at mark bs = do
+  offset ← short_upto 58 bs
+  stride ← short_upto mark offset.1
+  Some (record { offset = offset.0; stride = stride.0 }, stride.1)
+
+unfoldable pub two_layouts_at : PlaneLayout → List ℕ → Option (Layouts × List ℕ)
+two_layouts_at first bs = do
+  second ← layout_at 32 bs
+  Some (record { count = 2; first = first; second = second.0; third = no_layout }, second.1)
+
+unfoldable pub three_layouts_at : PlaneLayout → List ℕ → Option (Layouts × List ℕ)
+three_layouts_at first bs = do
+  second ← layout_at 44 bs
+  third ← layout_at 32 second.1
+  Some (record { count = 3; first = first; second = second.0; third = third.0 }, third.1)
+
+-- the mark behind the second plane tells whether a third follows
+unfoldable pub layouts_at : List ℕ → Option (Layouts × List ℕ)
+layouts_at bs = do
+  first ← layout_at 44 bs
+  offset ← word_at first.1
+  stride ← word_at offset.2
+  if stride.1 == 44 then three_layouts_at first.0 first.1 else two_layouts_at first.0 first.1
+
+unfoldable pub copied_bytes_at : ℕ → List ℕ → Option StepResult
+copied_bytes_at n bs = do
+  bytes ← bytes_upto 10 bs
+  Some (result.Copied n bytes.0)
+
+unfoldable pub copied_frame_at : ℕ → List ℕ → Option StepResult
+copied_frame_at n bs = do
+  layouts ← layouts_at bs
+  bytes ← bytes_upto 10 layouts.1
+  Some (result.CopiedFrame n layouts.0 bytes.0)
+
+-- behind the count of bytes the colon of a layout tells a frame
+unfoldable pub copied_at : List ℕ → Option StepResult
+copied_at bs = do
+  n ← number_upto 32 bs
+  w ← word_at n.1
+  if w.1 == 58 then copied_frame_at n.0 n.1 else copied_bytes_at n.0 n.1
+
+unfoldable pub copied_line_at : ℕ → List ℕ → Option Line
+copied_line_at step bs = do
+  found ← copied_at bs
+  Some (line.Result step found)
+
 -- Entries of codecs.
 
 unfoldable pub outcome_at : List ℕ → Option Outcome
@@ -132,7 +187,7 @@ call_at script place name m w bs = do
   error ← answer_at rest
   Some (line.Entry place (entry_line.Call (record { caller = caller; step = step }) word error))
 
--- Entries of the registry.
+-- Entries of the registry and of the pool of media.
 
 abbrev pub by_as : Option ℕ → ScriptData → List ℕ → ℕ → Option By
 by_as None script name m = codec_of script.codecs name >>= λ n. Some (by.Codec n m)
@@ -177,15 +232,60 @@ slot_at script place name m w bs = do
   op ← op_at w bs
   Some (line.Slot place (record { by = who; op = op }))
 
+unfoldable pub made_at : List ℕ → Option PoolOp
+made_at bs = do
+  resource ← number_upto 32 bs
+  reference ← number_upto 10 resource.1
+  Some (pool.Make resource.0 reference.0)
+
+unfoldable pub cloned_at : List ℕ → Option PoolOp
+cloned_at bs = do
+  resource ← number_upto 32 bs
+  reference ← number_upto 10 resource.1
+  Some (pool.Clone resource.0 reference.0)
+
+unfoldable pub ended_at : List ℕ → Option PoolOp
+ended_at bs = do
+  resource ← number_upto 32 bs
+  reference ← number_upto 32 resource.1
+  w ← word_at reference.1
+  last ← last_of w.0
+  Some (pool.End resource.0 reference.0 last)
+
+unfoldable pub pool_op_at : List ℕ → List ℕ → Option PoolOp
+pool_op_at w bs =
+    if bytes_eq w (codes "make") then made_at bs
+    else if bytes_eq w (codes "clone") then cloned_at bs
+    else ended_at bs
+
+unfoldable pub reference_at : ScriptData → ℕ → List ℕ → ℕ → List ℕ → List ℕ → Option Line
+reference_at script place name m w bs = do
+  who ← by_of script name m
+  op ← pool_op_at w bs
+  Some (line.Reference place (record { by = who; op = op }))
+
 -- Lines with a number.
+
+abbrev pub is_slot_word : List ℕ → Bool
+is_slot_word w = bytes_eq w (codes "acquire") || bytes_eq w (codes "give")
+
+abbrev pub is_pool_word : List ℕ → Bool
+is_pool_word w = bytes_eq w (codes "make") || bytes_eq w (codes "clone") || bytes_eq w (codes "end")
 
 unfoldable pub dotted_line_at : ScriptData → ℕ → List ℕ → List ℕ → Option Line
 dotted_line_at script n name bs = do
   m ← number_upto 32 bs
   w ← word_at m.1
   if w.1 == 10 then call_result_at script n name m.0 w.0
-      else if bytes_eq w.0 (codes "acquire") || bytes_eq w.0 (codes "give") then slot_at script n name m.0 w.0 w.2
+      else if is_slot_word w.0 then slot_at script n name m.0 w.0 w.2
+      else if is_pool_word w.0 then reference_at script n name m.0 w.0 w.2
       else call_at script n name m.0 w.0 w.2
+
+unfoldable pub worded_result_at : ℕ → List ℕ → List ℕ → Option Line
+worded_result_at n w rest =
+    if bytes_eq w (codes "size") then (number_upto 10 rest >>= λ m. Some (line.Result n (result.Size m.0)))
+    else if bytes_eq w (codes "absent") then Some (line.Result n result.Absent)
+    else (answer_of w >>= λ a. Some (line.Result n (result.Local a)))
 
 unfoldable pub worded_line_at : ℕ → List ℕ → List ℕ → Option Line
 worded_line_at n w rest =
@@ -193,8 +293,7 @@ worded_line_at n w rest =
     else if bytes_eq w (codes "done") then (done_at rest >>= λ e. Some (line.Entry n e))
     else if bytes_eq w (codes "turn") then (turn_at rest >>= λ t. Some (line.Entry n (entry_line.Turn t)))
     else if bytes_eq w (codes "reclaim") then (number_upto 10 rest >>= λ m. Some (line.Entry n (entry_line.Reclaim m.0)))
-    else if bytes_eq w (codes "absent") then Some (line.Result n result.Absent)
-    else (answer_of w >>= λ a. Some (line.Result n (result.Local a)))
+    else worded_result_at n w rest
 
 -- behind the number a name with a dot, a name with a colon, or another word
 unfoldable pub numbered_line_at : ScriptData → List ℕ → Option Line
@@ -203,6 +302,7 @@ numbered_line_at script bs = do
   w ← word_at n.1
   if w.1 == 46 then dotted_line_at script n.0 w.0 w.2
       else if w.1 == 58 then look_line_at script n.0 w.0 w.2
+      else if bytes_eq w.0 (codes "copied") then copied_line_at n.0 w.2
       else worded_line_at n.0 w.0 w.2
 
 -- What an entry showed.

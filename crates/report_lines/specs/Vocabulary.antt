@@ -17,6 +17,7 @@ use Rattle.codec_model.specs.declared.entry.CodecState.TheVariants as state
 use Rattle.report_text.specs.declared.line.CallWord.{CallWord}
 use Rattle.report_text.specs.declared.line.CallWord.TheVariants as call
 use Rattle.report_text.specs.Words.{error_name, answer_text, kind_text, state_text, call_word, sample_format_text, picture_format_text, codec_text, role_text, chunk_type_text}
+use Rattle.report_text.specs.Text.{last_text}
 use Rattle.report_lines.specs.Words.{◌>>=◌}
 
 -- the first of some values whose word this is
@@ -63,3 +64,6 @@ role_of w = first_named role_text (role.Decode ∷ role.Encode ∷ []) w
 
 abbrev pub key_of : List ℕ → Option Bool
 key_of w = first_named chunk_type_text (true ∷ false ∷ []) w
+
+abbrev pub last_of : List ℕ → Option Bool
+last_of w = first_named last_text (true ∷ false ∷ []) w

@@ -2,6 +2,7 @@
 //! again, and what is read is within its type.
 #![tactic(auto)]
 
+mod copies;
 mod field_laws;
 mod fields;
 mod laws;

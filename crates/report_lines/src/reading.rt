@@ -6,12 +6,13 @@ ghost use Rattle.report_lines.specs.Fields.{short as short_of};
 ghost use Rattle.report_lines.specs.Fits.{is_no_feed};
 ghost use Rattle.report_lines.specs.Reading as spec;
 
+use crate::copies::copied_line_at;
 use crate::fields::{
     FieldFault, bytes_upto, number_or_dash_upto, number_upto, short_upto, signed_upto,
 };
 use crate::vocabulary::{
-    answer_of, call_of, codec_id_of, error_of, is, key_of, kind_of, picture_format_of, role_of,
-    sample_format_of, state_of,
+    answer_of, call_of, codec_id_of, error_of, is, key_of, kind_of, last_of, picture_format_of,
+    role_of, sample_format_of, state_of,
 };
 use crate::words::{after, are_digits, upto, word_at};
 use bytes::Bytes;
@@ -23,6 +24,7 @@ use std::alloc::Global;
 use wc_base::{By, DomError, Picture, PictureShape, Samples, SoundShape, Who};
 use wc_chunk::Chunk;
 use wc_config::CoderId;
+use wc_pool::{PoolEntry, PoolOp};
 
 fn short(n: u64) -> Option<u32>
     ensures { result ≡ short_of n }
@@ -351,6 +353,87 @@ fn slot_at(
     Some(Line::Slot { place, entry })
 }
 
+#[tactic(auto, unfolding(crate::specs::Reading::made_at))]
+fn made_at(bytes: &[u8]) -> Option<PoolOp>
+    ensures { result ≡ spec.made_at bytes.now }
+{
+    let (resource, rest) = number_upto(b' ', bytes)?;
+    let (reference, _) = number_upto(b'\n', rest)?;
+    Some(PoolOp::Make {
+        resource,
+        reference,
+    })
+}
+
+#[tactic(auto, unfolding(crate::specs::Reading::cloned_at))]
+fn cloned_at(bytes: &[u8]) -> Option<PoolOp>
+    ensures { result ≡ spec.cloned_at bytes.now }
+{
+    let (resource, rest) = number_upto(b' ', bytes)?;
+    let (reference, _) = number_upto(b'\n', rest)?;
+    Some(PoolOp::Clone {
+        resource,
+        reference,
+    })
+}
+
+#[tactic(auto, unfolding(crate::specs::Reading::ended_at))]
+fn ended_at(bytes: &[u8]) -> Option<PoolOp>
+    ensures { result ≡ spec.ended_at bytes.now }
+{
+    let (resource, rest) = number_upto(b' ', bytes)?;
+    let (reference, rest) = number_upto(b' ', rest)?;
+    let (word, _, _) = word_at(rest)?;
+    let last = last_of(word)?;
+    Some(PoolOp::End {
+        resource,
+        reference,
+        last,
+    })
+}
+
+#[tactic(auto, unfolding(crate::specs::Reading::pool_op_at))]
+fn pool_op_at(word: &[u8], bytes: &[u8]) -> Option<PoolOp>
+    ensures { result ≡ spec.pool_op_at word.now bytes.now }
+{
+    if is(word, "make") {
+        made_at(bytes)
+    } else if is(word, "clone") {
+        cloned_at(bytes)
+    } else {
+        ended_at(bytes)
+    }
+}
+
+#[tactic(auto, unfolding(crate::specs::Reading::reference_at))]
+fn reference_at(
+    script: &ScriptData,
+    place: u64,
+    name: &[u8],
+    number: u64,
+    word: &[u8],
+    bytes: &[u8],
+) -> Option<Line>
+    ensures { result ≡ spec.reference_at script.now place name.now number word.now bytes.now }
+{
+    let by = by_of(script, name, number)?;
+    let op = pool_op_at(word, bytes)?;
+    let entry = PoolEntry { by, op };
+    Some(Line::Reference { place, entry })
+}
+
+fn is_slot_word(word: &[u8]) -> bool
+    ensures { result ≡ spec.is_slot_word word.now }
+{
+    is(word, "acquire") || is(word, "give")
+}
+
+fn is_pool_word(word: &[u8]) -> bool
+    ensures { result ≡ spec.is_pool_word word.now }
+{
+    is(word, "make") || is(word, "clone") || is(word, "end")
+}
+
 #[tactic(auto, unfolding(crate::specs::Reading::dotted_line_at))]
 fn dotted_line_at(script: &ScriptData, n: u64, name: &[u8], bytes: &[u8]) -> Option<Line>
     ensures { result ≡ spec.dotted_line_at script.now n name.now bytes.now }
@@ -359,11 +442,29 @@ fn dotted_line_at(script: &ScriptData, n: u64, name: &[u8], bytes: &[u8]) -> Opt
     let (word, mark, rest) = word_at(rest)?;
     if mark == b'\n' {
         call_result_at(script, n, name, m, word)
-    } else if is(word, "acquire") || is(word, "give") {
+    } else if is_slot_word(word) {
         slot_at(script, n, name, m, word, rest)
+    } else if is_pool_word(word) {
+        reference_at(script, n, name, m, word, rest)
     } else {
         call_at(script, n, name, m, word, rest)
     }
+}
+
+#[tactic(auto, unfolding(crate::specs::Reading::worded_result_at))]
+fn worded_result_at(step: u64, word: &[u8], rest: &[u8]) -> Option<Line>
+    ensures { result ≡ spec.worded_result_at step word.now rest.now }
+{
+    let answer = if is(word, "size") {
+        let (size, _) = number_upto(b'\n', rest)?;
+        StepResult::Size { size }
+    } else if is(word, "absent") {
+        StepResult::Absent
+    } else {
+        let error = answer_of(word)?;
+        StepResult::Local { error }
+    };
+    Some(Line::Result { step, answer })
 }
 
 #[tactic(auto, unfolding(crate::specs::Reading::worded_line_at))]
@@ -388,32 +489,27 @@ fn worded_line_at(n: u64, word: &[u8], rest: &[u8]) -> Option<Line>
             place: n,
             entry: EntryLine::Reclaim { moment },
         })
-    } else if is(word, "absent") {
-        Some(Line::Result {
-            step: n,
-            answer: StepResult::Absent,
-        })
     } else {
-        let error = answer_of(word)?;
-        Some(Line::Result {
-            step: n,
-            answer: StepResult::Local { error },
-        })
+        worded_result_at(n, word, rest)
     }
 }
 
 #[tactic(auto, unfolding(crate::specs::Reading::numbered_line_at))]
-fn numbered_line_at(script: &ScriptData, bytes: &[u8]) -> Option<Line>
-    ensures { result ≡ spec.numbered_line_at script.now bytes.now }
+fn numbered_line_at(alloc: Global, script: &ScriptData, bytes: &[u8]) -> Result<Line, FieldFault>
+    ensures ok { IfOk result (λ l. spec.numbered_line_at script.now bytes.now ≡ Some l) }
+    ensures err { IfErr result
+        (λ e. e ≢ FieldFault.NoMemory → spec.numbered_line_at script.now bytes.now ≡ None) }
 {
-    let (n, rest) = number_upto(b' ', bytes)?;
-    let (word, mark, rest) = word_at(rest)?;
+    let (n, rest) = number_upto(b' ', bytes).ok_or(FieldFault::NoField)?;
+    let (word, mark, rest) = word_at(rest).ok_or(FieldFault::NoField)?;
     if mark == b'.' {
-        dotted_line_at(script, n, word, rest)
+        dotted_line_at(script, n, word, rest).ok_or(FieldFault::NoField)
     } else if mark == b':' {
-        look_line_at(script, n, word, rest)
+        look_line_at(script, n, word, rest).ok_or(FieldFault::NoField)
+    } else if is(word, "copied") {
+        copied_line_at(alloc, n, rest)
     } else {
-        worded_line_at(n, word, rest)
+        worded_line_at(n, word, rest).ok_or(FieldFault::NoField)
     }
 }
 
@@ -642,7 +738,7 @@ fn only_line_at(alloc: Global, script: &ScriptData, bytes: &[u8]) -> Result<Line
     if is(word, "") {
         event_line_at(alloc, rest)
     } else if are_digits(word) {
-        numbered_line_at(script, bytes).ok_or(FieldFault::NoField)
+        numbered_line_at(alloc, script, bytes)
     } else {
         headed_line_at(script, word, rest).ok_or(FieldFault::NoField)
     }

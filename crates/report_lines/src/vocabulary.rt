@@ -185,3 +185,16 @@ pub fn key_of(word: &[u8]) -> Option<bool>
         .copied()
         .find(|key| is(word, chunk_type_text(*key)))
 }
+
+/// Whether the resource of a reference that ended has no reference any more.
+pub fn last_of(word: &[u8]) -> Option<bool>
+    ensures { result ≡ spec.last_of word.now }
+{
+    if is(word, "gone") {
+        Some(true)
+    } else if is(word, "kept") {
+        Some(false)
+    } else {
+        None
+    }
+}

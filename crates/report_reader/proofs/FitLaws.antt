@@ -6,6 +6,7 @@ use Rattle.std.proofs.lemmas.Bool.{and_parts, leb-true, ltb-true}
 use Rattle.wc_base.specs.declared.media.Samples.{Samples}
 use Rattle.wc_config.specs.declared.config.AudioDecoderConfig.{AudioDecoderConfig}
 use Rattle.wc_chunk.specs.declared.chunk.Chunk.{Chunk}
+use Rattle.wc_pool.specs.declared.entry.PoolEntry.{PoolEntry}
 use Rattle.codec_definitions.specs.declared.unit.Unit as media
 use Rattle.codec_definitions.specs.declared.unit.Unit.TheVariants as unit
 use Rattle.coder_api.specs.declared.slot.SlotEntry.{SlotEntry}
@@ -20,8 +21,6 @@ use Rattle.codec_model.specs.Replay.{State, opening_state}
 use Rattle.codec_model.specs.Shown.{shows, event_units, units_in}
 use Rattle.codec_follow.specs.Follow.{follow_step, filled, filled_at, each_filled_from, units_shown}
 use Rattle.script_types.specs.declared.script.ScriptData.{ScriptData}
-use Rattle.script_types.specs.declared.script.CallerItem.{CallerItem}
-use Rattle.script_types.specs.declared.script.CodecItem.{CodecItem}
 use Rattle.script_types.specs.Sound.{is_sound, most_codecs, most_callers}
 use Rattle.script_types.specs.SoundLaws.{parts_of}
 use Rattle.report_text.specs.declared.result.StepResult.{StepResult}
@@ -35,13 +34,13 @@ use Rattle.report_text.specs.declared.line.EventLine.{EventLine}
 use Rattle.report_text.specs.declared.line.EventLine.TheVariants as event_line
 use Rattle.report_text.specs.declared.line.Line.{Line}
 use Rattle.report_text.specs.declared.line.Line.TheVariants as line
-use Rattle.trace_text.specs.Report.{entry_line_of, config_lines, output_lines, event_lines, lines_from, result_lines, caller_lines, entry_lines, codec_lines, slot_lines, end_lines}
-use Rattle.report_lines.specs.Fits.{FitsResult, FitsEntryLine, FitsEventLine, FitsBy, FitsOp, FitsLine}
+use Rattle.trace_text.specs.Report.{entry_line_of, config_lines, output_lines, event_lines, lines_from, result_lines, caller_lines, entry_lines, codec_lines, pool_lines, slot_lines, end_lines}
+use Rattle.report_lines.specs.Fits.{FitsResult, FitsEntryLine, FitsEventLine, FitsBy, FitsOp, FitsPoolOp, FitsLine}
 use Rattle.report_lines.specs.Laws.{LineFits}
 use Rattle.report_reader.specs.declared.forms.Section.{Section}
 use Rattle.report_reader.specs.declared.forms.Section.TheVariants as section
 use Rattle.report_reader.specs.Form.{Reads, AreForms}
-use Rattle.report_reader.specs.Read.{results_in, behind_results, callers_in, entry_of, next_of, entry_then, entries_from, entry_lines_in, behind_entries, description_of, config_in, unit_of, outputs_in, opening_of, codec_in, codecs_in, slots_in, held_in, run_of}
+use Rattle.report_reader.specs.Read.{results_in, behind_results, callers_in, entry_of, next_of, entry_then, entries_from, entry_lines_in, behind_entries, description_of, config_in, unit_of, outputs_in, opening_of, codec_in, codecs_in, pool_in, behind_pool, slots_in, held_in, run_of}
 use Rattle.report_reader.specs.Told.{IsPlainTrace, IsWithoutLoss, IsTold}
 use Rattle.codec_follow.specs.Outputs.{is_codec_string, IsPlainDescription, IsPlainConfig, IsOutputOf, empty_output}
 use Rattle.report_reader.specs.Fits.{FitsEvent, FitsShown, FitsTrace}
@@ -362,6 +361,33 @@ codecs_plain : (script : ScriptData) (cs : List CodecTrace) → AllByRecursion (
 codecs_plain script [] fits = tt
 codecs_plain script (c ∷ cs) fits = (units_plain script c.opening.kind (units_shown c.shown) fits.0.units, codecs_plain script cs fits.1)
 
+-- ---- the pool of media
+
+record FitsReference (script : ScriptData) (e : PoolEntry) : Type 0 where
+  by : FitsBy script e.by
+  op : FitsPoolOp e.op
+
+pool_fit : (script : ScriptData) (ls : List Line) → AreFit script ls → AllByRecursion (FitsReference script) (pool_in ls)
+pool_fit script [] fits = tt
+pool_fit script (line.Reference place e ∷ ls) fits = (record { by = fits.0.1; op = fits.0.2 }, pool_fit script ls fits.1)
+pool_fit script (l ∷ ls) fits = tt
+
+pool_few : (ls : List Line) → length (pool_in ls) ≤ length ls
+pool_few [] = omega arith
+pool_few (line.Reference place e ∷ ls) = omega (arith, pool_few ls)
+pool_few (l ∷ ls) = omega arith
+
+behind_pool_left : (script : ScriptData) (ls : List Line) → AreFit script ls → IsLeft script ls (behind_pool ls)
+behind_pool_left script [] fits = record { fits = tt; few = omega arith }
+behind_pool_left script (line.Reference place e ∷ ls) fits =
+    let more = behind_pool_left script ls fits.1 in
+    record { fits = more.fits; few = omega (arith, more.few) }
+behind_pool_left script (l ∷ ls) fits = record { fits = fits; few = omega arith }
+
+pool_lines_fit : (script : ScriptData) (n : ℕ) (es : List PoolEntry) → n + length es < 2 ^ 64 → AllByRecursion (FitsReference script) es → AreFit script (lines_from pool_lines n es)
+pool_lines_fit script n [] few fits = tt
+pool_lines_fit script n (e ∷ es) few fits = ((omega arith, fits.0.by, fits.0.op), pool_lines_fit script (n + 1) es (omega arith) fits.1)
+
 -- ---- the registry
 
 record FitsSlot (script : ScriptData) (e : SlotEntry) : Type 0 where
@@ -412,9 +438,14 @@ run_fits script files ls sound few fits promises =
     let codecs = codecs_in script files (length script.codecs) callers.1 in
     let made = codecs_fit script files (length script.codecs) callers.1 (omega (arith, middle.few, few_behind ls)) middle.fits in
     let last = codecs_left script files (length script.codecs) callers.1 middle.fits in
-    let slots = drop 1 (drop 1 codecs.1) in
-    let end = all_behind (FitsLine script) (drop 1 codecs.1) (all_behind (FitsLine script) codecs.1 last.fits) in
-    let count : length slots < 2 ^ 64 = omega (arith, middle.few, last.few, few_behind ls, few_behind codecs.1, few_behind (drop 1 codecs.1)) in
+    let pool = drop 1 codecs.1 in
+    let own_pool = all_behind (FitsLine script) codecs.1 last.fits in
+    let few_pool : length pool < 2 ^ 64 = omega (arith, middle.few, last.few, few_behind ls, few_behind codecs.1) in
+    let references = pool_lines_fit script 0 (pool_in pool) (omega (arith, pool_few pool)) (pool_fit script pool own_pool) in
+    let left = behind_pool_left script pool own_pool in
+    let slots = drop 1 (behind_pool pool) in
+    let end = all_behind (FitsLine script) (behind_pool pool) left.fits in
+    let count : length slots < 2 ^ 64 = omega (arith, few_pool, left.few, few_behind (behind_pool pool)) in
     let entries = slot_lines_fit script 0 (slots_in slots) (omega (arith, slots_few slots)) (slots_fit script slots end) in
     let back = all_both (FitsLine script) (lines_from slot_lines 0 (slots_in slots)) (end_lines (held_in slots)) entries (held_fits script slots end, (tt, tt)) in
     let back_codecs = codec_lines_fit script 0 codecs.0 (omega (arith, codecs_count script files (length script.codecs) callers.1)) small.codecs made promises in
@@ -424,7 +455,8 @@ run_fits script files ls sound few fits promises =
       fits = (
         tt,
         all_both (FitsLine script) (lines_from caller_lines 0 callers.0) _ front
-            (all_both (FitsLine script) (lines_from codec_lines 0 codecs.0) _ back_codecs (tt, (tt, back))),
+            (all_both (FitsLine script) (lines_from codec_lines 0 codecs.0) _ back_codecs
+            (tt, all_both (FitsLine script) (lines_from pool_lines 0 (pool_in pool)) _ references (tt, back))),
       );
     }
 

@@ -48,6 +48,9 @@ result_long script step (result.Call codec place error) = simp length-append (om
 result_long script step (result.Local error) = simp length-append (omega arith)
 result_long script step (result.Look codec count end) = simp length-append (omega arith)
 result_long script step (result.State codec count state size) = simp length-append (omega arith)
+result_long script step (result.Copied count bytes) = simp length-append (omega arith)
+result_long script step (result.CopiedFrame count layouts bytes) = simp length-append (omega arith)
+result_long script step (result.Size size) = simp length-append (omega arith)
 result_long script step result.Absent = simp length-append (omega arith)
 
 event_long : (script : ScriptData) (e : EventLine) → 0 < length (line_text script (line.Event e))
@@ -68,6 +71,7 @@ line_long script (line.Codec n opening) = omega arith
 line_long script (line.Entry place told) = simp length-append (omega arith)
 line_long script (line.Event s) = event_long script s
 line_long script line.Pool = omega arith
+line_long script (line.Reference place entry) = simp length-append (omega arith)
 line_long script line.Slots = omega arith
 line_long script (line.Slot place entry) = simp length-append (omega arith)
 line_long script (line.Held n) = omega arith

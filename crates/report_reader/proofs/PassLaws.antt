@@ -4,6 +4,7 @@ use Rattle.std.specs.Prelude.{flat_map}
 use Rattle.std.specs.List.{zip}
 use Rattle.std.proofs.lemmas.Bool.{lt-ltb}
 use Rattle.wc_chunk.specs.declared.chunk.Chunk.{Chunk}
+use Rattle.wc_pool.specs.declared.entry.PoolEntry.{PoolEntry}
 use Rattle.codec_definitions.specs.declared.unit.Unit.TheVariants as unit
 use Rattle.coder_api.specs.declared.slot.SlotEntry.{SlotEntry}
 use Rattle.codec_model.specs.declared.entry.Opening.{Opening}
@@ -12,15 +13,13 @@ use Rattle.codec_model.specs.declared.entry.Event.{Event}
 use Rattle.codec_model.specs.declared.entry.Event.TheVariants as event
 use Rattle.codec_model.specs.declared.entry.Shown.{Shown}
 use Rattle.script_types.specs.declared.script.ScriptData.{ScriptData}
-use Rattle.script_types.specs.declared.script.CallerItem.{CallerItem}
-use Rattle.script_types.specs.declared.script.CodecItem.{CodecItem}
 use Rattle.report_text.specs.declared.result.StepResult.{StepResult}
 use Rattle.trace_text.specs.declared.run.CallerTrace.{CallerTrace}
 use Rattle.trace_text.specs.declared.run.CodecTrace.{CodecTrace}
 use Rattle.trace_text.specs.declared.run.Run.{Run}
 use Rattle.report_text.specs.declared.line.Line.{Line}
 use Rattle.report_text.specs.declared.line.Line.TheVariants as line
-use Rattle.trace_text.specs.Report.{event_lines, lines_from, result_lines, caller_lines, entry_lines, codec_lines, slot_lines, end_lines, lines_of}
+use Rattle.trace_text.specs.Report.{event_lines, lines_from, result_lines, caller_lines, entry_lines, codec_lines, pool_lines, slot_lines, end_lines, lines_of}
 use Rattle.report_reader.specs.declared.forms.Section.{Section}
 use Rattle.report_reader.specs.declared.forms.Section.TheVariants as section
 use Rattle.report_reader.specs.Form.{next_part, next, next_in, form_at, Passes, next_number}
@@ -46,7 +45,8 @@ part_rises codecs k (line.Result step found) t n e = absurd cc
 part_rises codecs k (line.Codec i opening) t n e = rises_if _ (section.Codecs (k + 1) 0) t n e (omega arith)
 part_rises codecs k (line.Entry place told) t n e = absurd cc
 part_rises codecs k (line.Event shown) t n e = absurd cc
-part_rises codecs k line.Pool t n e = rises_if _ section.Pool t n e (omega arith)
+part_rises codecs k line.Pool t n e = rises_if _ (section.Pool 0) t n e (omega arith)
+part_rises codecs k (line.Reference place entry) t n e = absurd cc
 part_rises codecs k line.Slots t n e = absurd cc
 part_rises codecs k (line.Slot place entry) t n e = absurd cc
 part_rises codecs k (line.Held held) t n e = absurd cc
@@ -64,6 +64,7 @@ rises callers codecs section.Start (line.Codec i opening) t e = absurd cc
 rises callers codecs section.Start (line.Entry place told) t e = absurd cc
 rises callers codecs section.Start (line.Event shown) t e = absurd cc
 rises callers codecs section.Start line.Pool t e = absurd cc
+rises callers codecs section.Start (line.Reference place entry) t e = absurd cc
 rises callers codecs section.Start line.Slots t e = absurd cc
 rises callers codecs section.Start (line.Slot place entry) t e = absurd cc
 rises callers codecs section.Start (line.Held held) t e = absurd cc
@@ -75,6 +76,7 @@ rises callers codecs (section.Callers k n) (line.Codec i opening) t e = if_part 
 rises callers codecs (section.Callers k n) (line.Entry place told) t e = if_part (eqb k callers) codecs 0 (line.Entry place told) t _ e
 rises callers codecs (section.Callers k n) (line.Event shown) t e = if_part (eqb k callers) codecs 0 (line.Event shown) t _ e
 rises callers codecs (section.Callers k n) line.Pool t e = if_part (eqb k callers) codecs 0 line.Pool t _ e
+rises callers codecs (section.Callers k n) (line.Reference place entry) t e = if_part (eqb k callers) codecs 0 (line.Reference place entry) t _ e
 rises callers codecs (section.Callers k n) line.Slots t e = if_part (eqb k callers) codecs 0 line.Slots t _ e
 rises callers codecs (section.Callers k n) (line.Slot place entry) t e = if_part (eqb k callers) codecs 0 (line.Slot place entry) t _ e
 rises callers codecs (section.Callers k n) (line.Held held) t e = if_part (eqb k callers) codecs 0 (line.Held held) t _ e
@@ -86,21 +88,23 @@ rises callers codecs (section.Codecs k n) (line.Caller i) t e = part_rises codec
 rises callers codecs (section.Codecs k n) (line.Result step found) t e = part_rises codecs k (line.Result step found) t _ e
 rises callers codecs (section.Codecs k n) (line.Codec i opening) t e = part_rises codecs k (line.Codec i opening) t _ e
 rises callers codecs (section.Codecs k n) line.Pool t e = part_rises codecs k line.Pool t _ e
+rises callers codecs (section.Codecs k n) (line.Reference place entry) t e = part_rises codecs k (line.Reference place entry) t _ e
 rises callers codecs (section.Codecs k n) line.Slots t e = part_rises codecs k line.Slots t _ e
 rises callers codecs (section.Codecs k n) (line.Slot place entry) t e = part_rises codecs k (line.Slot place entry) t _ e
 rises callers codecs (section.Codecs k n) (line.Held held) t e = part_rises codecs k (line.Held held) t _ e
 rises callers codecs (section.Codecs k n) line.End t e = part_rises codecs k line.End t _ e
-rises callers codecs section.Pool line.Slots t e = rises_at (section.Slots 0) t _ e (omega arith)
-rises callers codecs section.Pool line.Header t e = absurd cc
-rises callers codecs section.Pool (line.Caller i) t e = absurd cc
-rises callers codecs section.Pool (line.Result step found) t e = absurd cc
-rises callers codecs section.Pool (line.Codec i opening) t e = absurd cc
-rises callers codecs section.Pool (line.Entry place told) t e = absurd cc
-rises callers codecs section.Pool (line.Event shown) t e = absurd cc
-rises callers codecs section.Pool line.Pool t e = absurd cc
-rises callers codecs section.Pool (line.Slot place entry) t e = absurd cc
-rises callers codecs section.Pool (line.Held held) t e = absurd cc
-rises callers codecs section.Pool line.End t e = absurd cc
+rises callers codecs (section.Pool n) (line.Reference place entry) t e = rises_if _ (section.Pool (n + 1)) t _ e (omega arith)
+rises callers codecs (section.Pool n) line.Slots t e = rises_at (section.Slots 0) t _ e (omega arith)
+rises callers codecs (section.Pool n) line.Header t e = absurd cc
+rises callers codecs (section.Pool n) (line.Caller i) t e = absurd cc
+rises callers codecs (section.Pool n) (line.Result step found) t e = absurd cc
+rises callers codecs (section.Pool n) (line.Codec i opening) t e = absurd cc
+rises callers codecs (section.Pool n) (line.Entry place told) t e = absurd cc
+rises callers codecs (section.Pool n) (line.Event shown) t e = absurd cc
+rises callers codecs (section.Pool n) line.Pool t e = absurd cc
+rises callers codecs (section.Pool n) (line.Slot place entry) t e = absurd cc
+rises callers codecs (section.Pool n) (line.Held held) t e = absurd cc
+rises callers codecs (section.Pool n) line.End t e = absurd cc
 rises callers codecs (section.Slots n) (line.Slot place entry) t e = rises_if _ (section.Slots (n + 1)) t _ e (omega arith)
 rises callers codecs (section.Slots n) (line.Held held) t e = rises_at section.Held t _ e (omega arith)
 rises callers codecs (section.Slots n) line.Header t e = absurd cc
@@ -110,6 +114,7 @@ rises callers codecs (section.Slots n) (line.Codec i opening) t e = absurd cc
 rises callers codecs (section.Slots n) (line.Entry place told) t e = absurd cc
 rises callers codecs (section.Slots n) (line.Event shown) t e = absurd cc
 rises callers codecs (section.Slots n) line.Pool t e = absurd cc
+rises callers codecs (section.Slots n) (line.Reference place entry) t e = absurd cc
 rises callers codecs (section.Slots n) line.Slots t e = absurd cc
 rises callers codecs (section.Slots n) line.End t e = absurd cc
 rises callers codecs section.Held line.End t e = rises_at section.Ended t _ e (omega arith)
@@ -120,6 +125,7 @@ rises callers codecs section.Held (line.Codec i opening) t e = absurd cc
 rises callers codecs section.Held (line.Entry place told) t e = absurd cc
 rises callers codecs section.Held (line.Event shown) t e = absurd cc
 rises callers codecs section.Held line.Pool t e = absurd cc
+rises callers codecs section.Held (line.Reference place entry) t e = absurd cc
 rises callers codecs section.Held line.Slots t e = absurd cc
 rises callers codecs section.Held (line.Slot place entry) t e = absurd cc
 rises callers codecs section.Held (line.Held held) t e = absurd cc
@@ -185,8 +191,8 @@ pub record IsReady (script : ScriptData) (s : Section) (k : ℕ) : Type 0 where
   pub pool : next_in script s line.Pool ≡ next_part (length script.codecs) k line.Pool
 
 codecs_pass : (script : ScriptData) (s : Section) (k : ℕ) (cs : List CodecTrace) (rest : List Line) → IsReady script s k → k + length cs ≡ length script.codecs
-    → Passes script section.Pool rest section.Ended → Passes script s (lines_from codec_lines k cs ++ line.Pool ∷ rest) section.Ended
-codecs_pass script s k [] rest ready count tail = (section.Pool, ready.pool ∙ rw (eq-eqb k (length script.codecs) (omega arith)) refl, tail)
+    → Passes script (section.Pool 0) rest section.Ended → Passes script s (lines_from codec_lines k cs ++ line.Pool ∷ rest) section.Ended
+codecs_pass script s k [] rest ready count tail = (section.Pool 0, ready.pool ∙ rw (eq-eqb k (length script.codecs) (omega arith)) refl, tail)
 codecs_pass script s k (c ∷ cs) rest ready count tail =
     let made = zip c.entries c.shown in
     let entries = lines_from entry_lines 0 made in
@@ -196,6 +202,11 @@ codecs_pass script s k (c ∷ cs) rest ready count tail =
     let own : Passes script (section.Codecs (k + 1) 0) (entries ++ (more ++ line.Pool ∷ rest)) section.Ended = passes_on script (section.Codecs (k + 1) 0) entries (more ++ line.Pool ∷ rest) there section.Ended (entries_pass script (k + 1) 0 made) on in
     (section.Codecs (k + 1) 0, ready.codec k c.opening ∙ rw (eq-eqb k k refl, lt-ltb k (length script.codecs) (omega arith)) refl, subst (λ (ls : List Line). Passes script (section.Codecs (k + 1) 0) ls section.Ended) (sym (append_assoc entries more (line.Pool ∷ rest))) own)
 
+pool_pass : (script : ScriptData) (n : ℕ) (es : List PoolEntry) (rest : List Line) → Passes script (section.Slots 0) rest section.Ended
+    → Passes script (section.Pool n) (lines_from pool_lines n es ++ line.Slots ∷ rest) section.Ended
+pool_pass script n [] rest tail = (section.Slots 0, refl, tail)
+pool_pass script n (e ∷ es) rest tail = (section.Pool (n + 1), rw (eq-eqb n n refl) refl, pool_pass script (n + 1) es rest tail)
+
 slots_pass : (script : ScriptData) (n : ℕ) (es : List SlotEntry) (held : ℕ) → Passes script (section.Slots n) (lines_from slot_lines n es ++ end_lines held) section.Ended
 slots_pass script n [] held = (section.Held, refl, (section.Ended, refl, refl))
 slots_pass script n (e ∷ es) held = (section.Slots (n + 1), rw (eq-eqb n n refl) refl, slots_pass script (n + 1) es held)
@@ -204,13 +215,14 @@ slots_pass script n (e ∷ es) held = (section.Slots (n + 1), rw (eq-eqb n n ref
 pub run_passes : (script : ScriptData) (media_of : List (List Chunk)) (run : Run) → IsToldRun script media_of run → Passes script section.Start (lines_of run) section.Ended
 run_passes script media_of run told =
     let end = lines_from slot_lines 0 run.slots ++ end_lines run.held in
+    let pool = lines_from pool_lines 0 run.pool ++ line.Slots ∷ end in
     let callers = lines_from caller_lines 0 run.callers in
     let codecs = lines_from codec_lines 0 run.codecs in
     let n = length script.callers in
     let front = callers_pass script 0 0 run.callers (omega (arith, told.callers)) in
     let there : Section = section.Callers n front.results in
     let ready : IsReady script there 0 = record { codec = λ i o. rw (eq-eqb n n refl) refl; pool = rw (eq-eqb n n refl) refl } in
-    let back : Passes script there (codecs ++ line.Pool ∷ line.Slots ∷ end) section.Ended =
-    codecs_pass script there 0 run.codecs (line.Slots ∷ end) ready (omega (arith, told.codecs)) (section.Slots 0, refl, slots_pass script 0 run.slots run.held) in
+    let back : Passes script there (codecs ++ line.Pool ∷ pool) section.Ended =
+    codecs_pass script there 0 run.codecs pool ready (omega (arith, told.codecs)) (pool_pass script 0 run.pool end (slots_pass script 0 run.slots run.held)) in
     let first : Passes script (section.Callers 0 0) callers there = subst (λ (m : ℕ). Passes script (section.Callers 0 0) callers (section.Callers m front.results)) (omega (arith, told.callers)) front.passes in
-    (section.Callers 0 0, refl, passes_on script (section.Callers 0 0) callers (codecs ++ line.Pool ∷ line.Slots ∷ end) there section.Ended first back)
+    (section.Callers 0 0, refl, passes_on script (section.Callers 0 0) callers (codecs ++ line.Pool ∷ pool) there section.Ended first back)

@@ -4,6 +4,7 @@ use Rattle.std.proofs.Common.{◌≡◌, ℕ, zero, suc, ◌+◌, true, List, []
 use Rattle.std.specs.Prelude.{flat_map, unwrap_or, option_and_then}
 use Rattle.std.specs.List.{AllByRecursion, zip}
 use Rattle.wc_chunk.specs.declared.chunk.Chunk.{Chunk}
+use Rattle.wc_pool.specs.declared.entry.PoolEntry.{PoolEntry}
 use Rattle.codec_definitions.specs.declared.unit.Unit as media
 use Rattle.codec_definitions.specs.declared.unit.Unit.TheVariants as unit
 use Rattle.coder_api.specs.declared.slot.SlotEntry.{SlotEntry}
@@ -17,8 +18,6 @@ use Rattle.codec_model.specs.Replay.{State, opening_state}
 use Rattle.codec_model.specs.Shown.{shows, units_in}
 use Rattle.codec_follow.specs.Follow.{follow_step, follow_from, filled, each_filled_from, units_shown}
 use Rattle.script_types.specs.declared.script.ScriptData.{ScriptData}
-use Rattle.script_types.specs.declared.script.CallerItem.{CallerItem}
-use Rattle.script_types.specs.declared.script.CodecItem.{CodecItem}
 use Rattle.report_text.specs.declared.result.StepResult.{StepResult}
 use Rattle.trace_text.specs.declared.run.CallerTrace.{CallerTrace}
 use Rattle.trace_text.specs.declared.run.CodecTrace.{CodecTrace}
@@ -26,8 +25,8 @@ use Rattle.trace_text.specs.declared.run.Run.{Run}
 use Rattle.report_text.specs.declared.line.EntryLine.{EntryLine}
 use Rattle.report_text.specs.declared.line.Line.{Line}
 use Rattle.report_text.specs.declared.line.Line.TheVariants as line
-use Rattle.trace_text.specs.Report.{entry_line_of, event_lines, lines_from, result_lines, caller_lines, entry_lines, codec_lines, slot_lines, end_lines, lines_of}
-use Rattle.report_reader.specs.Read.{results_in, behind_results, callers_in, entries_from, entry_lines_in, behind_entries, description_of, config_in, outputs_in, trace_of, codecs_in, slots_in, held_in, run_of}
+use Rattle.trace_text.specs.Report.{entry_line_of, event_lines, lines_from, result_lines, caller_lines, entry_lines, codec_lines, pool_lines, slot_lines, end_lines, lines_of}
+use Rattle.report_reader.specs.Read.{results_in, behind_results, callers_in, entries_from, entry_lines_in, behind_entries, description_of, config_in, outputs_in, trace_of, codecs_in, pool_in, behind_pool, slots_in, held_in, run_of}
 use Rattle.report_reader.specs.Told.{HoldsArguments, IsPlainTrace, IsToldTrace, IsToldRun}
 use Rattle.codec_follow.specs.Outputs.{IsPlainDescription, IsOutputOf}
 
@@ -253,6 +252,14 @@ codecs_again script media_of i (suc n) (c ∷ cs) rest same ends told plain =
 
 -- ---- the run
 
+pool_again : (n : ℕ) (es : List PoolEntry) (rest : List Line) → pool_in (lines_from pool_lines n es ++ line.Slots ∷ rest) ≡ es
+pool_again n [] rest = refl
+pool_again n (e ∷ es) rest = ap (λ (x : List PoolEntry). e ∷ x) (pool_again (n + 1) es rest)
+
+behind_pool_again : (n : ℕ) (es : List PoolEntry) (rest : List Line) → behind_pool (lines_from pool_lines n es ++ line.Slots ∷ rest) ≡ line.Slots ∷ rest
+behind_pool_again n [] rest = refl
+behind_pool_again n (e ∷ es) rest = behind_pool_again (n + 1) es rest
+
 slots_again : (n : ℕ) (es : List SlotEntry) (held : ℕ) → slots_in (lines_from slot_lines n es ++ end_lines held) ≡ es
 slots_again n [] held = refl
 slots_again n (e ∷ es) held = ap (λ (x : List SlotEntry). e ∷ x) (slots_again (n + 1) es held)
@@ -270,10 +277,13 @@ pub run_again : (script : ScriptData) (media_of : List (List Chunk)) (run : Run)
 unfolding run_of
 run_again script media_of run told plain =
     let end = lines_from slot_lines 0 run.slots ++ end_lines run.held in
+    let pool = lines_from pool_lines 0 run.pool ++ line.Slots ∷ end in
     let codecs = lines_from codec_lines 0 run.codecs in
     rw (
-      callers_again 0 (length script.callers) run.callers (codecs ++ line.Pool ∷ line.Slots ∷ end) told.callers (codecs_end_results 0 run.codecs (line.Slots ∷ end)),
-      codecs_again script media_of 0 (length script.codecs) run.codecs (line.Pool ∷ line.Slots ∷ end) told.codecs (record { told = refl; outputs = λ k. refl; behind = refl; config = refl }) told.traces plain,
+      callers_again 0 (length script.callers) run.callers (codecs ++ line.Pool ∷ pool) told.callers (codecs_end_results 0 run.codecs pool),
+      codecs_again script media_of 0 (length script.codecs) run.codecs (line.Pool ∷ pool) told.codecs (record { told = refl; outputs = λ k. refl; behind = refl; config = refl }) told.traces plain,
+      pool_again 0 run.pool end,
+      behind_pool_again 0 run.pool end,
       slots_again 0 run.slots run.held,
       held_again 0 run.slots run.held,
     ) refl

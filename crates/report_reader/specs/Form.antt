@@ -11,12 +11,12 @@ use Rattle.report_reader.specs.declared.forms.Section.TheVariants as section
 -- Behind all lines of so many codecs stands the next codec, or the pool where there is none.
 abbrev pub next_part : ℕ → ℕ → Line → Option Section
 next_part codecs k (line.Codec n opening) = if (n == k) && nat_lt k codecs then Some (section.Codecs (k + 1) 0) else None
-next_part codecs k line.Pool = if k == codecs then Some section.Pool else None
+next_part codecs k line.Pool = if k == codecs then Some (section.Pool 0) else None
 next_part codecs k _ = None
 
 -- The section behind a line of a report with so many callers and codecs, where the line may stand. Callers and codecs
--- stand in the script's order; the results of a caller, and the entries of a codec and of the registry, are numbered
--- from 0.
+-- stand in the script's order; the results of a caller, and the entries of a codec, of the pool of media and of the
+-- registry, are numbered from 0.
 abbrev pub next : ℕ → ℕ → Section → Line → Option Section
 next callers codecs section.Start line.Header = Some (section.Callers 0 0)
 next callers codecs section.Start _ = None
@@ -26,8 +26,9 @@ next callers codecs (section.Callers k n) l = if k == callers then next_part cod
 next callers codecs (section.Codecs k n) (line.Entry place told) = if place == n then Some (section.Codecs k (n + 1)) else None
 next callers codecs (section.Codecs k n) (line.Event shown) = Some (section.Codecs k n)
 next callers codecs (section.Codecs k n) l = next_part codecs k l
-next callers codecs section.Pool line.Slots = Some (section.Slots 0)
-next callers codecs section.Pool _ = None
+next callers codecs (section.Pool n) (line.Reference place entry) = if place == n then Some (section.Pool (n + 1)) else None
+next callers codecs (section.Pool n) line.Slots = Some (section.Slots 0)
+next callers codecs (section.Pool n) _ = None
 next callers codecs (section.Slots n) (line.Slot place entry) = if place == n then Some (section.Slots (n + 1)) else None
 next callers codecs (section.Slots n) (line.Held held) = Some section.Held
 next callers codecs (section.Slots n) _ = None
@@ -64,5 +65,6 @@ Passes script s (l ∷ ls) end = (mid : Section) × (next_in script s l ≡ Some
 abbrev pub next_number : Section → ℕ
 next_number (section.Callers k n) = n
 next_number (section.Codecs k n) = n
+next_number (section.Pool n) = n
 next_number (section.Slots n) = n
 next_number _ = 0

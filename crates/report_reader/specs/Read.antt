@@ -3,6 +3,7 @@ use Rattle.std.specs.Prelude.{ℕ, zero, suc, nat_lt, if◌then◌else◌, List,
 use Rattle.wc_base.specs.declared.who.Who.{Who}
 use Rattle.wc_config.specs.declared.config.AudioDecoderConfig.{AudioDecoderConfig}
 use Rattle.wc_chunk.specs.declared.chunk.Chunk.{Chunk}
+use Rattle.wc_pool.specs.declared.entry.PoolEntry.{PoolEntry}
 use Rattle.codec_definitions.specs.declared.unit.Unit as media
 use Rattle.codec_definitions.specs.declared.unit.Unit.TheVariants as unit
 use Rattle.coder_api.specs.declared.slot.SlotEntry.{SlotEntry}
@@ -155,6 +156,19 @@ codecs_in script media (suc k) ls =
     let rest = codecs_in script media k (behind_entries (drop 1 ls)) in
     (codec_in script media ls ∷ rest.0, rest.1)
 
+-- ---- the pool of media
+
+-- the entries in front, and the lines behind them
+abbrev pub pool_in : List Line → List PoolEntry
+pool_in [] = []
+pool_in (line.Reference place entry ∷ ls) = entry ∷ pool_in ls
+pool_in (l ∷ ls) = []
+
+abbrev pub behind_pool : List Line → List Line
+behind_pool [] = []
+behind_pool (line.Reference place entry ∷ ls) = behind_pool ls
+behind_pool (l ∷ ls) = l ∷ ls
+
 -- ---- the registry
 
 abbrev pub slots_in : List Line → List SlotEntry
@@ -175,5 +189,6 @@ unfoldable pub run_of : ScriptData → List (List Chunk) → List Line → Run
 run_of script media ls =
     let callers = callers_in (length script.callers) (drop 1 ls) in
     let codecs = codecs_in script media (length script.codecs) callers.1 in
-    let slots = drop 1 (drop 1 codecs.1) in
-    record { callers = callers.0; codecs = codecs.0; slots = slots_in slots; held = held_in slots }
+    let pool = drop 1 codecs.1 in
+    let slots = drop 1 (behind_pool pool) in
+    record { callers = callers.0; codecs = codecs.0; pool = pool_in pool; slots = slots_in slots; held = held_in slots }

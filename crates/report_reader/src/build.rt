@@ -1,5 +1,5 @@
 // What the lines of a report show.
-ghost use Rattle.std.specs.Prelude.{◌≡◌, ◌++◌, IfOk, OnOk, Some, None, drop, length, if◌then◌else◌};
+ghost use Rattle.std.specs.Prelude.{◌≡◌, ◌++◌, ◌∷◌, [], IfOk, OnOk, Some, None, drop, length, if◌then◌else◌};
 ghost use Rattle.std.specs.Option.{option_copied, option_to_list};
 ghost use Rattle.codec_follow.specs.Outputs.{is_codec_string};
 ghost use Rattle.wc_config.specs.declared.kind.Kind.TheVariants as kinds;
@@ -13,22 +13,41 @@ use report_lines::codec_id_of;
 use report_text::{EntryLine, EventLine, Line, codec_text};
 use std::alloc::{AllocError, Global};
 use trace_text::{CallerTrace, StepResult};
-use wc_base::{List, Picture, Samples, Text};
+use wc_base::{List, NoMemory, Picture, Samples, Text};
 use wc_chunk::Chunk;
 use wc_config::AudioDecoderConfig;
+use wc_pool::PoolEntry;
+
+/// One item more.
+pub fn push<T: Drop>(items: &mut Vec<T>, item: T) -> Result<(), NoMemory>
+    ensures { OnOk result (items.new.items ≡ items.old.items ++ item ∷ []) }
+{
+    match items.push(item) {
+        Ok(()) => Ok(()),
+        Err(_) => Err(NoMemory),
+    }
+}
+
+// One result more.
+fn push_result(results: &mut Vec<StepResult>, answer: &StepResult) -> Result<(), NoMemory>
+    ensures { OnOk result (results.new.items ≡ results.old.items ++ answer.now ∷ []) }
+{
+    let answer = answer.copy()?;
+    push(results, answer)
+}
 
 // The results in front, and the lines behind them.
 fn results_of<'a>(
     alloc: Global,
     lines: &'a [Line],
-) -> Result<(Vec<StepResult>, &'a [Line]), AllocError>
+) -> Result<(Vec<StepResult>, &'a [Line]), NoMemory>
     ensures results { IfOk result (λ x. x.0.items ≡ spec.results_in lines.now) }
     ensures behind { IfOk result (λ x. x.1.now ≡ spec.behind_results lines.now) }
 {
     let mut results = Vec::new(alloc);
     let mut rest = lines;
     while let [Line::Result { step: _, answer }, more @ ..] = rest {
-        results.push(*answer)?;
+        push_result(&mut results, answer)?;
         rest = more;
     }
     Ok((results, rest))
@@ -49,16 +68,17 @@ pub fn callers_of<'a>(
     alloc: Global,
     count: usize,
     lines: &'a [Line],
-) -> Result<(Vec<CallerTrace>, &'a [Line]), AllocError>
+) -> Result<(Vec<CallerTrace>, &'a [Line]), NoMemory>
     ensures { IfOk result (λ x. spec.callers_in count lines.now ≡ (x.0.items, x.1.now)) }
 {
     let mut callers = Vec::new(alloc);
     let mut rest = lines;
     for _ in 0..count {
         let (results, behind) = results_of(alloc, behind_first(rest))?;
-        callers.push(CallerTrace {
+        let caller = CallerTrace {
             results: List::of(results),
-        })?;
+        };
+        push(&mut callers, caller)?;
         rest = behind;
     }
     Ok((callers, rest))
@@ -233,6 +253,23 @@ pub fn opening_of(lines: &[Line]) -> Opening
             saturation: 1,
         },
     }
+}
+
+/// The pool's entries in front, and the lines behind them.
+pub fn pool_of<'a>(
+    alloc: Global,
+    lines: &'a [Line],
+) -> Result<(Vec<PoolEntry>, &'a [Line]), AllocError>
+    ensures entries { IfOk result (λ x. x.0.items ≡ spec.pool_in lines.now) }
+    ensures behind { IfOk result (λ x. x.1.now ≡ spec.behind_pool lines.now) }
+{
+    let mut entries = Vec::new(alloc);
+    let mut rest = lines;
+    while let [Line::Reference { place: _, entry }, more @ ..] = rest {
+        entries.push(*entry)?;
+        rest = more;
+    }
+    Ok((entries, rest))
 }
 
 /// The registry's entries in front.

@@ -11,7 +11,8 @@ pub enum Section {
     Callers { callers: u64, results: u64 },
     /// So many codecs were named, and the last of them has so many entries.
     Codecs { codecs: u64, entries: u64 },
-    Pool,
+    /// The pool of media has so many entries.
+    Pool { entries: u64 },
     /// The registry has so many entries.
     Slots { entries: u64 },
     Held,

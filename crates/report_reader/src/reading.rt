@@ -26,7 +26,7 @@ fn next_part(codecs: u64, k: u64, line: &Line) -> Option<Section>
         }
         Line::Pool => {
             if k == codecs {
-                Some(Section::Pool)
+                Some(Section::Pool { entries: 0 })
             } else {
                 None
             }
@@ -95,6 +95,24 @@ fn next_codec(callers: u64, codecs: u64, k: u64, n: u64, line: &Line) -> Option<
     }
 }
 
+// The section behind a line that stands among the pool's entries.
+fn next_reference(callers: u64, codecs: u64, n: u64, line: &Line) -> Option<Section>
+    requires { n + 1 < 2 ^ 64 }
+    ensures { result ≡ spec.next callers codecs (Section.Pool n) line.now }
+{
+    match line {
+        Line::Reference { place, entry: _ } => {
+            if *place == n {
+                Some(Section::Pool { entries: n + 1 })
+            } else {
+                None
+            }
+        }
+        Line::Slots => Some(Section::Slots { entries: 0 }),
+        _ => None,
+    }
+}
+
 // The section behind a line that stands among the registry's entries.
 fn next_slot(callers: u64, codecs: u64, n: u64, line: &Line) -> Option<Section>
     requires { n + 1 < 2 ^ 64 }
@@ -131,10 +149,7 @@ fn next(callers: u64, codecs: u64, section: Section, line: &Line) -> Option<Sect
             results,
         } => next_caller(callers, codecs, k, results, line),
         Section::Codecs { codecs: k, entries } => next_codec(callers, codecs, k, entries, line),
-        Section::Pool => match line {
-            Line::Slots => Some(Section::Slots { entries: 0 }),
-            _ => None,
-        },
+        Section::Pool { entries } => next_reference(callers, codecs, entries, line),
         Section::Slots { entries } => next_slot(callers, codecs, entries, line),
         Section::Held => match line {
             Line::End => Some(Section::Ended),

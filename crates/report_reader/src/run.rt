@@ -4,7 +4,7 @@ ghost use Rattle.std.specs.List.{AllByRecursion};
 ghost use Rattle.report_reader.specs.Fits.{FitsTrace};
 ghost use Rattle.report_reader.specs.Read as spec;
 
-use crate::build::{behind_first, callers_of, held_of, slots_of};
+use crate::build::{behind_first, callers_of, held_of, pool_of, slots_of};
 use crate::trace::codecs_of;
 use report_text::Line;
 use script_types::ScriptData;
@@ -27,11 +27,13 @@ pub fn run_of(
 {
     let (callers, rest) = callers_of(alloc, script.callers.len(), behind_first(lines))?;
     let (codecs, rest) = codecs_of(alloc, script, media, script.codecs.len(), rest)?;
-    let rest = behind_first(behind_first(rest));
+    let (pool, rest) = pool_of(alloc, behind_first(rest))?;
+    let rest = behind_first(rest);
     let slots = slots_of(alloc, rest)?;
     Ok(Run {
         callers: List::of(callers),
         codecs: List::of(codecs),
+        pool: List::of(pool),
         slots: List::of(slots),
         held: held_of(rest),
     })

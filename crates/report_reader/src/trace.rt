@@ -7,7 +7,7 @@ ghost use Rattle.report_reader.specs.Next.{NextIs};
 ghost use Rattle.report_reader.specs.Read as spec;
 
 use crate::arguments::entry_of;
-use crate::build::{behind_first, entry_lines_of, opening_of, outputs_of};
+use crate::build::{behind_first, entry_lines_of, opening_of, outputs_of, push};
 use codec_follow::{Follower, empty_output};
 use codec_model::{Entry, Event, Kind, Opening, Shown, TurnWord};
 use coder_api::Unit;
@@ -79,16 +79,6 @@ fn filled<'a>(
         rest = more;
     }
     Ok((made, left))
-}
-
-// One item more.
-fn push<T: Drop>(items: &mut Vec<T>, item: T) -> Result<(), NoMemory>
-    ensures { OnOk result (items.new.items ≡ items.old.items ++ item ∷ []) }
-{
-    match items.push(item) {
-        Ok(()) => Ok(()),
-        Err(_) => Err(NoMemory),
-    }
 }
 
 // The entry of a line, with what it shows, where it has its arguments and follows.

@@ -15,9 +15,11 @@ use script_types::{
 use std::alloc::Global;
 use std::process::Abort;
 use std::test::Fail;
-use trace_text::{Run, write_report};
-use wc_base::{List, MemSink, Text};
+use trace_text::{Run, StepResult, write_report};
+use wc_base::{By, List, MemSink, Text, Who};
 use wc_config::{AudioDecoderConfig, Config};
+use wc_pool::{PoolEntry, PoolOp};
+use wc_video::{Layouts, PlaneLayout};
 
 const REPORT: &str =
     "wcrun report 1\ncaller a\n0 d.0 ok\n1 ok\n2 d.1 ok\n3 d.2 ok\n4 d:14 resolved\ncodec d audio-decoder 4\n0 a.0 configure = ok\n1 a.2 decode = ok\n2 a.3 flush = ok\n3 start 0.0\n4 done 0.0 1 ran 0\n5 turn unblock\n6 turn process\n7 start 0.1\n8 done 0.1 2 ran 1\n9 turn dequeue\n  dequeue\n10 turn output\n  output audio s16 8000 1 2 0 250 01000200\n11 start 0.2\n12 done 0.2 3 ran 0\n13 turn flushed\n  resolve 2\npool\nslots\n0 d.3 acquire decode:pcm-s16 0\nheld 0\nend\n";
@@ -124,7 +126,7 @@ fn counts(run: &Run) -> (usize, usize, usize) {
 }
 
 fn report(alloc: Global, script: &Script, run: &Run) -> Result<MemSink, Fail> {
-    let mut sink = MemSink::open(alloc, 1000, Vec::new(alloc))?;
+    let mut sink = MemSink::open(alloc, 2000, Vec::new(alloc))?;
     match write_report(alloc, script, run, &mut sink) {
         Ok(()) => Ok(sink),
         Err(_) => Err(Fail::from("memory")),
@@ -140,6 +142,102 @@ fn the_ordinary_report_is_read_and_written_again(rt: HostRuntime) -> Result<(), 
     let codec = run.codecs.as_slice().first().expect(&rt, "a codec");
     assert_eq!(rt; (codec.entries.len(), codec.shown.len()), (14, 14));
     assert_eq!(rt; report(alloc, &script, &run)?.bytes(), REPORT.as_bytes());
+    Ok(())
+}
+
+// The same with copies of media behind the look, and with the history of a pool.
+const LOOK: &str = "4 d:14 resolved\n";
+
+const RESULTS: &str =
+    "4 d:14 resolved\n5 copied 4 01000200\n6 copied 6 0:2,4:1,5:1 000102030405\n7 size 6\n";
+
+const POOL: &str =
+    "pool\n0 a.5 make 0 0\n1 a.6 clone 0 1\n2 d.10 end 0 0 kept\n3 a.7 end 0 1 gone\n";
+
+fn layout(offset: u32, stride: u32) -> PlaneLayout {
+    PlaneLayout { offset, stride }
+}
+
+fn copies(alloc: Global) -> Result<Vec<StepResult>, Fail> {
+    let copied = StepResult::Copied {
+        count: 4,
+        bytes: Bytes::from_static(&[1, 0, 2, 0]),
+    };
+    let layouts = Layouts {
+        count: 3,
+        first: layout(0, 2),
+        second: layout(4, 1),
+        third: layout(5, 1),
+    };
+    let frame = StepResult::CopiedFrame {
+        count: 6,
+        layouts,
+        bytes: Bytes::from_static(&[0, 1, 2, 3, 4, 5]),
+    };
+    Ok(vec![in alloc; copied, frame, StepResult::Size { size: 6 }]?)
+}
+
+fn by_step(step: u32, op: PoolOp) -> PoolEntry {
+    PoolEntry {
+        by: By::Caller(Who { caller: 0, step }),
+        op,
+    }
+}
+
+fn end_of(reference: u64, last: bool) -> PoolOp {
+    PoolOp::End {
+        resource: 0,
+        reference,
+        last,
+    }
+}
+
+fn references() -> [PoolEntry; 4] {
+    let make = PoolOp::Make {
+        resource: 0,
+        reference: 0,
+    };
+    let clone = PoolOp::Clone {
+        resource: 0,
+        reference: 1,
+    };
+    let by = By::Codec {
+        codec: 0,
+        place: 10,
+    };
+    let kept = PoolEntry {
+        by,
+        op: end_of(0, false),
+    };
+    [
+        by_step(5, make),
+        by_step(6, clone),
+        kept,
+        by_step(7, end_of(1, true)),
+    ]
+}
+
+fn later_results(run: &Run) -> &[StepResult] {
+    match run.callers.as_slice() {
+        [caller, ..] => match caller.results.as_slice() {
+            [_, _, _, _, _, later @ ..] => later,
+            _ => &[],
+        },
+        [] => &[],
+    }
+}
+
+#[test]
+fn media_are_read_and_written_again(rt: HostRuntime) -> Result<(), Fail> {
+    let alloc = rt.alloc();
+    let script = script(alloc)?;
+    let text = REPORT.replace(alloc, LOOK, RESULTS)?;
+    let text = text.replace(alloc, "pool\n", POOL)?;
+    let run = read_report(alloc, &script, &[], text.as_bytes()).expect(&rt, "a report");
+    let copies = copies(alloc)?;
+    assert_eq!(rt; later_results(&run), copies.as_slice());
+    assert_eq!(rt; run.pool.as_slice(), references().as_slice());
+    assert_eq!(rt; report(alloc, &script, &run)?.bytes(), text.as_bytes());
     Ok(())
 }
 
@@ -166,6 +264,21 @@ fn lines_without_their_form(rt: HostRuntime) -> Result<(), Fail> {
         ("10 turn output", "11 turn output", 20),
         ("01000200", "0100020A", 21),
         ("0 d.3 acquire", "1 d.3 acquire", 28),
+    ];
+    each_is_refused(&rt, rt.alloc(), &rows)
+}
+
+#[test]
+fn lines_of_the_pool_and_of_copies(rt: HostRuntime) -> Result<(), Fail> {
+    let rows = [
+        ("pool\n", "pool\n0 a.1 make 0 0\n", 0),
+        ("pool\n", "pool\n1 a.1 make 0 0\n", 27),
+        ("pool\n", "pool\n0 b.1 make 0 0\n", 27),
+        ("pool\n", "0 a.1 make 0 0\npool\n", 26),
+        ("held 0\n", "0 a.1 make 0 0\nheld 0\n", 29),
+        (LOOK, "4 copied 2 0:1,1:1 0001\n", 0),
+        (LOOK, "4 copied 2 0:1,1:1 000\n", 7),
+        (LOOK, "4 size\n", 7),
     ];
     each_is_refused(&rt, rt.alloc(), &rows)
 }

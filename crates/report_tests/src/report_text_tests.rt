@@ -13,6 +13,8 @@ use wc_base::{
 };
 use wc_chunk::Chunk;
 use wc_config::{CodecId, CoderId, Role};
+use wc_pool::{PoolEntry, PoolOp};
+use wc_video::{Layouts, PlaneLayout};
 
 fn codec(alloc: Global) -> Result<CodecItem, Fail> {
     Ok(CodecItem {
@@ -97,6 +99,109 @@ fn lines_of_callers_and_codecs(rt: HostRuntime) -> Result<(), Fail> {
             },
             "4 done 1.0 7 no-slot 2\n",
         ),
+    ];
+    each_is_written(&rt, rt.alloc(), &rows)
+}
+
+fn plane(offset: u32, stride: u32) -> PlaneLayout {
+    PlaneLayout { offset, stride }
+}
+
+// A copy of two planes, and one of three.
+fn copies_of_frames() -> (StepResult, StepResult) {
+    let two = StepResult::CopiedFrame {
+        count: 9,
+        layouts: Layouts {
+            count: 2,
+            first: plane(0, 4),
+            second: plane(8, 4),
+            third: plane(0, 0),
+        },
+        bytes: Bytes::new(),
+    };
+    let three = StepResult::CopiedFrame {
+        count: 6,
+        layouts: Layouts {
+            count: 3,
+            first: plane(0, 2),
+            second: plane(4, 1),
+            third: plane(5, 1),
+        },
+        bytes: Bytes::from_static(&[0, 1, 2, 3, 4, 255]),
+    };
+    (two, three)
+}
+
+fn result(step: u64, answer: StepResult) -> Line {
+    Line::Result { step, answer }
+}
+
+#[test]
+fn lines_of_copies(rt: HostRuntime) -> Result<(), Fail> {
+    let (two, three) = copies_of_frames();
+    let samples = StepResult::Copied {
+        count: 4,
+        bytes: Bytes::from_static(&[1, 0, 160, 255, 9]),
+    };
+    let nothing = StepResult::Copied {
+        count: 0,
+        bytes: Bytes::new(),
+    };
+    let rows = [
+        (result(7, samples), "7 copied 4 0100a0ff09\n"),
+        (result(8, nothing), "8 copied 0 -\n"),
+        (result(9, two), "9 copied 9 0:4,8:4 -\n"),
+        (result(10, three), "10 copied 6 0:2,4:1,5:1 0001020304ff\n"),
+        (result(11, StepResult::Size { size: 640 }), "11 size 640\n"),
+        (result(12, StepResult::Absent), "12 absent\n"),
+    ];
+    each_is_written(&rt, rt.alloc(), &rows)
+}
+
+#[test]
+fn results_are_copied(rt: HostRuntime) -> Result<(), Fail> {
+    let (two, three) = copies_of_frames();
+    let local = StepResult::Local {
+        error: Some(DomError::TypeErr),
+    };
+    for answer in [two, three, local, StepResult::Size { size: 640 }].iter() {
+        let copy = answer.copy()?;
+        assert!(rt; copy == *answer);
+    }
+    Ok(())
+}
+
+fn reference(place: u64, by: By, op: PoolOp) -> Line {
+    let entry = PoolEntry { by, op };
+    Line::Reference { place, entry }
+}
+
+#[test]
+fn lines_of_the_pool(rt: HostRuntime) -> Result<(), Fail> {
+    let by = By::Codec { codec: 0, place: 3 };
+    let make = PoolOp::Make {
+        resource: 0,
+        reference: 1,
+    };
+    let clone = PoolOp::Clone {
+        resource: 0,
+        reference: 2,
+    };
+    let kept = PoolOp::End {
+        resource: 0,
+        reference: 1,
+        last: false,
+    };
+    let gone = PoolOp::End {
+        resource: 0,
+        reference: 2,
+        last: true,
+    };
+    let rows = [
+        (reference(0, by, make), "0 d.3 make 0 1\n"),
+        (reference(1, by, clone), "1 d.3 clone 0 2\n"),
+        (reference(2, by, kept), "2 d.3 end 0 1 kept\n"),
+        (reference(3, by, gone), "3 d.3 end 0 2 gone\n"),
     ];
     each_is_written(&rt, rt.alloc(), &rows)
 }

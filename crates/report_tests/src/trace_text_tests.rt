@@ -17,10 +17,29 @@ use wc_base::{
 };
 use wc_chunk::Chunk;
 use wc_config::{AudioDecoderConfig, CodecId, CoderId, Config, Role};
+use wc_pool::{PoolEntry, PoolOp};
+use wc_video::{Layouts, PlaneLayout};
 
 const OPENING: Opening = Opening {
     kind: Kind::AudioDecoder,
     saturation: 4,
+};
+
+// Two planes; the third stays empty.
+const LAYOUTS: Layouts = Layouts {
+    count: 2,
+    first: PlaneLayout {
+        offset: 0,
+        stride: 2,
+    },
+    second: PlaneLayout {
+        offset: 2,
+        stride: 1,
+    },
+    third: PlaneLayout {
+        offset: 0,
+        stride: 0,
+    },
 };
 
 fn who(step: u32) -> Who {
@@ -193,6 +212,7 @@ fn ordinary_run(alloc: Global) -> Result<Run, Fail> {
     Ok(Run {
         callers: List::of(vec![in alloc; caller]?),
         codecs: List::of(vec![in alloc; codec]?),
+        pool: List::empty(alloc),
         slots: List::of(vec![in alloc; acquire]?),
         held: 0,
     })
@@ -246,7 +266,44 @@ fn other_results(alloc: Global) -> Result<Vec<StepResult>, Fail> {
         state: CodecState::Configured,
         size: 1,
     };
-    Ok(vec![in alloc; refused, local, look, state, StepResult::Absent]?)
+    let copied = StepResult::Copied {
+        count: 2,
+        bytes: Bytes::from_static(&[171, 205, 0]),
+    };
+    let frame = StepResult::CopiedFrame {
+        count: 3,
+        layouts: LAYOUTS,
+        bytes: Bytes::from_static(&[1, 2, 3]),
+    };
+    let size = StepResult::Size { size: 12 };
+    let absent = StepResult::Absent;
+    Ok(vec![in alloc; refused, local, look, state, copied, frame, size, absent]?)
+}
+
+fn references(alloc: Global) -> Result<Vec<PoolEntry>, Fail> {
+    let make = PoolEntry {
+        by: By::Caller(who(4)),
+        op: PoolOp::Make {
+            resource: 0,
+            reference: 0,
+        },
+    };
+    let clone = PoolEntry {
+        by: By::Caller(who(5)),
+        op: PoolOp::Clone {
+            resource: 0,
+            reference: 1,
+        },
+    };
+    let end = PoolEntry {
+        by: By::Codec { codec: 0, place: 3 },
+        op: PoolOp::End {
+            resource: 0,
+            reference: 0,
+            last: false,
+        },
+    };
+    Ok(vec![in alloc; make, clone, end]?)
 }
 
 fn failed(item: u64, outcome: Outcome) -> Entry {
@@ -362,13 +419,14 @@ fn other_run(alloc: Global) -> Result<Run, Fail> {
     Ok(Run {
         callers: List::of(vec![in alloc; caller]?),
         codecs: List::of(vec![in alloc; codec]?),
+        pool: List::of(references(alloc)?),
         slots: List::of(vec![in alloc; none, give]?),
         held: 3,
     })
 }
 
 const OTHER: &str =
-    "wcrun report 1\ncaller a\n0 d.0 TypeError\n1 RangeError\n2 d:2 rejected AbortError\n3 d:5 configured 1\n4 absent\ncodec d audio-decoder 4\n0 a.0 reset = InvalidStateError\n1 a.1 close = ok\n  reject 1 AbortError\n2 done 1.0 5 refused\n3 done 1.1 5 no-slot 7\n4 done 1.2 5 no-memory\n5 turn close EncodingError\n  output video NV12 2 1 -3 - abcd\n  output chunk delta 7 125 -\n  config flac 8000 1 -\n  error EncodingError\n6 reclaim 9\npool\nslots\n0 d.3 acquire encode:flac none 8 8\n1 a.1 give encode:flac 2\nheld 3\nend\n";
+    "wcrun report 1\ncaller a\n0 d.0 TypeError\n1 RangeError\n2 d:2 rejected AbortError\n3 d:5 configured 1\n4 copied 2 abcd00\n5 copied 3 0:2,2:1 010203\n6 size 12\n7 absent\ncodec d audio-decoder 4\n0 a.0 reset = InvalidStateError\n1 a.1 close = ok\n  reject 1 AbortError\n2 done 1.0 5 refused\n3 done 1.1 5 no-slot 7\n4 done 1.2 5 no-memory\n5 turn close EncodingError\n  output video NV12 2 1 -3 - abcd\n  output chunk delta 7 125 -\n  config flac 8000 1 -\n  error EncodingError\n6 reclaim 9\npool\n0 a.4 make 0 0\n1 a.5 clone 0 1\n2 d.3 end 0 0 kept\nslots\n0 d.3 acquire encode:flac none 8 8\n1 a.1 give encode:flac 2\nheld 3\nend\n";
 
 #[test]
 fn the_other_lines(rt: HostRuntime) -> Result<(), Fail> {

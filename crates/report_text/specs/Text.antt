@@ -1,10 +1,15 @@
 -- The text of each line of a report, which ends with its only line feed: numbers in decimal, bytes in lower case hex, and
 -- `-` for no bytes and for what is absent.
-use Rattle.std.specs.Prelude.{ℕ, ℤ, ◌*◌, ◌/◌, ◌==◌, if◌then◌else◌, List, [], ◌∷◌, ◌++◌, codes, decimal, Option, Some, None}
+use Rattle.std.specs.Prelude.{ℕ, ℤ, ◌*◌, ◌/◌, ◌==◌, if◌then◌else◌, Bool, true, false, List, [], ◌∷◌, ◌++◌, codes, decimal, Option, Some, None}
 use Rattle.std.specs.Fmt.{signed_decimal}
 use Rattle.hex.specs.Hex.{encode_lower}
 use Rattle.wc_base.specs.declared.media.SoundShape.{SoundShape}
 use Rattle.wc_base.specs.declared.media.PictureShape.{PictureShape}
+use Rattle.wc_video.specs.declared.layout.PlaneLayout.{PlaneLayout}
+use Rattle.wc_video.specs.declared.layout.Layouts.{Layouts}
+use Rattle.wc_pool.specs.declared.entry.PoolEntry.{PoolEntry}
+use Rattle.wc_pool.specs.declared.entry.PoolOp.{PoolOp}
+use Rattle.wc_pool.specs.declared.entry.PoolOp.TheVariants as pool
 use Rattle.coder_api.specs.declared.slot.SlotEntry.{SlotEntry}
 use Rattle.coder_api.specs.declared.slot.SlotOp.{SlotOp}
 use Rattle.coder_api.specs.declared.slot.SlotOp.TheVariants as slot
@@ -36,13 +41,45 @@ promise_text promise.Pending = codes "pending"
 promise_text promise.Resolved = codes "resolved"
 promise_text (promise.Rejected error) = codes "rejected " <> error_name error
 
+-- lower case hex, or `-` for no bytes
+abbrev pub hex_or_dash : List ℕ → List ℕ
+hex_or_dash [] = codes "-"
+hex_or_dash (b ∷ bytes) = encode_lower (b ∷ bytes)
+
+-- where a plane went, as `OFFSET:STRIDE`
+abbrev pub layout_text : PlaneLayout → List ℕ
+layout_text l = decimal l.offset <> codes ":" <> decimal l.stride
+
+-- the third plane, where there is one
+abbrev pub third_text : Layouts → List ℕ
+third_text l = if l.count == 3 then codes "," <> layout_text l.third else []
+
+abbrev pub layouts_text : Layouts → List ℕ
+layouts_text l = layout_text l.first <> codes "," <> layout_text l.second <> third_text l
+
+-- what stands in front of a copy's destination
+abbrev pub copied_text : ℕ → List ℕ
+copied_text n = codes "copied " <> decimal n <> codes " "
+
+abbrev pub copied_frame_text : ℕ → Layouts → List ℕ
+copied_frame_text n layouts = codes "copied " <> decimal n <> codes " " <> layouts_text layouts <> codes " "
+
 abbrev pub result_text : List CodecItem → StepResult → List ℕ
 result_text codecs (result.Call n place error) = entry_name codecs n place <> codes " " <> answer_text error
 result_text codecs (result.Local error) = answer_text error
 result_text codecs (result.Look n length end) = look_name codecs n length <> codes " " <> promise_text end
 result_text codecs (result.State n length state size) =
     look_name codecs n length <> codes " " <> state_text state <> codes " " <> decimal size
+result_text codecs (result.Copied n bytes) = copied_text n ++ hex_or_dash bytes
+result_text codecs (result.CopiedFrame n layouts bytes) = copied_frame_text n layouts ++ hex_or_dash bytes
+result_text codecs (result.Size n) = codes "size " <> decimal n
 result_text codecs result.Absent = codes "absent"
+
+-- without the destination of a copy
+abbrev pub result_head : List CodecItem → StepResult → List ℕ
+result_head codecs (result.Copied n bytes) = copied_text n
+result_head codecs (result.CopiedFrame n layouts bytes) = copied_frame_text n layouts
+result_head codecs r = result_text codecs r
 
 -- ---- entries of codecs
 
@@ -80,11 +117,6 @@ abbrev pub number_or_dash : Option ℕ → List ℕ
 number_or_dash None = codes "-"
 number_or_dash (Some n) = decimal n
 
--- lower case hex, or `-` for no bytes
-abbrev pub hex_or_dash : List ℕ → List ℕ
-hex_or_dash [] = codes "-"
-hex_or_dash (b ∷ bytes) = encode_lower (b ∷ bytes)
-
 -- how long samples last, in whole microseconds (W3C WebCodecs, AudioData.duration)
 abbrev pub sound_duration : SoundShape → ℕ
 sound_duration shape = if shape.rate == 0 then 0 else shape.frames * 1000000 / shape.rate
@@ -121,6 +153,22 @@ event_text (event.Reject promise error) = codes "  reject " <> decimal promise <
 event_text event.Dequeue = codes "  dequeue\n"
 event_text (event.Error error) = codes "  error " <> error_name error <> codes "\n"
 
+-- ---- entries of the pool of media
+
+-- whether the resource of a reference that ended is kept
+abbrev pub last_text : Bool → List ℕ
+last_text true = codes "gone"
+last_text false = codes "kept"
+
+abbrev pub pool_text : PoolOp → List ℕ
+pool_text (pool.Make resource reference) = codes "make " <> decimal resource <> codes " " <> decimal reference
+pool_text (pool.Clone resource reference) = codes "clone " <> decimal resource <> codes " " <> decimal reference
+pool_text (pool.End resource reference last) =
+    codes "end " <> decimal resource <> codes " " <> decimal reference <> codes " " <> last_text last
+
+abbrev pub pool_entry_text : ScriptData → PoolEntry → List ℕ
+pool_entry_text script e = by_text script e.by <> codes " " <> pool_text e.op
+
 -- ---- entries of the registry of coders
 
 abbrev pub slot_text : SlotOp → List ℕ
@@ -152,6 +200,7 @@ line_text script (line.Codec n opening) = codec_line (codec_name script.codecs n
 line_text script (line.Entry place e) = numbered_line place (entry_text script.callers e)
 line_text script (line.Event e) = event_text e
 line_text script line.Pool = codes "pool\n"
+line_text script (line.Reference place e) = numbered_line place (pool_entry_text script e)
 line_text script line.Slots = codes "slots\n"
 line_text script (line.Slot place e) = numbered_line place (slot_entry_text script e)
 line_text script (line.Held n) = codes "held " <> decimal n <> codes "\n"

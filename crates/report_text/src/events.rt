@@ -51,8 +51,8 @@ fn push_hex_or_dash(line: &mut Vec<u8>, bytes: &[u8]) -> Result<(), AllocError>
     Ok(())
 }
 
-// The hex is written into the line itself, since an output may be long.
-fn hex_line(alloc: Global, head: &[u8], bytes: &[u8]) -> Result<Vec<u8>, AllocError>
+/// A line that ends with bytes in hex, which is written into the line itself, since it may be long.
+pub(crate) fn hex_line(alloc: Global, head: &[u8], bytes: &[u8]) -> Result<Vec<u8>, AllocError>
     ensures { IfOk result (λ v. v.items ≡ head.now ++ spec.hex_or_dash bytes.now ++ codes "\n") }
 {
     let mut line = Vec::new(alloc);

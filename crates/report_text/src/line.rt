@@ -5,6 +5,7 @@ use codec_model::{Opening, Outcome, TurnWord};
 use coder_api::SlotEntry;
 use wc_base::{DomError, Picture, Samples, Who};
 use wc_chunk::Chunk;
+use wc_pool::PoolEntry;
 
 /// Which call an entry keeps.
 #[derive(Clone, Copy, Debug, PartialEq, Eq)]
@@ -80,6 +81,8 @@ pub enum Line {
     Event(EventLine),
     /// Begins the entries of the pool of media.
     Pool,
+    /// An entry of the pool of media, with its place.
+    Reference { place: u64, entry: PoolEntry },
     /// Begins the entries of the registry of coders.
     Slots,
     /// An entry of the registry of coders, with its place.

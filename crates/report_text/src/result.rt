@@ -1,9 +1,13 @@
 // What a step of a caller came to.
+ghost use Rattle.std.specs.Prelude.{◌≡◌, IfOk};
+
+use bytes::Bytes;
 use codec_model::{CodecState, PromiseState};
-use wc_base::DomError;
+use wc_base::{DomError, NoMemory};
+use wc_video::Layouts;
 
 /// What a step of a caller came to.
-#[derive(Clone, Copy, Debug, PartialEq, Eq)]
+#[derive(Debug, PartialEq, Drop)]
 pub enum StepResult {
     /// A call on a codec: its entry's place, and its exception, if it has one.
     Call {
@@ -28,6 +32,68 @@ pub enum StepResult {
         state: CodecState,
         size: u64,
     },
+    /// A copy of audio data or of a chunk: how many bytes were written, and the whole destination.
+    Copied {
+        count: u64,
+        bytes: Bytes,
+    },
+    /// A copy of a video frame: how many bytes it needs, where its planes went, and the whole destination.
+    CopiedFrame {
+        count: u64,
+        layouts: Layouts,
+        bytes: Bytes,
+    },
+    /// How many bytes a copy needs.
+    Size {
+        size: u64,
+    },
     /// The step's variable is absent: nothing was called.
     Absent,
+}
+
+impl StepResult {
+    /// The same result. The destination of a copy is shared.
+    pub fn copy(&self) -> Result<StepResult, NoMemory>
+        ensures { IfOk result (λ r. r ≡ self.now) }
+    {
+        Ok(match *self {
+            StepResult::Call {
+                codec,
+                place,
+                error,
+            } => StepResult::Call {
+                codec,
+                place,
+                error,
+            },
+            StepResult::Local { error } => StepResult::Local { error },
+            StepResult::Look { codec, length, end } => StepResult::Look { codec, length, end },
+            StepResult::State {
+                codec,
+                length,
+                state,
+                size,
+            } => StepResult::State {
+                codec,
+                length,
+                state,
+                size,
+            },
+            StepResult::Copied { count, ref bytes } => StepResult::Copied {
+                count,
+                bytes: bytes.clone()?,
+            },
+            StepResult::CopiedFrame {
+                count,
+                layouts,
+                ref bytes,
+            } => StepResult::CopiedFrame {
+                count,
+                layouts,
+                bytes: bytes.clone()?,
+            },
+            StepResult::Size { size } => StepResult::Size { size },
+            StepResult::Absent => StepResult::Absent,
+        })
+    }
 }

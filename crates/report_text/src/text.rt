@@ -1,9 +1,9 @@
 // The text of a line.
-ghost use Rattle.std.specs.Prelude.{◌≡◌, IfOk, Some};
+ghost use Rattle.std.specs.Prelude.{◌≡◌, ◌++◌, IfOk, Some};
 ghost use Rattle.report_text.specs.Text as spec;
 ghost use Rattle.report_text.specs.declared.line.Line.TheVariants as line;
 
-use crate::events::event_text;
+use crate::events::{event_text, hex_line};
 use crate::line::{EntryLine, Line};
 use crate::names::{
     ByText, CoderText, EntryName, ItemName, LookName, StepName, caller_name, codec_name,
@@ -15,6 +15,8 @@ use coder_api::{SlotEntry, SlotOp};
 use script_types::{CallerItem, CodecItem, ScriptData};
 use std::alloc::{AllocError, Global};
 use std::fmt;
+use wc_pool::{PoolEntry, PoolOp};
+use wc_video::{Layouts, PlaneLayout};
 
 // How a promise stands.
 #[derive(Drop)]
@@ -35,15 +37,47 @@ impl fmt::Display for Standing {
     }
 }
 
-// What a step came to.
+// Where a plane went.
+#[derive(Drop)]
+struct LayoutText(PlaneLayout);
+
+impl fmt::Display for LayoutText {
+    ghost output = { λ l. Some (spec.layout_text l.0) };
+
+    fn fmt<W: fmt::Write>(&self, f: &mut fmt::Formatter<W>) -> fmt::Result {
+        let PlaneLayout { offset, stride } = self.0;
+        write!(f, "{offset}:{stride}")
+    }
+}
+
+// Where the planes of a frame went.
+#[derive(Drop)]
+struct LayoutsText(Layouts);
+
+impl fmt::Display for LayoutsText {
+    ghost output = { λ l. Some (spec.layouts_text l.0) };
+
+    fn fmt<W: fmt::Write>(&self, f: &mut fmt::Formatter<W>) -> fmt::Result {
+        let first = LayoutText(self.0.first);
+        let second = LayoutText(self.0.second);
+        write!(f, "{first},{second}")?;
+        if self.0.count == 3 {
+            let third = LayoutText(self.0.third);
+            write!(f, ",{third}")?;
+        }
+        Ok(())
+    }
+}
+
+// What a step came to, without the destination of a copy.
 #[derive(Drop)]
 struct ResultText<'a> {
     codecs: &'a [CodecItem],
-    answer: StepResult,
+    answer: &'a StepResult,
 }
 
 impl fmt::Display for ResultText<'_> {
-    ghost output = { λ r. Some (spec.result_text r.codecs.now r.answer) };
+    ghost output = { λ r. Some (spec.result_head r.codecs.now r.answer.now) };
 
     fn fmt<W: fmt::Write>(&self, f: &mut fmt::Formatter<W>) -> fmt::Result {
         let codecs = self.codecs;
@@ -53,17 +87,17 @@ impl fmt::Display for ResultText<'_> {
                 place,
                 error,
             } => {
-                let entry = EntryName(codecs, codec, place);
-                let answer = answer_text(error);
+                let entry = EntryName(codecs, *codec, *place);
+                let answer = answer_text(*error);
                 write!(f, "{entry} {answer}")
             }
             StepResult::Local { error } => {
-                let answer = answer_text(error);
+                let answer = answer_text(*error);
                 write!(f, "{answer}")
             }
             StepResult::Look { codec, length, end } => {
-                let look = LookName(codecs, codec, length);
-                let end = Standing(end);
+                let look = LookName(codecs, *codec, *length);
+                let end = Standing(*end);
                 write!(f, "{look} {end}")
             }
             StepResult::State {
@@ -72,10 +106,20 @@ impl fmt::Display for ResultText<'_> {
                 state,
                 size,
             } => {
-                let look = LookName(codecs, codec, length);
-                let state = state_text(state);
+                let look = LookName(codecs, *codec, *length);
+                let state = state_text(*state);
                 write!(f, "{look} {state} {size}")
             }
+            StepResult::Copied { count, bytes: _ } => write!(f, "copied {count} "),
+            StepResult::CopiedFrame {
+                count,
+                layouts,
+                bytes: _,
+            } => {
+                let layouts = LayoutsText(*layouts);
+                write!(f, "copied {count} {layouts} ")
+            }
+            StepResult::Size { size } => write!(f, "size {size}"),
             StepResult::Absent => write!(f, "absent"),
         }
     }
@@ -211,6 +255,57 @@ impl fmt::Display for SlotEntryText<'_> {
     }
 }
 
+// What became of a reference to a media resource.
+#[derive(Drop)]
+struct PoolText(PoolOp);
+
+impl fmt::Display for PoolText {
+    ghost output = { λ o. Some (spec.pool_text o.0) };
+
+    fn fmt<W: fmt::Write>(&self, f: &mut fmt::Formatter<W>) -> fmt::Result {
+        match self.0 {
+            PoolOp::Make {
+                resource,
+                reference,
+            } => write!(f, "make {resource} {reference}"),
+            PoolOp::Clone {
+                resource,
+                reference,
+            } => write!(f, "clone {resource} {reference}"),
+            PoolOp::End {
+                resource,
+                reference,
+                last: true,
+            } => write!(f, "end {resource} {reference} gone"),
+            PoolOp::End {
+                resource,
+                reference,
+                last: false,
+            } => write!(f, "end {resource} {reference} kept"),
+        }
+    }
+}
+
+// An entry of the pool of media.
+#[derive(Drop)]
+struct PoolEntryText<'a> {
+    script: &'a ScriptData,
+    entry: PoolEntry,
+}
+
+impl fmt::Display for PoolEntryText<'_> {
+    ghost output = { λ s. Some (spec.pool_entry_text s.script.now s.entry) };
+
+    fn fmt<W: fmt::Write>(&self, f: &mut fmt::Formatter<W>) -> fmt::Result {
+        let by = ByText {
+            script: self.script,
+            by: self.entry.by,
+        };
+        let op = PoolText(self.entry.op);
+        write!(f, "{by} {op}")
+    }
+}
+
 fn caller_line(alloc: Global, script: &ScriptData, number: u64) -> Result<Vec<u8>, AllocError>
     ensures { IfOk result (λ v. v.items ≡ spec.line_text script.now (line.Caller number)) }
 {
@@ -218,17 +313,42 @@ fn caller_line(alloc: Global, script: &ScriptData, number: u64) -> Result<Vec<u8
     Ok(format!(in alloc; "caller {name}\n")?.into_bytes())
 }
 
+// The destination of a copy may be long, so that its hex is written into the line itself.
+fn copied_line(
+    alloc: Global,
+    step: u64,
+    codecs: &[CodecItem],
+    answer: &StepResult,
+    bytes: &[u8],
+) -> Result<Vec<u8>, AllocError>
+    ensures { IfOk result
+        (λ v. v.items
+        ≡ spec.numbered_line step
+        (spec.result_head codecs.now answer.now ++ spec.hex_or_dash bytes.now)) }
+{
+    let head = ResultText { codecs, answer };
+    let head = format!(in alloc; "{step} {head}")?;
+    hex_line(alloc, head.as_bytes(), bytes)
+}
+
 fn result_line(
     alloc: Global,
     script: &ScriptData,
     step: u64,
-    answer: StepResult,
+    answer: &StepResult,
 ) -> Result<Vec<u8>, AllocError>
-    ensures { IfOk result (λ v. v.items ≡ spec.line_text script.now (line.Result step answer)) }
+    ensures { IfOk result (λ v. v.items ≡ spec.line_text script.now (line.Result step answer.now)) }
 {
     let codecs = script.codecs.as_slice();
-    let text = ResultText { codecs, answer };
-    Ok(format!(in alloc; "{step} {text}\n")?.into_bytes())
+    match answer {
+        StepResult::Copied { bytes, .. } | StepResult::CopiedFrame { bytes, .. } => {
+            copied_line(alloc, step, codecs, answer, bytes.as_slice())
+        }
+        _ => {
+            let text = ResultText { codecs, answer };
+            Ok(format!(in alloc; "{step} {text}\n")?.into_bytes())
+        }
+    }
 }
 
 fn codec_line(
@@ -258,6 +378,18 @@ fn entry_line(
     Ok(format!(in alloc; "{place} {text}\n")?.into_bytes())
 }
 
+fn pool_line(
+    alloc: Global,
+    script: &ScriptData,
+    place: u64,
+    entry: PoolEntry,
+) -> Result<Vec<u8>, AllocError>
+    ensures { IfOk result (λ v. v.items ≡ spec.line_text script.now (line.Reference place entry)) }
+{
+    let text = PoolEntryText { script, entry };
+    Ok(format!(in alloc; "{place} {text}\n")?.into_bytes())
+}
+
 fn slot_line(
     alloc: Global,
     script: &ScriptData,
@@ -277,11 +409,12 @@ pub fn line_text(alloc: Global, script: &ScriptData, line: &Line) -> Result<Vec<
     match line {
         Line::Header => Ok(String::from_str(alloc, "wcrun report 1\n")?.into_bytes()),
         Line::Caller(number) => caller_line(alloc, script, *number),
-        Line::Result { step, answer } => result_line(alloc, script, *step, *answer),
+        Line::Result { step, answer } => result_line(alloc, script, *step, answer),
         Line::Codec { codec, opening } => codec_line(alloc, script, *codec, *opening),
         Line::Entry { place, entry } => entry_line(alloc, script, *place, *entry),
         Line::Event(event) => event_text(alloc, event),
         Line::Pool => Ok(String::from_str(alloc, "pool\n")?.into_bytes()),
+        Line::Reference { place, entry } => pool_line(alloc, script, *place, *entry),
         Line::Slots => Ok(String::from_str(alloc, "slots\n")?.into_bytes()),
         Line::Slot { place, entry } => slot_line(alloc, script, *place, *entry),
         Line::Held(held) => Ok(format!(in alloc; "held {held}\n")?.into_bytes()),

@@ -12,6 +12,8 @@ use Rattle.wc_base.specs.declared.who.By.TheVariants as by
 use Rattle.wc_config.specs.declared.codec.CoderId.{CoderId}
 use Rattle.wc_config.specs.declared.config.Config.{Config}
 use Rattle.wc_chunk.specs.declared.chunk.Chunk.{Chunk}
+use Rattle.wc_pool.specs.declared.entry.PoolEntry.{PoolEntry}
+use Rattle.wc_video.specs.declared.layout.Layouts.{Layouts}
 use Rattle.coder_api.specs.declared.slot.SlotEntry.{SlotEntry}
 use Rattle.coder_api.specs.declared.slot.SlotOp.{SlotOp}
 use Rattle.coder_api.specs.declared.slot.SlotOp.TheVariants as slot
@@ -39,10 +41,10 @@ use Rattle.report_text.specs.declared.result.StepResult.TheVariants as result
 use Rattle.trace_text.specs.declared.run.CallerTrace.{CallerTrace}
 use Rattle.trace_text.specs.declared.run.CodecTrace.{CodecTrace}
 use Rattle.trace_text.specs.declared.run.Run.{Run}
-use Rattle.trace_text.specs.Report.{lines_from, result_lines, caller_lines, entry_lines, codec_lines, slot_lines, lines_of}
+use Rattle.trace_text.specs.Report.{lines_from, result_lines, caller_lines, entry_lines, codec_lines, pool_lines, slot_lines, lines_of}
 use Rattle.trace_text.specs.Follow.{Recorded, record_of, opening_at, steps_of, chunk_by, order_items}
 use Rattle.trace_text.specs.FitsLaws.{calls_by_places, order_by_places}
-use Rattle.trace_text.specs.Fits.{recorded_of, result_in, entry_in, step_in, CallsAreIn, LookShows, LooksAreIn, HasArguments, ArgumentsAreIn, Fits, IsLegalTrace, AreLegalTraces, IsLegalRun}
+use Rattle.trace_text.specs.Fits.{recorded_of, result_in, entry_in, step_in, CallsAreIn, LookShows, LooksAreIn, IsLocalAnswer, LocalsAreIn, HasArguments, ArgumentsAreIn, Fits, IsLegalTrace, AreLegalTraces, IsLegalRun}
 use Rattle.codec_accounts.specs.Owed.{at}
 use Rattle.codec_accounts.specs.Calls.{who_of}
 use Rattle.codec_accounts.specs.Codec.{state_after}
@@ -197,19 +199,41 @@ state_fits s media made w c j k n state size (step.Reset on) sound h is shows = 
 state_fits s media made w c j k n state size (step.Close on) sound h is shows = absurd shows
 state_fits s media made w c j k n state size (step.Media m) sound h is shows = absurd shows
 
-results_fit : (s : ScriptData) (media : List (List Chunk)) (made : List CoderId) (w : Recorded) → is_sound s ≡ true → IsKnown s media made w → CallsAreIn s w → LooksAreIn s w → (c j : ℕ) (r : StepResult) → result_in w c j ≡ Some r → FitsResult s r
-results_fit s media made w sound h calls looks c j (result.Call k p error) is = call_fits s media made w h calls c j k p error is
-results_fit s media made w sound h calls looks c j (result.Local error) is = tt
-results_fit s media made w sound h calls looks c j (result.Look k n end) is =
+-- no step copies media
+no_copy : (s : ScriptData) (media : List (List Chunk)) (c : ℕ) (x : Step) (n : ℕ) (bytes : List ℕ) → IsLocalAnswer s media c x (result.Copied n bytes) → ⊥
+no_copy s media c (step.Chunk bind source) n bytes h = absurd cc
+no_copy s media c x n bytes h = h
+
+no_frame_copy : (s : ScriptData) (media : List (List Chunk)) (c : ℕ) (x : Step) (n : ℕ) (layouts : Layouts) (bytes : List ℕ) → IsLocalAnswer s media c x (result.CopiedFrame n layouts bytes) → ⊥
+no_frame_copy s media c (step.Chunk bind source) n layouts bytes h = absurd cc
+no_frame_copy s media c x n layouts bytes h = h
+
+no_size : (s : ScriptData) (media : List (List Chunk)) (c : ℕ) (x : Step) (n : ℕ) → IsLocalAnswer s media c x (result.Size n) → ⊥
+no_size s media c (step.Chunk bind source) n h = absurd cc
+no_size s media c x n h = h
+
+results_fit : (s : ScriptData) (media : List (List Chunk)) (made : List CoderId) (w : Recorded) → is_sound s ≡ true → IsKnown s media made w → CallsAreIn s w → LooksAreIn s w → LocalsAreIn s media w → (c j : ℕ) (r : StepResult) → result_in w c j ≡ Some r → FitsResult s r
+results_fit s media made w sound h calls looks locals c j (result.Call k p error) is = call_fits s media made w h calls c j k p error is
+results_fit s media made w sound h calls looks locals c j (result.Local error) is = tt
+results_fit s media made w sound h calls looks locals c j (result.Look k n end) is =
     let step = calls.made c j (result.Look k n end) is in
     let within = (order_by_places w looks.climbs).within c j k n (result.Look k n end) is refl in
     (look_there s media made w c k n end step.0 h calls (looks.shows c j step.0 (result.Look k n end) step.1 is), omega (arith, within, h.entries k))
-results_fit s media made w sound h calls looks c j (result.State k n state size) is =
+results_fit s media made w sound h calls looks locals c j (result.State k n state size) is =
     let step = calls.made c j (result.State k n state size) is in
     let within = (order_by_places w looks.climbs).within c j k n (result.State k n state size) is refl in
     let shown = state_fits s media made w c j k n state size step.0 sound h step.1 (looks.shows c j step.0 (result.State k n state size) step.1 is) in
     (shown.0, omega (arith, within, h.entries k), shown.1)
-results_fit s media made w sound h calls looks c j result.Absent is = tt
+results_fit s media made w sound h calls looks locals c j (result.Copied n bytes) is =
+    let step = calls.made c j (result.Copied n bytes) is in
+    absurd (no_copy s media c step.0 n bytes (locals c j step.0 (result.Copied n bytes) step.1 is))
+results_fit s media made w sound h calls looks locals c j (result.CopiedFrame n layouts bytes) is =
+    let step = calls.made c j (result.CopiedFrame n layouts bytes) is in
+    absurd (no_frame_copy s media c step.0 n layouts bytes (locals c j step.0 (result.CopiedFrame n layouts bytes) step.1 is))
+results_fit s media made w sound h calls looks locals c j (result.Size n) is =
+    let step = calls.made c j (result.Size n) is in
+    absurd (no_size s media c step.0 n (locals c j step.0 (result.Size n) step.1 is))
+results_fit s media made w sound h calls looks locals c j result.Absent is = tt
 
 -- ---- entries
 
@@ -349,12 +373,14 @@ lines_fit always s media made run sound within legal fits =
     let w = recorded_of run in
     let h = known s media made run sound within legal fits in
     let count = traces_count s.codecs run.codecs legal.codecs in
-    let callers = caller_lines_fit s 0 run.callers (omega (arith, legal.callers)) h.few.callers h.results (λ c j r is. results_fit s media made w sound h fits.calls fits.looks c j r is) in
+    let callers = caller_lines_fit s 0 run.callers (omega (arith, legal.callers)) h.few.callers h.results (λ c j r is. results_fit s media made w sound h fits.calls fits.looks fits.locals c j r is) in
     let codecs = codec_lines_fit s 0 s.codecs run.codecs always legal.codecs (omega (arith, count)) h.few.codecs (saturations s sound) h.entries
     (λ k p e is. (entry_within s media made w h fits.calls fits.boxes k p e is, entry_own s media made w within fits.arguments k p e is)) in
+    let pool : AllByRecursion (FitsLine s) (lines_from pool_lines 0 run.pool) = subst (λ (es : List PoolEntry). AllByRecursion (FitsLine s) (lines_from pool_lines 0 es)) (sym legal.pool) tt in
     let slots = slot_lines_fit s 0 run.slots (omega (arith, h.slots)) (λ i e is. (let op = h.ops i e is in
     (by_fits s media made w e.by h (cause_there made (opening_at s) w.codecs w.slots i e fits.boxes is) op.0, op_fits (length made) e.op within.boxes op.1))) in (
       tt,
       all_append (FitsLine s) (lines_from caller_lines 0 run.callers) _ callers
-          (all_append (FitsLine s) (lines_from codec_lines 0 run.codecs) _ codecs (tt, (tt, all_append (FitsLine s) (lines_from slot_lines 0 run.slots) _ slots (omega (arith, legal.held), (tt, tt))))),
+          (all_append (FitsLine s) (lines_from codec_lines 0 run.codecs) _ codecs
+          (tt, all_append (FitsLine s) (lines_from pool_lines 0 run.pool) _ pool (tt, all_append (FitsLine s) (lines_from slot_lines 0 run.slots) _ slots (omega (arith, legal.held), (tt, tt))))),
     )

@@ -14,14 +14,15 @@ abbrev pub lines_in : Option (Line × Option Line) → List Line
 lines_in None = []
 lines_in (Some x) = x.0 ∷ option_to_list x.1
 
--- the lines behind a section of a run, by those that are left of its callers and codecs, and of its registry's entries
-abbrev pub lines_behind : Section → List Line → List Line → ℕ → List Line
-lines_behind section.Start traces slots held = line.Header ∷ (traces ++ (line.Pool ∷ line.Slots ∷ (slots ++ end_lines held)))
-lines_behind section.Traces traces slots held = traces ++ (line.Pool ∷ line.Slots ∷ (slots ++ end_lines held))
-lines_behind section.Pool traces slots held = line.Slots ∷ (slots ++ end_lines held)
-lines_behind section.Slots traces slots held = slots ++ end_lines held
-lines_behind section.Held traces slots held = line.End ∷ []
-lines_behind section.End traces slots held = []
+-- the lines behind a section of a run, by those that are left of its callers and codecs, of its pool's entries, and of its
+-- registry's
+abbrev pub lines_behind : Section → List Line → List Line → List Line → ℕ → List Line
+lines_behind section.Start traces pool slots held = line.Header ∷ (traces ++ (line.Pool ∷ pool ++ (line.Slots ∷ (slots ++ end_lines held))))
+lines_behind section.Traces traces pool slots held = traces ++ (line.Pool ∷ pool ++ (line.Slots ∷ (slots ++ end_lines held)))
+lines_behind section.Pool traces pool slots held = pool ++ (line.Slots ∷ (slots ++ end_lines held))
+lines_behind section.Slots traces pool slots held = slots ++ end_lines held
+lines_behind section.Held traces pool slots held = line.End ∷ []
+lines_behind section.End traces pool slots held = []
 
 -- the text of a line is taken from the front, and fewer lines are left, or none was left
 abbrev pub TakesText : ScriptData → List Line → Option (List ℕ) → List Line → Type 0

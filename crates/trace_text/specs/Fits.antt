@@ -64,6 +64,9 @@ mark_of (result.Call k place error) = mark.Call k place
 mark_of (result.Look k length end) = mark.Look k length
 mark_of (result.State k length state size) = mark.Look k length
 mark_of (result.Local error) = mark.Local
+mark_of (result.Copied n bytes) = mark.Local
+mark_of (result.CopiedFrame n layouts bytes) = mark.Local
+mark_of (result.Size n) = mark.Local
 mark_of result.Absent = mark.Local
 
 -- what the results of all callers say
@@ -135,12 +138,15 @@ ArgumentsAreIn s media w = (k p : ℕ) (e : Entry) (who : Who) → entry_in w k 
 abbrev pub ArgumentsAreTheScripts : ScriptData → List (List Chunk) → Run → Type 0
 ArgumentsAreTheScripts s media run = ArgumentsAreIn s media (recorded_of run)
 
--- the answer of a step that calls no codec and looks at none; absent is only what lacks its variable
+-- The answer of a step that calls no codec and looks at none; absent is only what lacks its variable. No step copies media yet.
 abbrev pub IsLocalAnswer : ScriptData → List (List Chunk) → ℕ → Step → StepResult → Type 0
 IsLocalAnswer s media c (step.Chunk bind source) r = r ≡ result.Local (source_error source)
 IsLocalAnswer s media c (step.Decode on chunk) result.Absent = chunk_at media (steps_of s c) chunk.step ≡ None
 IsLocalAnswer s media c x result.Absent = ⊥
 IsLocalAnswer s media c x (result.Local error) = ⊥
+IsLocalAnswer s media c x (result.Copied n bytes) = ⊥
+IsLocalAnswer s media c x (result.CopiedFrame n layouts bytes) = ⊥
+IsLocalAnswer s media c x (result.Size n) = ⊥
 IsLocalAnswer s media c x r = Unit {0}
 
 abbrev pub LocalsAreIn : ScriptData → List (List Chunk) → Recorded → Type 0
@@ -183,8 +189,10 @@ AreLegalTraces [] [] = Unit {0}
 AreLegalTraces (c ∷ cs) (t ∷ ts) = IsLegalTrace c t × AreLegalTraces cs ts
 AreLegalTraces _ _ = ⊥
 
--- The run has the script's callers and codecs, and each codec's history is legal; no media resource is held.
+-- The run has the script's callers and codecs, and each codec's history is legal; no media resource was made, so that none
+-- is held.
 pub record IsLegalRun (s : ScriptData) (run : Run) : Type 0 where
   pub callers : length run.callers ≡ length s.callers
   pub codecs : AreLegalTraces s.codecs run.codecs
+  pub pool : run.pool ≡ []
   pub held : run.held ≡ 0

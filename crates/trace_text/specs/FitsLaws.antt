@@ -73,6 +73,9 @@ call_result (result.Call n q error) k p is = let a : n ≡ k = cc in let b : q �
 call_result (result.Local error) k p is = absurd cc
 call_result (result.Look n q end) k p is = absurd cc
 call_result (result.State n q state size) k p is = absurd cc
+call_result (result.Copied n bytes) k p is = absurd cc
+call_result (result.CopiedFrame n layouts bytes) k p is = absurd cc
+call_result (result.Size n) k p is = absurd cc
 call_result result.Absent k p is = absurd cc
 
 call_there : (o : Option StepResult) (k p : ℕ) → option_map mark_of o ≡ Some (mark.Call k p) → (error : Option DomError) × (o ≡ Some (result.Call k p error))
@@ -115,6 +118,9 @@ reach_look (result.Look m q end) k n is = look_reach m q k n is
 reach_look (result.State m q state size) k n is = look_reach m q k n is
 reach_look (result.Call m q error) k n is = absurd cc
 reach_look (result.Local error) k n is = absurd cc
+reach_look (result.Copied m bytes) k n is = absurd cc
+reach_look (result.CopiedFrame m layouts bytes) k n is = absurd cc
+reach_look (result.Size m) k n is = absurd cc
 reach_look result.Absent k n is = absurd cc
 
 -- Marks that climb are in order by their places.

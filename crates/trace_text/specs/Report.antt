@@ -1,10 +1,11 @@
 -- The report of a run (a format of our own) is the texts of its lines. It begins with `wcrun report 1`. For each caller it
 -- has the line `caller NAME` and one line for each step made; for each codec the line `codec NAME KIND S` and its entries,
--- each with the lines of what it showed; then `pool`, `slots` and the registry's entries, `held N` and `end`.
+-- each with the lines of what it showed; then `pool` and the pool's entries, `slots` and the registry's, `held N` and `end`.
 use Rattle.std.specs.Prelude.{ℕ, ◌+◌, List, [], ◌∷◌, ◌++◌, flat_map, unwrap_or, Option, Some, None}
 use Rattle.std.specs.List.{zip}
 use Rattle.wc_base.specs.declared.error.DomError.{DomError}
 use Rattle.wc_config.specs.declared.config.AudioDecoderConfig.{AudioDecoderConfig}
+use Rattle.wc_pool.specs.declared.entry.PoolEntry.{PoolEntry}
 use Rattle.coder_api.specs.declared.slot.SlotEntry.{SlotEntry}
 use Rattle.codec_definitions.specs.declared.unit.Unit as media
 use Rattle.codec_definitions.specs.declared.unit.Unit.TheVariants as unit
@@ -94,6 +95,9 @@ codec_lines n codec = line.Codec n codec.opening ∷ lines_from entry_lines 0 (z
 
 -- ---- the whole
 
+abbrev pub pool_lines : ℕ → PoolEntry → List Line
+pool_lines place e = line.Reference place e ∷ []
+
 abbrev pub slot_lines : ℕ → SlotEntry → List Line
 slot_lines place slot = line.Slot place slot ∷ []
 
@@ -105,11 +109,11 @@ end_lines held = line.Held held ∷ line.End ∷ []
 abbrev pub slots_lines : Run → List Line
 slots_lines run = lines_from slot_lines 0 run.slots ++ end_lines run.held
 
--- callers and codecs, numbered in order, the entries of the pool of media, of which a run has none yet, and the registry's
+-- callers and codecs, numbered in order, the entries of the pool of media, and the registry's
 abbrev pub lines_of : Run → List Line
 lines_of run =
     line.Header ∷ (lines_from caller_lines 0 run.callers
-    ++ (lines_from codec_lines 0 run.codecs ++ (line.Pool ∷ line.Slots ∷ slots_lines run)))
+    ++ (lines_from codec_lines 0 run.codecs ++ (line.Pool ∷ lines_from pool_lines 0 run.pool ++ (line.Slots ∷ slots_lines run))))
 
 -- the report of a run of the script
 abbrev pub report_of : ScriptData → Run → List ℕ

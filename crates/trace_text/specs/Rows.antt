@@ -89,6 +89,7 @@ abbrev pub ordinary_run : Run
 ordinary_run = record {
   callers = record { results = results } ∷ [];
   codecs = record { opening = four; entries = ordinary; shown = shown } ∷ [];
+  pool = [];
   slots = acquire_entry ∷ [];
   held = 0;
 }

@@ -19,6 +19,7 @@ use std::marker::Model;
 use wc_base::{DomError, NoMemory, Picture, Samples, Who};
 use wc_chunk::Chunk;
 use wc_config::AudioDecoderConfig;
+use wc_pool::PoolEntry;
 
 // The exception with which a call was refused, by what it showed.
 fn refusal_in(events: &[Event]) -> Option<DomError>
@@ -280,18 +281,20 @@ impl<'a> CallerLines<'a> {
         }
     }
 
-    fn next(&mut self) -> Option<Line>
-        ensures { TakesFirst self.old result self.new }
+    fn next(&mut self) -> Result<Option<Line>, NoMemory>
+        ensures { IfOk result (λ l. TakesFirst self.old l self.new) }
     {
         if let Some((step, answer)) = self.results.next() {
-            return Some(Line::Result {
+            return Ok(Some(Line::Result {
                 step: step as u64,
-                answer: *answer,
-            });
+                answer: answer.copy()?,
+            }));
         }
-        let (number, caller) = self.callers.next()?;
+        let Some((number, caller)) = self.callers.next() else {
+            return Ok(None);
+        };
         self.results = Numbered::of(caller.results.as_slice());
-        Some(Line::Caller(number as u64))
+        Ok(Some(Line::Caller(number as u64)))
     }
 }
 
@@ -312,7 +315,7 @@ impl<'a> TraceLines<'a> {
     fn next(&mut self, alloc: Global) -> Result<Option<Line>, NoMemory>
         ensures { IfOk result (λ l. TakesFirst self.old l self.new) }
     {
-        match self.callers.next() {
+        match self.callers.next()? {
             Some(line) => Ok(Some(line)),
             None => self.codecs.next(alloc),
         }
@@ -326,6 +329,7 @@ pub enum Section {
     Start,
     /// The first one, or one of a caller or a codec.
     Traces,
+    /// `pool`, or an entry of the pool.
     Pool,
     /// `slots`, or an entry of the registry.
     Slots,
@@ -338,6 +342,7 @@ pub enum Section {
 pub struct RunLines<'a> {
     section: Section,
     traces: TraceLines<'a>,
+    pool: Numbered<'a, PoolEntry>,
     slots: Numbered<'a, SlotEntry>,
     held: u64,
 }
@@ -345,7 +350,9 @@ pub struct RunLines<'a> {
 impl<'a> Model for RunLines<'a> {
     ghost Value = { List LineValue };
 
-    ghost view = { λ s. lines_behind s.section s.traces (lines_from spec.slot_lines s.slots.number s.slots.items) s.held };
+    ghost view = { λ s. lines_behind s.section s.traces
+        (lines_from spec.pool_lines s.pool.number s.pool.items)
+        (lines_from spec.slot_lines s.slots.number s.slots.items) s.held };
 }
 
 impl<'a> RunLines<'a> {
@@ -359,6 +366,7 @@ impl<'a> RunLines<'a> {
                 callers: CallerLines::of(run.callers.as_slice()),
                 codecs: CodecLines::of(run.codecs.as_slice()),
             },
+            pool: Numbered::of(run.pool.as_slice()),
             slots: Numbered::of(run.slots.as_slice()),
             held: run.held,
         }
@@ -380,10 +388,16 @@ impl<'a> RunLines<'a> {
                     Ok(Some(Line::Pool))
                 }
             },
-            Section::Pool => {
-                self.section = Section::Slots;
-                Ok(Some(Line::Slots))
-            }
+            Section::Pool => match self.pool.next() {
+                Some((place, entry)) => Ok(Some(Line::Reference {
+                    place: place as u64,
+                    entry: *entry,
+                })),
+                None => {
+                    self.section = Section::Slots;
+                    Ok(Some(Line::Slots))
+                }
+            },
             Section::Slots => match self.slots.next() {
                 Some((place, entry)) => Ok(Some(Line::Slot {
                     place: place as u64,

@@ -3,6 +3,7 @@ use codec_model::{Entry, Opening, Shown};
 use coder_api::SlotEntry;
 use report_text::StepResult;
 use wc_base::List;
+use wc_pool::PoolEntry;
 
 /// What a caller's steps came to, in order.
 #[derive(Debug, PartialEq, Drop)]
@@ -18,12 +19,13 @@ pub struct CodecTrace {
     pub shown: List<Shown>,
 }
 
-/// All that a run recorded: callers and codecs in the script's order, the registry's history, and how many media
-/// resources were still held at the end.
+/// All that a run recorded: callers and codecs in the script's order, the history of the pool of media, the registry's, and
+/// how many media resources were still held at the end.
 #[derive(Debug, PartialEq, Drop)]
 pub struct Run {
     pub callers: List<CallerTrace>,
     pub codecs: List<CodecTrace>,
+    pub pool: List<PoolEntry>,
     pub slots: List<SlotEntry>,
     pub held: u64,
 }

@@ -31,6 +31,9 @@ look_of_call ds (Some (result.Call n p error)) k place is =
 look_of_call ds (Some (result.Local error)) k place is = absurd cc
 look_of_call ds (Some (result.Look n m end)) k place is = absurd cc
 look_of_call ds (Some (result.State n m state size)) k place is = absurd cc
+look_of_call ds (Some (result.Copied n bytes)) k place is = absurd cc
+look_of_call ds (Some (result.CopiedFrame n layouts bytes)) k place is = absurd cc
+look_of_call ds (Some (result.Size n)) k place is = absurd cc
 look_of_call ds (Some result.Absent) k place is = absurd cc
 
 -- a codec that was read, looked at

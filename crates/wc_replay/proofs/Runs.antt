@@ -32,10 +32,11 @@ legal_traces (c ∷ cs) (t ∷ ts) shown legal = (
 
 -- A run that follows the order of a sound script, with traces that show what they must and nothing held, is legal.
 pub legal_run_of : (s : ScriptData) (media : List (List Chunk)) (made : List CoderId) (run : Run) (follows : FollowsTheOrder s media made run) → IsCourse s made follows.course → ((k : ℕ) → IsLegal (opening_at s k) (at k (recorded_of run).codecs))
-    → AreShownTraces s.codecs run.codecs → run.held ≡ 0 → IsLegalRun s run
-legal_run_of s media made run follows is legal shown held = record {
+    → AreShownTraces s.codecs run.codecs → run.pool ≡ [] → run.held ≡ 0 → IsLegalRun s run
+legal_run_of s media made run follows is legal shown pool held = record {
   callers = sym (length-map run.callers (λ (c : CallerTrace). c.results)) ∙ (ap (λ (w : Recorded). length w.callers) follows.is_recorded ∙ is.callers);
   codecs = legal_traces s.codecs run.codecs shown legal;
+  pool = pool;
   held = held;
 }
 

@@ -66,11 +66,12 @@ trace_of d = record { opening = d.opening; entries = d.history; shown = each_sho
 abbrev pub caller_trace : List StepResult → CallerTrace
 caller_trace results = record { results = results }
 
--- The run holds what was recorded, and no media resource.
+-- The run holds what was recorded; no media resource was made, so that none is held.
 pub record IsRunOf (v : Course) (run : Run) : Type 0 where
   pub callers : run.callers ≡ map caller_trace v.callers
   pub codecs : run.codecs ≡ map trace_of v.codecs
   pub slots : run.slots ≡ v.slots.history
+  pub pool : run.pool ≡ []
   pub held : run.held ≡ 0
 
 -- a trace is opened as the script says, and shows what its entries show

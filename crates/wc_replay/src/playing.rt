@@ -154,6 +154,7 @@ fn run_of<C: Coder>(alloc: Global, player: Player<C>) -> Result<Run, NoMemory>
     Ok(Run {
         callers: List::of(caller_traces(alloc, callers)?),
         codecs: List::of(codec_traces(alloc, desks)?),
+        pool: List::empty(alloc),
         slots: List::of(slots.into_entries()),
         held: 0,
     })
@@ -171,7 +172,7 @@ fn play<C: Coder>(
     ensures follows { IfOk result
         (λ run. FollowsTheOrder script.now media.now (map C.coder coders.items) run) }
     ensures shows { IfOk result (λ run. AreShownTraces script.now.codecs run.codecs) }
-    ensures held { IfOk result (λ run. run.held ≡ 0) }
+    ensures media { IfOk result (λ run. (run.pool ≡ []) × (run.held ≡ 0)) }
 {
     let mut player = open_player(alloc, script, coders)?;
     take_items(&mut player, alloc, script, media)?;

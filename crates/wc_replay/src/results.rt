@@ -1,5 +1,5 @@
 // What the callers' steps came to.
-ghost use Rattle.std.specs.Prelude.{◌≡◌, [], ◌∷◌, ◌++◌, OnOk, IfOk, length, slice_get, map};
+ghost use Rattle.std.specs.Prelude.{◌≡◌, [], ◌∷◌, ◌++◌, OnOk, IfOk, length, slice_get, option_copied, map};
 ghost use Rattle.codec_accounts.specs.Owed.{at, append_at};
 
 use std::alloc::Global;
@@ -43,10 +43,10 @@ impl Results {
         self.steps.len()
     }
 
-    pub(crate) fn get(&self, step: u32) -> Option<StepResult>
-        ensures { result ≡ slice_get self.now step }
+    pub(crate) fn get(&self, step: u32) -> Option<&StepResult>
+        ensures { option_copied result ≡ slice_get self.now step }
     {
-        self.steps.get(step as usize).copied()
+        self.steps.get(step as usize)
     }
 
     pub(crate) fn into_steps(self) -> Vec<StepResult>
@@ -81,8 +81,8 @@ pub(crate) fn made_by(callers: &[Results], caller: u32) -> usize
 }
 
 /// What a step of a caller came to, if it was made.
-pub(crate) fn result_of(callers: &[Results], caller: u32, step: u32) -> Option<StepResult>
-    ensures { result ≡ slice_get (at caller callers.now) step }
+pub(crate) fn result_of(callers: &[Results], caller: u32, step: u32) -> Option<&StepResult>
+    ensures { option_copied result ≡ slice_get (at caller callers.now) step }
 {
     match callers.get(caller as usize) {
         Some(results) => results.get(step),

@@ -50,8 +50,8 @@ fn local_result(source: &ChunkSource) -> StepResult
 }
 
 /// The codec and the place of a call, if the result is one.
-fn call_in(flush: Option<StepResult>) -> Option<(u32, u64)>
-    ensures { result ≡ call_in flush }
+fn call_in(flush: Option<&StepResult>) -> Option<(u32, u64)>
+    ensures { result ≡ call_in (option_copied flush.entry) }
 {
     match flush {
         Some(
@@ -60,7 +60,7 @@ fn call_in(flush: Option<StepResult>) -> Option<(u32, u64)>
                 place,
                 error: _,
             },
-        ) => Some((codec, place)),
+        ) => Some((*codec, *place)),
         _ => None,
     }
 }
@@ -77,8 +77,8 @@ fn call_result(codec: u32, answer: Answer) -> StepResult
 }
 
 /// What a look shows at the promise of the flush that came to this result.
-fn look_result<C: Coder>(desks: &[Desk<C>], flush: Option<StepResult>) -> StepResult
-    ensures { result ≡ look_of_flush desks.now flush }
+fn look_result<C: Coder>(desks: &[Desk<C>], flush: Option<&StepResult>) -> StepResult
+    ensures { result ≡ look_of_flush desks.now (option_copied flush.entry) }
 {
     let Some((codec, place)) = call_in(flush) else {
         return StepResult::Absent;
