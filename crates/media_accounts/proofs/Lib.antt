@@ -1,0 +1,4 @@
+pub mod Pools
+pub mod Free
+pub mod Steps
+pub mod Standing

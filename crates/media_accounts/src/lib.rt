@@ -1,0 +1,6 @@
+//! What callers' steps on media call for in the history of their pool.
+#![tactic(auto)]
+
+mod laws;
+
+pub use laws::{media_stand, steps_stay_accounted};

@@ -1,0 +1,315 @@
+-- The references that variables hold stay live and apart in each step.
+use Rattle.std.proofs.Common.{ℕ, zero, suc, ◌<◌, ◌≡◌, ◌≢◌, ◌==◌, ◌⊎◌, Bool, true, false, if◌then◌else◌, List, [], ◌∷◌, ◌++◌, length, take, Option, Some, None, Result, Ok, Err, IfOk, OnErr, refl, ap, sym, subst, ◌∙◌, inl, inr, append-nil, eq-eqb, arith}
+use Rattle.std.specs.Prelude.{map, slice_set}
+use Rattle.std.proofs.lemmas.Bool.{cases_eq, eqb-true, false_from_ne_true}
+use Rattle.wc_base.specs.declared.who.Who.{Who}
+use Rattle.wc_base.specs.declared.who.By.TheVariants as by
+use Rattle.wc_base.specs.declared.error.DomError.TheVariants as dom
+use Rattle.wc_base.specs.declared.error.NoMemory.{NoMemory}
+use Rattle.wc_chunk.specs.declared.chunk.Chunk.{Chunk}
+use Rattle.picture_planes.specs.Planes.{picture_size}
+use Rattle.wc_pool.specs.declared.entry.PoolEntry.{PoolEntry}
+use Rattle.wc_pool.specs.declared.entry.PoolOp.{PoolOp}
+use Rattle.wc_pool.specs.declared.entry.PoolOp.TheVariants as op
+use Rattle.wc_pool.specs.Bag.{resource_of, resource_after, references_made, resources_made, is_legal_pool}
+use Rattle.wc_pool.specs.Laws.{LiveAreNumbered}
+use Rattle.wc_audio.specs.Sound as sound
+use Rattle.wc_video.specs.Frames as frames
+use Rattle.script_types.specs.declared.script.CallerItem.{CallerItem}
+use Rattle.script_types.specs.declared.steps.SoundInit.{SoundInit}
+use Rattle.script_types.specs.declared.steps.PictureInit.{PictureInit}
+use Rattle.script_types.specs.declared.steps.MediaStep.{MediaStep}
+use Rattle.script_types.specs.declared.steps.MediaStep.TheVariants as media
+use Rattle.script_types.specs.declared.options.Options.{Options}
+use Rattle.script_types.specs.declared.options.Options.TheVariants as options
+use Rattle.report_text.specs.declared.result.StepResult.{StepResult}
+use Rattle.report_text.specs.declared.result.StepResult.TheVariants as result
+use Rattle.media_variables.specs.Variables.{Reference, Shape, SoundOf, PictureOf, Medium, Came, refused, entries_of, with_medium, detached, medium_at, variables_of, only_answers, makes, audio_came, frame_came, clone_held, transfer_held, close_held, if_there, is_last, copy_came, copy_chunk, copy_medium, size_of_medium, media_came, IsCome, CameTo}
+use Rattle.media_variables.specs.Held.{held_by, reference_at, IsLiveIn, IsHeldIn, AreHeld, AreLive, StayHeld}
+use Rattle.media_variables.specs.Given.{Reaches}
+use Rattle.media_variables.proofs.Ends.{resource_more}
+use Rattle.media_variables.proofs.Places.{medium_here, medium_else, variables_here, variables_else, variables_back, set_again}
+
+-- one variable of one caller changes
+pub record Puts (old new : List (List (Option Medium))) (k j : ℕ) (held : Option Reference) : Type 0 where
+  pub here : reference_at new k j ≡ held
+  pub others : (l i : ℕ) → ((l ≡ k) × (i ≡ j) → ⊥) → reference_at new l i ≡ reference_at old l i
+
+puts : (all : List (List (Option Medium))) (k j : ℕ) (m : Medium) → k < length all → Puts all (slice_set all k (with_medium j m (variables_of k all))) k j m.held
+puts all k j m lt =
+    let vs = variables_of k all in
+    let new = slice_set all k (with_medium j m vs) in
+    let there = variables_here k (with_medium j m vs) all lt in
+    record {
+      here = ap (λ (l : List (Option Medium)). held_by (medium_at l j)) there ∙ ap held_by (medium_here j m vs);
+      others = λ l i apart. elim (cases_eq l k) [
+        | inl same ↦
+            let there_too : variables_of l new ≡ with_medium j m vs = ap (λ (n : ℕ). variables_of n new) same ∙ there in
+            let else_ = medium_else j m vs i (λ e. apart (same, e)) in
+            ap (λ (x : List (Option Medium)). held_by (medium_at x i)) there_too ∙ ap held_by else_ ∙ ap (λ (n : ℕ). held_by (medium_at (variables_of n all) i)) (sym same)
+        | inr other ↦ ap (λ (x : List (Option Medium)). held_by (medium_at x i)) (variables_else k (with_medium j m vs) all l other)
+      ];
+    }
+
+there_or : (l i k j : ℕ) → ((l ≡ k) × (i ≡ j)) ⊎ ((l ≡ k) × (i ≡ j) → ⊥)
+there_or l i k j =
+    elim (cases_eq l k) [
+      | inl a ↦ elim (cases_eq i j) [ inl b ↦ inl (a, b) | inr b ↦ inr (λ h. b h.1) ]
+      | inr a ↦ inr (λ h. a h.0)
+    ]
+
+at_place : (all : List (List (Option Medium))) (l i k j : ℕ) → (l ≡ k) × (i ≡ j) → reference_at all l i ≡ reference_at all k j
+at_place all l i k j h = ap (λ (n : ℕ). reference_at all n i) h.0 ∙ ap (reference_at all k) h.1
+
+-- no variable holds a reference of this number
+pub record IsFree (all : List (List (Option Medium))) (f : ℕ) : Type 0 where
+  pub none : (l i : ℕ) (s : Reference) → reference_at all l i ≡ Some s → s.number ≡ f → ⊥
+
+-- a variable that holds nothing more leaves the others as they are
+let_go : (pool : List PoolEntry) (old new : List (List (Option Medium))) (k j : ℕ) → Puts old new k j None → AreHeld pool old → AreHeld pool new
+let_go pool old new k j p h =
+    let was : (l i : ℕ) (r : Reference) → reference_at new l i ≡ Some r → reference_at old l i ≡ Some r = λ l i r e.
+    elim (there_or l i k j) [
+      | inl here ↦ (let none = sym (at_place new l i k j here ∙ p.here) ∙ e in absurd cc)
+      | inr apart ↦ sym (p.others l i apart) ∙ e
+    ] in
+    record {
+      live = λ l i r e. h.live l i r (was l i r e);
+      apart = λ l i m n r s e f same. h.apart l i m n r s (was l i r e) (was m n s f) same;
+    }
+
+released : (pool : List PoolEntry) (old new : List (List (Option Medium))) (k j : ℕ) (r : Reference) → Puts old new k j None → AreHeld pool old → reference_at old k j ≡ Some r → IsFree new r.number
+released pool old new k j r p h there = record {
+  none = λ l i s e same. elim (there_or l i k j) [
+    | inl here ↦ (let none = sym (at_place new l i k j here ∙ p.here) ∙ e in absurd cc)
+    | inr apart ↦ apart (h.apart l i k j s r (sym (p.others l i apart) ∙ e) there same)
+  ];
+}
+
+taken : (pool : List PoolEntry) (old new : List (List (Option Medium))) (k j : ℕ) (r : Reference) → Puts old new k j (Some r) → AreHeld pool old → IsLiveIn pool r → IsFree old r.number → AreHeld pool new
+taken pool old new k j r p h lives free =
+    let here_is : (l i : ℕ) (s : Reference) → (l ≡ k) × (i ≡ j) → reference_at new l i ≡ Some s → s ≡ r = λ l i s here e.
+    let both : Some s ≡ Some r = sym e ∙ at_place new l i k j here ∙ p.here in cc in
+    let was : (l i : ℕ) (s : Reference) → ((l ≡ k) × (i ≡ j) → ⊥) → reference_at new l i ≡ Some s → reference_at old l i ≡ Some s = λ l i s apart e. sym (p.others l i apart) ∙ e in
+    record {
+      live = λ l i s e. elim (there_or l i k j) [
+        | inl here ↦ subst (λ (x : Reference). IsLiveIn pool x) (sym (here_is l i s here e)) lives
+        | inr apart ↦ h.live l i s (was l i s apart e)
+      ];
+      apart = λ l i m n s t e f same. elim (there_or l i k j) [
+        | inl here ↦ elim (there_or m n k j) [
+          | inl there ↦ (here.0 ∙ sym there.0, here.1 ∙ sym there.1)
+          | inr other ↦ absurd (free.none m n t (was m n t other f) (sym same ∙ ap (λ (x : Reference). x.number) (here_is l i s here e)))
+        ]
+        | inr apart ↦ elim (there_or m n k j) [
+          | inl there ↦ absurd (free.none l i s (was l i s apart e) (same ∙ ap (λ (x : Reference). x.number) (here_is m n t there f)))
+          | inr other ↦ h.apart l i m n s t (was l i s apart e) (was m n t other f) same
+        ]
+      ];
+    }
+
+-- the same variables after other histories
+carried : (pool new : List PoolEntry) (all : List (List (Option Medium))) → ((l i : ℕ) (s : Reference) → reference_at all l i ≡ Some s → IsLiveIn pool s → IsLiveIn new s) → AreHeld pool all → AreHeld new all
+carried pool new all keeps h = record { live = λ l i s e. keeps l i s e (h.live l i s e); apart = h.apart }
+
+other_test : (a b : ℕ) → a ≢ b → (a == b) ≡ false
+other_test a b apart = false_from_ne_true (a == b) (λ same. apart (eqb-true a b same))
+
+-- an entry that makes this reference
+abbrev mint : Who → PoolOp → PoolEntry
+mint who o = record { by = by.Caller who; op = o }
+
+abbrev pub Mints : PoolEntry → ℕ → ℕ → Type 0
+Mints e r f = (g : ℕ) (held : Option ℕ) → resource_after g held e ≡ (if f == g then Some r else held)
+
+minted_live : (pool : List PoolEntry) (e : PoolEntry) (r f : ℕ) → Mints e r f → resource_of f (pool ++ e ∷ []) ≡ Some r
+minted_live pool e r f m = resource_more f pool e ∙ m f (resource_of f pool) ∙ ap (λ (b : Bool). if b then Some r else resource_of f pool) (eq-eqb f f refl)
+
+minted_others : (pool : List PoolEntry) (e : PoolEntry) (r f g : ℕ) → Mints e r f → f ≢ g → resource_of g (pool ++ e ∷ []) ≡ resource_of g pool
+minted_others pool e r f g m apart = resource_more g pool e ∙ m g (resource_of g pool) ∙ ap (λ (b : Bool). if b then Some r else resource_of g pool) (other_test f g apart)
+
+fresh : LiveAreNumbered → (pool : List PoolEntry) (all : List (List (Option Medium))) → is_legal_pool pool ≡ true → AreHeld pool all → IsFree all (references_made pool)
+fresh numbered pool all legal h = record {
+  none = λ l i s e same. let lt = (numbered pool s.number s.resource legal (h.live l i s e)).0 in omega arith;
+}
+
+minted_held : LiveAreNumbered → (pool : List PoolEntry) (e : PoolEntry) (r : ℕ) (all : List (List (Option Medium))) → is_legal_pool pool ≡ true → Mints e r (references_made pool) → AreHeld pool all → AreHeld (pool ++ e ∷ []) all
+minted_held numbered pool e r all legal m h =
+    carried pool (pool ++ e ∷ []) all (λ l i s there lives.
+    let lt = (numbered pool s.number s.resource legal lives).0 in
+    minted_others pool e r (references_made pool) s.number m (λ same. omega arith) ∙ lives) h
+
+-- what a step comes to keeps the references live and apart
+abbrev Keeps : List PoolEntry → Who → List (List (Option Medium)) → Came → Type 0
+Keeps pool who all c = AreHeld (pool ++ entries_of who c.does) (slice_set all who.caller c.variables)
+
+record Has (pool : List PoolEntry) (who : Who) (all : List (List (Option Medium))) : Type 0 where
+  numbered : LiveAreNumbered
+  legal : is_legal_pool pool ≡ true
+  there : who.caller < length all
+  held : AreHeld pool all
+
+keeps_all : (pool : List PoolEntry) (who : Who) (all : List (List (Option Medium))) (r : StepResult) → Has pool who all → Keeps pool who all (only_answers r (variables_of who.caller all))
+keeps_all pool who all r h =
+    let back = subst (λ (x : List (List (Option Medium))). AreHeld pool x) (sym (variables_back who.caller all)) h.held in
+    subst (λ (p : List PoolEntry). AreHeld p (slice_set all who.caller (variables_of who.caller all))) (sym (append-nil pool)) back
+
+-- a new reference in a variable
+given_new : (pool : List PoolEntry) (who : Who) (all : List (List (Option Medium))) (o : PoolOp) (shape : Shape) (r : Reference) → Has pool who all → r.number ≡ references_made pool → Mints (mint who o) r.resource (references_made pool) → AreHeld (pool ++ mint who o ∷ []) (slice_set all who.caller (with_medium who.step (record { shape = shape; held = Some r }) (variables_of who.caller all)))
+given_new pool who all o shape r h is m =
+    let e = mint who o in
+    let new = pool ++ e ∷ [] in
+    let p = puts all who.caller who.step (record { shape = shape; held = Some r }) h.there in
+    let held = minted_held h.numbered pool e r.resource all h.legal m h.held in
+    let free = fresh h.numbered pool all h.legal h.held in
+    let lives = subst (λ (f : ℕ). resource_of f new ≡ Some r.resource) (sym is) (minted_live pool e r.resource (references_made pool) m) in
+    taken new all _ who.caller who.step r p held lives (record { none = λ l i s there same. free.none l i s there (same ∙ is) })
+
+keeps_made : (pool : List PoolEntry) (who : Who) (all : List (List (Option Medium))) (shape : Shape) (bytes : List ℕ) → Has pool who all → Keeps pool who all (makes pool who.step shape bytes (variables_of who.caller all))
+keeps_made pool who all shape bytes h =
+    given_new pool who all (op.Make (resources_made pool) (references_made pool)) shape (record { resource = resources_made pool; number = references_made pool; bytes = bytes }) h refl (λ g held. refl)
+
+keeps_if : (b : Bool) (pool : List PoolEntry) (who : Who) (all : List (List (Option Medium))) (shape : Shape) (bytes : List ℕ) → Has pool who all → Keeps pool who all (if b then only_answers (refused dom.TypeErr) (variables_of who.caller all) else makes pool who.step shape bytes (variables_of who.caller all))
+keeps_if true pool who all shape bytes h = keeps_all pool who all (refused dom.TypeErr) h
+keeps_if false pool who all shape bytes h = keeps_made pool who all shape bytes h
+
+keeps_audio : (pool : List PoolEntry) (who : Who) (all : List (List (Option Medium))) (init : Option SoundInit) → Has pool who all → Keeps pool who all (audio_came pool who.step init (variables_of who.caller all))
+keeps_audio pool who all None h = keeps_all pool who all (refused dom.TypeErr) h
+keeps_audio pool who all (Some i) h = keeps_if (sound.is_invalid i.shape (length i.content)) pool who all (SoundOf i.shape) (take (sound.needed i.shape) i.content) h
+
+keeps_frame : (pool : List PoolEntry) (who : Who) (all : List (List (Option Medium))) (init : Option PictureInit) → Has pool who all → Keeps pool who all (frame_came pool who.step init (variables_of who.caller all))
+keeps_frame pool who all None h = keeps_all pool who all (refused dom.TypeErr) h
+keeps_frame pool who all (Some i) h = keeps_if (frames.is_invalid i.shape (length i.content)) pool who all (PictureOf i.shape) (take (picture_size i.shape) i.content) h
+
+keeps_clone : (pool : List PoolEntry) (who : Who) (all : List (List (Option Medium))) (shape : Shape) (held : Option Reference) → Has pool who all → Keeps pool who all (clone_held pool who.step shape held (variables_of who.caller all))
+keeps_clone pool who all shape None h = keeps_all pool who all (refused dom.InvalidState) h
+keeps_clone pool who all shape (Some r) h =
+    given_new pool who all (op.Clone r.resource (references_made pool)) shape (record r { number = references_made pool }) h refl (λ g held. refl)
+
+keeps_transfer : (pool : List PoolEntry) (who : Who) (all : List (List (Option Medium))) (of : ℕ) (m : Medium) (held : Option Reference) → Has pool who all → m.held ≡ held → reference_at all who.caller of ≡ held → Keeps pool who all (transfer_held who.step of m held (variables_of who.caller all))
+keeps_transfer pool who all of m None h is there = keeps_all pool who all (refused dom.DataClone) h
+keeps_transfer pool who all of m (Some r) h is there =
+    let k = who.caller in
+    let vs = variables_of k all in
+    let less = slice_set all k (with_medium of (detached m) vs) in
+    let p = puts all k of (detached m) h.there in
+    let rest = let_go pool all less k of p h.held in
+    let free = released pool all less k of r p h.held there in
+    let inner = variables_here k (with_medium of (detached m) vs) all h.there in
+    let final = slice_set all k (with_medium who.step m (with_medium of (detached m) vs)) in
+    let same : slice_set less k (with_medium who.step m (variables_of k less)) ≡ final =
+    ap (λ (x : List (Option Medium)). slice_set less k (with_medium who.step m x)) inner ∙ set_again k (with_medium of (detached m) vs) (with_medium who.step m (with_medium of (detached m) vs)) all in
+    let q = puts less k who.step m (subst (λ (n : ℕ). k < n) (sym (length-set_all k (with_medium of (detached m) vs) all)) h.there) in
+    let q2 = subst (λ (x : Option Reference). Puts less (slice_set less k (with_medium who.step m (variables_of k less))) k who.step x) is q in
+    let q3 = subst (λ (x : List (List (Option Medium))). Puts less x k who.step (Some r)) same q2 in
+    let done = taken pool less final k who.step r q3 rest (h.held.live k of r there) free in
+    subst (λ (x : List PoolEntry). AreHeld x final) (sym (append-nil pool)) done
+  where
+    length-set_all : (k : ℕ) (vs : List (Option Medium)) (all : List (List (Option Medium))) → length (slice_set all k vs) ≡ length all
+    length-set_all k vs [] = refl
+    length-set_all zero vs (x ∷ xs) = refl
+    length-set_all (suc k) vs (x ∷ xs) = ap suc (length-set_all k vs xs)
+
+keeps_close : (pool : List PoolEntry) (who : Who) (all : List (List (Option Medium))) (of : ℕ) (m : Medium) (held : Option Reference) → Has pool who all → reference_at all who.caller of ≡ held → Keeps pool who all (close_held pool who of m held (variables_of who.caller all))
+keeps_close pool who all of m None h there = keeps_all pool who all (result.Local None) h
+keeps_close pool who all of m (Some r) h there =
+    let k = who.caller in
+    let less = slice_set all k (with_medium of (detached m) (variables_of k all)) in
+    let p = puts all k of (detached m) h.there in
+    let rest = let_go pool all less k of p h.held in
+    let free = released pool all less k of r p h.held there in
+    let e = mint who (op.End r.resource r.number (is_last who r pool)) in
+    carried pool (pool ++ e ∷ []) less (λ l i s at lives.
+    resource_more s.number pool e ∙ ap (λ (b : Bool). if b then None else resource_of s.number pool) (other_test r.number s.number (λ same. free.none l i s at (sym same))) ∙ lives) rest
+
+keeps_if_there : (pool : List PoolEntry) (who : Who) (all : List (List (Option Medium))) (v : Option Medium) (came : Medium → Came) → Has pool who all → ((m : Medium) → v ≡ Some m → Keeps pool who all (came m)) → Keeps pool who all (if_there v (variables_of who.caller all) came)
+keeps_if_there pool who all None came h each = keeps_all pool who all result.Absent h
+keeps_if_there pool who all (Some m) came h each = each m refl
+
+keeps_copy : (pool : List PoolEntry) (who : Who) (all : List (List (Option Medium))) (chunk : Option Chunk) (of : ℕ) (o : Options) (size : ℕ) → Has pool who all → Keeps pool who all (copy_came chunk of o size (variables_of who.caller all))
+keeps_copy pool who all chunk of options.Nothing size h = keeps_all pool who all (copy_chunk chunk size) h
+keeps_copy pool who all chunk of (options.Audio o) size h =
+    keeps_if_there pool who all (medium_at (variables_of who.caller all) of) _ h (λ m e. keeps_all pool who all (copy_medium m (options.Audio o) size) h)
+keeps_copy pool who all chunk of (options.Frame o) size h =
+    keeps_if_there pool who all (medium_at (variables_of who.caller all) of) _ h (λ m e. keeps_all pool who all (copy_medium m (options.Frame o) size) h)
+
+-- of every step, by what it comes to; nothing where it is the codec's
+abbrev KeepsIf : List PoolEntry → Who → List (List (Option Medium)) → Option Came → Type 0
+KeepsIf pool who all None = Unit {0}
+KeepsIf pool who all (Some c) = Keeps pool who all c
+
+keeps_step : (pool : List PoolEntry) (who : Who) (all : List (List (Option Medium))) (chunk : Option Chunk) (step : MediaStep) → Has pool who all → KeepsIf pool who all (media_came pool who chunk step (variables_of who.caller all))
+keeps_step pool who all chunk (media.Audio bind init) h = keeps_audio pool who all init h
+keeps_step pool who all chunk (media.Frame bind init) h = keeps_frame pool who all init h
+keeps_step pool who all chunk (media.Encode on content) h = tt
+keeps_step pool who all chunk (media.Take on bind kind) h = tt
+keeps_step pool who all chunk (media.Clone of bind) h =
+    keeps_if_there pool who all (medium_at (variables_of who.caller all) of.step) _ h (λ m e. keeps_clone pool who all m.shape m.held h)
+keeps_step pool who all chunk (media.Transfer of bind) h =
+    keeps_if_there pool who all (medium_at (variables_of who.caller all) of.step) _ h (λ m e. keeps_transfer pool who all of.step m m.held h refl (ap held_by e))
+keeps_step pool who all chunk (media.CloseData of) h =
+    keeps_if_there pool who all (medium_at (variables_of who.caller all) of.step) _ h (λ m e. keeps_close pool who all of.step m m.held h (ap held_by e))
+keeps_step pool who all chunk (media.Copy of o size) h = keeps_copy pool who all chunk of.step o size h
+keeps_step pool who all chunk (media.Size of o) h =
+    keeps_if_there pool who all (medium_at (variables_of who.caller all) of.step) _ h (λ m e. keeps_all pool who all (size_of_medium m o) h)
+
+unchanged : (pool new : List PoolEntry) (who : Who) (all : List (List (Option Medium))) (after : List (Option Medium)) → AreHeld pool all → new ≡ pool → after ≡ variables_of who.caller all → AreHeld new (slice_set all who.caller after)
+unchanged pool new who all after h same back =
+    let all_back = ap (slice_set all who.caller) back ∙ variables_back who.caller all in
+    subst (λ (x : List (List (Option Medium))). AreHeld new x) (sym all_back) (subst (λ (x : List PoolEntry). AreHeld x all) (sym same) h)
+
+reached_held : (pool new : List PoolEntry) (who : Who) (all : List (List (Option Medium))) (after : List (Option Medium)) (came : Option Came) (answer : Option StepResult) → AreHeld pool all → KeepsIf pool who all came → Reaches who pool new (variables_of who.caller all) after came answer → AreHeld new (slice_set all who.caller after)
+reached_held pool new who all after None answer h keeps r = unchanged pool new who all after h r.1 r.2
+reached_held pool new who all after (Some c) answer h keeps r =
+    subst (λ (x : List (Option Medium)). AreHeld new (slice_set all who.caller x)) (sym r.2) (subst (λ (x : List PoolEntry). AreHeld x (slice_set all who.caller c.variables)) (sym r.1) keeps)
+
+-- the references stay live and apart, whatever the step came to
+pub step_held : LiveAreNumbered → (pool new : List PoolEntry) (who : Who) (all : List (List (Option Medium))) (vs after : List (Option Medium)) (chunk : Option Chunk) (step : MediaStep) (r : Result (Option StepResult) NoMemory) → is_legal_pool pool ≡ true → who.caller < length all → AreHeld pool all → variables_of who.caller all ≡ vs → IfOk r (Reaches who pool new vs after (media_came pool who chunk step vs)) → OnErr r (new ≡ pool) → OnErr r (after ≡ vs) → AreHeld new (slice_set all who.caller after)
+step_held numbered pool new who all vs after chunk step (Ok answer) legal there h is ok same back =
+    let has : Has pool who all = record { numbered = numbered; legal = legal; there = there; held = h } in
+    let reached = subst (λ (x : List (Option Medium)). Reaches who pool new x after (media_came pool who chunk step x) answer) (sym is) ok in
+    reached_held pool new who all after (media_came pool who chunk step (variables_of who.caller all)) answer h (keeps_step pool who all chunk step has) reached
+step_held numbered pool new who all vs after chunk step (Err e) legal there h is ok same back = unchanged pool new who all after h same (back ∙ sym is)
+
+reached_came : (pool new : List PoolEntry) (who : Who) (all : List (List (Option Medium))) (after : List (Option Medium)) (came : Option Came) (answer : Option StepResult) → Reaches who pool new (variables_of who.caller all) after came answer → IsCome (record { variables = all; pool = pool }) (record { variables = slice_set all who.caller after; pool = new }) who came answer
+reached_came pool new who all after None answer r =
+    let back = ap (slice_set all who.caller) r.2 ∙ variables_back who.caller all in
+    (r.0, ap (λ (x : List PoolEntry). record { variables = slice_set all who.caller after; pool = x }) r.1 ∙ ap (λ (x : List (List (Option Medium))). record { variables = x; pool = pool }) back)
+reached_came pool new who all after (Some c) answer r =
+    (r.0, ap (λ (x : List PoolEntry). record { variables = slice_set all who.caller after; pool = x }) r.1 ∙ ap (λ (x : List (Option Medium)). record { variables = slice_set all who.caller x; pool = pool ++ entries_of who c.does }) r.2)
+
+pub step_came : (pool new : List PoolEntry) (who : Who) (all : List (List (Option Medium))) (vs after : List (Option Medium)) (chunk : Option Chunk) (step : MediaStep) (r : Result (Option StepResult) NoMemory) → variables_of who.caller all ≡ vs → IfOk r (Reaches who pool new vs after (media_came pool who chunk step vs)) → IfOk r (CameTo (record { variables = all; pool = pool }) (record { variables = slice_set all who.caller after; pool = new }) who chunk step)
+step_came pool new who all vs after chunk step (Ok answer) is ok =
+    let reached = subst (λ (x : List (Option Medium)). Reaches who pool new x after (media_came pool who chunk step x) answer) (sym is) ok in
+    reached_came pool new who all after (media_came pool who chunk step (variables_of who.caller all)) answer reached
+step_came pool new who all vs after chunk step (Err e) is ok = tt
+
+-- the same of what a step on media came to
+pub stays_held : LiveAreNumbered → StayHeld
+stays_held numbered pool who all chunk step y legal there h is =
+    subst (KeepsIf pool who all) is (keeps_step pool who all chunk step (record { numbered = numbered; legal = legal; there = there; held = h }))
+
+no_reference : (callers : List CallerItem) (k j : ℕ) → reference_at (map (λ c. []) callers) k j ≡ None
+no_reference [] k j = refl
+no_reference (c ∷ cs) zero j = refl
+no_reference (c ∷ cs) (suc k) j = no_reference cs k j
+
+-- no variable holds anything at first
+pub none_held : (pool : List PoolEntry) (all : List (List (Option Medium))) (callers : List CallerItem) → all ≡ map (λ c. []) callers → AreHeld pool all
+none_held pool all callers is =
+    let none : (k j : ℕ) (r : Reference) → reference_at all k j ≡ Some r → ⊥ = λ k j r e.
+    let both = sym (ap (λ (x : List (List (Option Medium))). reference_at x k j) is ∙ no_reference callers k j) ∙ e in absurd cc in
+    record {
+      live = λ k j r e. absurd (none k j r e);
+      apart = λ k j l i r s e f same. absurd (none k j r e);
+    }
+
+-- each reference of one caller is live
+pub caller_live : (pool : List PoolEntry) (all : List (List (Option Medium))) (k : ℕ) (vs : List (Option Medium)) → variables_of k all ≡ vs → AreHeld pool all → AreLive pool vs
+caller_live pool all k vs is h =
+    let own : AreLive pool (variables_of k all) = record { live = λ j. if_held pool (reference_at all k j) (λ r e. h.live k j r e) } in
+    subst (λ (x : List (Option Medium)). AreLive pool x) is own
+  where
+    if_held : (pool : List PoolEntry) (held : Option Reference) → ((r : Reference) → held ≡ Some r → IsLiveIn pool r) → IsHeldIn pool held
+    if_held pool None h = tt
+    if_held pool (Some r) h = h r refl

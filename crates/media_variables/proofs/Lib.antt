@@ -1,0 +1,6 @@
+pub mod CopyLaws
+pub mod Ends
+pub mod HeldLaws
+pub mod LegalLaws
+pub mod Places
+pub mod StepLaws

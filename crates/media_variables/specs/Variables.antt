@@ -1,0 +1,283 @@
+-- The media that callers' variables hold, and what each step on them comes to (W3C WebCodecs, AudioData and VideoFrame). A
+-- variable whose step was refused is absent, and so is one that is not defined yet (our choice).
+use Rattle.std.specs.Prelude.{ℕ, zero, suc, ◌≡◌, ◌++◌, not, Bool, false, List, [], ◌∷◌, length, take, drop, slice_get, slice_set, map, replicate, Option, Some, None, option_map, option_and_then, unwrap_or, Result, Ok, Err, if◌then◌else◌}
+use Rattle.wc_base.specs.declared.error.DomError.{DomError}
+use Rattle.wc_base.specs.declared.error.DomError.TheVariants as dom
+use Rattle.wc_base.specs.declared.media.SoundShape.{SoundShape}
+use Rattle.wc_base.specs.declared.media.PictureShape.{PictureShape}
+use Rattle.wc_base.specs.declared.who.Who.{Who}
+use Rattle.wc_base.specs.declared.who.By.TheVariants as by
+use Rattle.wc_chunk.specs.declared.chunk.Chunk.{Chunk}
+use Rattle.wc_chunk.specs.Copied.{copied_count, copied_to}
+use Rattle.picture_planes.specs.Planes.{picture_size}
+use Rattle.wc_pool.specs.declared.entry.PoolEntry.{PoolEntry}
+use Rattle.wc_pool.specs.declared.entry.PoolOp.{PoolOp}
+use Rattle.wc_pool.specs.declared.entry.PoolOp.TheVariants as op
+use Rattle.wc_pool.specs.declared.reference.MediaRef.{MediaRef}
+use Rattle.wc_pool.specs.Bag.{resources_made, references_made, is_held}
+use Rattle.wc_audio.specs.Sound.{Sound, needed, is_invalid}
+use Rattle.wc_audio.specs.Copies.{copied_audio, allocation_size}
+use Rattle.wc_audio.specs.declared.options.CopyOptions.{CopyOptions}
+use Rattle.wc_audio.specs.declared.options.CopyFormat.{CopyFormat}
+use Rattle.wc_audio.specs.declared.options.CopyFormat.TheVariants as format
+use Rattle.wc_video.specs.Frames.{Frame, content_of}
+use Rattle.wc_video.specs.Frames as frames
+use Rattle.wc_video.specs.Layouts.{size_of, layouts_of}
+use Rattle.wc_video.specs.Copies as video
+use Rattle.wc_video.specs.declared.layout.Rect.{Rect}
+use Rattle.wc_video.specs.declared.layout.PlaneLayout.{PlaneLayout}
+use Rattle.wc_video.specs.declared.layout.PlaneCopy.{PlaneCopy}
+use Rattle.wc_video.specs.declared.layout.Layouts.{Layouts}
+use Rattle.script_types.specs.declared.options.FormatWord.{FormatWord}
+use Rattle.script_types.specs.declared.options.FormatWord.TheVariants as word
+use Rattle.script_types.specs.declared.options.AudioOptions.{AudioOptions}
+use Rattle.script_types.specs.declared.options.RectWords.{RectWords}
+use Rattle.script_types.specs.declared.options.LayoutWords.{LayoutWords}
+use Rattle.script_types.specs.declared.options.FrameOptions.{FrameOptions}
+use Rattle.script_types.specs.declared.options.Options.{Options}
+use Rattle.script_types.specs.declared.options.Options.TheVariants as options
+use Rattle.script_types.specs.declared.steps.SoundInit.{SoundInit}
+use Rattle.script_types.specs.declared.steps.PictureInit.{PictureInit}
+use Rattle.script_types.specs.declared.steps.MediaStep.{MediaStep}
+use Rattle.script_types.specs.declared.steps.MediaStep.TheVariants as media
+use Rattle.report_text.specs.declared.result.StepResult.{StepResult}
+use Rattle.report_text.specs.declared.result.StepResult.TheVariants as result
+
+-- ---- what variables hold
+
+-- a reference that is held, with the bytes of its resource
+pub record Reference : Type 0 where
+  pub resource : ℕ
+  pub number : ℕ
+  pub bytes : List ℕ
+
+pub data Shape : Type 0 where
+  SoundOf : SoundShape → Shape
+  PictureOf : PictureShape → Shape
+
+-- audio data or a video frame, with the reference that it holds; none where it is detached
+pub record Medium : Type 0 where
+  pub shape : Shape
+  pub held : Option Reference
+
+-- the variables of each caller, by the numbers of the steps that define them, and the history of the pool
+pub record Media : Type 0 where
+  pub variables : List (List (Option Medium))
+  pub pool : List PoolEntry
+
+-- the medium of the variable that the step with this number defines; none where it is absent
+abbrev pub medium_at : List (Option Medium) → ℕ → Option Medium
+medium_at vs j = option_and_then (λ v. v) (slice_get vs j)
+
+-- the variables of the caller with this number
+abbrev pub variables_of : ℕ → List (List (Option Medium)) → List (Option Medium)
+variables_of k [] = []
+variables_of zero (vs ∷ rest) = vs
+variables_of (suc k) (vs ∷ rest) = variables_of k rest
+
+-- the variable of the step with this number holds this medium; those before it that hold none are absent
+abbrev pub with_medium : ℕ → Medium → List (Option Medium) → List (Option Medium)
+with_medium zero m [] = Some m ∷ []
+with_medium zero m (v ∷ vs) = Some m ∷ vs
+with_medium (suc j) m [] = None ∷ with_medium j m []
+with_medium (suc j) m (v ∷ vs) = v ∷ with_medium j m vs
+
+abbrev pub detached : Medium → Medium
+detached m = record m { held = None }
+
+-- ---- what a step comes to
+
+-- its answer, the caller's variables after it, and what it does to the pool, if it does something
+pub record Came : Type 0 where
+  pub answer : StepResult
+  pub variables : List (Option Medium)
+  pub does : Option PoolOp
+
+abbrev pub only_answers : StepResult → List (Option Medium) → Came
+only_answers r vs = record { answer = r; variables = vs; does = None }
+
+abbrev pub refused : DomError → StepResult
+refused e = result.Local (Some e)
+
+-- a new resource with these bytes, and its first reference
+abbrev pub makes : List PoolEntry → ℕ → Shape → List ℕ → List (Option Medium) → Came
+makes pool j shape bytes vs = record {
+  answer = result.Local None;
+  variables = with_medium j (record { shape = shape; held = Some (record { resource = resources_made pool; number = references_made pool; bytes = bytes }) }) vs;
+  does = Some (op.Make (resources_made pool) (references_made pool));
+}
+
+-- without an init, which breaks a rule of WebIDL, or with an invalid one, nothing is made
+abbrev pub audio_came : List PoolEntry → ℕ → Option SoundInit → List (Option Medium) → Came
+audio_came pool j None vs = only_answers (refused dom.TypeErr) vs
+audio_came pool j (Some i) vs =
+    if is_invalid i.shape (length i.content) then only_answers (refused dom.TypeErr) vs
+    else makes pool j (SoundOf i.shape) (take (needed i.shape) i.content) vs
+
+abbrev pub frame_came : List PoolEntry → ℕ → Option PictureInit → List (Option Medium) → Came
+frame_came pool j None vs = only_answers (refused dom.TypeErr) vs
+frame_came pool j (Some i) vs =
+    if frames.is_invalid i.shape (length i.content) then only_answers (refused dom.TypeErr) vs
+    else makes pool j (PictureOf i.shape) (take (picture_size i.shape) i.content) vs
+
+-- one more reference to the resource that is held
+abbrev pub clone_held : List PoolEntry → ℕ → Shape → Option Reference → List (Option Medium) → Came
+clone_held pool j shape None vs = only_answers (refused dom.InvalidState) vs
+clone_held pool j shape (Some r) vs = record {
+  answer = result.Local None;
+  variables = with_medium j (record { shape = shape; held = Some (record r { number = references_made pool }) }) vs;
+  does = Some (op.Clone r.resource (references_made pool));
+}
+
+-- the reference is handed on
+abbrev pub transfer_held : ℕ → ℕ → Medium → Option Reference → List (Option Medium) → Came
+transfer_held j of m None vs = only_answers (refused dom.DataClone) vs
+transfer_held j of m (Some r) vs = only_answers (result.Local None) (with_medium j m (with_medium of (detached m) vs))
+
+-- whether a reference that ends is the last one of its resource
+abbrev pub is_last : Who → Reference → List PoolEntry → Bool
+is_last who r pool = not (is_held r.resource (pool ++ record { by = by.Caller who; op = op.End r.resource r.number false } ∷ []))
+
+-- the reference ends
+abbrev pub close_held : List PoolEntry → Who → ℕ → Medium → Option Reference → List (Option Medium) → Came
+close_held pool who of m None vs = only_answers (result.Local None) vs
+close_held pool who of m (Some r) vs = record {
+  answer = result.Local None;
+  variables = with_medium of (detached m) vs;
+  does = Some (op.End r.resource r.number (is_last who r pool));
+}
+
+-- what is absent makes the step absent
+abbrev pub if_there : Option Medium → List (Option Medium) → (Medium → Came) → Came
+if_there None vs came = only_answers result.Absent vs
+if_there (Some m) vs came = came m
+
+-- ---- copies
+
+abbrev pub zeros : ℕ → List ℕ
+zeros size = replicate size 0
+
+-- the definitions of copies see no key of a pool
+abbrev pub media_ref : Reference → MediaRef
+media_ref r = record { resource = r.resource; number = r.number; key = 0; bytes = r.bytes }
+
+abbrev pub sound_of : SoundShape → Option Reference → Sound
+sound_of shape held = record { shape = shape; held = option_map media_ref held }
+
+abbrev pub frame_of : PictureShape → Option Reference → Frame
+frame_of shape held = record { shape = shape; held = option_map media_ref held }
+
+abbrev pub format_of : FormatWord → CopyFormat
+format_of word.U8 = format.U8
+format_of word.S16 = format.S16
+format_of word.S32 = format.S32
+format_of word.U8Planar = format.U8Planar
+format_of word.S16Planar = format.S16Planar
+format_of word.S32Planar = format.S32Planar
+format_of word.F32 = format.F32
+format_of word.F32Planar = format.F32Planar
+
+abbrev pub copy_options : AudioOptions → CopyOptions
+copy_options o = record { plane = o.plane; offset = o.offset; count = o.count; format = option_map format_of o.format }
+
+abbrev pub rect_of : RectWords → Rect
+rect_of r = record { x = r.x; y = r.y; width = r.width; height = r.height }
+
+abbrev pub layout_of : LayoutWords → PlaneLayout
+layout_of l = record { offset = l.offset; stride = l.stride }
+
+abbrev pub layouts_in : FrameOptions → Option (List PlaneLayout)
+layouts_in o = option_map (λ ls. map layout_of ls) o.layout
+
+-- the whole destination behind the bytes that were written
+abbrev pub audio_copied : ℕ → Result (List ℕ) DomError → StepResult
+audio_copied size (Err e) = refused e
+audio_copied size (Ok bytes) = result.Copied (length bytes) (bytes ++ drop (length bytes) (zeros size))
+
+abbrev pub frame_copied : ℕ → Layouts → Result (List ℕ) DomError → StepResult
+frame_copied count layouts (Err e) = refused e
+frame_copied count layouts (Ok bytes) = result.CopiedFrame count layouts bytes
+
+-- the planes of a copy of a frame, written
+abbrev pub planes_copied : List ℕ → List ℕ → Result (List PlaneCopy) DomError → StepResult
+planes_copied bytes old (Err e) = refused e
+planes_copied bytes old (Ok cs) = frame_copied (size_of cs) (layouts_of cs) (video.copy_into bytes old (Ok cs))
+
+abbrev pub chunk_copied : List ℕ → Result ℕ DomError → StepResult
+chunk_copied to (Err e) = refused e
+chunk_copied to (Ok n) = result.Copied n to
+
+abbrev pub size_found : Result ℕ DomError → StepResult
+size_found (Err e) = refused e
+size_found (Ok n) = result.Size n
+
+abbrev pub copy_chunk : Option Chunk → ℕ → StepResult
+copy_chunk None size = result.Absent
+copy_chunk (Some c) size = chunk_copied (copied_to c.bytes (zeros size)) (copied_count c.bytes (zeros size))
+
+-- options that break a rule of WebIDL, or are not those of audio data
+abbrev pub copy_sound : Sound → Options → ℕ → StepResult
+copy_sound s (options.Audio (Some o)) size = audio_copied size (copied_audio s size (copy_options o))
+copy_sound s _ size = refused dom.TypeErr
+
+abbrev pub copy_frame : Frame → Options → ℕ → StepResult
+copy_frame f (options.Frame (Some o)) size =
+    planes_copied (unwrap_or (content_of f) []) (zeros size) (video.plan_for f (option_map rect_of o.rect) (layouts_in o))
+copy_frame f _ size = refused dom.TypeErr
+
+abbrev pub size_of_sound : Sound → Options → StepResult
+size_of_sound s (options.Audio (Some o)) = size_found (allocation_size s (copy_options o))
+size_of_sound s _ = refused dom.TypeErr
+
+abbrev pub size_of_frame : Frame → Options → StepResult
+size_of_frame f (options.Frame (Some o)) = size_found (video.allocation_size f (option_map rect_of o.rect) (layouts_in o))
+size_of_frame f _ = refused dom.TypeErr
+
+abbrev pub copy_medium : Medium → Options → ℕ → StepResult
+copy_medium m o size = elim (m.shape) [ SoundOf shape ↦ copy_sound (sound_of shape m.held) o size | PictureOf shape ↦ copy_frame (frame_of shape m.held) o size ]
+
+abbrev pub size_of_medium : Medium → Options → StepResult
+size_of_medium m o = elim (m.shape) [ SoundOf shape ↦ size_of_sound (sound_of shape m.held) o | PictureOf shape ↦ size_of_frame (frame_of shape m.held) o ]
+
+-- a chunk has no options
+abbrev pub copy_came : Option Chunk → ℕ → Options → ℕ → List (Option Medium) → Came
+copy_came chunk of options.Nothing size vs = only_answers (copy_chunk chunk size) vs
+copy_came chunk of o size vs = if_there (medium_at vs of) vs (λ m. only_answers (copy_medium m o size) vs)
+
+-- ---- every step
+
+-- the step that defines the chunk which a step copies, if it copies one
+abbrev pub chunk_in : MediaStep → Option ℕ
+chunk_in (media.Copy of options.Nothing size) = Some of.step
+chunk_in _ = None
+
+-- What a step on media comes to, after the pool's history and the caller's variables; `chunk` is the one that is copied. A
+-- step that encodes or takes is the codec's.
+abbrev pub media_came : List PoolEntry → Who → Option Chunk → MediaStep → List (Option Medium) → Option Came
+media_came pool who chunk (media.Audio bind init) vs = Some (audio_came pool who.step init vs)
+media_came pool who chunk (media.Frame bind init) vs = Some (frame_came pool who.step init vs)
+media_came pool who chunk (media.Encode on content) vs = None
+media_came pool who chunk (media.Take on bind kind) vs = None
+media_came pool who chunk (media.Clone of bind) vs = Some (if_there (medium_at vs of.step) vs (λ m. clone_held pool who.step m.shape m.held vs))
+media_came pool who chunk (media.Transfer of bind) vs = Some (if_there (medium_at vs of.step) vs (λ m. transfer_held who.step of.step m m.held vs))
+media_came pool who chunk (media.CloseData of) vs = Some (if_there (medium_at vs of.step) vs (λ m. close_held pool who of.step m m.held vs))
+media_came pool who chunk (media.Copy of o size) vs = Some (copy_came chunk of.step o size vs)
+media_came pool who chunk (media.Size of o) vs = Some (if_there (medium_at vs of.step) vs (λ m. only_answers (size_of_medium m o) vs))
+
+-- the entry of a step, if it makes one
+abbrev pub entries_of : Who → Option PoolOp → List PoolEntry
+entries_of who None = []
+entries_of who (Some o) = record { by = by.Caller who; op = o } ∷ []
+
+-- all callers' variables and the pool's history after a step of a caller
+abbrev pub after_came : Who → Came → Media → Media
+after_came who c m = record { variables = slice_set m.variables who.caller c.variables; pool = m.pool ++ entries_of who c.does }
+
+-- a step answered, and came to this; one that is the codec's has no answer, and changed nothing
+abbrev pub IsCome : Media → Media → Who → Option Came → Option StepResult → Type 0
+IsCome old new who None answer = (answer ≡ None) × (new ≡ old)
+IsCome old new who (Some c) answer = (answer ≡ Some c.answer) × (new ≡ after_came who c old)
+
+abbrev pub CameTo : Media → Media → Who → Option Chunk → MediaStep → Option StepResult → Type 0
+CameTo old new who chunk step answer =
+    IsCome old new who (media_came old.pool who chunk step (variables_of who.caller old.variables)) answer

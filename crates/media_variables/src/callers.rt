@@ -1,0 +1,146 @@
+// The media of all callers.
+ghost use Rattle.std.specs.Prelude.{◌≡◌, ◌<◌, [], true, IfOk, OnErr, map, length};
+ghost use Rattle.wc_pool.specs.Bag.{held_in, is_legal_pool};
+ghost use Rattle.media_variables.specs.Variables.{CameTo, Media, media_came};
+ghost use Rattle.media_variables.specs.Held.{AreHeld, AreLive};
+ghost use Rattle.media_variables.specs.Given.{Reaches};
+
+use crate::medium::Medium;
+use crate::steps::media_step;
+use report_text::StepResult;
+use script_types::{CallerItem, MediaStep};
+use std::alloc::Global;
+use std::marker::Model;
+use wc_base::{NoMemory, Who};
+use wc_chunk::Chunk;
+use wc_pool::{Pool, PoolEntry, references_are_apart};
+
+/// The variables of one caller, by the numbers of the steps that define them.
+#[derive(Drop)]
+struct Variables {
+    media: Vec<Option<Medium>>,
+}
+
+impl Model for Variables {
+    ghost use Rattle.std.specs.Prelude.{List, Option};
+    ghost use Rattle.media_variables.specs.Variables.{Medium};
+
+    ghost Value = { List (Option Medium) };
+
+    ghost view = { λ v. v.media.items };
+}
+
+/// The variables of all callers that hold media, and the pool of their references. A contract sees what
+/// each variable holds, and the pool's history.
+#[derive(Drop)]
+pub struct CallerMedia {
+    pool: Pool,
+    callers: Vec<Variables>,
+}
+
+impl Model for CallerMedia {
+    ghost use Rattle.media_variables.specs.Variables.{Media};
+    ghost use Rattle.media_variables.specs.Held.{AreHeld};
+
+    ghost Value = { Media };
+
+    ghost view = { λ m. record { variables = m.callers.items; pool = m.pool } };
+
+    ghost invariant = { λ m. AreHeld m.pool m.callers.items };
+}
+
+impl CallerMedia {
+    /// No variable holds a medium, and the pool has made nothing.
+    pub fn open(alloc: Global, callers: &[CallerItem]) -> Result<CallerMedia, NoMemory>
+        ensures { IfOk result
+            (λ m. m ≡ record { variables = map (λ c. []) callers.now; pool = [] }) }
+    {
+        Ok(CallerMedia {
+            pool: Pool::open(alloc),
+            callers: no_variables(alloc, callers)?,
+        })
+    }
+
+    /// A step on media of a caller, and its answer. A step that encodes or takes is the codec's: it has
+    /// no answer here, and changes nothing. `chunk` is the one that the step copies, if it copies one.
+    pub fn step(
+        &mut self,
+        alloc: Global,
+        who: Who,
+        chunk: Option<Chunk>,
+        step: &MediaStep,
+    ) -> Result<Option<StepResult>, NoMemory>
+        requires { who.caller < length self.old.variables }
+        ensures { IfOk result (CameTo self.old self.new who chunk step.now) }
+    {
+        caller_step(alloc, &mut self.pool, &mut self.callers, who, &chunk, step)
+    }
+
+    /// How many resources have a live reference.
+    pub fn held(&self) -> u64
+        ensures { result ≡ held_in self.now.pool }
+    {
+        self.pool.held()
+    }
+
+    /// The pool's history.
+    pub fn into_entries(self) -> Vec<PoolEntry>
+        ensures entries { result.items ≡ self.pool }
+        ensures legal { is_legal_pool self.pool ≡ true }
+    {
+        self.pool.into_entries()
+    }
+}
+
+fn no_variables(alloc: Global, callers: &[CallerItem]) -> Result<Vec<Variables>, NoMemory>
+    ensures { IfOk result (λ v. v.items ≡ map (λ c. []) callers.now) }
+{
+    let all = callers.iter().map(|_| Variables {
+        media: Vec::new(alloc),
+    });
+    Ok(all.collect(alloc)?)
+}
+
+/// A step of a caller, on the variables of all.
+fn caller_step(
+    alloc: Global,
+    pool: &mut Pool,
+    callers: &mut Vec<Variables>,
+    who: Who,
+    chunk: &Option<Chunk>,
+    step: &MediaStep,
+) -> Result<Option<StepResult>, NoMemory>
+    requires there { who.caller < length callers.old.items }
+    requires held { AreHeld pool.old callers.old.items }
+    ensures came { let old : Media = record { variables = callers.old.items; pool = pool.old } in
+        let new : Media = record { variables = callers.new.items; pool = pool.new } in
+        IfOk result (CameTo old new who chunk.now step.now) }
+    ensures held { AreHeld pool.new callers.new.items }
+{
+    references_are_apart();
+    let _legal = pool.entries().len();
+    match callers.get_mut(who.caller as usize) {
+        Some(variables) => variables.step(alloc, pool, who, chunk, step),
+        None => unreachable!(),
+    }
+}
+
+impl Variables {
+    /// A step of the caller.
+    fn step(
+        &mut self,
+        alloc: Global,
+        pool: &mut Pool,
+        who: Who,
+        chunk: &Option<Chunk>,
+        step: &MediaStep,
+    ) -> Result<Option<StepResult>, NoMemory>
+        requires { AreLive pool.old self.old }
+        ensures ok { let came = media_came pool.old who chunk.now step.now self.old in
+            IfOk result (Reaches who pool.old pool.new self.old self.new came) }
+        ensures pool { OnErr result (pool.new ≡ pool.old) }
+        ensures variables { OnErr result (self.new ≡ self.old) }
+    {
+        media_step(alloc, pool, who, chunk, step, &mut self.media)
+    }
+}
