@@ -1,0 +1,6 @@
+use Rattle.std.proofs.Common.{◌≡◌, map, take}
+use Rattle.codec_definitions.specs.G711.{ulaw_code}
+use Rattle.c_library.proofs.companding.ulaw_codes.Given as goal
+
+abbrev pub invariant-loop-i : goal.invariant-loop-i
+invariant-loop-i l = take l.i l.codes ≡ map ulaw_code (take l.i l.samples)

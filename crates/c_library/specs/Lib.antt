@@ -1,0 +1,5 @@
+pub mod Blocks
+pub mod Copies
+pub mod Descriptions
+pub mod Frames
+pub mod Status

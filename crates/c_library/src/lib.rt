@@ -1,0 +1,13 @@
+//! The coders as a library for C: the laws of G.711, FLAC's descriptions, frames and blocks, and copies of sound.
+#![tactic(auto)]
+
+mod blocks;
+mod companding;
+mod copies;
+mod description;
+mod frames;
+mod status;
+
+pub use blocks::FlacFormat;
+pub use copies::{Part, Sound};
+pub use description::FlacDescription;

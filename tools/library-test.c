@@ -1,0 +1,535 @@
+/* Tries every status of every call of zemirako.h. tools/library-test.sh builds it with sanitizers, and runs it. */
+#include "zemirako.h"
+
+#include <stdio.h>
+#include <stdlib.h>
+#include <string.h>
+
+static int failures;
+
+static void expect(int holds, const char *what, const char *row)
+{
+    if (!holds) {
+        failures++;
+        printf("failed: %s: %s\n", what, row);
+    }
+}
+
+/* ---- Memory that runs out: the linker sends the library's calls here. */
+
+static long left_before_none = -1; /* how many calls still get memory; below 0: all */
+static long taken;                 /* blocks that were not given back */
+
+void *__real_malloc(size_t size);
+void *__real_realloc(void *old, size_t size);
+void __real_free(void *old);
+
+static int has_memory(void)
+{
+    if (left_before_none == 0)
+        return 0;
+    if (left_before_none > 0)
+        left_before_none--;
+    return 1;
+}
+
+void *__wrap_malloc(size_t size)
+{
+    void *block = has_memory() ? __real_malloc(size) : NULL;
+    taken += block != NULL;
+    return block;
+}
+
+void *__wrap_realloc(void *old, size_t size)
+{
+    return has_memory() ? __real_realloc(old, size) : NULL;
+}
+
+void __wrap_free(void *old)
+{
+    taken -= old != NULL;
+    __real_free(old);
+}
+
+/* ---- G.711 */
+
+static const struct {
+    uint8_t code;
+    int16_t alaw, ulaw;
+} law_rows[] = {
+    {0x00, -5504, -32124}, {0x55, -8, -716},      {0x2a, -32256, -5372}, {0x7f, -848, 0},
+    {0x80, 5504, 32124},   {0xd5, 8, 716},        {0xaa, 32256, 5372},   {0xff, 848, 0},
+};
+
+typedef uint32_t decode_law(const uint8_t *, size_t, int16_t *, size_t);
+typedef uint32_t encode_law(const int16_t *, size_t, uint8_t *, size_t);
+
+static void try_law(const char *row, decode_law *decode, encode_law *encode, int codes_of_zero)
+{
+    uint8_t codes[256], again[257];
+    int16_t samples[257];
+    int same = 0;
+    for (int i = 0; i < 256; i++)
+        codes[i] = (uint8_t)i;
+    for (size_t room = 0; room <= 257; room += room == 0 ? 255 : 1) {
+        for (int i = 0; i < 257; i++)
+            samples[i] = 77;
+        uint32_t status = decode(codes, 256, samples, room);
+        expect(status == (room < 256 ? ZEMIRAKO_TOO_SMALL : ZEMIRAKO_DONE), "status of decoding", row);
+        expect(samples[256] == 77, "nothing behind the samples", row);
+        if (room < 256)
+            expect(samples[0] == 77 && samples[254] == 77, "nothing where it is too small", row);
+    }
+    memset(again, 7, sizeof again);
+    expect(encode(samples, 256, again, 255) == ZEMIRAKO_TOO_SMALL, "status of encoding, too small", row);
+    expect(again[0] == 7 && again[254] == 7, "no code where it is too small", row);
+    expect(encode(samples, 256, again, 257) == ZEMIRAKO_DONE, "status of encoding", row);
+    expect(again[256] == 7, "nothing behind the codes", row);
+    for (int i = 0; i < 256; i++)
+        same += again[i] == codes[i];
+    expect(same == 256 - codes_of_zero, "codes come back", row);
+    expect(decode(codes, 0, samples, 0) == ZEMIRAKO_DONE, "no codes", row);
+    expect(encode(samples, 0, again, 0) == ZEMIRAKO_DONE, "no samples", row);
+}
+
+static void try_laws(void)
+{
+    try_law("A-law", zemirako_alaw_decode, zemirako_alaw_encode, 0);
+    try_law("mu-law", zemirako_ulaw_decode, zemirako_ulaw_encode, 1);
+    for (size_t i = 0; i < sizeof law_rows / sizeof *law_rows; i++) {
+        int16_t sample = 0;
+        zemirako_alaw_decode(&law_rows[i].code, 1, &sample, 1);
+        expect(sample == law_rows[i].alaw, "value", "A-law");
+        zemirako_ulaw_decode(&law_rows[i].code, 1, &sample, 1);
+        expect(sample == law_rows[i].ulaw, "value", "mu-law");
+    }
+}
+
+/* ---- FLAC: the first example file of RFC 9639 (appendix D.1): one sample of each of two channels. */
+
+static const uint8_t example[] = {
+    0x66, 0x4c, 0x61, 0x43, 0x80, 0x00, 0x00, 0x22, 0x10, 0x00, 0x10, 0x00, 0x00, 0x00, 0x0f, 0x00, 0x00, 0x0f, 0x0a,
+    0xc4, 0x42, 0xf0, 0x00, 0x00, 0x00, 0x01, 0x3e, 0x84, 0xb4, 0x18, 0x07, 0xdc, 0x69, 0x03, 0x07, 0x58, 0x6a, 0x3d,
+    0xad, 0x1a, 0x2e, 0x0f, 0xff, 0xf8, 0x69, 0x18, 0x00, 0x00, 0xbf, 0x03, 0x58, 0xfd, 0x03, 0x12, 0x8b, 0xaa, 0x9a,
+};
+#define HEAD 42
+#define FRAME (sizeof example - HEAD)
+
+static zemirako_flac_description example_description(void)
+{
+    zemirako_flac_description d;
+    memset(&d, 0, sizeof d);
+    expect(zemirako_flac_read_description(example, sizeof example, &d) == ZEMIRAKO_DONE, "read", "example");
+    return d;
+}
+
+static void try_descriptions(void)
+{
+    static const struct {
+        const char *row;
+        size_t count;
+        int at, byte; /* the byte that is changed, and its value */
+        uint32_t status;
+    } rows[] = {
+        {"whole", HEAD, 0, 'f', ZEMIRAKO_DONE},
+        {"with a frame behind", sizeof example, 0, 'f', ZEMIRAKO_DONE},
+        {"not the last block", HEAD, 4, 0x00, ZEMIRAKO_DONE},
+        {"a byte short", HEAD - 1, 0, 'f', ZEMIRAKO_REFUSED},
+        {"empty", 0, 0, 'f', ZEMIRAKO_REFUSED},
+        {"another mark", HEAD, 0, 'F', ZEMIRAKO_REFUSED},
+        {"another type of block", HEAD, 4, 0x81, ZEMIRAKO_REFUSED},
+        {"another length", HEAD, 7, 0x23, ZEMIRAKO_REFUSED},
+        {"another depth", HEAD, 21, 0x70, ZEMIRAKO_DONE},
+        {"depth of 2", HEAD, 21, 0x10, ZEMIRAKO_REFUSED},
+    };
+    zemirako_flac_description d = example_description(), old;
+    expect(d.total == 1 && d.min_block == 4096 && d.max_block == 4096, "total and blocks", "example");
+    expect(d.min_frame == 15 && d.max_frame == 15 && d.rate == 44100, "frames and rate", "example");
+    expect(d.channels == 2 && d.depth == 16 && d.md5[0] == 0x3e && d.md5[15] == 0x0f, "the rest", "example");
+    for (size_t i = 0; i < sizeof rows / sizeof *rows; i++) {
+        uint8_t bytes[sizeof example];
+        memcpy(bytes, example, sizeof example);
+        bytes[rows[i].at] = (uint8_t)rows[i].byte;
+        if (i == 9)
+            bytes[20] = 0x42;
+        memset(&d, 5, sizeof d);
+        old = d;
+        expect(zemirako_flac_read_description(bytes, rows[i].count, &d) == rows[i].status, "description", rows[i].row);
+        if (rows[i].status != ZEMIRAKO_DONE)
+            expect(memcmp(&d, &old, sizeof d) == 0, "description stays", rows[i].row);
+    }
+    uint8_t no_rate[HEAD];
+    memcpy(no_rate, example, HEAD);
+    no_rate[18] = no_rate[19] = 0;
+    no_rate[20] = 0x02;
+    expect(zemirako_flac_read_description(no_rate, HEAD, &d) == ZEMIRAKO_REFUSED, "description", "no rate");
+}
+
+/* What a row of the calls that read a frame changes of the example. */
+static const struct {
+    const char *row;
+    size_t count;   /* how many bytes of the example's frame and of a zero behind it */
+    int at, byte;   /* the byte that is changed, and its value */
+    uint32_t channels, depth;
+    uint32_t end, decode; /* the statuses */
+} frame_rows[] = {
+    {"whole", FRAME, 0, 0xff, 2, 16, ZEMIRAKO_DONE, ZEMIRAKO_DONE},
+    {"a byte behind", FRAME + 1, 0, 0xff, 2, 16, ZEMIRAKO_DONE, ZEMIRAKO_REFUSED},
+    {"a byte short", FRAME - 1, 0, 0xff, 2, 16, ZEMIRAKO_REFUSED, ZEMIRAKO_REFUSED},
+    {"empty", 0, 0, 0xff, 2, 16, ZEMIRAKO_REFUSED, ZEMIRAKO_REFUSED},
+    {"no mark", FRAME, 0, 0xfe, 2, 16, ZEMIRAKO_REFUSED, ZEMIRAKO_REFUSED},
+    {"another sum", FRAME, FRAME - 1, 0x9b, 2, 16, ZEMIRAKO_REFUSED, ZEMIRAKO_REFUSED},
+    {"another sample", FRAME, 8, 0x59, 2, 16, ZEMIRAKO_REFUSED, ZEMIRAKO_REFUSED},
+    {"another channel count", FRAME, 0, 0xff, 1, 16, ZEMIRAKO_REFUSED, ZEMIRAKO_REFUSED},
+    {"another depth", FRAME, 0, 0xff, 2, 24, ZEMIRAKO_REFUSED, ZEMIRAKO_REFUSED},
+    {"depth of 0", FRAME, 0, 0xff, 2, 0, ZEMIRAKO_INVALID, ZEMIRAKO_INVALID},
+    {"depth of 33", FRAME, 0, 0xff, 2, 33, ZEMIRAKO_INVALID, ZEMIRAKO_INVALID},
+};
+
+static void try_frames(void)
+{
+    zemirako_flac_description d = example_description();
+    for (size_t i = 0; i < sizeof frame_rows / sizeof *frame_rows; i++) {
+        uint8_t *bytes = calloc(frame_rows[i].count + 1, 1);
+        size_t whole = frame_rows[i].count < FRAME ? frame_rows[i].count : FRAME;
+        memcpy(bytes, example + HEAD, whole);
+        bytes[frame_rows[i].at] = (uint8_t)frame_rows[i].byte;
+        d.channels = frame_rows[i].channels;
+        d.depth = frame_rows[i].depth;
+        uint64_t end = 99;
+        uint32_t block = 99;
+        int32_t samples[3] = {5, 6, 7};
+        uint32_t status = zemirako_flac_frame_end(bytes, frame_rows[i].count, &d, &end);
+        expect(status == frame_rows[i].end, "status of an end", frame_rows[i].row);
+        expect(end == (status == ZEMIRAKO_DONE ? FRAME : 99), "end", frame_rows[i].row);
+        status = zemirako_flac_decode_frame(bytes, frame_rows[i].count, &d, samples, 3, &block);
+        expect(status == frame_rows[i].decode, "status of a frame", frame_rows[i].row);
+        if (status == ZEMIRAKO_DONE)
+            expect(samples[0] == 25588 && samples[1] == 10416 && block == 1, "samples", frame_rows[i].row);
+        else
+            expect(samples[0] == 5 && samples[1] == 6 && block == 99, "samples stay", frame_rows[i].row);
+        expect(samples[2] == 7, "nothing behind the samples", frame_rows[i].row);
+        free(bytes);
+    }
+}
+
+static void try_small_rooms(void)
+{
+    zemirako_flac_description d = example_description();
+    for (size_t room = 0; room < 2; room++) {
+        int32_t samples[2] = {5, 6};
+        uint32_t block = 99;
+        uint32_t status = zemirako_flac_decode_frame(example + HEAD, FRAME, &d, samples, room, &block);
+        expect(status == ZEMIRAKO_TOO_SMALL && block == 1, "status of a small room", "frame");
+        expect(samples[0] == 5 && samples[1] == 6, "samples stay", "small room");
+    }
+}
+
+/* ---- Blocks */
+
+#define BLOCK 40
+
+static int32_t sample_of(unsigned depth, unsigned i)
+{
+    int64_t most = ((int64_t)1 << (depth - 1)) - 1;
+    switch (i % 5) {
+    case 0:
+        return (int32_t)(most - i % 16);
+    case 1:
+        return (int32_t)(-most - 1 + i % 16);
+    default:
+        return (int32_t)((int64_t)(i * 7 % 64) * most / 70);
+    }
+}
+
+static void try_block(zemirako_flac_format f, uint32_t number)
+{
+    int32_t samples[8 * BLOCK], again[8 * BLOCK];
+    uint8_t bytes[8 * (BLOCK * 5 + 8) + 32];
+    size_t count = (size_t)f.channels * BLOCK, size = 0;
+    uint32_t block = 0;
+    uint64_t end = 0;
+    char row[64];
+    snprintf(row, sizeof row, "channels %d, depth %d, level %d", f.channels, f.depth, f.level);
+    for (size_t i = 0; i < count; i++)
+        samples[i] = sample_of(f.depth, (unsigned)(number % 2 ? i : i % BLOCK + i / BLOCK));
+    uint32_t status = zemirako_flac_encode_block(&f, BLOCK, number, samples, count, bytes, sizeof bytes, &size);
+    expect(status == ZEMIRAKO_DONE && size > 0, "coded", row);
+    expect(size <= zemirako_flac_most_bytes(&f, BLOCK), "within the most bytes", row);
+    uint8_t *exact = malloc(size);
+    memset(exact, 7, size);
+    size_t need = 0;
+    status = zemirako_flac_encode_block(&f, BLOCK, number, samples, count, exact, size - 1, &need);
+    expect(status == ZEMIRAKO_TOO_SMALL && need == size, "a byte too small", row);
+    expect(exact[0] == 7 && exact[size - 1] == 7, "nothing where it is too small", row);
+    status = zemirako_flac_encode_block(&f, BLOCK, number, samples, count, exact, size, &need);
+    expect(status == ZEMIRAKO_DONE && memcmp(bytes, exact, size) == 0, "coded exactly", row);
+
+    zemirako_flac_description d = {0, BLOCK, BLOCK, 0, 0, f.rate, f.channels, f.depth, {0}};
+    status = zemirako_flac_frame_end(exact, size, &d, &end);
+    expect(status == ZEMIRAKO_DONE && end == size, "the frame's end", row);
+    status = zemirako_flac_decode_frame(exact, size, &d, again, count, &block);
+    expect(status == ZEMIRAKO_DONE && block == BLOCK, "decoded", row);
+    int same = 1;
+    for (size_t i = 0; i < count; i++)
+        same &= again[i] == samples[i % f.channels * BLOCK + i / f.channels];
+    expect(same, "samples come back", row);
+    free(exact);
+}
+
+static void try_blocks(void)
+{
+    static const uint8_t depths[] = {8, 16, 24, 32};
+    for (int d = 0; d < 4; d++)
+        for (int channels = 1; channels <= 8; channels++)
+            for (int level = 0; level <= 8; level++) {
+                zemirako_flac_format f = {44100, (uint8_t)channels, depths[d], (uint8_t)level};
+                try_block(f, 0);
+                try_block(f, 0x7fffffff);
+            }
+}
+
+static void try_invalid(void)
+{
+    static const struct {
+        const char *row;
+        zemirako_flac_format f;
+        uint32_t block, number;
+        size_t count;
+        int32_t first;
+    } rows[] = {
+        {"no channels", {8000, 0, 16, 5}, 2, 0, 0, 0},
+        {"nine channels", {8000, 9, 16, 5}, 2, 0, 18, 0},
+        {"depth of 12", {8000, 1, 12, 5}, 2, 0, 2, 0},
+        {"depth of 0", {8000, 1, 0, 5}, 2, 0, 2, 0},
+        {"level of 9", {8000, 1, 16, 9}, 2, 0, 2, 0},
+        {"no block", {8000, 1, 16, 5}, 0, 0, 0, 0},
+        {"a long block", {8000, 1, 16, 5}, 65536, 0, 65536, 0},
+        {"a sample short", {8000, 2, 16, 5}, 2, 0, 3, 0},
+        {"a sample more", {8000, 2, 16, 5}, 2, 0, 5, 0},
+        {"number of 2^31", {8000, 1, 16, 5}, 2, 0x80000000u, 2, 0},
+        {"a sample too great", {8000, 1, 16, 5}, 2, 0, 2, 32768},
+        {"a sample too small", {8000, 1, 8, 5}, 2, 0, 2, -129},
+    };
+    static int32_t samples[65536];
+    for (size_t i = 0; i < sizeof rows / sizeof *rows; i++) {
+        uint8_t bytes[4] = {7, 7, 7, 7};
+        size_t size = 99;
+        samples[0] = rows[i].first;
+        uint32_t status = zemirako_flac_encode_block(&rows[i].f, rows[i].block, rows[i].number, samples, rows[i].count,
+                                                     bytes, sizeof bytes, &size);
+        expect(status == ZEMIRAKO_INVALID, "invalid", rows[i].row);
+        expect(size == 99 && bytes[0] == 7 && bytes[3] == 7, "all stays", rows[i].row);
+    }
+}
+
+/* ---- Frames with changed bytes, whose sums are made right again */
+
+static uint64_t seed = 1;
+
+static uint32_t any(uint32_t below)
+{
+    seed = seed * 6364136223846793005u + 1442695040888963407u;
+    return (uint32_t)(seed >> 33) % below;
+}
+
+static uint32_t sum_of(const uint8_t *bytes, size_t count, uint32_t bits, uint32_t polynomial)
+{
+    uint32_t sum = 0;
+    for (size_t i = 0; i < 8 * count; i++) {
+        uint32_t top = sum >> (bits - 1) ^ (bytes[i / 8] >> (7 - i % 8) & 1u);
+        sum = ((sum << 1) ^ (top ? polynomial : 0)) & ((1u << bits) - 1);
+    }
+    return sum;
+}
+
+/* The header of a frame that try_broken makes: a number in one byte, the block size in one, and the rate by its code. */
+#define HEADER_SUM 6
+
+static void try_broken(void)
+{
+    static const uint8_t depths[] = {8, 16, 24, 32};
+    long accepted = 0;
+    for (int n = 0; n < 100000; n++) {
+        zemirako_flac_format f = {44100, (uint8_t)(1 + n % 3), depths[n / 3 % 4], (uint8_t)(n % 9)};
+        int32_t samples[3 * BLOCK], again[3 * BLOCK];
+        uint8_t bytes[3 * (BLOCK * 4 + 1) + 32];
+        size_t count = (size_t)f.channels * BLOCK, size = 0;
+        for (size_t i = 0; i < count; i++)
+            samples[i] = n % 2 ? sample_of(f.depth, (unsigned)i) : (int32_t)any(100) - 50;
+        zemirako_flac_encode_block(&f, BLOCK, 1, samples, count, bytes, sizeof bytes, &size);
+        for (uint32_t changes = any(3) + 1; changes > 0; changes--)
+            bytes[any((uint32_t)size - 2)] ^= (uint8_t)(1u << any(8));
+        if (any(10) == 0)
+            size -= any((uint32_t)size - HEADER_SUM - 3);
+        bytes[HEADER_SUM] = (uint8_t)sum_of(bytes, HEADER_SUM, 8, 0x07);
+        uint32_t sum = sum_of(bytes, size - 2, 16, 0x8005);
+        bytes[size - 2] = (uint8_t)(sum >> 8);
+        bytes[size - 1] = (uint8_t)sum;
+
+        zemirako_flac_description d = {0, BLOCK, BLOCK, 0, 0, f.rate, f.channels, f.depth, {0}};
+        uint8_t *exact = malloc(size);
+        memcpy(exact, bytes, size);
+        uint32_t block = 0;
+        uint64_t end = 0;
+        uint32_t status = zemirako_flac_decode_frame(exact, size, &d, again, count, &block);
+        uint32_t found = zemirako_flac_frame_end(exact, size, &d, &end);
+        int is_frame = status == ZEMIRAKO_DONE || status == ZEMIRAKO_TOO_SMALL;
+        expect(is_frame || status == ZEMIRAKO_REFUSED, "status", "broken frame");
+        expect(is_frame == (found == ZEMIRAKO_DONE && end == size), "end and frame agree", "broken frame");
+        int64_t limit = (int64_t)1 << (f.depth - 1);
+        for (size_t i = 0; status == ZEMIRAKO_DONE && i < (size_t)block * f.channels; i++)
+            expect(again[i] >= -limit && again[i] < limit, "depth", "broken frame");
+        accepted += is_frame;
+        free(exact);
+    }
+    printf("of 100000 broken frames %ld were still frames\n", accepted);
+}
+
+/* ---- Copies, by a plain program beside them */
+
+static size_t format_size(uint32_t format)
+{
+    return format % 3 == 0 ? 1 : format % 3 == 1 ? 2 : 4;
+}
+
+static int64_t sample_in(const uint8_t *bytes, size_t size)
+{
+    int64_t number = 0;
+    for (size_t i = size; i-- > 0;)
+        number = number * 256 + bytes[i];
+    if (size == 1)
+        return number - 128;
+    return number >= (int64_t)1 << (8 * size - 1) ? number - ((int64_t)1 << 8 * size) : number;
+}
+
+static void put_sample(uint8_t *bytes, size_t size, int64_t sample)
+{
+    uint64_t number = (uint64_t)(size == 1 ? sample + 128 : sample);
+    for (size_t i = 0; i < size; i++)
+        bytes[i] = (uint8_t)(number >> 8 * i);
+}
+
+static int64_t converted(int64_t sample, size_t from, size_t to)
+{
+    if (to >= from)
+        return sample * ((int64_t)1 << 8 * (to - from));
+    int64_t by = (int64_t)1 << 8 * (from - to);
+    return (sample - ((sample % by) + by) % by) / by;
+}
+
+static void try_copy(zemirako_sound sound, zemirako_part part)
+{
+    uint8_t bytes[4 * 5 * 3], to[4 * 5 * 3 + 1], wanted[sizeof to];
+    size_t from = format_size(sound.format), size = format_size(part.format), count = 0, got = 99;
+    size_t all = from * sound.channels * sound.frames;
+    char row[64];
+    snprintf(row, sizeof row, "copy of format %u in %u, plane %u", sound.format, part.format, part.plane);
+    for (size_t i = 0; i < all; i++)
+        bytes[i] = (uint8_t)(i * 37 + i / 3 * 101 + 11);
+    memset(wanted, 7, sizeof wanted);
+    for (uint32_t i = part.first; i < part.first + part.count; i++)
+        for (uint32_t c = 0; c < sound.channels; c++) {
+            size_t place = sound.format >= 3 ? c * sound.frames + i : i * sound.channels + c;
+            if (part.format >= 3 && c != part.plane)
+                continue;
+            put_sample(wanted + count, size, converted(sample_in(bytes + from * place, from), from, size));
+            count += size;
+        }
+    memset(to, 7, sizeof to);
+    if (count > 0) {
+        expect(zemirako_copy_sound(&sound, bytes, all, &part, to, count - 1, &got) == ZEMIRAKO_TOO_SMALL, "small", row);
+        expect(got == count && to[0] == 7 && to[count - 1] == 7, "nothing where it is too small", row);
+    }
+    expect(zemirako_copy_sound(&sound, bytes, all, &part, to, sizeof to, &got) == ZEMIRAKO_DONE, "copied", row);
+    expect(got == count && memcmp(to, wanted, sizeof to) == 0, "bytes of the copy", row);
+}
+
+static void try_copies(void)
+{
+    for (uint32_t from = 0; from < 6; from++)
+        for (uint32_t to = 0; to < 6; to++)
+            for (uint32_t channels = 1; channels <= 3; channels++)
+                for (uint32_t plane = 0; plane < (to >= 3 ? channels : 1); plane++)
+                    for (uint32_t first = 0; first <= 5; first++)
+                        for (uint32_t count = 0; first + count <= 5; count++) {
+                            zemirako_sound sound = {from, channels, 5};
+                            zemirako_part part = {to, plane, first, count};
+                            try_copy(sound, part);
+                        }
+    static const struct {
+        const char *row;
+        zemirako_sound sound;
+        size_t count;
+        zemirako_part part;
+    } rows[] = {
+        {"format of 6", {6, 1, 4}, 16, {0, 0, 0, 1}},
+        {"copy in format of 6", {0, 1, 4}, 4, {6, 0, 0, 1}},
+        {"no channels", {0, 0, 4}, 0, {0, 0, 0, 1}},
+        {"33 channels", {0, 33, 1}, 33, {0, 0, 0, 1}},
+        {"a byte short", {1, 1, 4}, 7, {0, 0, 0, 1}},
+        {"a byte more", {1, 1, 4}, 9, {0, 0, 0, 1}},
+        {"a second plane", {0, 2, 2}, 4, {0, 1, 0, 1}},
+        {"a third plane of two", {0, 2, 2}, 4, {3, 2, 0, 1}},
+        {"frames behind the last", {0, 1, 4}, 4, {0, 0, 3, 2}},
+        {"frames past 2^32", {0, 1, 4}, 4, {0, 0, 0xffffffffu, 2}},
+    };
+    for (size_t i = 0; i < sizeof rows / sizeof *rows; i++) {
+        uint8_t bytes[64] = {0}, to[4] = {7, 7, 7, 7};
+        size_t size = 99;
+        uint32_t status = zemirako_copy_sound(&rows[i].sound, bytes, rows[i].count, &rows[i].part, to, 4, &size);
+        expect(status == ZEMIRAKO_INVALID && size == 99 && to[0] == 7 && to[3] == 7, "invalid copy", rows[i].row);
+    }
+}
+
+/* Each call that takes memory, with none from some allocation on. */
+static void try_no_memory(void)
+{
+    zemirako_flac_description d = example_description();
+    zemirako_flac_format f = {44100, 2, 16, 8};
+    int32_t samples[2 * BLOCK] = {0};
+    for (unsigned i = 0; i < 2 * BLOCK; i++)
+        samples[i] = sample_of(16, i);
+    for (int call = 0; call < 3; call++) {
+        uint32_t status = ZEMIRAKO_NO_MEMORY;
+        long n = 0;
+        for (; status != ZEMIRAKO_DONE && n < 100000; n++) {
+            uint64_t end = 99;
+            uint32_t block = 99;
+            size_t size = 99;
+            int32_t out[2] = {5, 6};
+            uint8_t bytes[1024] = {7};
+            long before = taken;
+            left_before_none = n;
+            if (call == 0)
+                status = zemirako_flac_frame_end(example + HEAD, FRAME, &d, &end);
+            else if (call == 1)
+                status = zemirako_flac_decode_frame(example + HEAD, FRAME, &d, out, 2, &block);
+            else
+                status = zemirako_flac_encode_block(&f, BLOCK, 1, samples, 2 * BLOCK, bytes, sizeof bytes, &size);
+            left_before_none = -1;
+            expect(taken == before, "memory is given back", call == 0 ? "end" : call == 1 ? "frame" : "block");
+            if (status == ZEMIRAKO_DONE)
+                break;
+            expect(status == ZEMIRAKO_NO_MEMORY, "want of memory", call == 0 ? "end" : call == 1 ? "frame" : "block");
+            expect(end == 99 && block == 99 && size == 99 && out[0] == 5 && bytes[0] == 7, "all stays", "no memory");
+        }
+        expect(n > 0 && status == ZEMIRAKO_DONE, "done with enough memory", "no memory");
+        printf("call %d: %ld allocations failed in turn\n", call, n);
+    }
+}
+
+int main(void)
+{
+    try_laws();
+    try_descriptions();
+    try_frames();
+    try_small_rooms();
+    try_blocks();
+    try_invalid();
+    try_broken();
+    try_copies();
+    try_no_memory();
+    printf(failures ? "%d failed\n" : "all as said\n", failures);
+    return failures != 0;
+}
