@@ -1,6 +1,6 @@
 #!/usr/bin/env bash
 # Instructions a sample (by callgrind) and nanoseconds a sample (the least user time of nine alternating runs) of decoding FLAC
-# frames in memory, of libFLAC without MD5 on the same file (a small C program over libflac-dev, which drops the samples), and
+# frames of a file, of libFLAC without MD5 on the same file (a small C program over libflac-dev, which drops the samples), and
 # of the system's `flac -d`, which also checks the MD5 sum and reads and writes files, on so many seconds of stereo:
 # tools/flac-speed.sh [SECONDS]. Wants valgrind, flac, libflac-dev, gcc and python3, and crates/flac_speed built (rt run in
 # crates/flac_speed).
