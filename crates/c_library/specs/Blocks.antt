@@ -1,5 +1,5 @@
 -- Blocks of FLAC as C sees them.
-use Rattle.std.specs.Prelude.{ℕ, ℤ, ◌≡◌, ◌<◌, ◌≤◌, ◌^◌, ◌==◌, ◌||◌, List, length, IsTrue}
+use Rattle.std.specs.Prelude.{ℕ, ℤ, ◌≡◌, ◌<◌, ◌≤◌, ◌+◌, ◌*◌, ◌/◌, ◌^◌, ◌==◌, ◌||◌, List, length, IsTrue}
 use Rattle.flac_definitions.specs.Bits.{bits_in}
 use Rattle.flac_blocks.specs.Modes.{IsFormat, IsBlock}
 use Rattle.flac_blocks.specs.Frames.{frame_bits}
@@ -31,6 +31,10 @@ abbrev pub IsRoom : BlockFormat → ℕ → ℕ → Type 0
 IsRoom f block room =
     (number : ℕ) (xs : List ℤ) (frame : List ℕ) → CanBeCoded f block number xs
     → bits_in frame ≡ frame_bits f block number xs → length frame ≤ room
+
+-- those of a subframe with all its samples for each channel, and 127 bits more for the header, the padding and the sum
+abbrev pub most_bytes : BlockFormat → ℕ → ℕ
+most_bytes f block = (f.channels * (f.depth * block + 8) + 127) / 8
 
 -- what a call answers that codes a block
 abbrev pub IsBlockStatus : ℕ → Type 0

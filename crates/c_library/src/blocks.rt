@@ -1,7 +1,7 @@
 // Blocks of FLAC, coded.
 ghost use Rattle.std.specs.Prelude.{◌≡◌, ◌<◌, ◌^◌, ◌⊎◌, true, false};
 ghost use Rattle.flac_blocks.specs.Modes.{IsFormat, IsBlock};
-ghost use Rattle.c_library.specs.Blocks.{format_of, IsCoded, CanBeCoded, IsBlockStatus, IsRoom};
+ghost use Rattle.c_library.specs.Blocks.{format_of, IsCoded, CanBeCoded, IsBlockStatus, IsRoom, most_bytes};
 ghost use Rattle.c_library.specs.Frames.{HasValues};
 ghost use Rattle.c_library.specs.Status.{done, no_memory, too_small, invalid};
 
@@ -60,7 +60,8 @@ pub extern "C" fn zemirako_flac_encode_block(
 /// How many bytes the frame of a block of so many frames has at most, whatever its samples and its number are.
 #[unsafe(no_mangle)]
 pub extern "C" fn zemirako_flac_most_bytes(format: &FlacFormat, block: u32) -> usize
-    ensures { IsRoom (format_of format.now) block result }
+    ensures room { IsRoom (format_of format.now) block result }
+    ensures size { result ≡ most_bytes (format_of format.now) block }
 {
     written_frames_are_read();
     let bits = format.depth as usize * block as usize + 8;
