@@ -6,12 +6,13 @@ use Rattle.codec_accounts.specs.Codec.{codec_at, AreGivable}
 use Rattle.script_types.specs.declared.script.ScriptData.{ScriptData}
 use Rattle.trace_text.specs.Follow.{Course, opening_at}
 
--- The course has the script's codecs, each opened as the script says and with a legal history, and a registry of the same
--- boxes; each box that a codec holds may be given back by its next entry.
+-- The course has the script's codecs, each opened as the script says and with a legal history, media of each caller, and a
+-- registry of the same boxes; each box that a codec holds may be given back by its next entry.
 pub record IsCourse (s : ScriptData) (made : List CoderId) (v : Course) : Type 0 where
   pub callers : length v.callers ≡ length s.callers
   pub codecs : length v.codecs ≡ length s.codecs
   pub openings : (k : ℕ) → (codec_at k v.codecs).opening ≡ opening_at s k
   pub legal : (k : ℕ) → IsLegal (codec_at k v.codecs).opening (codec_at k v.codecs).history
+  pub media : length v.media.variables ≡ length s.callers
   pub boxes : v.slots.made ≡ made
   pub givable : AreGivable v.codecs v.slots.history

@@ -12,6 +12,7 @@ use Rattle.wc_chunk.specs.declared.chunk.Chunk.{Chunk}
 use Rattle.script_types.specs.declared.script.ScriptData.{ScriptData}
 use Rattle.script_types.specs.declared.script.CodecItem.{CodecItem}
 use Rattle.script_types.specs.declared.steps.Step.{Step}
+use Rattle.script_types.specs.declared.steps.MediaStep.{MediaStep}
 use Rattle.script_types.specs.declared.steps.Step.TheVariants as step
 use Rattle.trace_text.specs.declared.run.Run.{Run}
 use Rattle.trace_text.specs.declared.run.CodecTrace.{CodecTrace}
@@ -23,7 +24,10 @@ use Rattle.codec_accounts.specs.Registry.{BoxesAccounted}
 use Rattle.codec_accounts.specs.Codec.{state_after}
 use Rattle.codec_accounts.specs.Calls.{who_of, Mark, Climbs}
 use Rattle.codec_accounts.specs.Calls as mark
-use Rattle.trace_text.specs.Follow.{Recorded, Course, record_of, opening_of, opening_at, steps_of, chunk_at, source_error, promise_after, order_items, Follows, nothing_yet}
+use Rattle.wc_pool.specs.Bag.{held_in}
+use Rattle.media_variables.specs.Variables.{Came}
+use Rattle.media_accounts.specs.Accounts.{came_in, MediaAreIn}
+use Rattle.trace_text.specs.Follow.{Recorded, Course, record_of, opening_of, opening_at, steps_of, chunk_at, copied_chunk, source_error, promise_after, order_items, Follows, nothing_yet}
 
 -- the codec that a step calls, if it calls one
 abbrev pub called : Step → Option ℕ
@@ -40,7 +44,7 @@ called (step.Media x) = None
 
 -- what a run recorded, without what its entries showed
 abbrev pub recorded_of : Run → Recorded
-recorded_of run = record { callers = map (λ c. c.results) run.callers; codecs = map (λ c. c.entries) run.codecs; slots = run.slots }
+recorded_of run = record { callers = map (λ c. c.results) run.callers; codecs = map (λ c. c.entries) run.codecs; pool = run.pool; slots = run.slots }
 
 -- the result of a caller's step, if it was made
 abbrev pub result_in : Recorded → ℕ → ℕ → Option StepResult
@@ -138,19 +142,38 @@ ArgumentsAreIn s media w = (k p : ℕ) (e : Entry) (who : Who) → entry_in w k 
 abbrev pub ArgumentsAreTheScripts : ScriptData → List (List Chunk) → Run → Type 0
 ArgumentsAreTheScripts s media run = ArgumentsAreIn s media (recorded_of run)
 
--- The answer of a step that calls no codec and looks at none; absent is only what lacks its variable. No step copies media yet.
-abbrev pub IsLocalAnswer : ScriptData → List (List Chunk) → ℕ → Step → StepResult → Type 0
-IsLocalAnswer s media c (step.Chunk bind source) r = r ≡ result.Local (source_error source)
-IsLocalAnswer s media c (step.Decode on chunk) result.Absent = chunk_at media (steps_of s c) chunk.step ≡ None
-IsLocalAnswer s media c x result.Absent = ⊥
-IsLocalAnswer s media c x (result.Local error) = ⊥
-IsLocalAnswer s media c x (result.Copied n bytes) = ⊥
-IsLocalAnswer s media c x (result.CopiedFrame n layouts bytes) = ⊥
-IsLocalAnswer s media c x (result.Size n) = ⊥
-IsLocalAnswer s media c x r = Unit {0}
+-- the chunk that a caller's step on media copies, if it copies one
+abbrev pub chunks_of : ScriptData → List (List Chunk) → ℕ → MediaStep → Option Chunk
+chunks_of s media c x = copied_chunk media (steps_of s c) x
+
+-- how many steps a caller made
+abbrev pub made_steps : Recorded → ℕ → ℕ
+made_steps w c = length (at c w.callers)
+
+-- what a caller's step on media comes to, after its earlier steps; none of any other step
+abbrev pub came_at : ScriptData → List (List Chunk) → Recorded → ℕ → ℕ → Option Came
+came_at s media w c j = came_in (steps_of s) (chunks_of s media) w.pool c j
+
+-- a step that encodes or takes has no answer yet
+abbrev pub IsMediaAnswer : Option Came → StepResult → Type 0
+IsMediaAnswer None r = ⊥
+IsMediaAnswer (Some y) r = r ≡ y.answer
+
+-- The answer of a step that calls no codec and looks at none, where a step on media comes to this; absent is only what lacks
+-- its variable.
+abbrev pub IsLocalAnswer : ScriptData → List (List Chunk) → Option Came → ℕ → Step → StepResult → Type 0
+IsLocalAnswer s media came c (step.Chunk bind source) r = r ≡ result.Local (source_error source)
+IsLocalAnswer s media came c (step.Media x) r = IsMediaAnswer came r
+IsLocalAnswer s media came c (step.Decode on chunk) result.Absent = chunk_at media (steps_of s c) chunk.step ≡ None
+IsLocalAnswer s media came c x result.Absent = ⊥
+IsLocalAnswer s media came c x (result.Local error) = ⊥
+IsLocalAnswer s media came c x (result.Copied n bytes) = ⊥
+IsLocalAnswer s media came c x (result.CopiedFrame n layouts bytes) = ⊥
+IsLocalAnswer s media came c x (result.Size n) = ⊥
+IsLocalAnswer s media came c x r = Unit {0}
 
 abbrev pub LocalsAreIn : ScriptData → List (List Chunk) → Recorded → Type 0
-LocalsAreIn s media w = (c j : ℕ) (x : Step) (r : StepResult) → step_in s c j ≡ Some x → result_in w c j ≡ Some r → IsLocalAnswer s media c x r
+LocalsAreIn s media w = (c j : ℕ) (x : Step) (r : StepResult) → step_in s c j ≡ Some x → result_in w c j ≡ Some r → IsLocalAnswer s media (came_at s media w c j) c x r
 
 -- Every other step has the answer of its own rule.
 abbrev pub LocalStepsAnswer : ScriptData → List (List Chunk) → Run → Type 0
@@ -161,10 +184,14 @@ LocalStepsAnswer s media run = LocalsAreIn s media (recorded_of run)
 abbrev pub BoxesAreAccounted : ScriptData → List CoderId → Run → Type 0
 BoxesAreAccounted s made run = let w = recorded_of run in BoxesAccounted made (opening_at s) w.codecs w.slots
 
--- All entries, results and slot entries are those that following the script's order makes, item after item. `made` has the
+-- The pool's history has what the callers' steps call for, each once and in the order of their caller, and nothing else.
+abbrev pub MediaAreAccounted : ScriptData → List (List Chunk) → Run → Type 0
+MediaAreAccounted s media run = let w = recorded_of run in MediaAreIn (steps_of s) (chunks_of s media) (made_steps w) w.pool
+
+-- All entries, results, pool entries and slot entries are those that following the script's order makes, item after item. `made` has the
 -- ids of the coders that were handed in.
 pub record FollowsTheOrder (s : ScriptData) (media : List (List Chunk)) (made : List CoderId) (run : Run) : Type 0 where
-  -- how the callers, the codecs and the registry stand in the end
+  -- how the callers, the codecs, the media and the registry stand in the end
   pub course : Course
   pub follows : Follows s media (order_items s) (nothing_yet s made) course
   pub is_recorded : recorded_of run ≡ record_of course
@@ -175,6 +202,7 @@ pub record Fits (s : ScriptData) (media : List (List Chunk)) (made : List CoderI
   pub looks : LooksAreBetween s run
   pub arguments : ArgumentsAreTheScripts s media run
   pub locals : LocalStepsAnswer s media run
+  pub accounted : MediaAreAccounted s media run
   pub boxes : BoxesAreAccounted s made run
   pub follows : FollowsTheOrder s media made run
 
@@ -189,10 +217,9 @@ AreLegalTraces [] [] = Unit {0}
 AreLegalTraces (c ∷ cs) (t ∷ ts) = IsLegalTrace c t × AreLegalTraces cs ts
 AreLegalTraces _ _ = ⊥
 
--- The run has the script's callers and codecs, and each codec's history is legal; no media resource was made, so that none
--- is held.
+-- The run has the script's callers and codecs, each codec's history is legal, and `held` counts the media resources that have
+-- a live reference.
 pub record IsLegalRun (s : ScriptData) (run : Run) : Type 0 where
   pub callers : length run.callers ≡ length s.callers
   pub codecs : AreLegalTraces s.codecs run.codecs
-  pub pool : run.pool ≡ []
-  pub held : run.held ≡ 0
+  pub held : run.held ≡ held_in run.pool

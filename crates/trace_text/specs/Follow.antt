@@ -35,27 +35,32 @@ use Rattle.script_types.specs.declared.steps.ChunkInit.{ChunkInit}
 use Rattle.script_types.specs.declared.steps.ChunkSource.{ChunkSource}
 use Rattle.script_types.specs.declared.steps.ChunkSource.TheVariants as source
 use Rattle.script_types.specs.declared.steps.Step.{Step}
+use Rattle.script_types.specs.declared.steps.MediaStep.{MediaStep}
 use Rattle.script_types.specs.declared.steps.Step.TheVariants as step
 use Rattle.script_types.specs.declared.script.OrderItem.{OrderItem}
 use Rattle.script_types.specs.declared.script.OrderItem.TheVariants as item
 use Rattle.report_text.specs.declared.result.StepResult.{StepResult}
 use Rattle.report_text.specs.declared.result.StepResult.TheVariants as result
+use Rattle.wc_pool.specs.declared.entry.PoolEntry.{PoolEntry}
+use Rattle.media_variables.specs.Variables.{Media, Came, chunk_in, media_came, after_came, variables_of}
 
--- What was recorded so far: each caller's results, each codec's history, and the registry's.
+-- What was recorded so far: each caller's results, each codec's history, the pool's of media, and the registry's.
 pub record Recorded : Type 0 where
   pub callers : List (List StepResult)
   pub codecs : List (List Entry)
+  pub pool : List PoolEntry
   pub slots : List SlotEntry
 
--- how far an order was followed: each caller's results, each codec, and the registry
+-- how far an order was followed: each caller's results, each codec, the callers' media with their pool, and the registry
 pub record Course : Type 0 where
   pub callers : List (List StepResult)
   pub codecs : List CodecValue
+  pub media : Media
   pub slots : SlotsValue
 
 -- what it recorded
 abbrev pub record_of : Course → Recorded
-record_of v = record { callers = v.callers; codecs = histories v.codecs; slots = v.slots.history }
+record_of v = record { callers = v.callers; codecs = histories v.codecs; pool = v.media.pool; slots = v.slots.history }
 
 abbrev pub opening_of : CodecItem → Opening
 opening_of c = record { kind = c.kind; saturation = c.saturation }
@@ -101,6 +106,10 @@ chunk_by media _ = None
 abbrev pub chunk_at : List (List Chunk) → List Step → ℕ → Option Chunk
 chunk_at media steps j = option_and_then (chunk_by media) (slice_get steps j)
 
+-- the chunk that a step on media copies, if it copies one
+abbrev pub copied_chunk : List (List Chunk) → List Step → MediaStep → Option Chunk
+copied_chunk media steps x = option_and_then (chunk_at media steps) (chunk_in x)
+
 -- the exception of a chunk's init, which breaks a rule of WebIDL or not
 abbrev pub init_error : Option ChunkInit → Option DomError
 init_error None = Some dom.TypeErr
@@ -114,12 +123,14 @@ source_error (source.File file index) = None
 -- ---- moves
 
 -- What an item of the order, or the step of a caller, makes: nothing; a result of a caller alone, as that of a look; the
--- next entry of a codec; or both, where a caller's step calls a codec, with the exception that the call shows.
+-- next entry of a codec; both, where a caller's step calls a codec, with the exception that the call shows; or what a step
+-- on media comes to.
 pub data Move : Type 0 where
   Idle : Move
   Answer : ℕ → StepResult → Move
   Advance : ℕ → Entry → Move
   Ask : ℕ → ℕ → Entry → Option DomError → Move
+  Handle : Who → Came → Move
 
 -- one result more of the caller with this number
 abbrev pub with_result : ℕ → StepResult → Course → Course
@@ -129,11 +140,16 @@ with_result c r v = record v { callers = append_at c r v.callers }
 abbrev pub with_entry : ℕ → Entry → Course → Course
 with_entry k e v = record v { codecs = codecs_after k e v.slots v.codecs; slots = slots_by k e v.slots (codec_at k v.codecs) }
 
+-- the callers' media, after what a step of a caller came to
+abbrev pub with_media : Who → Came → Course → Course
+with_media who y v = record v { media = after_came who y v.media }
+
 abbrev pub after_move : Move → Course → Course
 after_move Idle v = v
 after_move (Answer c r) v = with_result c r v
 after_move (Advance k e) v = with_entry k e v
 after_move (Ask c k e error) v = with_result c (result.Call k (length (codec_at k v.codecs).history) error) (with_entry k e v)
+after_move (Handle who y) v = with_result who.caller y.answer (with_media who y v)
 
 -- ---- the next entry of one codec
 
@@ -206,7 +222,12 @@ look_of_flush ds _ = result.Absent
 abbrev pub look_of_state : ℕ → CodecValue → StepResult
 look_of_state k d = let c = (state_of d).control in result.State k (length d.history) c.phase c.size
 
--- The step of a caller. A step on media is not built yet, and makes nothing.
+-- a step on media; one that encodes or takes is not built yet, and makes nothing
+abbrev pub media_move : Who → Option Came → Move
+media_move who None = Idle
+media_move who (Some y) = Handle who y
+
+-- the step of a caller
 abbrev pub step_move : ScriptData → List (List Chunk) → Who → Step → Course → Move
 step_move s media who (step.Configure on config) v = call_move who on (call.Configure config) (codec_at on v.codecs)
 step_move s media who (step.Chunk bind source) v = Answer who.caller (result.Local (source_error source))
@@ -217,7 +238,8 @@ step_move s media who (step.Await promise) v = Answer who.caller (look_of_flush 
 step_move s media who (step.Reset on) v = removal_move who on removal.Reset (codec_at on v.codecs)
 step_move s media who (step.Close on) v = removal_move who on removal.Close (codec_at on v.codecs)
 step_move s media who (step.State on) v = Answer who.caller (look_of_state on (codec_at on v.codecs))
-step_move s media who (step.Media x) v = Idle
+step_move s media who (step.Media x) v =
+    media_move who (media_came v.media.pool who (copied_chunk media (steps_of s who.caller) x) x (variables_of who.caller v.media.variables))
 
 abbrev pub next_move : ScriptData → List (List Chunk) → Who → Option Step → Course → Move
 next_move s media who None v = Idle
@@ -247,10 +269,12 @@ Follows s media (x ∷ xs) v u = (wants : Bool) × Follows s media xs (follow_it
 abbrev pub order_items : ScriptData → List OrderItem
 order_items s = unwrap_or s.order []
 
--- Nothing is recorded yet, and no codec has anything of the registry, which was opened with coders of these ids.
+-- Nothing is recorded yet, no caller has media, and no codec has anything of the registry, which was opened with coders of
+-- these ids.
 abbrev pub nothing_yet : ScriptData → List CoderId → Course
 nothing_yet s made = record {
   callers = map (λ c. []) s.callers;
   codecs = map (λ c. new_codec (opening_of c)) s.codecs;
+  media = record { variables = map (λ c. []) s.callers; pool = [] };
   slots = record { made = made; history = [] };
 }

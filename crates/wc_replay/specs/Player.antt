@@ -18,6 +18,7 @@ use Rattle.trace_text.specs.Fits.{step_in}
 use Rattle.codec_accounts.specs.Codec.{CodecValue, new_codec}
 use Rattle.trace_text.specs.Follow.{order_items, Course, opening_of}
 use Rattle.order_laws.specs.Sound.{IsSound}
+use Rattle.wc_pool.specs.Bag.{held_in}
 
 -- an item names one of so many codecs, if it names one
 abbrev pub IsInRange : ℕ → OrderItem → Type 0
@@ -66,13 +67,13 @@ trace_of d = record { opening = d.opening; entries = d.history; shown = each_sho
 abbrev pub caller_trace : List StepResult → CallerTrace
 caller_trace results = record { results = results }
 
--- The run holds what was recorded; no media resource was made, so that none is held.
+-- The run holds what was recorded, and how many media resources have a live reference.
 pub record IsRunOf (v : Course) (run : Run) : Type 0 where
   pub callers : run.callers ≡ map caller_trace v.callers
   pub codecs : run.codecs ≡ map trace_of v.codecs
   pub slots : run.slots ≡ v.slots.history
-  pub pool : run.pool ≡ []
-  pub held : run.held ≡ 0
+  pub pool : run.pool ≡ v.media.pool
+  pub held : run.held ≡ held_in v.media.pool
 
 -- a trace is opened as the script says, and shows what its entries show
 pub record IsShownTrace (c : CodecItem) (t : CodecTrace) : Type 0 where

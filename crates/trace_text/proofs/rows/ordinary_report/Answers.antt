@@ -17,6 +17,7 @@ returns-clause-follows c = record {
   course = record {
     callers = results ∷ [];
     codecs = record { opening = four; history = ordinary; holding = record { box = Some (record { id = coder; number = 0; by = by.Codec 0 3 }); refusal = None } } ∷ [];
+    media = record { variables = [] ∷ []; pool = [] };
     slots = record { made = coder ∷ []; history = acquire_entry ∷ [] };
   };
   follows = (false, (false, (false, (false, (false, (false, (false, (false, (false, (false, (false, (false, (false, (false, (false, (false, refl))))))))))))))));
