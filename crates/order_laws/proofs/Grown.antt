@@ -1,7 +1,8 @@
 -- What is recorded grows: what was there stays, and what it says of the script too.
-use Rattle.std.proofs.Common.{ℕ, ◌≡◌, ◌≤◌, ◌<◌, ◌++◌, List, take, length, Option, Some, None, refl, ap, sym, ◌∙◌, arith}
+use Rattle.std.proofs.Common.{ℕ, ◌≡◌, ◌≤◌, ◌<◌, ◌++◌, List, take, length, Option, Some, None, refl, ap, sym, ◌∙◌, subst, arith}
 use Rattle.std.specs.Prelude.{option_and_then}
 use Rattle.std.proofs.lemmas.List.{take-append-le}
+use Rattle.std.proofs.lemmas.Option.{slice_get_within}
 use Rattle.wc_base.specs.declared.error.DomError.{DomError}
 use Rattle.wc_chunk.specs.declared.chunk.Chunk.{Chunk}
 use Rattle.codec_model.specs.declared.entry.Entry.{Entry}
@@ -16,7 +17,8 @@ use Rattle.report_text.specs.declared.result.StepResult.{StepResult}
 use Rattle.report_text.specs.declared.result.StepResult.TheVariants as result
 use Rattle.trace_text.specs.Report.{refusal_in}
 use Rattle.trace_text.specs.Follow.{Recorded, opening_at, promise_after}
-use Rattle.trace_text.specs.Fits.{result_in, step_in, called, exception_at, IsResultOf, LookShows, IsLocalAnswer, MarksClimb}
+use Rattle.trace_text.specs.Fits.{result_in, step_in, called, exception_at, made_steps, came_at, IsResultOf, LookShows, IsLocalAnswer, MarksClimb}
+use Rattle.media_variables.specs.Variables.{Came}
 use Rattle.trace_text.specs.FitsLaws.{look_of, order_by_places}
 use Rattle.order_laws.proofs.Legal.{shown_kept}
 
@@ -29,13 +31,17 @@ pub record Grows (w v : Recorded) : Type 0 where
   pub stays : (c j : ℕ) (r : StepResult) → result_in w c j ≡ Some r → result_in v c j ≡ Some r
   pub more : (k : ℕ) → (more : List Entry) × (at k v.codecs ≡ at k w.codecs ++ more)
 
+-- what the steps on media that were made come to is told as before
+abbrev pub SameMedia : ScriptData → List (List Chunk) → Recorded → Recorded → Type 0
+SameMedia s media w v = (c j : ℕ) → j < made_steps w c → came_at s media v c j ≡ came_at s media w c j
+
 -- A result fits: the script's step that it answers, and what it shows.
 pub record ResultFits (s : ScriptData) (media : List (List Chunk)) (w : Recorded) (c j : ℕ) (r : StepResult) : Type 0 where
   pub step : Step
   pub is_step : step_in s c j ≡ Some step
   pub made : IsResultOf s w (called step) r
   pub shows : LookShows s w c step r
-  pub answers : IsLocalAnswer s media c step r
+  pub answers : IsLocalAnswer s media (came_at s media w c j) c step r
 
 made_stays : (s : ScriptData) (w v : Recorded) → Legals s w → Grows w v → (o : Option ℕ) (r : StepResult) → ((k p : ℕ) (e : Option DomError) → r ≡ result.Call k p e → p < length (at k w.codecs)) → IsResultOf s w o r → IsResultOf s v o r
 made_stays s w v legal g (Some k) (result.Call other p error) within h =
@@ -67,13 +73,13 @@ shows_stays s w v g c (step.Media y) result.Absent within h = h
 shows_stays s w v g c x r within h = h
 
 -- a result that fits does so still
-pub result_stays : (s : ScriptData) (media : List (List Chunk)) (w v : Recorded) → Legals s w → MarksClimb w → Grows w v → (c j : ℕ) (r : StepResult) → result_in w c j ≡ Some r → ResultFits s media w c j r → ResultFits s media v c j r
-result_stays s media w v legal climbs g c j r is fits =
+pub result_stays : (s : ScriptData) (media : List (List Chunk)) (w v : Recorded) → Legals s w → MarksClimb w → Grows w v → SameMedia s media w v → (c j : ℕ) (r : StepResult) → result_in w c j ≡ Some r → ResultFits s media w c j r → ResultFits s media v c j r
+result_stays s media w v legal climbs g same c j r is fits =
     let order = order_by_places w climbs in
     record {
       step = fits.step;
       is_step = fits.is_step;
-      made = made_stays s w v legal g (called fits.step) r (λ k p e same. order.stands c j k p e (is ∙ ap (λ x. Some x) same)) fits.made;
+      made = made_stays s w v legal g (called fits.step) r (λ k p e call. order.stands c j k p e (is ∙ ap (λ x. Some x) call)) fits.made;
       shows = shows_stays s w v g c fits.step r (λ k n l. order.within c j k n r is l) fits.shows;
-      answers = fits.answers;
+      answers = subst (λ (o : Option Came). IsLocalAnswer s media o c fits.step r) (sym (same c j (slice_get_within (at c w.callers) j r is))) fits.answers;
     }

@@ -1,7 +1,7 @@
 -- Each item of a sound script's order makes a move that fits.
 use Rattle.std.proofs.Common.{ℕ, zero, suc, ◌≡◌, ◌≤◌, ◌<◌, ◌⊎◌, inl, inr, Bool, true, false, cond, List, [], ◌∷◌, take, length, Option, Some, None, is_some, refl, ap, sym, subst, ◌∙◌, arith}
 use Rattle.std.proofs.Math.Seq.{take-length}
-use Rattle.std.specs.Prelude.{slice_get, option_map, unwrap_or, ◌==◌}
+use Rattle.std.specs.Prelude.{slice_get, option_map, option_and_then, unwrap_or, ◌==◌}
 use Rattle.std.proofs.lemmas.Option.{slice_get_past}
 use Rattle.wc_base.specs.declared.error.DomError.{DomError}
 use Rattle.wc_base.specs.declared.error.DomError.TheVariants as dom
@@ -40,8 +40,11 @@ use Rattle.script_types.specs.declared.steps.Variable.{Variable}
 use Rattle.report_text.specs.declared.result.StepResult.{StepResult}
 use Rattle.report_text.specs.declared.result.StepResult.TheVariants as result
 use Rattle.trace_text.specs.Report.{refusal_in}
-use Rattle.trace_text.specs.Follow.{Recorded, Course, record_of, opening_in, opening_at, promise_after, steps_in, steps_of, chunk_at, source_error, with_result, Answer, outcome_for, end_of, turn_on, item_entry, advance, decode_move, look_of_flush, look_of_state, step_move, next_move, item_move}
-use Rattle.trace_text.specs.Fits.{result_in, step_in, called, mark_of, IsResultOf, LookShows, IsLocalAnswer, HasArguments}
+use Rattle.trace_text.specs.Follow.{Recorded, Course, record_of, opening_in, opening_at, promise_after, steps_in, steps_of, chunk_at, source_error, with_result, Answer, media_move, copied_chunk, outcome_for, end_of, turn_on, item_entry, advance, decode_move, look_of_flush, look_of_state, step_move, next_move, item_move}
+use Rattle.script_types.specs.declared.steps.MediaStep.{MediaStep}
+use Rattle.media_variables.specs.Variables.{Came, media_came, variables_of}
+use Rattle.media_accounts.specs.Accounts.{media_of}
+use Rattle.trace_text.specs.Fits.{chunks_of, came_at, result_in, step_in, called, mark_of, IsResultOf, LookShows, IsLocalAnswer, HasArguments}
 use Rattle.order_laws.specs.Sound.{IsSound, promise_of, IsFlush}
 use Rattle.order_laws.proofs.Legal.{Steps, MayBeRefused, call_legal, start_legal, done_legal, turn_legal, reclaim_legal}
 use Rattle.order_laws.proofs.Moves.{Stands, next_who, AnswerFits, AskFits, MoveFits}
@@ -116,12 +119,13 @@ record Apart (v : Course) (r : StepResult) : Type 0 where
   no_call : (k : ℕ) (who : Who) → call_in k who (mark_of r) ≡ []
 
 answer_fits : (s : ScriptData) (media : List (List Chunk)) (made : List CoderId) (v : Course) (c : ℕ) (x : Step) (r : StepResult) → Stands s media made v → IsNext s v c x → Apart v r → IsResultOf s (record_of (with_result c r v)) (called x) r
-    → LookShows s (record_of (with_result c r v)) c x r → IsLocalAnswer s media c x r → AnswerFits s media v c r
-answer_fits s media made v c x r st is apart made_of looks answers = record {
+    → LookShows s (record_of (with_result c r v)) c x r → ((o : Option Came) → IsLocalAnswer s media o c x r) → media_of x ≡ None → AnswerFits s media v c r
+answer_fits s media made v c x r st is apart made_of looks answers other = record {
   caller = caller_there s media made v c x st is;
-  fits = record { step = x; is_step = is; made = made_of; shows = looks; answers = answers };
+  fits = record { step = x; is_step = is; made = made_of; shows = looks; answers = answers (came_at s media (record_of (with_result c r v)) c (length (at c v.callers))) };
   climbs = apart.climbs;
   no_call = apart.no_call;
+  other = ap (option_and_then media_of) is ∙ other;
 }
 
 local_apart : (v : Course) (error : Option DomError) → Apart v (result.Local error)
@@ -143,29 +147,29 @@ same_codec a b h = grind arith
 
 decode_fits : (s : ScriptData) (media : List (List Chunk)) (made : List CoderId) (v : Course) (c k : ℕ) (chunk : Variable) (o : Option Chunk) → IsSound s → Stands s media made v → IsNext s v c (step.Decode k chunk) → chunk_at media (steps_of s c) chunk.step ≡ o
     → MoveFits s media v (decode_move (next_who v c) k o (codec_at k v.codecs))
-decode_fits s media made v c k chunk None sound st is none = answer_fits s media made v c (step.Decode k chunk) result.Absent st is (absent_apart v) tt tt none
+decode_fits s media made v c k chunk None sound st is none = answer_fits s media made v c (step.Decode k chunk) result.Absent st is (absent_apart v) tt tt (λ o. none) refl
 decode_fits s media made v c k chunk (Some value) sound st is some =
     ask_fits s media made v c k (step.Decode k chunk) (entry.Decode (next_who v c) value) _ sound st is refl (call_legal (next_who v c) (call.Decode value) (state_of (codec_at k v.codecs))) refl (value, some, refl) (call_shows (next_who v c) (call.Decode value) (state_of (codec_at k v.codecs)))
 
 -- the earlier flush came to a call
-flush_came : (s : ScriptData) (media : List (List Chunk)) (w : Recorded) (c : ℕ) (y : Step) (r : StepResult) → IsFlush y → IsResultOf s w (called y) r → IsLocalAnswer s media c y r → (k : ℕ) × (p : ℕ) × (error : Option DomError) × (r ≡ result.Call k p error)
-flush_came s media w c (step.Flush on bind) (result.Call k p error) flush made answers = (k, p, error, refl)
-flush_came s media w c (step.Flush on bind) result.Absent flush made answers = absurd answers
-flush_came s media w c (step.Flush on bind) (result.Local error) flush made answers = absurd made
-flush_came s media w c (step.Flush on bind) (result.Look k n end) flush made answers = absurd made
-flush_came s media w c (step.Flush on bind) (result.Copied n bytes) flush made answers = absurd made
-flush_came s media w c (step.Flush on bind) (result.CopiedFrame n layouts bytes) flush made answers = absurd made
-flush_came s media w c (step.Flush on bind) (result.Size n) flush made answers = absurd made
-flush_came s media w c (step.Flush on bind) (result.State k n state size) flush made answers = absurd made
-flush_came s media w c (step.Configure on config) r flush made answers = absurd flush
-flush_came s media w c (step.Chunk bind source) r flush made answers = absurd flush
-flush_came s media w c (step.Decode on chunk) r flush made answers = absurd flush
-flush_came s media w c (step.Poll promise) r flush made answers = absurd flush
-flush_came s media w c (step.Await promise) r flush made answers = absurd flush
-flush_came s media w c (step.Reset on) r flush made answers = absurd flush
-flush_came s media w c (step.Close on) r flush made answers = absurd flush
-flush_came s media w c (step.State on) r flush made answers = absurd flush
-flush_came s media w c (step.Media x) r flush made answers = absurd flush
+flush_came : (s : ScriptData) (media : List (List Chunk)) (w : Recorded) (o : Option Came) (c : ℕ) (y : Step) (r : StepResult) → IsFlush y → IsResultOf s w (called y) r → IsLocalAnswer s media o c y r → (k : ℕ) × (p : ℕ) × (error : Option DomError) × (r ≡ result.Call k p error)
+flush_came s media w o c (step.Flush on bind) (result.Call k p error) flush made answers = (k, p, error, refl)
+flush_came s media w o c (step.Flush on bind) result.Absent flush made answers = absurd answers
+flush_came s media w o c (step.Flush on bind) (result.Local error) flush made answers = absurd made
+flush_came s media w o c (step.Flush on bind) (result.Look k n end) flush made answers = absurd made
+flush_came s media w o c (step.Flush on bind) (result.Copied n bytes) flush made answers = absurd made
+flush_came s media w o c (step.Flush on bind) (result.CopiedFrame n layouts bytes) flush made answers = absurd made
+flush_came s media w o c (step.Flush on bind) (result.Size n) flush made answers = absurd made
+flush_came s media w o c (step.Flush on bind) (result.State k n state size) flush made answers = absurd made
+flush_came s media w o c (step.Configure on config) r flush made answers = absurd flush
+flush_came s media w o c (step.Chunk bind source) r flush made answers = absurd flush
+flush_came s media w o c (step.Decode on chunk) r flush made answers = absurd flush
+flush_came s media w o c (step.Poll promise) r flush made answers = absurd flush
+flush_came s media w o c (step.Await promise) r flush made answers = absurd flush
+flush_came s media w o c (step.Reset on) r flush made answers = absurd flush
+flush_came s media w o c (step.Close on) r flush made answers = absurd flush
+flush_came s media w o c (step.State on) r flush made answers = absurd flush
+flush_came s media w o c (step.Media x) r flush made answers = absurd flush
 
 one_step : (a b : Step) → Some a ≡ Some b → a ≡ b
 one_step a b h = cc
@@ -179,7 +183,7 @@ promise_call s media made v c x promise sound st is looks =
     let flush = sound.promised c (length (at c v.callers)) x promise is looks in
     let fits = st.results c promise.step there.0 there.1 in
     let same : fits.step ≡ flush.0 = one_step fits.step flush.0 (sym fits.is_step ∙ flush.1) in
-    let came = flush_came s media (record_of v) c flush.0 there.0 flush.2 (subst (λ (y : Step). IsResultOf s (record_of v) (called y) there.0) same fits.made) (subst (λ (y : Step). IsLocalAnswer s media c y there.0) same fits.answers) in
+    let came = flush_came s media (record_of v) (came_at s media (record_of v) c promise.step) c flush.0 there.0 flush.2 (subst (λ (y : Step). IsResultOf s (record_of v) (called y) there.0) same fits.made) (subst (λ (y : Step). IsLocalAnswer s media (came_at s media (record_of v) c promise.step) c y there.0) same fits.answers) in
     (came.0, came.1, came.2, there.1 ∙ ap (λ (q : StepResult). Some q) came.3)
 
 -- a codec that is not there is a new one, in the course and in the script
@@ -233,7 +237,7 @@ poll_fits s media made v c promise sound st is =
     let r = result.Look found.0 (length d.history) (promise_after d.opening d.history found.1) in
     subst (λ (o : Option StepResult). MoveFits s media v (Answer c (look_of_flush v.codecs o))) (sym found.3)
     (answer_fits s media made v c (step.Poll promise) r st is (look_apart v found.0 r refl) tt
-    (found.1, found.2, result_kept c c promise.step r (result.Call found.0 found.1 found.2) v.callers found.3, promise_shows s media made v found.0 found.1 st) tt)
+    (found.1, found.2, result_kept c c promise.step r (result.Call found.0 found.1 found.2) v.callers found.3, promise_shows s media made v found.0 found.1 st) (λ o. tt) refl)
 
 await_fits : (s : ScriptData) (media : List (List Chunk)) (made : List CoderId) (v : Course) (c : ℕ) (promise : Variable) → IsSound s → Stands s media made v → IsNext s v c (step.Await promise) → MoveFits s media v (Answer c (look_of_flush v.codecs (slice_get (at c v.callers) promise.step)))
 await_fits s media made v c promise sound st is =
@@ -242,18 +246,24 @@ await_fits s media made v c promise sound st is =
     let r = result.Look found.0 (length d.history) (promise_after d.opening d.history found.1) in
     subst (λ (o : Option StepResult). MoveFits s media v (Answer c (look_of_flush v.codecs o))) (sym found.3)
     (answer_fits s media made v c (step.Await promise) r st is (look_apart v found.0 r refl) tt
-    (found.1, found.2, result_kept c c promise.step r (result.Call found.0 found.1 found.2) v.callers found.3, promise_shows s media made v found.0 found.1 st) tt)
+    (found.1, found.2, result_kept c c promise.step r (result.Call found.0 found.1 found.2) v.callers found.3, promise_shows s media made v found.0 found.1 st) (λ o. tt) refl)
 
 state_fits : (s : ScriptData) (media : List (List Chunk)) (made : List CoderId) (v : Course) (c k : ℕ) → Stands s media made v → IsNext s v c (step.State k) → MoveFits s media v (Answer c (look_of_state k (codec_at k v.codecs)))
 state_fits s media made v c k st is =
     let t = state_shows s media made v k st in
     answer_fits s media made v c (step.State k) (look_of_state k (codec_at k v.codecs)) st is (look_apart v k (look_of_state k (codec_at k v.codecs)) refl) tt
-    (refl, ap (λ (x : State). x.control.phase) t, ap (λ (x : State). x.control.size) t) tt
+    (refl, ap (λ (x : State). x.control.phase) t, ap (λ (x : State). x.control.size) t) (λ o. tt) refl
+
+-- a step on media
+media_fits : (s : ScriptData) (media : List (List Chunk)) (made : List CoderId) (v : Course) (c : ℕ) (x : MediaStep) (o : Option Came) → Stands s media made v → IsNext s v c (step.Media x)
+    → media_came v.media.pool (next_who v c) (chunks_of s media c x) x (variables_of c v.media.variables) ≡ o → MoveFits s media v (media_move (next_who v c) o)
+media_fits s media made v c x None st is comes = tt
+media_fits s media made v c x (Some y) st is comes = record { next = refl; caller = caller_there s media made v c (step.Media x) st is; handled = x; is_step = is; comes = comes }
 
 step_fits : (s : ScriptData) (media : List (List Chunk)) (made : List CoderId) (v : Course) (c : ℕ) (x : Step) → IsSound s → Stands s media made v → IsNext s v c x → MoveFits s media v (step_move s media (next_who v c) x v)
 step_fits s media made v c (step.Configure on config) sound st is =
     ask_fits s media made v c on (step.Configure on config) (entry.Configure (next_who v c) config) _ sound st is refl (call_legal (next_who v c) (call.Configure config) (state_of (codec_at on v.codecs))) refl refl (call_shows (next_who v c) (call.Configure config) (state_of (codec_at on v.codecs)))
-step_fits s media made v c (step.Chunk bind source) sound st is = answer_fits s media made v c (step.Chunk bind source) (result.Local (source_error source)) st is (local_apart v (source_error source)) tt tt refl
+step_fits s media made v c (step.Chunk bind source) sound st is = answer_fits s media made v c (step.Chunk bind source) (result.Local (source_error source)) st is (local_apart v (source_error source)) tt tt (λ o. refl) refl
 step_fits s media made v c (step.Decode on chunk) sound st is = decode_fits s media made v c on chunk (chunk_at media (steps_of s c) chunk.step) sound st is refl
 step_fits s media made v c (step.Flush on bind) sound st is =
     ask_fits s media made v c on (step.Flush on bind) (entry.Flush (next_who v c)) _ sound st is refl (call_legal (next_who v c) call.Flush (state_of (codec_at on v.codecs))) refl refl (call_shows (next_who v c) call.Flush (state_of (codec_at on v.codecs)))
@@ -266,7 +276,7 @@ step_fits s media made v c (step.Close on) sound st is =
     let t = state_of (codec_at on v.codecs) in
     ask_fits s media made v c on (step.Close on) (entry.Close (next_who v c)) _ sound st is refl refl refl refl (removal_is_shown (removal_error t.control) t.control.pending)
 step_fits s media made v c (step.State on) sound st is = state_fits s media made v c on st is
-step_fits s media made v c (step.Media x) sound st is = tt
+step_fits s media made v c (step.Media x) sound st is = media_fits s media made v c x (media_came v.media.pool (next_who v c) (chunks_of s media c x) x (variables_of c v.media.variables)) st is refl
 
 next_fits : (s : ScriptData) (media : List (List Chunk)) (made : List CoderId) (v : Course) (c : ℕ) (o : Option Step) → IsSound s → Stands s media made v → step_in s c (length (at c v.callers)) ≡ o → MoveFits s media v (next_move s media (next_who v c) o v)
 next_fits s media made v c None sound st is = tt

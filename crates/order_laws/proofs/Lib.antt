@@ -1,5 +1,6 @@
 pub mod Legal
 pub mod Grown
+pub mod Answers
 pub mod Moves
 pub mod Items
 pub mod Orders

@@ -26,10 +26,20 @@ use Rattle.script_types.specs.declared.steps.Step.TheVariants as step
 use Rattle.report_text.specs.declared.result.StepResult.{StepResult}
 use Rattle.report_text.specs.declared.result.StepResult.TheVariants as result
 use Rattle.trace_text.specs.Report.{refusal_in}
-use Rattle.trace_text.specs.Follow.{Recorded, Course, record_of, opening_at, with_result, with_entry, Move, Idle, Answer, Advance, Ask, after_move}
-use Rattle.trace_text.specs.Fits.{result_in, step_in, called, exception_at, mark_of, marks_of, IsResultOf, LookShows, IsLocalAnswer, HasArguments, ArgumentsAreIn, MarksClimb}
+use Rattle.media_variables.specs.Variables.{Came, media_came, variables_of}
+use Rattle.media_accounts.specs.Accounts.{media_of, OneMore, MediaStand, StepStands, NothingStands, StepsStand, OthersStand}
+use Rattle.script_types.specs.declared.steps.MediaStep.{MediaStep}
+use Rattle.trace_text.specs.Follow.{Recorded, Course, record_of, opening_at, steps_of, with_result, with_entry, Move, Idle, Answer, Advance, Ask, Handle, after_move}
+use Rattle.trace_text.specs.Fits.{result_in, step_in, called, exception_at, mark_of, marks_of, chunks_of, made_steps, came_at, IsResultOf, LookShows, IsLocalAnswer, IsMediaAnswer, HasArguments, ArgumentsAreIn, MarksClimb}
 use Rattle.order_laws.proofs.Legal.{shown_last}
-use Rattle.order_laws.proofs.Grown.{Legals, Grows, ResultFits, result_stays}
+use Rattle.order_laws.proofs.Grown.{Legals, Grows, SameMedia, ResultFits, result_stays}
+use Rattle.order_laws.proofs.Answers.{IsOwn, own_mark, own_result, own_shows, media_own}
+
+-- the laws of callers' media
+pub record MediaLaws : Type 0 where
+  pub nothing : NothingStands
+  pub media : StepsStand
+  pub others : OthersStand
 
 -- What stands of a course that followed a script's order so far.
 pub record Stands (s : ScriptData) (media : List (List Chunk)) (made : List CoderId) (v : Course) : Type 0 where
@@ -42,6 +52,7 @@ pub record Stands (s : ScriptData) (media : List (List Chunk)) (made : List Code
   pub arguments : ArgumentsAreIn s media (record_of v)
   pub once : (k : ℕ) → mark.CallsAreIn k (at k (histories v.codecs)) (marks_of (record_of v))
   pub climbs : MarksClimb (record_of v)
+  pub stand : MediaStand (steps_of s) (chunks_of s media) (made_steps (record_of v)) (length s.callers) v.media
 
 -- a codec's history, as the script opened it
 pub legals : (s : ScriptData) (media : List (List Chunk)) (made : List CoderId) (v : Course) → Stands s media made v → Legals s (record_of v)
@@ -97,6 +108,7 @@ pub record AnswerFits (s : ScriptData) (media : List (List Chunk)) (v : Course) 
   pub fits : ResultFits s media (record_of (with_result c r v)) c (length (at c v.callers)) r
   pub climbs : (k : ℕ) → MayClimb (reach k (mark_of r)) (length (at k (histories v.codecs))) (length (at k (histories v.codecs)))
   pub no_call : (k : ℕ) (who : Who) → call_in k who (mark_of r) ≡ []
+  pub other : option_and_then media_of (step_in s c (length (at c v.callers))) ≡ None
 
 -- an entry of no caller
 pub record AdvanceFits (v : Course) (k : ℕ) (e : Entry) : Type 0 where
@@ -119,11 +131,20 @@ pub record AskFits (s : ScriptData) (media : List (List Chunk)) (v : Course) (c 
   pub arguments : HasArguments s media (next_who v c) e step
   pub shown : error ≡ refusal_in (shows e (state_of (codec_at k v.codecs)))
 
+-- what the next step of a caller, one on media, comes to
+pub record HandleFits (s : ScriptData) (media : List (List Chunk)) (v : Course) (who : Who) (y : Came) : Type 0 where
+  pub next : who ≡ next_who v who.caller
+  pub caller : who.caller < length v.callers
+  pub handled : MediaStep
+  pub is_step : step_in s who.caller (length (at who.caller v.callers)) ≡ Some (step.Media handled)
+  pub comes : media_came v.media.pool (next_who v who.caller) (chunks_of s media who.caller handled) handled (variables_of who.caller v.media.variables) ≡ Some y
+
 abbrev pub MoveFits : ScriptData → List (List Chunk) → Course → Move → Type 0
 MoveFits s media v Idle = Unit {0}
 MoveFits s media v (Answer c r) = AnswerFits s media v c r
 MoveFits s media v (Advance k e) = AdvanceFits v k e
 MoveFits s media v (Ask c k e error) = AskFits s media v c k e error
+MoveFits s media v (Handle who y) = HandleFits s media v who y
 
 -- ---- an entry
 
@@ -196,11 +217,11 @@ ask_grows : (v : Course) (c k : ℕ) (e : Entry) (error : Option DomError) → G
 ask_grows v c k e error = record { stays = λ b j q h. result_kept b c j (call_result v k error) q v.callers h; more = λ n. longer_history v k n e }
 
 -- the results of a course that goes on by one result
-results_more : (s : ScriptData) (media : List (List Chunk)) (made : List CoderId) (v u : Course) (c : ℕ) (r : StepResult) → Stands s media made v → Grows (record_of v) (record_of u) → u.callers ≡ append_at c r v.callers → ResultFits s media (record_of u) c (length (at c v.callers)) r
+results_more : (s : ScriptData) (media : List (List Chunk)) (made : List CoderId) (v u : Course) (c : ℕ) (r : StepResult) → Stands s media made v → Grows (record_of v) (record_of u) → SameMedia s media (record_of v) (record_of u) → u.callers ≡ append_at c r v.callers → ResultFits s media (record_of u) c (length (at c v.callers)) r
     → (b j : ℕ) (q : StepResult) → result_in (record_of u) b j ≡ Some q → ResultFits s media (record_of u) b j q
-results_more s media made v u c r st g callers fits b j q is =
+results_more s media made v u c r st g told callers fits b j q is =
     elim (result_more b c j r q v.callers (ap (λ (ls : List (List StepResult)). slice_get (at b ls) j) (sym callers) ∙ is)) [
-      | inl was ↦ result_stays s media (record_of v) (record_of u) (legals s media made v st) st.climbs g b j q was (st.results b j q was)
+      | inl was ↦ result_stays s media (record_of v) (record_of u) (legals s media made v st) st.climbs g told b j q was (st.results b j q was)
       | inr new ↦ (
           let number : ResultFits s media (record_of u) b (length (at b v.callers)) r = subst (λ (n : ℕ). ResultFits s media (record_of u) n (length (at n v.callers)) r) (sym new.number) fits in
           let place : ResultFits s media (record_of u) b j r = subst (λ (n : ℕ). ResultFits s media (record_of u) b n r) (sym new.place) number in
@@ -233,20 +254,52 @@ calls_once v u c k r more once callers lt grown names =
     subst (λ (ms : List (List Mark)). mark.CallsAreIn k (at k (histories u.codecs)) ms) (sym (ap (λ (ls : List (List StepResult)). map (λ rs. map mark_of rs) ls) callers ∙ marks_append c r v.callers))
     (subst (λ (h : List Entry). mark.CallsAreIn k h (append_at c (mark_of r) marks)) (sym grown) all)
 
+-- ---- media
+
+-- one caller has one result more
+one_more : (v u : Course) (c : ℕ) (r : StepResult) → u.callers ≡ append_at c r v.callers → c < length v.callers → OneMore (made_steps (record_of v)) (made_steps (record_of u)) c
+one_more v u c r callers lt = record {
+  here = ap (λ (ls : List (List StepResult)). length (at c ls)) callers ∙ (ap length (at_same c r v.callers lt) ∙ one (at c v.callers));
+  others = λ d other. ap (λ (ls : List (List StepResult)). length (at d ls)) callers ∙ ap length (at_other d c r v.callers other);
+}
+  where
+    one : (l : List StepResult) → length (l ++ r ∷ []) ≡ suc (length l)
+    one l = let n = length-append l (r ∷ []) in omega (arith, n)
+
+-- a step that calls a codec is none on media
+no_media : (x : Step) (k : ℕ) → called x ≡ Some k → media_of x ≡ None
+no_media (step.Configure on config) k h = refl
+no_media (step.Decode on chunk) k h = refl
+no_media (step.Flush on bind) k h = refl
+no_media (step.Reset on) k h = refl
+no_media (step.Close on) k h = refl
+no_media (step.Chunk bind source) k h = refl
+no_media (step.Poll promise) k h = refl
+no_media (step.Await promise) k h = refl
+no_media (step.State on) k h = refl
+no_media (step.Media x) k h = absurd cc
+
+-- all media stand after a step of a caller that is none on media
+other_stands : MediaLaws → (s : ScriptData) (media : List (List Chunk)) (made : List CoderId) (v u : Course) (c : ℕ) (r : StepResult) → Stands s media made v → u.callers ≡ append_at c r v.callers → c < length v.callers
+    → option_and_then media_of (step_in s c (length (at c v.callers))) ≡ None → MediaStand (steps_of s) (chunks_of s media) (made_steps (record_of u)) (length s.callers) v.media
+other_stands laws s media made v u c r st callers lt other =
+    laws.others (steps_of s) (chunks_of s media) (made_steps (record_of v)) (made_steps (record_of u)) (length s.callers) v.media c st.stand (one_more v u c r callers lt) other
+
 -- ---- each kind of move
 
-answer_stands : (s : ScriptData) (media : List (List Chunk)) (made : List CoderId) (v : Course) (c : ℕ) (r : StepResult) → Stands s media made v → AnswerFits s media v c r → Stands s media made (with_result c r v)
-answer_stands s media made v c r st a = record {
+answer_stands : MediaLaws → (s : ScriptData) (media : List (List Chunk)) (made : List CoderId) (v : Course) (c : ℕ) (r : StepResult) → Stands s media made v → AnswerFits s media v c r → Stands s media made (with_result c r v)
+answer_stands laws s media made v c r st a = record {
   callers = append_at_length c r v.callers ∙ st.callers;
   count = st.count;
   opened = st.opened;
   same_made = st.same_made;
   boxes = st.boxes;
-  results = results_more s media made v (with_result c r v) c r st (answer_grows v c r) refl a.fits;
+  results = results_more s media made v (with_result c r v) c r st (answer_grows v c r) (λ b j lt. refl) refl a.fits;
   arguments = st.arguments;
   once = λ k. calls_once v (with_result c r v) c k r [] (st.once k) refl a.caller (sym (append-nil (at k (histories v.codecs))))
       (ap named (append-nil (at k (histories v.codecs))) ∙ sym (ap (λ l. named (at k (histories v.codecs)) ++ l) (a.no_call k (next_who v c)) ∙ append-nil (named (at k (histories v.codecs)))));
   climbs = marks_climb v (with_result c r v) c r st.climbs refl a.caller (λ k. omega arith) a.climbs;
+  stand = other_stands laws s media made v (with_result c r v) c r st refl a.caller a.other;
 }
 
 up_to : (v : Course) (k n : ℕ) (e : Entry) → length (at n (histories v.codecs)) ≤ length (at n (histories (with_entry k e v).codecs))
@@ -259,7 +312,7 @@ advance_stands s media made v k e st a = record {
   opened = λ j lt. opened_still s v k e st.opened j (let c = codec_count v k e in omega (arith, lt, c));
   same_made = made_stays v k e ∙ st.same_made;
   boxes = accounted_more v.codecs v.slots k e a.after st.boxes a.codec a.steps a.fits;
-  results = λ b j q is. result_stays s media (record_of v) (record_of (with_entry k e v)) (legals s media made v st) st.climbs (advance_grows v k e) b j q is (st.results b j q is);
+  results = λ b j q is. result_stays s media (record_of v) (record_of (with_entry k e v)) (legals s media made v st) st.climbs (advance_grows v k e) (λ c i lt. refl) b j q is (st.results b j q is);
   arguments = λ n p f who is names. elim (entries_new v k p n e f is) [
     | inl was ↦ st.arguments n p f who was names
     | inr new ↦ absurd (let bad = sym a.nobody ∙ (ap who_of (sym new.value) ∙ names) in cc)
@@ -271,6 +324,7 @@ advance_stands s media made v k e st a = record {
         (λ t. ap (sum_by t) (named_more (at k (histories v.codecs)) e ∙ (ap (λ (o : Option Who). named (at k (histories v.codecs)) ++ named_at (length (at k (histories v.codecs))) o) a.nobody ∙ append-nil (named (at k (histories v.codecs))))) ∙ st.once k t))
   ];
   climbs = λ c n. climbs_on n 0 (map mark_of (at c v.callers)) (length (at n (histories v.codecs))) (length (at n (histories (with_entry k e v).codecs))) (up_to v k n e) (st.climbs c n);
+  stand = st.stand;
 }
 
 -- the result of a call fits
@@ -294,15 +348,15 @@ call_there s media made v c k e error st a =
       is_step = a.is_step;
       made = subst (λ (o : Option ℕ). IsResultOf s (record_of u) o (call_result v k error)) (sym a.calls) (refl, shown);
       shows = none.0;
-      answers = none.1;
+      answers = none.1 (came_at s media (record_of u) c (length (at c v.callers)));
     }
   where
-    no_look : (s : ScriptData) (media : List (List Chunk)) (w : Recorded) (c k p : ℕ) (x : Step) (error : Option DomError) → called x ≡ Some k → LookShows s w c x (result.Call k p error) × IsLocalAnswer s media c x (result.Call k p error)
-    no_look s media w c k p (step.Configure on config) error h = (tt, tt)
-    no_look s media w c k p (step.Decode on chunk) error h = (tt, tt)
-    no_look s media w c k p (step.Flush on bind) error h = (tt, tt)
-    no_look s media w c k p (step.Reset on) error h = (tt, tt)
-    no_look s media w c k p (step.Close on) error h = (tt, tt)
+    no_look : (s : ScriptData) (media : List (List Chunk)) (w : Recorded) (c k p : ℕ) (x : Step) (error : Option DomError) → called x ≡ Some k → LookShows s w c x (result.Call k p error) × ((o : Option Came) → IsLocalAnswer s media o c x (result.Call k p error))
+    no_look s media w c k p (step.Configure on config) error h = (tt, λ o. tt)
+    no_look s media w c k p (step.Decode on chunk) error h = (tt, λ o. tt)
+    no_look s media w c k p (step.Flush on bind) error h = (tt, λ o. tt)
+    no_look s media w c k p (step.Reset on) error h = (tt, λ o. tt)
+    no_look s media w c k p (step.Close on) error h = (tt, λ o. tt)
     no_look s media w c k p (step.Chunk bind source) error h = absurd cc
     no_look s media w c k p (step.Poll promise) error h = absurd cc
     no_look s media w c k p (step.Await promise) error h = absurd cc
@@ -315,8 +369,8 @@ reach_itself k p = ap (λ (b : Bool). cond b (Some (p, suc p)) None) (eq-eqb k k
 not_same : (x y : ℕ) → x ≢ y → (x == y) ≡ false
 not_same x y other = grind arith
 
-ask_stands : (s : ScriptData) (media : List (List Chunk)) (made : List CoderId) (v : Course) (c k : ℕ) (e : Entry) (error : Option DomError) → Stands s media made v → AskFits s media v c k e error → Stands s media made (after_move (Ask c k e error) v)
-ask_stands s media made v c k e error st a =
+ask_stands : MediaLaws → (s : ScriptData) (media : List (List Chunk)) (made : List CoderId) (v : Course) (c k : ℕ) (e : Entry) (error : Option DomError) → Stands s media made v → AskFits s media v c k e error → Stands s media made (after_move (Ask c k e error) v)
+ask_stands laws s media made v c k e error st a =
     let u = after_move (Ask c k e error) v in
     let r = call_result v k error in
     let p = length (codec_at k v.codecs).history in
@@ -327,7 +381,7 @@ ask_stands s media made v c k e error st a =
       opened = λ j lt. opened_still s v k e st.opened j (let n = codec_count v k e in omega (arith, lt, n));
       same_made = made_stays v k e ∙ st.same_made;
       boxes = accounted_more v.codecs v.slots k e a.after st.boxes a.codec a.steps (call_fits e (next_who v c) (codec_at k v.codecs).holding.refusal a.names);
-      results = results_more s media made v u c r st (ask_grows v c k e error) refl (call_there s media made v c k e error st a);
+      results = results_more s media made v u c r st (ask_grows v c k e error) (λ b j lt. refl) refl (call_there s media made v c k e error st a);
       arguments = λ n q f who is names. elim (entries_new v k q n e f is) [
         | inl was ↦ st.arguments n q f who was names
         | inr new ↦ (
@@ -355,14 +409,51 @@ ask_stands s media made v c k e error st a =
             (subst (λ (o : Option (ℕ × ℕ)). MayClimb o (length (at k (histories v.codecs))) (length (at k (histories u.codecs)))) (sym (reach_itself k p))
             (omega (arith, long), (let l = ap length (this_history v k e a.codec) in let q = length-append (at k (histories v.codecs)) (e ∷ []) in omega (arith, long, l, q))))
       ]);
+      stand = other_stands laws s media made v u c r st refl a.caller (ap (option_and_then media_of) a.is_step ∙ no_media a.step k a.calls);
     }
   where
     some_who : {x y : Who} → Some x ≡ Some y → x ≡ y
     some_who h = cc
 
+-- a step on media of this caller
+handled_stands : MediaLaws → (s : ScriptData) (media : List (List Chunk)) (made : List CoderId) (v : Course) (who : Who) (y : Came) → Stands s media made v → HandleFits s media v who y → Stands s media made (after_move (Handle (next_who v who.caller) y) v)
+handled_stands laws s media made v who y st a =
+    let c = who.caller in
+    let u = after_move (Handle (next_who v c) y) v in
+    let r = y.answer in
+    let below : c < length s.callers = (let n = st.callers in let lt = a.caller in omega (arith, lt, n)) in
+    let told : StepStands (steps_of s) (chunks_of s media) (made_steps (record_of v)) (made_steps (record_of u)) (length s.callers) v.media c y =
+    laws.media (steps_of s) (chunks_of s media) (made_steps (record_of v)) (made_steps (record_of u)) (length s.callers) v.media c a.handled y st.stand below (one_more v u c r refl a.caller) a.is_step a.comes in
+    let own : IsOwn r = media_own v.media.pool (next_who v c) (chunks_of s media c a.handled) a.handled (variables_of c v.media.variables) y a.comes in
+    let fits : ResultFits s media (record_of u) c (length (at c v.callers)) r = record {
+      step = step.Media a.handled;
+      is_step = a.is_step;
+      made = own_result s (record_of u) r own;
+      shows = own_shows s (record_of u) c a.handled r own;
+      answers = subst (λ (o : Option Came). IsMediaAnswer o r) (sym told.here) refl;
+    } in
+    record {
+      callers = append_at_length c r v.callers ∙ st.callers;
+      count = st.count;
+      opened = st.opened;
+      same_made = st.same_made;
+      boxes = st.boxes;
+      results = results_more s media made v u c r st (record { stays = λ b j q h. result_kept b c j r q v.callers h; more = λ k. ([], sym (append-nil (at k (histories v.codecs)))) }) told.earlier refl fits;
+      arguments = st.arguments;
+      once = λ k. calls_once v u c k r [] (st.once k) refl a.caller (sym (append-nil (at k (histories v.codecs))))
+          (ap named (append-nil (at k (histories v.codecs))) ∙ sym (ap (λ m. named (at k (histories v.codecs)) ++ call_in k (next_who v c) m) (own_mark r own) ∙ append-nil (named (at k (histories v.codecs)))));
+      climbs = marks_climb v u c r st.climbs refl a.caller (λ k. omega arith)
+          (λ k. subst (λ (m : Mark). MayClimb (reach k m) (length (at k (histories v.codecs))) (length (at k (histories v.codecs)))) (sym (own_mark r own)) (omega arith));
+      stand = told.stands;
+    }
+
+handle_stands : MediaLaws → (s : ScriptData) (media : List (List Chunk)) (made : List CoderId) (v : Course) (who : Who) (y : Came) → Stands s media made v → HandleFits s media v who y → Stands s media made (after_move (Handle who y) v)
+handle_stands laws s media made v who y st a = subst (λ (w : Who). Stands s media made (after_move (Handle w y) v)) (sym a.next) (handled_stands laws s media made v who y st a)
+
 -- What stands of a course stands after a move that fits.
-pub move_stands : (s : ScriptData) (media : List (List Chunk)) (made : List CoderId) (v : Course) (m : Move) → Stands s media made v → MoveFits s media v m → Stands s media made (after_move m v)
-move_stands s media made v Idle st fits = st
-move_stands s media made v (Answer c r) st fits = answer_stands s media made v c r st fits
-move_stands s media made v (Advance k e) st fits = advance_stands s media made v k e st fits
-move_stands s media made v (Ask c k e error) st fits = ask_stands s media made v c k e error st fits
+pub move_stands : MediaLaws → (s : ScriptData) (media : List (List Chunk)) (made : List CoderId) (v : Course) (m : Move) → Stands s media made v → MoveFits s media v m → Stands s media made (after_move m v)
+move_stands laws s media made v Idle st fits = st
+move_stands laws s media made v (Answer c r) st fits = answer_stands laws s media made v c r st fits
+move_stands laws s media made v (Advance k e) st fits = advance_stands s media made v k e st fits
+move_stands laws s media made v (Ask c k e error) st fits = ask_stands laws s media made v c k e error st fits
+move_stands laws s media made v (Handle who y) st fits = handle_stands laws s media made v who y st fits

@@ -21,11 +21,13 @@ use Rattle.script_types.specs.declared.script.OrderItem.{OrderItem}
 use Rattle.script_types.specs.declared.script.ScriptData.{ScriptData}
 use Rattle.report_text.specs.declared.result.StepResult.{StepResult}
 use Rattle.trace_text.specs.declared.run.Run.{Run}
-use Rattle.trace_text.specs.Follow.{Recorded, Course, record_of, opening_of, opening_in, opening_at, order_items, follow_item, item_move, Follows, nothing_yet}
-use Rattle.trace_text.specs.Fits.{recorded_of, mark_of, marks_of, CallsAreIn, LooksAreIn, ArgumentsAreIn, LocalsAreIn, LookShows, IsLocalAnswer, FollowsTheOrder, Fits}
+use Rattle.trace_text.specs.Follow.{Recorded, Course, record_of, opening_of, opening_in, opening_at, steps_of, order_items, follow_item, item_move, Follows, nothing_yet}
+use Rattle.trace_text.specs.Fits.{recorded_of, mark_of, marks_of, CallsAreIn, LooksAreIn, ArgumentsAreIn, LocalsAreIn, LookShows, IsLocalAnswer, chunks_of, made_steps, came_at, FollowsTheOrder, Fits}
+use Rattle.media_accounts.specs.Accounts.{MediaAreIn, MediaStand}
+use Rattle.media_variables.specs.Variables.{Came}
 use Rattle.order_laws.specs.Sound.{IsSound}
 use Rattle.order_laws.specs.Course.{IsCourse}
-use Rattle.order_laws.proofs.Moves.{Stands, legals, move_stands}
+use Rattle.order_laws.proofs.Moves.{MediaLaws, Stands, legals, move_stands}
 use Rattle.order_laws.proofs.Items.{item_fits, opens}
 
 -- ---- the beginning
@@ -48,8 +50,12 @@ no_calls : (k first : ℕ) (cs : List CallerItem) → mark.all_calls k first (ma
 no_calls k first [] = refl
 no_calls k first (c ∷ cs) = no_calls k (suc first) cs
 
-nothing_stands : (s : ScriptData) (media : List (List Chunk)) (made : List CoderId) → Stands s media made (nothing_yet s made)
-nothing_stands s media made = record {
+-- no caller made a step
+none_made : (s : ScriptData) (made : List CoderId) → (λ c. 0) ≡ made_steps (record_of (nothing_yet s made))
+none_made s made = λ i c. sym (ap length (at_empty {X = StepResult} c s.callers)) i
+
+nothing_stands : MediaLaws → (s : ScriptData) (media : List (List Chunk)) (made : List CoderId) → Stands s media made (nothing_yet s made)
+nothing_stands laws s media made = record {
   callers = length-map s.callers _;
   count = length-map s.codecs _;
   opened = λ k lt. new_opening s.codecs k lt;
@@ -59,26 +65,28 @@ nothing_stands s media made = record {
   arguments = λ k p e who is names. absurd (let none : None ≡ Some e = sym (ap (λ (xs : List Entry). slice_get xs p) (no_history s.codecs k)) ∙ is in cc);
   once = λ k. subst (λ (h : List Entry). mark.CallsAreIn k h (marks_of (record_of (nothing_yet s made)))) (sym (no_history s.codecs k)) (λ t. ap (sum_by t) (sym (no_calls k 0 s.callers)));
   climbs = λ c k. subst (λ (l : List StepResult). Climbs k 0 (map mark_of l) (length (at k (histories (nothing_yet s made).codecs)))) (sym (at_empty c s.callers)) (omega arith);
+  stand = subst (λ (steps : ℕ → ℕ). MediaStand (steps_of s) (chunks_of s media) steps (length s.callers) (nothing_yet s made).media) (none_made s made) (laws.nothing (steps_of s) (chunks_of s media) s.callers);
 }
 
 -- ---- item after item
 
-order_stands : (s : ScriptData) (media : List (List Chunk)) (made : List CoderId) → IsSound s → (xs : List OrderItem) (v u : Course) → Stands s media made v → Follows s media xs v u → Stands s media made u
-order_stands s media made sound [] v u st follows = subst (Stands s media made) (sym follows) st
-order_stands s media made sound (x ∷ xs) v u st follows =
-    order_stands s media made sound xs (follow_item s media follows.0 x v) u (move_stands s media made v (item_move s media follows.0 x v) st (item_fits s media made v follows.0 x sound st)) follows.1
+order_stands : MediaLaws → (s : ScriptData) (media : List (List Chunk)) (made : List CoderId) → IsSound s → (xs : List OrderItem) (v u : Course) → Stands s media made v → Follows s media xs v u → Stands s media made u
+order_stands laws s media made sound [] v u st follows = subst (Stands s media made) (sym follows) st
+order_stands laws s media made sound (x ∷ xs) v u st follows =
+    order_stands laws s media made sound xs (follow_item s media follows.0 x v) u (move_stands laws s media made v (item_move s media follows.0 x v) st (item_fits s media made v follows.0 x sound st)) follows.1
 
-stands_of : (s : ScriptData) (media : List (List Chunk)) (made : List CoderId) (items : List OrderItem) (v : Course) → IsSound s → Follows s media items (nothing_yet s made) v → Stands s media made v
-stands_of s media made items v sound follows = order_stands s media made sound items (nothing_yet s made) v (nothing_stands s media made) follows
+stands_of : MediaLaws → (s : ScriptData) (media : List (List Chunk)) (made : List CoderId) (items : List OrderItem) (v : Course) → IsSound s → Follows s media items (nothing_yet s made) v → Stands s media made v
+stands_of laws s media made items v sound follows = order_stands laws s media made sound items (nothing_yet s made) v (nothing_stands laws s media made) follows
 
-pub course_of : (s : ScriptData) (media : List (List Chunk)) (made : List CoderId) (items : List OrderItem) (v : Course) → IsSound s → Follows s media items (nothing_yet s made) v → IsCourse s made v
-course_of s media made items v sound follows =
-    let st = stands_of s media made items v sound follows in
+pub course_of : MediaLaws → (s : ScriptData) (media : List (List Chunk)) (made : List CoderId) (items : List OrderItem) (v : Course) → IsSound s → Follows s media items (nothing_yet s made) v → IsCourse s made v
+course_of laws s media made items v sound follows =
+    let st = stands_of laws s media made items v sound follows in
     record {
       callers = st.callers;
       codecs = st.count;
       openings = λ k. opens s media made v k st;
       legal = λ k. ap is_some (st.boxes.each k).replays;
+      media = st.stand.there;
       boxes = st.same_made;
       givable = are_givable v.codecs v.slots st.boxes;
     }
@@ -91,6 +99,7 @@ record Fitting (s : ScriptData) (media : List (List Chunk)) (made : List CoderId
   looks : LooksAreIn s w
   arguments : ArgumentsAreIn s media w
   locals : LocalsAreIn s media w
+  accounted : MediaAreIn (steps_of s) (chunks_of s media) (made_steps w) w.pool
   boxes : BoxesAccounted made (opening_at s) w.codecs w.slots
   legal : (k : ℕ) → IsLegal (opening_at s k) (at k w.codecs)
 
@@ -105,18 +114,19 @@ fitting s media made v st = record {
     shows = λ c j x r is at. (let f = st.results c j r at in subst (λ y. LookShows s (record_of v) c y r) (same_step f.step x (sym f.is_step ∙ is)) f.shows);
   };
   arguments = st.arguments;
-  locals = λ c j x r is at. (let f = st.results c j r at in subst (λ y. IsLocalAnswer s media c y r) (same_step f.step x (sym f.is_step ∙ is)) f.answers);
+  locals = λ c j x r is at. (let f = st.results c j r at in subst (λ y. IsLocalAnswer s media (came_at s media (record_of v) c j) c y r) (same_step f.step x (sym f.is_step ∙ is)) f.answers);
+  accounted = st.stand.accounted;
   boxes = subst (λ (l : List CoderId). BoxesAccounted l (opening_at s) (histories v.codecs) v.slots.history) st.same_made (boxes_accounted (opening_at s) v.codecs v.slots st.opened st.boxes);
   legal = legals s media made v st;
 }
 
-run_fitting : (s : ScriptData) (media : List (List Chunk)) (made : List CoderId) (run : Run) → IsSound s → FollowsTheOrder s media made run → Fitting s media made (recorded_of run)
-run_fitting s media made run sound follows = subst (Fitting s media made) (sym follows.is_recorded) (fitting s media made follows.course (stands_of s media made (order_items s) follows.course sound follows.follows))
+run_fitting : MediaLaws → (s : ScriptData) (media : List (List Chunk)) (made : List CoderId) (run : Run) → IsSound s → FollowsTheOrder s media made run → Fitting s media made (recorded_of run)
+run_fitting laws s media made run sound follows = subst (Fitting s media made) (sym follows.is_recorded) (fitting s media made follows.course (stands_of laws s media made (order_items s) follows.course sound follows.follows))
 
-pub fits_of : (s : ScriptData) (media : List (List Chunk)) (made : List CoderId) (run : Run) → IsSound s → FollowsTheOrder s media made run → Fits s media made run
-fits_of s media made run sound follows =
-    let f = run_fitting s media made run sound follows in
-    record { calls = f.calls; looks = f.looks; arguments = f.arguments; locals = f.locals; boxes = f.boxes; follows = follows }
+pub fits_of : MediaLaws → (s : ScriptData) (media : List (List Chunk)) (made : List CoderId) (run : Run) → IsSound s → FollowsTheOrder s media made run → Fits s media made run
+fits_of laws s media made run sound follows =
+    let f = run_fitting laws s media made run sound follows in
+    record { calls = f.calls; looks = f.looks; arguments = f.arguments; locals = f.locals; accounted = f.accounted; boxes = f.boxes; follows = follows }
 
-pub legal_of : (s : ScriptData) (media : List (List Chunk)) (made : List CoderId) (run : Run) (k : ℕ) → IsSound s → FollowsTheOrder s media made run → IsLegal (opening_at s k) (at k (recorded_of run).codecs)
-legal_of s media made run k sound follows = (run_fitting s media made run sound follows).legal k
+pub legal_of : MediaLaws → (s : ScriptData) (media : List (List Chunk)) (made : List CoderId) (run : Run) (k : ℕ) → IsSound s → FollowsTheOrder s media made run → IsLegal (opening_at s k) (at k (recorded_of run).codecs)
+legal_of laws s media made run k sound follows = (run_fitting laws s media made run sound follows).legal k

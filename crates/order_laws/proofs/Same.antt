@@ -8,6 +8,8 @@ use Rattle.wc_base.specs.declared.who.Who.{Who}
 use Rattle.wc_config.specs.declared.codec.CoderId.{CoderId}
 use Rattle.wc_chunk.specs.declared.chunk.Chunk.{Chunk}
 use Rattle.wc_pool.specs.declared.entry.PoolEntry.{PoolEntry}
+use Rattle.wc_pool.specs.Bag.{held_in}
+use Rattle.media_variables.specs.Variables.{Media}
 use Rattle.coder_api.specs.declared.slot.SlotEntry.{SlotEntry}
 use Rattle.slot_registry.specs.Boxes.{is_out, made_of, out_of, least_free}
 use Rattle.slot_registry.specs.Slots.{SlotsValue, acquire_op, acquire_entry, acquired}
@@ -34,7 +36,7 @@ use Rattle.report_text.specs.declared.result.StepResult.{StepResult}
 use Rattle.trace_text.specs.declared.run.CallerTrace.{CallerTrace}
 use Rattle.trace_text.specs.declared.run.CodecTrace.{CodecTrace}
 use Rattle.trace_text.specs.declared.run.Run.{Run}
-use Rattle.trace_text.specs.Follow.{Recorded, Course, record_of, opening_of, Move, Idle, Answer, Advance, Ask, after_move, with_entry, with_result, steps_of, order_items, item_move, next_move, step_move, done_entry, end_of, outcome_for, outcome_by, advance, follow_item, Follows, nothing_yet}
+use Rattle.trace_text.specs.Follow.{Recorded, Course, record_of, opening_of, Move, Idle, Answer, Advance, Ask, Handle, after_move, with_entry, with_result, steps_of, order_items, item_move, next_move, step_move, done_entry, end_of, outcome_for, outcome_by, advance, follow_item, Follows, nothing_yet}
 use Rattle.trace_text.specs.Fits.{recorded_of, IsLegalTrace, AreLegalTraces, IsLegalRun, FollowsTheOrder}
 use Rattle.order_laws.specs.Same.{is_want, wants_memory, SameWants, SameBoxes}
 use Rattle.order_laws.proofs.Moves.{longer_history, this_history}
@@ -93,74 +95,78 @@ slots_alike c (Renew id) box a b s = acquire_alike c id (after_give c box a) (af
 record Alike (v u : Course) : Type 0 where
   callers : v.callers ≡ u.callers
   codecs : v.codecs ≡ u.codecs
+  media : v.media ≡ u.media
   slots : SlotsAlike v.slots u.slots
 
-course : List (List StepResult) → List CodecValue → SlotsValue → Course
-course cs ds a = record { callers = cs; codecs = ds; slots = a }
+course : List (List StepResult) → List CodecValue → Media → SlotsValue → Course
+course cs ds m a = record { callers = cs; codecs = ds; media = m; slots = a }
 
-entry_moves : (k : ℕ) (e : Entry) (cs : List (List StepResult)) (ds : List CodecValue) (a b : SlotsValue) → SlotsAlike a b → Alike (with_entry k e (course cs ds a)) (with_entry k e (course cs ds b))
+entry_moves : (k : ℕ) (e : Entry) (cs : List (List StepResult)) (ds : List CodecValue) (l : Media) (a b : SlotsValue) → SlotsAlike a b → Alike (with_entry k e (course cs ds l a)) (with_entry k e (course cs ds l b))
 unfolding course
-entry_moves k e cs ds a b s =
+entry_moves k e cs ds l a b s =
     let d = codec_at k ds in
     record {
       callers = refl;
+      media = refl;
       codecs = ap (λ (h : Holding). slice_set ds k (record { opening = d.opening; history = d.history ++ e ∷ []; holding = h })) (holding_alike (next_by k d) (step_by e d) d.holding a b s);
       slots = slots_alike (next_by k d) (step_by e d) d.holding.box a b s;
     }
 
-moves_alike : (m : Move) (cs : List (List StepResult)) (ds : List CodecValue) (a b : SlotsValue) → SlotsAlike a b → Alike (after_move m (course cs ds a)) (after_move m (course cs ds b))
+moves_alike : (m : Move) (cs : List (List StepResult)) (ds : List CodecValue) (l : Media) (a b : SlotsValue) → SlotsAlike a b → Alike (after_move m (course cs ds l a)) (after_move m (course cs ds l b))
 unfolding course
-moves_alike Idle cs ds a b s = record { callers = refl; codecs = refl; slots = s }
-moves_alike (Answer c r) cs ds a b s = record { callers = refl; codecs = refl; slots = s }
-moves_alike (Advance k e) cs ds a b s = entry_moves k e cs ds a b s
-moves_alike (Ask c k e error) cs ds a b s =
-    let one = entry_moves k e cs ds a b s in
-    record { callers = refl; codecs = one.codecs; slots = one.slots }
+moves_alike Idle cs ds l a b s = record { callers = refl; codecs = refl; media = refl; slots = s }
+moves_alike (Answer c r) cs ds l a b s = record { callers = refl; codecs = refl; media = refl; slots = s }
+moves_alike (Advance k e) cs ds l a b s = entry_moves k e cs ds l a b s
+moves_alike (Ask c k e error) cs ds l a b s =
+    let one = entry_moves k e cs ds l a b s in
+    record { callers = refl; codecs = one.codecs; media = refl; slots = one.slots }
+moves_alike (Handle who y) cs ds l a b s = record { callers = refl; codecs = refl; media = refl; slots = s }
 
-same_course : (u : Course) (cs : List (List StepResult)) (ds : List CodecValue) → cs ≡ u.callers → ds ≡ u.codecs → course cs ds u.slots ≡ u
+same_course : (u : Course) (cs : List (List StepResult)) (ds : List CodecValue) (l : Media) → cs ≡ u.callers → ds ≡ u.codecs → l ≡ u.media → course cs ds l u.slots ≡ u
 unfolding course
-same_course u cs ds callers codecs =
-    ap (λ (c : List (List StepResult)). course c ds u.slots) callers ∙ ap (λ (d : List CodecValue). course u.callers d u.slots) codecs
+same_course u cs ds l callers codecs media =
+    ap (λ (c : List (List StepResult)). course c ds l u.slots) callers
+    ∙ (ap (λ (d : List CodecValue). course u.callers d l u.slots) codecs ∙ ap (λ (m : Media). course u.callers u.codecs m u.slots) media)
 
 move_alike : (m : Move) (v u : Course) → Alike v u → Alike (after_move m v) (after_move m u)
 unfolding course
 move_alike m v u al =
-    subst (λ (w : Course). Alike (after_move m v) (after_move m w)) (same_course u v.callers v.codecs al.callers al.codecs)
-    (moves_alike m v.callers v.codecs v.slots u.slots al.slots)
+    subst (λ (w : Course). Alike (after_move m v) (after_move m w)) (same_course u v.callers v.codecs v.media al.callers al.codecs al.media)
+    (moves_alike m v.callers v.codecs v.media v.slots u.slots al.slots)
 
 -- ---- what is made
 
-step_same : (s : ScriptData) (media : List (List Chunk)) (who : Who) (x : Step) (cs : List (List StepResult)) (ds : List CodecValue) (a b : SlotsValue) → step_move s media who x (course cs ds a) ≡ step_move s media who x (course cs ds b)
+step_same : (s : ScriptData) (media : List (List Chunk)) (who : Who) (x : Step) (cs : List (List StepResult)) (ds : List CodecValue) (l : Media) (a b : SlotsValue) → step_move s media who x (course cs ds l a) ≡ step_move s media who x (course cs ds l b)
 unfolding course
-step_same s media who (step.Configure on config) cs ds a b = refl
-step_same s media who (step.Chunk bind source) cs ds a b = refl
-step_same s media who (step.Decode on chunk) cs ds a b = refl
-step_same s media who (step.Flush on bind) cs ds a b = refl
-step_same s media who (step.Poll promise) cs ds a b = refl
-step_same s media who (step.Await promise) cs ds a b = refl
-step_same s media who (step.Reset on) cs ds a b = refl
-step_same s media who (step.Close on) cs ds a b = refl
-step_same s media who (step.State on) cs ds a b = refl
-step_same s media who (step.Media x) cs ds a b = refl
+step_same s media who (step.Configure on config) cs ds l a b = refl
+step_same s media who (step.Chunk bind source) cs ds l a b = refl
+step_same s media who (step.Decode on chunk) cs ds l a b = refl
+step_same s media who (step.Flush on bind) cs ds l a b = refl
+step_same s media who (step.Poll promise) cs ds l a b = refl
+step_same s media who (step.Await promise) cs ds l a b = refl
+step_same s media who (step.Reset on) cs ds l a b = refl
+step_same s media who (step.Close on) cs ds l a b = refl
+step_same s media who (step.State on) cs ds l a b = refl
+step_same s media who (step.Media x) cs ds l a b = refl
 
-next_same : (s : ScriptData) (media : List (List Chunk)) (who : Who) (o : Option Step) (cs : List (List StepResult)) (ds : List CodecValue) (a b : SlotsValue) → next_move s media who o (course cs ds a) ≡ next_move s media who o (course cs ds b)
-next_same s media who None cs ds a b = refl
-next_same s media who (Some x) cs ds a b = step_same s media who x cs ds a b
+next_same : (s : ScriptData) (media : List (List Chunk)) (who : Who) (o : Option Step) (cs : List (List StepResult)) (ds : List CodecValue) (l : Media) (a b : SlotsValue) → next_move s media who o (course cs ds l a) ≡ next_move s media who o (course cs ds l b)
+next_same s media who None cs ds l a b = refl
+next_same s media who (Some x) cs ds l a b = step_same s media who x cs ds l a b
 
-item_same : (s : ScriptData) (media : List (List Chunk)) (wants : Bool) (x : OrderItem) (cs : List (List StepResult)) (ds : List CodecValue) (a b : SlotsValue) → item_move s media wants x (course cs ds a) ≡ item_move s media wants x (course cs ds b)
+item_same : (s : ScriptData) (media : List (List Chunk)) (wants : Bool) (x : OrderItem) (cs : List (List StepResult)) (ds : List CodecValue) (l : Media) (a b : SlotsValue) → item_move s media wants x (course cs ds l a) ≡ item_move s media wants x (course cs ds l b)
 unfolding course
-item_same s media wants (item.Caller c) cs ds a b =
-    let j = length (at c cs) in next_same s media (record { caller = c; step = j }) (slice_get (steps_of s c) j) cs ds a b
-item_same s media wants (item.Start k) cs ds a b = refl
-item_same s media wants (item.Done k moment) cs ds a b = refl
-item_same s media wants (item.Turn k) cs ds a b = refl
-item_same s media wants (item.Reclaim k moment) cs ds a b = refl
+item_same s media wants (item.Caller c) cs ds l a b =
+    let j = length (at c cs) in next_same s media (record { caller = c; step = j }) (slice_get (steps_of s c) j) cs ds l a b
+item_same s media wants (item.Start k) cs ds l a b = refl
+item_same s media wants (item.Done k moment) cs ds l a b = refl
+item_same s media wants (item.Turn k) cs ds l a b = refl
+item_same s media wants (item.Reclaim k moment) cs ds l a b = refl
 
 same_move : (s : ScriptData) (media : List (List Chunk)) (wants : Bool) (x : OrderItem) (v u : Course) → Alike v u → item_move s media wants x v ≡ item_move s media wants x u
 unfolding course
 same_move s media wants x v u al =
-    item_same s media wants x v.callers v.codecs v.slots u.slots
-    ∙ ap (item_move s media wants x) (same_course u v.callers v.codecs al.callers al.codecs)
+    item_same s media wants x v.callers v.codecs v.media v.slots u.slots
+    ∙ ap (item_move s media wants x) (same_course u v.callers v.codecs v.media al.callers al.codecs al.media)
 
 follow_alike : (s : ScriptData) (media : List (List Chunk)) (wants : Bool) (x : OrderItem) (v u : Course) → Alike v u → Alike (follow_item s media wants x v) (follow_item s media wants x u)
 follow_alike s media wants x v u al =
@@ -173,6 +179,7 @@ move_grows Idle v k = ([], sym (append-nil (at k (histories v.codecs))))
 move_grows (Answer c r) v k = ([], sym (append-nil (at k (histories v.codecs))))
 move_grows (Advance j e) v k = longer_history v j k e
 move_grows (Ask c j e error) v k = longer_history v j k e
+move_grows (Handle who y) v k = ([], sym (append-nil (at k (histories v.codecs))))
 
 grows : (s : ScriptData) (media : List (List Chunk)) (xs : List OrderItem) (v w : Course) → Follows s media xs v w → (k : ℕ) → (more : List Entry) × (at k (histories w.codecs) ≡ at k (histories v.codecs) ++ more)
 grows s media [] v w f k = ([], ap (λ (c : Course). at k (histories c.codecs)) f ∙ sym (append-nil (at k (histories v.codecs))))
@@ -273,16 +280,18 @@ recorded_alike s media made others run again boxes f g same =
     let wants : SameWants (histories f.course.codecs) (histories g.course.codecs) =
     subst (λ (hs : List (List Entry)). SameWants hs (histories g.course.codecs)) (codecs_of run f.course f.is_recorded)
     (subst (SameWants (recorded_of run).codecs) (codecs_of again g.course g.is_recorded) same) in
-    let al = order_alike s media (order_items s) (nothing_yet s made) (nothing_yet s others) f.course g.course (record { callers = refl; codecs = refl; slots = record { history = refl; boxes = boxes } }) wants f.follows g.follows in
+    let al = order_alike s media (order_items s) (nothing_yet s made) (nothing_yet s others) f.course g.course (record { callers = refl; codecs = refl; media = refl; slots = record { history = refl; boxes = boxes } }) wants f.follows g.follows in
     f.is_recorded ∙ (same_record f.course g.course al ∙ sym g.is_recorded)
   where
     same_record : (v u : Course) → Alike v u → record_of v ≡ record_of u
     same_record v u al =
-        ap (λ (c : List (List StepResult)). record_by c (histories v.codecs) v.slots.history) al.callers
-        ∙ (ap (λ (ds : List CodecValue). record_by u.callers (histories ds) v.slots.history) al.codecs ∙ ap (λ (h : List SlotEntry). record_by u.callers (histories u.codecs) h) al.slots.history)
+        ap (λ (c : List (List StepResult)). record_by c (histories v.codecs) v.media.pool v.slots.history) al.callers
+        ∙ (ap (λ (ds : List CodecValue). record_by u.callers (histories ds) v.media.pool v.slots.history) al.codecs
+        ∙ (ap (λ (m : Media). record_by u.callers (histories u.codecs) m.pool v.slots.history) al.media
+        ∙ ap (λ (h : List SlotEntry). record_by u.callers (histories u.codecs) u.media.pool h) al.slots.history))
       where
-        record_by : List (List StepResult) → List (List Entry) → List SlotEntry → Recorded
-        record_by c hs l = record { callers = c; codecs = hs; slots = l }
+        record_by : List (List StepResult) → List (List Entry) → List PoolEntry → List SlotEntry → Recorded
+        record_by c hs p l = record { callers = c; codecs = hs; pool = p; slots = l }
 
 with_results : List StepResult → List CallerTrace → List CallerTrace
 with_results r ts = record { results = r } ∷ ts
@@ -323,7 +332,8 @@ one_run s media made others run again boxes f g p q same =
     let is = recorded_alike s media made others run again boxes f g same in
     let callers = callers_same run.callers again.callers (ap (λ (r : Recorded). r.callers) is) in
     let codecs = traces_same s.codecs run.codecs again.codecs p.codecs q.codecs (ap (λ (r : Recorded). r.codecs) is) in
-    same_run run.callers again.callers run.codecs again.codecs run.pool again.pool run.slots again.slots run.held again.held callers codecs (p.pool ∙ sym q.pool) (ap (λ (r : Recorded). r.slots) is) (p.held ∙ sym q.held)
+    let pool : run.pool ≡ again.pool = ap (λ (r : Recorded). r.pool) is in
+    same_run run.callers again.callers run.codecs again.codecs run.pool again.pool run.slots again.slots run.held again.held callers codecs pool (ap (λ (r : Recorded). r.slots) is) (p.held ∙ (ap held_in pool ∙ sym q.held))
   where
     same_run : (a b : List CallerTrace) (c d : List CodecTrace) (u v : List PoolEntry) (x y : List SlotEntry) (m n : ℕ) → a ≡ b → c ≡ d → u ≡ v → x ≡ y → m ≡ n → ◌≡◌ {A = Run} (record { callers = a; codecs = c; pool = u; slots = x; held = m }) (record { callers = b; codecs = d; pool = v; slots = y; held = n })
     same_run a b c d u v x y m n p q o r s = cc

@@ -13,6 +13,8 @@ ghost use Rattle.order_laws.specs.Same.{SameBoxes, SameWants};
 ghost use Rattle.script_types.specs.declared.script.OrderItem.{OrderItem};
 ghost use Rattle.script_types.specs.declared.script.ScriptData.{ScriptData};
 
+use media_accounts::media_stand;
+
 /// A law: a run that follows the order of a script in which nothing is at fault, with these chunks of its chunk files, fits the script, and each
 /// codec's history in such a run is legal.
 pub fn following_fits()
@@ -24,7 +26,9 @@ pub fn following_fits()
         (run : Run) (k : ℕ)
         → is_sound script ≡ true → FollowsTheOrder script media made run
         → IsLegal (opening_at script k) (at k (recorded_of run).codecs) }
-{}
+{
+    media_stand();
+}
 
 /// A law: a course that follows some items from the beginning of a script on in which nothing is at fault has the script's codecs, with legal
 /// histories, and boxes that may be given back.
@@ -33,7 +37,9 @@ pub fn following_stands()
         (items : List OrderItem) (course : Course)
         → is_sound script ≡ true → Follows script media items (nothing_yet script made) course
         → IsCourse script made course }
-{}
+{
+    media_stand();
+}
 
 /// A law: a run by order is a function of the script, the chunks of its chunk files, how many boxes of each id there are,
 /// and which ends say that memory was wanted. Two legal runs that agree in these are equal.

@@ -1,9 +1,14 @@
 use Rattle.order_laws.specs.SoundSteps.{sound_of}
+use Rattle.order_laws.proofs.Moves.{MediaLaws}
 use Rattle.order_laws.proofs.Orders.{fits_of, legal_of}
 use Rattle.order_laws.proofs.laws.following_fits.Goals as goal
 
 pub returns-clause-fits : goal.returns-clause-fits
-returns-clause-fits c = λ s media made run sound follows. fits_of s media made run (sound_of s sound) follows
+returns-clause-fits c =
+    let laws : MediaLaws = record { nothing = c.media_stand.ensures.nothing; media = c.media_stand.ensures.media; others = c.media_stand.ensures.others } in
+    λ s media made run sound follows. fits_of laws s media made run (sound_of s sound) follows
 
 pub returns-clause-legal : goal.returns-clause-legal
-returns-clause-legal c = λ s media made run k sound follows. legal_of s media made run k (sound_of s sound) follows
+returns-clause-legal c =
+    let laws : MediaLaws = record { nothing = c.media_stand.ensures.nothing; media = c.media_stand.ensures.media; others = c.media_stand.ensures.others } in
+    λ s media made run k sound follows. legal_of laws s media made run k (sound_of s sound) follows

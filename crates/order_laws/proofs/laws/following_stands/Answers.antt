@@ -1,6 +1,9 @@
 use Rattle.order_laws.specs.SoundSteps.{sound_of}
+use Rattle.order_laws.proofs.Moves.{MediaLaws}
 use Rattle.order_laws.proofs.Orders.{course_of}
 use Rattle.order_laws.proofs.laws.following_stands.Goals as goal
 
 pub returns : goal.returns
-returns c = λ s media made items v sound follows. course_of s media made items v (sound_of s sound) follows
+returns c =
+    let laws : MediaLaws = record { nothing = c.media_stand.ensures.nothing; media = c.media_stand.ensures.media; others = c.media_stand.ensures.others } in
+    λ s media made items v sound follows. course_of laws s media made items v (sound_of s sound) follows
