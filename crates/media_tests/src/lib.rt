@@ -1,8 +1,10 @@
-//! Tests of media resources, of audio data and of video frames.
+//! Tests of media resources, of audio data, of video frames and of the variables that hold them.
 #![tactic(auto)]
 
 #[cfg(test)]
 mod conversion_tests;
+#[cfg(test)]
+mod media_variables_tests;
 #[cfg(test)]
 mod wc_audio_tests;
 #[cfg(test)]

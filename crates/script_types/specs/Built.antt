@@ -8,6 +8,8 @@ use Rattle.wc_config.specs.declared.kind.Kind.TheVariants as kind
 use Rattle.script_types.specs.declared.script.CodecItem.{CodecItem}
 use Rattle.script_types.specs.declared.script.CallerItem.{CallerItem}
 use Rattle.script_types.specs.declared.script.ScriptData.{ScriptData}
+use Rattle.script_types.specs.declared.steps.MediaStep.{MediaStep}
+use Rattle.script_types.specs.declared.steps.MediaStep.TheVariants as media
 use Rattle.script_types.specs.declared.steps.Step.{Step}
 use Rattle.script_types.specs.declared.steps.Step.TheVariants as step
 
@@ -15,8 +17,14 @@ abbrev pub is_built_kind : Kind → Bool
 is_built_kind kind.AudioDecoder = true
 is_built_kind _ = false
 
+-- what a caller does with its own media is built; what hands them to a codec, and what takes a codec's outputs, is not
+abbrev pub is_built_media : MediaStep → Bool
+is_built_media (media.Encode on content) = false
+is_built_media (media.Take on bind kind) = false
+is_built_media _ = true
+
 abbrev pub is_built_step : Step → Bool
-is_built_step (step.Media s) = false
+is_built_step (step.Media x) = is_built_media x
 is_built_step _ = true
 
 abbrev pub unbuilt_codec : ℕ → List CodecItem → Option Place

@@ -4,7 +4,7 @@ ghost use Rattle.script_types.specs.Built.{unbuilt_in};
 ghost use Rattle.script_types.specs.Built as spec;
 ghost use Rattle.script_types.specs.declared.script.CallerItem.{CallerItem};
 
-use script_types::{CallerItem, CodecItem, Kind, Place, Script, Step};
+use script_types::{CallerItem, CodecItem, Kind, MediaStep, Place, Script, Step};
 
 fn is_built_kind(kind: Kind) -> bool
     ensures { result ≡ spec.is_built_kind kind }
@@ -12,10 +12,19 @@ fn is_built_kind(kind: Kind) -> bool
     kind == Kind::AudioDecoder
 }
 
+fn is_built_media(step: &MediaStep) -> bool
+    ensures { result ≡ spec.is_built_media step.now }
+{
+    !matches!(step, MediaStep::Encode { .. } | MediaStep::Take { .. })
+}
+
 fn is_built_step(step: &Step) -> bool
     ensures { result ≡ spec.is_built_step step.now }
 {
-    !matches!(step, Step::Media(_))
+    match step {
+        Step::Media(media) => is_built_media(media),
+        _ => true,
+    }
 }
 
 fn unbuilt_codec(codecs: &[CodecItem]) -> Option<Place>

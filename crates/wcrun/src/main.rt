@@ -8,6 +8,8 @@ mod command;
 mod faults;
 #[cfg(test)]
 mod flac_rows;
+#[cfg(test)]
+mod media_rows;
 mod prepare;
 mod prepared;
 mod refusal;
