@@ -68,6 +68,8 @@ def expected(lines):
             part = words[0]
         elif part == "caller":
             marks[n] = (("caller", codec), None)
+        elif part == "pool" and words[0].isdigit():
+            marks[n] = (("pool", None), None)
         elif part == "slots" and words[0].isdigit():
             marks[n] = (("work", words[1].split(".")[0]), None)
         elif part == "codec" and words[0].isdigit():
@@ -117,7 +119,8 @@ def check(name, text, told):
         key = ("caller", kind.split(" ")[1]) if kind.startswith("caller ") else (kind, codec)
         lanes.append((key, lane["top"], lane["bottom"]))
     named = [re.match(r"(caller|codec) (\S+)", line).groups() for line in lines if re.match(r"(caller|codec) ", line)]
-    wanted = [("caller", n) for k, n in named if k == "caller"] + [(w, n) for k, n in named if k == "codec" for w in ("messages", "work", "event tasks")]
+    pool = [("pool", None)] if any(key[0] == "pool" for key, _ in marks.values()) else []
+    wanted = [("caller", n) for k, n in named if k == "caller"] + pool + [(w, n) for k, n in named if k == "codec" for w in ("messages", "work", "event tasks")]
     if [key for key, _, _ in lanes if key[0] != "outputs"] != wanted:
         bad.append("its lanes are %s" % [key for key, _, _ in lanes])
     plain = [m for m in told["marks"] if "flush" not in m["kinds"]]
