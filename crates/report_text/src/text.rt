@@ -91,10 +91,7 @@ impl fmt::Display for ResultText<'_> {
                 let answer = answer_text(*error);
                 write!(f, "{entry} {answer}")
             }
-            StepResult::Local { error } => {
-                let answer = answer_text(*error);
-                write!(f, "{answer}")
-            }
+            StepResult::Local { error } => write!(f, "{}", answer_text(*error)),
             StepResult::Look { codec, length, end } => {
                 let look = LookName(codecs, *codec, *length);
                 let end = Standing(*end);
