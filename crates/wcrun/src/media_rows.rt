@@ -246,7 +246,8 @@ end
 ";
 
 // An encoder is not built, nor is a step that takes; the first of them is named, and codecs come first.
-const ENCODES: &str = r#"{"codecs":[{"name":"d","kind":"audio-decoder"},{"name":"e","kind":"audio-encoder"}],
+const ENCODES: &str =
+    r#"{"codecs":[{"name":"d","kind":"audio-decoder"},{"name":"e","kind":"audio-encoder"}],
 "callers":[{"name":"a","steps":[
 {"do":"take","on":"d","as":"t"},
 {"do":"audio","as":"x","init":{"format":"u8","sampleRate":8000,"numberOfFrames":1,"numberOfChannels":1,
@@ -254,7 +255,8 @@ const ENCODES: &str = r#"{"codecs":[{"name":"d","kind":"audio-decoder"},{"name":
 {"do":"encode","on":"e","data":"x"}]}],
 "order":["a","a","a"]}"#;
 
-const TAKES: &str = r#"{"codecs":[{"name":"d","kind":"audio-decoder"}],"callers":[{"name":"a","steps":[
+const TAKES: &str =
+    r#"{"codecs":[{"name":"d","kind":"audio-decoder"}],"callers":[{"name":"a","steps":[
 {"do":"audio","as":"x","init":{"format":"u8","sampleRate":8000,"numberOfFrames":1,"numberOfChannels":1,
 "timestamp":0,"data":"80"}},
 {"do":"clone","of":"x","as":"y"},
