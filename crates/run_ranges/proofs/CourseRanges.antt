@@ -37,7 +37,9 @@ use Rattle.script_types.specs.declared.script.ScriptData.{ScriptData}
 use Rattle.script_types.specs.declared.steps.Step.{Step}
 use Rattle.script_types.specs.declared.steps.Step.TheVariants as step
 use Rattle.report_text.specs.declared.result.StepResult.{StepResult}
-use Rattle.trace_text.specs.Follow.{Course, opening_of, steps_of, chunk_at, Move, Idle, Answer, Advance, Ask, with_result, with_entry, after_move, turn_on, advance, decode_move, step_move, next_move, item_move, follow_item, Follows, nothing_yet}
+use Rattle.wc_pool.specs.declared.entry.PoolOp.{PoolOp}
+use Rattle.media_variables.specs.Variables.{Came, entries_of, media_came, variables_of}
+use Rattle.trace_text.specs.Follow.{Course, opening_of, steps_of, chunk_at, Move, Idle, Answer, Advance, Ask, Handle, with_result, with_entry, with_media, after_move, turn_on, advance, decode_move, media_move, copied_chunk, step_move, next_move, item_move, follow_item, Follows, nothing_yet}
 use Rattle.run_ranges.specs.Ranges.{IsMoment}
 
 -- ---- what stands of a course
@@ -65,6 +67,7 @@ IsBoxUpTo most (Some b) = b.number ≤ most
 pub record IsCourseUpTo (n most : ℕ) (v : Course) : Type 0 where
   pub callers : (c : ℕ) → length (at c v.callers) ≤ n
   pub codecs : (k : ℕ) → length (at k (histories v.codecs)) ≤ n
+  pub pool : length v.media.pool ≤ n
   pub slots : length v.slots.history ≤ 2 * n
   pub moments : (k p : ℕ) (e : Entry) → slice_get (at k (histories v.codecs)) p ≡ Some e → IsMomentOf e
   pub made : length v.slots.made ≤ most
@@ -79,6 +82,7 @@ up : (n most : ℕ) (v : Course) → IsCourseUpTo n most v → IsCourseUpTo (n +
 up n most v h = record {
   callers = λ c. omega (arith, h.callers c);
   codecs = λ k. omega (arith, h.codecs k);
+  pool = omega (arith, h.pool);
   slots = omega (arith, h.slots);
   moments = h.moments;
   made = h.made;
@@ -98,6 +102,25 @@ result_up : (n most c : ℕ) (r : StepResult) (v : Course) → IsCourseUpTo n mo
 result_up n most c r v h = let more = up n most v h in record {
   callers = λ k. longer k c n r v.callers h.callers;
   codecs = more.codecs;
+  pool = more.pool;
+  slots = more.slots;
+  moments = more.moments;
+  made = more.made;
+  ops = more.ops;
+  boxes = more.boxes;
+}
+
+-- ---- media
+
+entries_few : (who : Who) (o : Option PoolOp) → length (entries_of who o) ≤ 1
+entries_few who None = omega arith
+entries_few who (Some o) = omega arith
+
+media_up : (n most : ℕ) (who : Who) (y : Came) (v : Course) → IsCourseUpTo n most v → IsCourseUpTo (n + 1) most (with_result who.caller y.answer (with_media who y v))
+media_up n most who y v h = let more = up n most v h in record {
+  callers = λ k. longer k who.caller n y.answer v.callers h.callers;
+  codecs = more.codecs;
+  pool = omega (arith, length-append v.media.pool (entries_of who y.does), entries_few who y.does, h.pool);
   slots = more.slots;
   moments = more.moments;
   made = more.made;
@@ -201,6 +224,7 @@ entry_up n most k e v own h =
     let registry = slots_up (n + 1) most (2 * n) (next_by k d) (step_by e d) d.holding.box v.slots place (h.boxes k) (record { slots = h.slots; made = h.made; ops = more.ops }) in
     record {
       callers = more.callers;
+      pool = more.pool;
       codecs = λ j. subst (λ (hs : List (List Entry)). length (at j hs) ≤ n + 1) (sym (histories_more k e v.slots v.codecs)) (longer j k n e (histories v.codecs) h.codecs);
       slots = omega (arith, registry.slots);
       moments = subst (λ (hs : List (List Entry)). (j p : ℕ) (x : Entry) → slice_get (at j hs) p ≡ Some x → IsMomentOf x) (sym (histories_more k e v.slots v.codecs)) (moments_more k e (histories v.codecs) h.moments own);
@@ -219,6 +243,7 @@ MoveHolds Idle = Unit {0}
 MoveHolds (Answer c r) = Unit {0}
 MoveHolds (Advance k e) = IsMomentOf e
 MoveHolds (Ask c k e error) = IsMomentOf e
+MoveHolds (Handle who y) = Unit {0}
 
 move_up : (n most : ℕ) (m : Move) (v : Course) → MoveHolds m → IsCourseUpTo n most v → IsCourseUpTo (n + 1) most (after_move m v)
 move_up n most Idle v own h = up n most v h
@@ -230,12 +255,14 @@ move_up n most (Ask c k e error) v own h = both (entry_up n most k e v own h)
     both more = record {
       callers = λ j. longer j c n _ v.callers h.callers;
       codecs = more.codecs;
+      pool = more.pool;
       slots = more.slots;
       moments = more.moments;
       made = more.made;
       ops = more.ops;
       boxes = more.boxes;
     }
+move_up n most (Handle who y) v own h = media_up n most who y v h
 
 call_holds : (who : Who) (x : Call) → IsMomentOf (entry_of who x)
 call_holds who (call.Configure config) = tt
@@ -250,6 +277,10 @@ decode_holds : (who : Who) (k : ℕ) (o : Option Chunk) (d : CodecValue) → Mov
 decode_holds who k None d = tt
 decode_holds who k (Some chunk) d = tt
 
+media_holds : (who : Who) (o : Option Came) → MoveHolds (media_move who o)
+media_holds who None = tt
+media_holds who (Some y) = tt
+
 step_holds : (s : ScriptData) (media : List (List Chunk)) (who : Who) (x : Step) (v : Course) → MoveHolds (step_move s media who x v)
 step_holds s media who (step.Configure on config) v = tt
 step_holds s media who (step.Chunk bind source) v = tt
@@ -260,7 +291,7 @@ step_holds s media who (step.Await promise) v = tt
 step_holds s media who (step.Reset on) v = tt
 step_holds s media who (step.Close on) v = tt
 step_holds s media who (step.State on) v = tt
-step_holds s media who (step.Media x) v = tt
+step_holds s media who (step.Media x) v = media_holds who (media_came v.media.pool who (copied_chunk media (steps_of s who.caller) x) x (variables_of who.caller v.media.variables))
 
 next_holds : (s : ScriptData) (media : List (List Chunk)) (who : Who) (o : Option Step) (v : Course) → MoveHolds (next_move s media who o v)
 next_holds s media who None v = tt
@@ -314,6 +345,7 @@ course_up s media made xs u all follows = subst (λ (m : ℕ). IsCourseUpTo m (l
     begun = record {
       callers = λ c. omega (arith, ap length (at_empty {X = StepResult} c s.callers));
       codecs = λ k. omega (arith, ap length (no_history s.codecs k));
+      pool = omega arith;
       slots = omega arith;
       moments = λ k p e is. absurd (let none : None ≡ Some e = sym (ap (λ (l : List Entry). slice_get l p) (no_history s.codecs k)) ∙ is in cc);
       made = omega arith;

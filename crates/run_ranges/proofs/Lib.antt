@@ -1,5 +1,9 @@
+mod ByteRanges
 mod FlacRanges
 mod UnitRanges
 mod EntryRanges
 mod CourseRanges
+mod PoolRanges
+mod CopyRanges
+mod MediaRanges
 mod RunRanges

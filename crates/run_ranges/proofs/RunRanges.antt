@@ -12,7 +12,7 @@ use Rattle.wc_base.specs.declared.who.By.TheVariants as by
 use Rattle.wc_config.specs.declared.codec.CoderId.{CoderId}
 use Rattle.wc_config.specs.declared.config.Config.{Config}
 use Rattle.wc_chunk.specs.declared.chunk.Chunk.{Chunk}
-use Rattle.wc_pool.specs.declared.entry.PoolEntry.{PoolEntry}
+use Rattle.wc_pool.specs.Laws.{LiveAreNumbered}
 use Rattle.wc_video.specs.declared.layout.Layouts.{Layouts}
 use Rattle.coder_api.specs.declared.slot.SlotEntry.{SlotEntry}
 use Rattle.coder_api.specs.declared.slot.SlotOp.{SlotOp}
@@ -31,6 +31,8 @@ use Rattle.script_types.specs.declared.script.ScriptData.{ScriptData}
 use Rattle.script_types.specs.declared.script.CodecItem.{CodecItem}
 use Rattle.script_types.specs.declared.script.CallerItem.{CallerItem}
 use Rattle.script_types.specs.declared.script.OrderItem.{OrderItem}
+use Rattle.script_types.specs.declared.steps.MediaStep.{MediaStep}
+use Rattle.script_types.specs.declared.steps.MediaStep.TheVariants as media_step
 use Rattle.script_types.specs.declared.steps.Step.{Step}
 use Rattle.script_types.specs.declared.steps.Step.TheVariants as step
 use Rattle.script_types.specs.Names.{is_name}
@@ -42,9 +44,10 @@ use Rattle.trace_text.specs.declared.run.CallerTrace.{CallerTrace}
 use Rattle.trace_text.specs.declared.run.CodecTrace.{CodecTrace}
 use Rattle.trace_text.specs.declared.run.Run.{Run}
 use Rattle.trace_text.specs.Report.{lines_from, result_lines, caller_lines, entry_lines, codec_lines, pool_lines, slot_lines, lines_of}
-use Rattle.trace_text.specs.Follow.{Recorded, record_of, opening_at, steps_of, chunk_by, order_items}
+use Rattle.media_variables.specs.Variables.{Came, chunk_in}
+use Rattle.trace_text.specs.Follow.{Recorded, record_of, opening_at, steps_of, chunk_by, chunk_at, order_items}
 use Rattle.trace_text.specs.FitsLaws.{calls_by_places, order_by_places}
-use Rattle.trace_text.specs.Fits.{recorded_of, result_in, entry_in, step_in, CallsAreIn, LookShows, LooksAreIn, IsLocalAnswer, LocalsAreIn, HasArguments, ArgumentsAreIn, Fits, IsLegalTrace, AreLegalTraces, IsLegalRun}
+use Rattle.trace_text.specs.Fits.{recorded_of, result_in, entry_in, step_in, CallsAreIn, LookShows, LooksAreIn, IsLocalAnswer, LocalsAreIn, came_at, chunks_of, made_steps, HasArguments, ArgumentsAreIn, Fits, IsLegalTrace, AreLegalTraces, IsLegalRun}
 use Rattle.codec_accounts.specs.Owed.{at}
 use Rattle.codec_accounts.specs.Calls.{who_of}
 use Rattle.codec_accounts.specs.Codec.{state_after}
@@ -58,6 +61,8 @@ use Rattle.history_laws.specs.OutputLaws.{all_append, outputs_are}
 use Rattle.run_ranges.specs.Counts.{traces_count, caller_of_step}
 use Rattle.run_ranges.specs.Ranges.{IsConfigWithin, IsChunkWithin, AreWithin}
 use Rattle.run_ranges.proofs.UnitRanges.{judge}
+use Rattle.run_ranges.proofs.PoolRanges.{held_up_to, pool_ops_fit, pool_lines_fit, IsMadeStep, entry_made}
+use Rattle.run_ranges.proofs.MediaRanges.{IsContentWithin, IsAnswerWithin, IsChunkOfBytes, size_small_of, AreSteps, came_answers, media_fits}
 use Rattle.run_ranges.proofs.EntryRanges.{IsOutcomeWithin, IsEntryWithin, lines_within}
 use Rattle.run_ranges.proofs.CourseRanges.{IsMomentOf, IsByUpTo, IsOpUpTo, IsCourseUpTo, course_up}
 
@@ -92,6 +97,7 @@ pub record IsKnown (s : ScriptData) (media : List (List Chunk)) (made : List Cod
   results : (c : ℕ) → length (at c w.callers) ≤ most_order
   entries : (k : ℕ) → length (at k w.codecs) ≤ most_order
   slots : length w.slots ≤ 2 * most_order
+  pool : length w.pool ≤ most_order
   moments : (k p : ℕ) (e : Entry) → entry_in w k p ≡ Some e → IsMomentOf e
   ops : (i : ℕ) (e : SlotEntry) → slice_get w.slots i ≡ Some e → IsByUpTo most_order e.by × IsOpUpTo (length made) e.op
 
@@ -107,16 +113,17 @@ known s media made run sound within legal fits =
     let of_course : Recorded = record_of v in
     let facts : ((c : ℕ) → length (at c of_course.callers) ≤ most_order) × ((k : ℕ) → length (at k of_course.codecs) ≤ most_order) × (length of_course.slots ≤ 2 * most_order)
     × ((k p : ℕ) (e : Entry) → entry_in of_course k p ≡ Some e → IsMomentOf e)
-    × ((i : ℕ) (e : SlotEntry) → slice_get of_course.slots i ≡ Some e → IsByUpTo most_order e.by × IsOpUpTo (length made) e.op) = (
+    × ((i : ℕ) (e : SlotEntry) → slice_get of_course.slots i ≡ Some e → IsByUpTo most_order e.by × IsOpUpTo (length made) e.op) × (length of_course.pool ≤ most_order) = (
       λ c. omega (arith, up.callers c, few.order),
       λ k. omega (arith, up.codecs k, few.order),
       omega (arith, up.slots, few.order),
       up.moments,
       λ i e is. (by_most (length (order_items s)) most_order e.by few.order (up.ops i e is).0, (up.ops i e is).1),
+      omega (arith, up.pool, few.order),
     ) in
     let here = subst (λ (w : Recorded). ((c : ℕ) → length (at c w.callers) ≤ most_order) × ((k : ℕ) → length (at k w.codecs) ≤ most_order) × (length w.slots ≤ 2 * most_order)
     × ((k p : ℕ) (e : Entry) → entry_in w k p ≡ Some e → IsMomentOf e)
-    × ((i : ℕ) (e : SlotEntry) → slice_get w.slots i ≡ Some e → IsByUpTo most_order e.by × IsOpUpTo (length made) e.op)) (sym fits.follows.is_recorded) facts in
+    × ((i : ℕ) (e : SlotEntry) → slice_get w.slots i ≡ Some e → IsByUpTo most_order e.by × IsOpUpTo (length made) e.op) × (length w.pool ≤ most_order)) (sym fits.follows.is_recorded) facts in
     record {
       callers = length-map run.callers _ ∙ legal.callers;
       codecs = length-map run.codecs _ ∙ traces_count s.codecs run.codecs legal.codecs;
@@ -126,6 +133,7 @@ known s media made run sound within legal fits =
       slots = here.2;
       moments = here.3;
       ops = here.4;
+      pool = here.5;
     }
 
 at_there : {X : Type 0} (k p : ℕ) (ls : List (List X)) (x : X) → slice_get (at k ls) p ≡ Some x → k < length ls
@@ -199,41 +207,71 @@ state_fits s media made w c j k n state size (step.Reset on) sound h is shows = 
 state_fits s media made w c j k n state size (step.Close on) sound h is shows = absurd shows
 state_fits s media made w c j k n state size (step.Media m) sound h is shows = absurd shows
 
--- no step copies media
-no_copy : (s : ScriptData) (media : List (List Chunk)) (c : ℕ) (x : Step) (n : ℕ) (bytes : List ℕ) → IsLocalAnswer s media c x (result.Copied n bytes) → ⊥
-no_copy s media c (step.Chunk bind source) n bytes h = absurd cc
-no_copy s media c x n bytes h = h
+-- a chunk of a step
+chunk_step : (media : List (List Chunk)) (steps : List Step) (j : ℕ) (o : Option Step) (chunk : Chunk) → slice_get steps j ≡ o → option_and_then (chunk_by media) o ≡ Some chunk → (x : Step) × (slice_get steps j ≡ Some x) × (chunk_by media x ≡ Some chunk)
+chunk_step media steps j None chunk is made = absurd cc
+chunk_step media steps j (Some x) chunk is made = (x, is, made)
 
-no_frame_copy : (s : ScriptData) (media : List (List Chunk)) (c : ℕ) (x : Step) (n : ℕ) (layouts : Layouts) (bytes : List ℕ) → IsLocalAnswer s media c x (result.CopiedFrame n layouts bytes) → ⊥
-no_frame_copy s media c (step.Chunk bind source) n layouts bytes h = absurd cc
-no_frame_copy s media c x n layouts bytes h = h
+-- what is known of a script's steps on media
+chunk_bytes : (s : ScriptData) (media : List (List Chunk)) (made : List CoderId) → AreWithin s media made → (c : ℕ) (o : Option ℕ) → IsChunkOfBytes (option_and_then (chunk_at media (steps_of s c)) o)
+chunk_bytes s media made within c None = tt
+chunk_bytes s media made within c (Some j) = one (chunk_at media (steps_of s c) j) refl
+  where
+    one : (o : Option Chunk) → chunk_at media (steps_of s c) j ≡ o → IsChunkOfBytes o
+    one None is = tt
+    one (Some chunk) is =
+        let found = chunk_step media (steps_of s c) j (slice_get (steps_of s c) j) chunk refl is in
+        (within.chunks c j found.0 chunk found.1 found.2).2
 
-no_size : (s : ScriptData) (media : List (List Chunk)) (c : ℕ) (x : Step) (n : ℕ) → IsLocalAnswer s media c x (result.Size n) → ⊥
-no_size s media c (step.Chunk bind source) n h = absurd cc
-no_size s media c x n h = h
+contents_within : (s : ScriptData) (media : List (List Chunk)) (made : List CoderId) (c j : ℕ) (x : MediaStep) → AreWithin s media made → step_in s c j ≡ Some (step.Media x) → IsContentWithin x
+contents_within s media made c j (media_step.Frame bind (Some init)) within is = within.frames c j bind init is
+contents_within s media made c j x within is = tt
 
-results_fit : (s : ScriptData) (media : List (List Chunk)) (made : List CoderId) (w : Recorded) → is_sound s ≡ true → IsKnown s media made w → CallsAreIn s w → LooksAreIn s w → LocalsAreIn s media w → (c j : ℕ) (r : StepResult) → result_in w c j ≡ Some r → FitsResult s r
-results_fit s media made w sound h calls looks locals c j (result.Call k p error) is = call_fits s media made w h calls c j k p error is
-results_fit s media made w sound h calls looks locals c j (result.Local error) is = tt
-results_fit s media made w sound h calls looks locals c j (result.Look k n end) is =
+steps_within : (s : ScriptData) (media : List (List Chunk)) (made : List CoderId) → is_sound s ≡ true → AreWithin s media made → AreSteps (steps_of s) (chunks_of s media)
+steps_within s media made sound within = record {
+  contents = λ c j x is. contents_within s media made c j x within is;
+  copied = λ c x. chunk_bytes s media made within c (chunk_in x);
+  sizes = λ c j x is. (let caller = caller_of_step s.callers c j (step.Media x) is in size_small_of s.codecs (take j caller.0.steps) x (step_at s c j caller.0 (step.Media x) sound caller.1 caller.2));
+}
+
+-- copies and sizes are answers of steps on media alone
+copy_fits : (s : ScriptData) (media : List (List Chunk)) (came : Option Came) (c : ℕ) (x : Step) (n : ℕ) (bytes : List ℕ) → IsAnswerWithin s came → IsLocalAnswer s media came c x (result.Copied n bytes) → FitsResult s (result.Copied n bytes)
+copy_fits s media came c (step.Chunk bind source) n bytes within h = absurd cc
+copy_fits s media came c (step.Media m) n bytes within h = media_fits s came (result.Copied n bytes) within h
+copy_fits s media came c x n bytes within h = absurd h
+
+frame_copy_fits : (s : ScriptData) (media : List (List Chunk)) (came : Option Came) (c : ℕ) (x : Step) (n : ℕ) (layouts : Layouts) (bytes : List ℕ) → IsAnswerWithin s came → IsLocalAnswer s media came c x (result.CopiedFrame n layouts bytes) → FitsResult s (result.CopiedFrame n layouts bytes)
+frame_copy_fits s media came c (step.Chunk bind source) n layouts bytes within h = absurd cc
+frame_copy_fits s media came c (step.Media m) n layouts bytes within h = media_fits s came (result.CopiedFrame n layouts bytes) within h
+frame_copy_fits s media came c x n layouts bytes within h = absurd h
+
+size_fits : (s : ScriptData) (media : List (List Chunk)) (came : Option Came) (c : ℕ) (x : Step) (n : ℕ) → IsAnswerWithin s came → IsLocalAnswer s media came c x (result.Size n) → FitsResult s (result.Size n)
+size_fits s media came c (step.Chunk bind source) n within h = absurd cc
+size_fits s media came c (step.Media m) n within h = media_fits s came (result.Size n) within h
+size_fits s media came c x n within h = absurd h
+
+results_fit : (s : ScriptData) (media : List (List Chunk)) (made : List CoderId) (w : Recorded) → is_sound s ≡ true → AreWithin s media made → IsKnown s media made w → CallsAreIn s w → LooksAreIn s w → LocalsAreIn s media w → (c j : ℕ) (r : StepResult) → result_in w c j ≡ Some r → FitsResult s r
+results_fit s media made w sound within h calls looks locals c j (result.Call k p error) is = call_fits s media made w h calls c j k p error is
+results_fit s media made w sound within h calls looks locals c j (result.Local error) is = tt
+results_fit s media made w sound within h calls looks locals c j (result.Look k n end) is =
     let step = calls.made c j (result.Look k n end) is in
-    let within = (order_by_places w looks.climbs).within c j k n (result.Look k n end) is refl in
-    (look_there s media made w c k n end step.0 h calls (looks.shows c j step.0 (result.Look k n end) step.1 is), omega (arith, within, h.entries k))
-results_fit s media made w sound h calls looks locals c j (result.State k n state size) is =
+    let seen = (order_by_places w looks.climbs).within c j k n (result.Look k n end) is refl in
+    (look_there s media made w c k n end step.0 h calls (looks.shows c j step.0 (result.Look k n end) step.1 is), omega (arith, seen, h.entries k))
+results_fit s media made w sound within h calls looks locals c j (result.State k n state size) is =
     let step = calls.made c j (result.State k n state size) is in
-    let within = (order_by_places w looks.climbs).within c j k n (result.State k n state size) is refl in
+    let seen = (order_by_places w looks.climbs).within c j k n (result.State k n state size) is refl in
     let shown = state_fits s media made w c j k n state size step.0 sound h step.1 (looks.shows c j step.0 (result.State k n state size) step.1 is) in
-    (shown.0, omega (arith, within, h.entries k), shown.1)
-results_fit s media made w sound h calls looks locals c j (result.Copied n bytes) is =
+    (shown.0, omega (arith, seen, h.entries k), shown.1)
+results_fit s media made w sound within h calls looks locals c j (result.Copied n bytes) is =
     let step = calls.made c j (result.Copied n bytes) is in
-    absurd (no_copy s media c step.0 n bytes (locals c j step.0 (result.Copied n bytes) step.1 is))
-results_fit s media made w sound h calls looks locals c j (result.CopiedFrame n layouts bytes) is =
+    copy_fits s media (came_at s media w c j) c step.0 n bytes (came_answers s (steps_of s) (chunks_of s media) w.pool c j (steps_within s media made sound within)) (locals c j step.0 (result.Copied n bytes) step.1 is)
+results_fit s media made w sound within h calls looks locals c j (result.CopiedFrame n layouts bytes) is =
     let step = calls.made c j (result.CopiedFrame n layouts bytes) is in
-    absurd (no_frame_copy s media c step.0 n layouts bytes (locals c j step.0 (result.CopiedFrame n layouts bytes) step.1 is))
-results_fit s media made w sound h calls looks locals c j (result.Size n) is =
+    frame_copy_fits s media (came_at s media w c j) c step.0 n layouts bytes (came_answers s (steps_of s) (chunks_of s media) w.pool c j (steps_within s media made sound within)) (locals c j step.0 (result.CopiedFrame n layouts bytes) step.1 is)
+results_fit s media made w sound within h calls looks locals c j (result.Size n) is =
     let step = calls.made c j (result.Size n) is in
-    absurd (no_size s media c step.0 n (locals c j step.0 (result.Size n) step.1 is))
-results_fit s media made w sound h calls looks locals c j result.Absent is = tt
+    size_fits s media (came_at s media w c j) c step.0 n (came_answers s (steps_of s) (chunks_of s media) w.pool c j (steps_within s media made sound within)) (locals c j step.0 (result.Size n) step.1 is)
+results_fit s media made w sound within h calls looks locals c j result.Absent is = tt
 
 -- ---- entries
 
@@ -261,10 +299,6 @@ entry_within s media made w h calls boxes k p e is = by e is
     by (entry.Reclaim moment) at = h.moments k p (entry.Reclaim moment) at
 
 -- the config and the chunk of an entry are the script's
-chunk_step : (media : List (List Chunk)) (steps : List Step) (j : ℕ) (o : Option Step) (chunk : Chunk) → slice_get steps j ≡ o → option_and_then (chunk_by media) o ≡ Some chunk → (x : Step) × (slice_get steps j ≡ Some x) × (chunk_by media x ≡ Some chunk)
-chunk_step media steps j None chunk is made = absurd cc
-chunk_step media steps j (Some x) chunk is made = (x, is, made)
-
 config_within : (s : ScriptData) (media : List (List Chunk)) (made : List CoderId) (who : Who) (given : Config) (x : Step) → AreWithin s media made → step_in s who.caller who.step ≡ Some x → HasArguments s media who (entry.Configure who given) x → IsConfigWithin given
 config_within s media made who given (step.Configure on config) within is has =
     let same : config ≡ given = cc in subst IsConfigWithin same (within.configs who.caller who.step on config is)
@@ -314,6 +348,19 @@ op_fits : (most : ℕ) (op : SlotOp) → most < 2 ^ 64 → IsOpUpTo most op → 
 op_fits most (slot.Acquire id number) few up = omega (arith, few, up)
 op_fits most (slot.Refused id out all) few up = (omega (arith, few, up.0), omega (arith, few, up.1))
 op_fits most (slot.Give id number) few up = omega (arith, few, up)
+
+-- ---- the pool
+
+at_some : {X : Type 0} (k j : ℕ) (ls : List (List X)) → j < length (at k ls) → k < length ls
+at_some k j [] lt = absurd (omega (arith, lt))
+at_some zero j (l ∷ ls) lt = omega arith
+at_some (suc k) j (l ∷ ls) lt = omega (arith, at_some k j ls lt)
+
+pool_by_fits : (s : ScriptData) (media : List (List Chunk)) (made : List CoderId) (w : Recorded) (b : By) → IsKnown s media made w → IsMadeStep (made_steps w) b → FitsBy s b
+pool_by_fits s media made w (by.Codec k place) h step = absurd step
+pool_by_fits s media made w (by.Caller who) h step =
+    let caller = at_some who.caller who.step w.callers step in
+    ((omega (arith, caller, h.callers), omega (arith, caller, h.callers, h.few.callers)), omega (arith, step, h.results who.caller))
 
 -- ---- the lines of a run
 
@@ -368,19 +415,22 @@ saturations s sound i c is =
     let range = and_parts (nat_le 1 c.saturation) (nat_le c.saturation 64) apart.1 in
     (leb-true 1 c.saturation range.0, leb-true c.saturation 64 range.1)
 
-pub lines_fit : Always IsNeverStuck → (s : ScriptData) (media : List (List Chunk)) (made : List CoderId) (run : Run) → is_sound s ≡ true → AreWithin s media made → IsLegalRun s run → Fits s media made run → AllByRecursion (FitsLine s) (lines_of run)
-lines_fit always s media made run sound within legal fits =
+pub lines_fit : Always IsNeverStuck → LiveAreNumbered → (s : ScriptData) (media : List (List Chunk)) (made : List CoderId) (run : Run) → is_sound s ≡ true → AreWithin s media made → IsLegalRun s run → Fits s media made run → AllByRecursion (FitsLine s) (lines_of run)
+lines_fit always numbered s media made run sound within legal fits =
     let w = recorded_of run in
     let h = known s media made run sound within legal fits in
     let count = traces_count s.codecs run.codecs legal.codecs in
-    let callers = caller_lines_fit s 0 run.callers (omega (arith, legal.callers)) h.few.callers h.results (λ c j r is. results_fit s media made w sound h fits.calls fits.looks fits.locals c j r is) in
+    let callers = caller_lines_fit s 0 run.callers (omega (arith, legal.callers)) h.few.callers h.results (λ c j r is. results_fit s media made w sound within h fits.calls fits.looks fits.locals c j r is) in
     let codecs = codec_lines_fit s 0 s.codecs run.codecs always legal.codecs (omega (arith, count)) h.few.codecs (saturations s sound) h.entries
     (λ k p e is. (entry_within s media made w h fits.calls fits.boxes k p e is, entry_own s media made w within fits.arguments k p e is)) in
-    let pool : AllByRecursion (FitsLine s) (lines_from pool_lines 0 run.pool) = subst (λ (es : List PoolEntry). AllByRecursion (FitsLine s) (lines_from pool_lines 0 es)) (sym legal.pool) tt in
+    let pool = pool_lines_fit s 0 run.pool (omega (arith, h.pool)) (λ n e is. (
+      pool_by_fits s media made w e.by h (entry_made (steps_of s) (chunks_of s media) (made_steps w) w.pool fits.accounted n e is),
+      pool_ops_fit numbered run.pool (omega (arith, h.pool)) fits.accounted.legal n e is,
+    )) in
     let slots = slot_lines_fit s 0 run.slots (omega (arith, h.slots)) (λ i e is. (let op = h.ops i e is in
     (by_fits s media made w e.by h (cause_there made (opening_at s) w.codecs w.slots i e fits.boxes is) op.0, op_fits (length made) e.op within.boxes op.1))) in (
       tt,
       all_append (FitsLine s) (lines_from caller_lines 0 run.callers) _ callers
           (all_append (FitsLine s) (lines_from codec_lines 0 run.codecs) _ codecs
-          (tt, all_append (FitsLine s) (lines_from pool_lines 0 run.pool) _ pool (tt, all_append (FitsLine s) (lines_from slot_lines 0 run.slots) _ slots (omega (arith, legal.held), (tt, tt))))),
+          (tt, all_append (FitsLine s) (lines_from pool_lines 0 run.pool) _ pool (tt, all_append (FitsLine s) (lines_from slot_lines 0 run.slots) _ slots (omega (arith, legal.held, held_up_to run.pool, h.pool), (tt, tt))))),
     )

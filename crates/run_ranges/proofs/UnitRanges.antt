@@ -1,7 +1,7 @@
 -- The outputs that a codec's definition gives are within their types.
-use Rattle.std.proofs.Common.{ℕ, ℤ, zero, suc, ◌≡◌, ◌<◌, ◌≤◌, ◌+◌, ◌-◌, ◌*◌, ◌/◌, ◌%◌, ◌^◌, ◌&&◌, not, Bool, true, false, cond, List, [], ◌∷◌, ◌++◌, length, take, drop, bytes_eq, codes, Option, Some, None, refl, subst, arith, lit<}
-use Rattle.std.specs.Prelude.{slice_index_or as get_or, nat_lt, nat_le, ◌==◌, pos, ◌*ℤ◌, map}
-use Rattle.std.specs.List.{AllByRecursion, flat_map, range_with_len, list_any}
+use Rattle.std.proofs.Common.{ℕ, ℤ, ◌≡◌, ◌<◌, ◌≤◌, ◌+◌, ◌-◌, ◌*◌, ◌/◌, ◌%◌, ◌^◌, ◌&&◌, not, Bool, true, false, cond, List, [], ◌∷◌, ◌++◌, length, take, drop, bytes_eq, codes, Option, Some, None, refl, subst, arith}
+use Rattle.std.specs.Prelude.{slice_index_or as get_or, nat_lt, nat_le, ◌==◌, pos, ◌*ℤ◌}
+use Rattle.std.specs.List.{AllByRecursion, list_any}
 use Rattle.std.proofs.lemmas.Bool.{and_parts, ltb-true}
 use Rattle.hex.specs.Hex.{IsBytes}
 use Rattle.wc_base.specs.Options.{cond_is, some_same}
@@ -20,7 +20,7 @@ use Rattle.codec_definitions.specs.declared.unit.Unit as media
 use Rattle.codec_definitions.specs.declared.unit.Unit.TheVariants as unit
 use Rattle.codec_definitions.specs.declared.command.Command.{Command}
 use Rattle.codec_definitions.specs.declared.command.Command.TheVariants as command
-use Rattle.codec_definitions.specs.Pcm.{bytes_of, spelled, converted, format_size}
+use Rattle.codec_definitions.specs.Pcm.{converted, format_size}
 use Rattle.codec_definitions.specs.SampleCodecs.{SampleCodec, sample_codec, sample_decoder, sample_encoder, decoded_at, decoded}
 use Rattle.codec_definitions.specs.Flac.{sample_size, sample_bytes, interchannel_bytes, bytes_of_frame, described, flac_sound, unit_of_frame, flac_units, flac_decoder}
 use Rattle.wc_base.specs.declared.media.PictureFormat.{PictureFormat}
@@ -34,32 +34,10 @@ use Rattle.flac_definitions.specs.declared.header.FrameHeader.{FrameHeader}
 use Rattle.report_lines.specs.Fits.{FitsSound, FitsImage}
 use Rattle.history_laws.specs.Outputs.{IsOwnCommand, Judge}
 use Rattle.run_ranges.specs.Ranges.{IsSizeWithin, IsConfigWithin, IsChunkWithin}
+use Rattle.run_ranges.proofs.ByteRanges.{spelled_small, flat_small, range_small}
 use Rattle.run_ranges.proofs.FlacRanges.{block_within}
 
 -- ---- bytes
-
-nothing_small : IsBytes []
-nothing_small zero = lit< tt
-nothing_small (suc i) = lit< tt
-
-one_small : (x : ℕ) (xs : List ℕ) → x < 256 → IsBytes xs → IsBytes (x ∷ xs)
-one_small x xs small all zero = small
-one_small x xs small all (suc i) = all i
-
-both_small : (xs ys : List ℕ) → IsBytes xs → IsBytes ys → IsBytes (xs ++ ys)
-both_small [] ys a b = b
-both_small (x ∷ xs) ys a b = one_small x (xs ++ ys) (a 0) (both_small xs ys (λ j. a (suc j)) b)
-
-bytes_small : (size n : ℕ) → IsBytes (bytes_of size n)
-bytes_small zero n = nothing_small
-bytes_small (suc size) n = one_small (n % 256) (bytes_of size (n / 256)) (omega arith) (bytes_small size (n / 256))
-
-spelled_small : (size : ℕ) (v : ℤ) → IsBytes (spelled size v)
-spelled_small size v = bytes_small size _
-
-flat_small : (f : ℕ → List ℕ) → ((i : ℕ) → IsBytes (f i)) → (a n : ℕ) → IsBytes (flat_map f (range_with_len a n))
-flat_small f h a zero = nothing_small
-flat_small f h a (suc n) = both_small (f a) (flat_map f (range_with_len (a + 1) n)) (h a) (flat_small f h (a + 1) n)
 
 decoded_small : (s : SampleCodec) (bytes : List ℕ) → IsBytes (decoded s bytes)
 decoded_small s bytes = flat_small (decoded_at s bytes) (λ i. spelled_small (format_size s.format) (converted s.bits (8 * format_size s.format) (s.value (take s.size (drop (s.size * i) bytes))))) 0 (length bytes / s.size)
@@ -171,10 +149,6 @@ flac_decoded c (command.Image picture) us h = absurd cc
 flac_decoded c command.Drain us h = none_given (config.AudioDecoder c) command.Drain us h
 
 -- ---- raw video
-
-range_small : (f : ℕ → ℕ) → ((i : ℕ) → f i < 256) → (a n : ℕ) → IsBytes (map f (range_with_len a n))
-range_small f h a zero = nothing_small
-range_small f h a (suc n) = one_small (f a) (map f (range_with_len (a + 1) n)) (h a) (range_small f h (a + 1) n)
 
 -- the size of a picture is the config's
 shape_within : (f : Option PictureFormat) (width height : Option ℕ) (shape : PictureShape) → IsSizeWithin width → IsSizeWithin height → shape_in f width height ≡ Some shape → (shape.width < 2 ^ 32) × (shape.height < 2 ^ 32)

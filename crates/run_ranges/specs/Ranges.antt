@@ -3,6 +3,7 @@
 use Rattle.std.specs.Prelude.{ℕ, ◌≡◌, ◌<◌, ◌^◌, List, length, Option, Some, None, IsTrue}
 use Rattle.std.specs.List.{AllByRecursion, slice_get}
 use Rattle.std.specs.Int.Signed.{mag}
+use Rattle.hex.specs.Hex.{IsBytes}
 use Rattle.wc_config.specs.declared.codec.CoderId.{CoderId}
 use Rattle.wc_config.specs.declared.config.Config.{Config}
 use Rattle.wc_config.specs.declared.config.Config.TheVariants as config
@@ -10,6 +11,8 @@ use Rattle.wc_chunk.specs.declared.chunk.Chunk.{Chunk}
 use Rattle.script_types.specs.declared.script.OrderItem.{OrderItem}
 use Rattle.script_types.specs.declared.script.OrderItem.TheVariants as item
 use Rattle.script_types.specs.declared.script.ScriptData.{ScriptData}
+use Rattle.script_types.specs.declared.steps.PictureInit.{PictureInit}
+use Rattle.script_types.specs.declared.steps.MediaStep.TheVariants as media_step
 use Rattle.script_types.specs.declared.steps.Step.{Step}
 use Rattle.script_types.specs.declared.steps.Step.TheVariants as step
 use Rattle.script_types.specs.Sound.{is_sound}
@@ -36,16 +39,17 @@ IsConfigWithin (config.AudioDecoder c) = (c.rate < 2 ^ 32) × (c.channels < 2 ^ 
 IsConfigWithin (config.VideoDecoder c) = IsSizeWithin c.width × IsSizeWithin c.height
 IsConfigWithin x = Unit {0}
 
--- a timestamp has 64 bits with its sign, and a duration 64
+-- a timestamp has 64 bits with its sign, and a duration 64; what it holds is bytes
 abbrev pub IsChunkWithin : Chunk → Type 0
-IsChunkWithin c = (mag c.timestamp < 2 ^ 63) × FitsOrAbsent c.duration
+IsChunkWithin c = (mag c.timestamp < 2 ^ 63) × FitsOrAbsent c.duration × IsBytes c.bytes
 
--- The script's moments, configs and chunks are within their types, those of its chunk files are, and there are no more boxes
--- than a number of 64 bits counts.
+-- The script's moments, configs and chunks are within their types, those of its chunk files are, its frames hold bytes, and
+-- there are no more boxes than a number of 64 bits counts.
 pub record AreWithin (s : ScriptData) (media : List (List Chunk)) (made : List CoderId) : Type 0 where
   pub moments : (i : ℕ) (x : OrderItem) → slice_get (order_items s) i ≡ Some x → IsMoment x
   pub configs : (c j on : ℕ) (config : Config) → slice_get (steps_of s c) j ≡ Some (step.Configure on config) → IsConfigWithin config
   pub chunks : (c j : ℕ) (x : Step) (chunk : Chunk) → slice_get (steps_of s c) j ≡ Some x → chunk_by media x ≡ Some chunk → IsChunkWithin chunk
+  pub frames : (c j : ℕ) (bind : List ℕ) (init : PictureInit) → slice_get (steps_of s c) j ≡ Some (step.Media (media_step.Frame bind (Some init))) → IsBytes init.content
   pub boxes : length made < 2 ^ 64
 
 -- the lines of a legal run that fits its script, in which nothing is at fault, fit the script

@@ -1,0 +1,287 @@
+-- What callers' variables hold, and what steps on media answer, is within its types.
+use Rattle.std.proofs.Common.{ℕ, zero, suc, ◌≡◌, ◌≤◌, Bool, true, false, cond, List, [], ◌∷◌, length, take, Option, Some, None, refl, ap, sym, subst, arith}
+use Rattle.std.specs.Prelude.{nat_le, slice_get, option_map, option_and_then, unwrap_or}
+use Rattle.std.specs.List.{AllByRecursion}
+use Rattle.std.proofs.lemmas.Bool.{and_parts, leb-true}
+use Rattle.hex.specs.Hex.{IsBytes}
+use Rattle.wc_base.specs.declared.error.DomError.TheVariants as dom
+use Rattle.wc_base.specs.declared.media.PictureShape.{PictureShape}
+use Rattle.wc_base.specs.declared.media.SoundShape.{SoundShape}
+use Rattle.wc_base.specs.declared.who.Who.{Who}
+use Rattle.wc_chunk.specs.declared.chunk.Chunk.{Chunk}
+use Rattle.picture_planes.specs.Planes.{picture_size}
+use Rattle.wc_pool.specs.declared.entry.PoolEntry.{PoolEntry}
+use Rattle.wc_pool.specs.Bag.{references_made}
+use Rattle.wc_audio.specs.Sound as audio
+use Rattle.wc_audio.specs.Copies as sound
+use Rattle.wc_video.specs.Frames as frames
+use Rattle.wc_video.specs.Copies as video
+use Rattle.script_types.specs.declared.script.CodecItem.{CodecItem}
+use Rattle.script_types.specs.declared.script.ScriptData.{ScriptData}
+use Rattle.script_types.specs.declared.options.Options.{Options}
+use Rattle.script_types.specs.declared.options.Options.TheVariants as options
+use Rattle.script_types.specs.declared.steps.PictureInit.{PictureInit}
+use Rattle.script_types.specs.declared.steps.SoundInit.{SoundInit}
+use Rattle.script_types.specs.declared.steps.MediaStep.{MediaStep}
+use Rattle.script_types.specs.declared.steps.MediaStep.TheVariants as media
+use Rattle.script_types.specs.declared.steps.Step.{Step}
+use Rattle.script_types.specs.declared.steps.Step.TheVariants as step
+use Rattle.script_types.specs.Names.{is_copied}
+use Rattle.script_types.specs.Sound.{is_variable, are_options_of, is_sound_media, most_chunk}
+use Rattle.report_text.specs.declared.result.StepResult.{StepResult}
+use Rattle.media_variables.specs.Variables.{Reference, Shape, SoundOf, PictureOf, Medium, Came, medium_at, with_medium, detached, only_answers, refused, makes, audio_came, frame_came, clone_held, transfer_held, close_held, if_there, zeros, sound_of, frame_of, copy_options, rect_of, layouts_in, copy_chunk, copy_sound, copy_frame, size_of_sound, size_of_frame, copy_medium, size_of_medium, copy_came, media_came}
+use Rattle.media_accounts.specs.Accounts.{step_by, before_step, media_of, variables_by, came_on, variables_in, came_in}
+use Rattle.trace_text.specs.Fits.{IsMediaAnswer}
+use Rattle.report_lines.specs.Fits.{FitsResult}
+use Rattle.run_ranges.proofs.ByteRanges.{nothing_small, take_small, zeros_small}
+use Rattle.run_ranges.proofs.CopyRanges.{sound_copy_fits, sound_size_fits, chunk_copy_fits, plan_within, frame_copy_fits, frame_size_fits}
+
+-- ---- what a variable holds
+
+-- a frame has bytes; what audio data has is spelled anew where it is copied
+abbrev pub IsHeldWithin : Option Reference → Shape → Type 0
+IsHeldWithin None shape = Unit {0}
+IsHeldWithin (Some r) (SoundOf shape) = Unit {0}
+IsHeldWithin (Some r) (PictureOf shape) = IsBytes r.bytes
+
+abbrev pub IsVariableWithin : Option Medium → Type 0
+IsVariableWithin None = Unit {0}
+IsVariableWithin (Some m) = IsHeldWithin m.held m.shape
+
+abbrev pub AreVariables : List (Option Medium) → Type 0
+AreVariables vs = AllByRecursion IsVariableWithin vs
+
+medium_within : (vs : List (Option Medium)) (j : ℕ) → AreVariables vs → IsVariableWithin (medium_at vs j)
+medium_within [] j h = tt
+medium_within (v ∷ vs) zero h = h.0
+medium_within (v ∷ vs) (suc j) h = medium_within vs j h.1
+
+with_within : (j : ℕ) (m : Medium) (vs : List (Option Medium)) → IsVariableWithin (Some m) → AreVariables vs → AreVariables (with_medium j m vs)
+with_within zero m [] own h = (own, tt)
+with_within zero m (v ∷ vs) own h = (own, h.1)
+with_within (suc j) m [] own h = (tt, with_within j m [] own tt)
+with_within (suc j) m (v ∷ vs) own h = (h.0, with_within j m vs own h.1)
+
+-- another reference to the same resource
+renumbered : (r : Reference) (n : ℕ) (shape : Shape) → IsHeldWithin (Some r) shape → IsHeldWithin (Some (record r { number = n })) shape
+renumbered r n (SoundOf shape) h = tt
+renumbered r n (PictureOf shape) h = h
+
+-- ---- what steps leave in variables
+
+abbrev IsCameWithin : Option Came → Type 0
+IsCameWithin None = Unit {0}
+IsCameWithin (Some y) = AreVariables y.variables
+
+-- the content of a frame's init is bytes
+abbrev pub IsContentWithin : MediaStep → Type 0
+IsContentWithin (media.Frame bind (Some init)) = IsBytes init.content
+IsContentWithin x = Unit {0}
+
+audio_within : (pool : List PoolEntry) (j : ℕ) (o : Option SoundInit) (vs : List (Option Medium)) → AreVariables vs → AreVariables (audio_came pool j o vs).variables
+audio_within pool j None vs h = h
+audio_within pool j (Some i) vs h = one (audio.is_invalid i.shape (length i.content))
+  where
+    one : (b : Bool) → AreVariables (cond b (only_answers (refused dom.TypeErr) vs) (makes pool j (SoundOf i.shape) (take (audio.needed i.shape) i.content) vs)).variables
+    one true = h
+    one false = with_within j _ vs tt h
+
+frame_within : (pool : List PoolEntry) (j : ℕ) (i : PictureInit) (vs : List (Option Medium)) → IsBytes i.content → AreVariables vs → AreVariables (frame_came pool j (Some i) vs).variables
+frame_within pool j i vs small h = one (frames.is_invalid i.shape (length i.content))
+  where
+    one : (b : Bool) → AreVariables (cond b (only_answers (refused dom.TypeErr) vs) (makes pool j (PictureOf i.shape) (take (picture_size i.shape) i.content) vs)).variables
+    one true = h
+    one false = with_within j _ vs (take_small (picture_size i.shape) i.content small) h
+
+there_within : (o : Option Medium) (vs : List (Option Medium)) (f : Medium → Came) → IsVariableWithin o → AreVariables vs → ((m : Medium) → IsVariableWithin (Some m) → AreVariables (f m).variables) → AreVariables (if_there o vs f).variables
+there_within None vs f own h each = h
+there_within (Some m) vs f own h each = each m own
+
+clone_within : (pool : List PoolEntry) (j : ℕ) (shape : Shape) (held : Option Reference) (vs : List (Option Medium)) → IsHeldWithin held shape → AreVariables vs → AreVariables (clone_held pool j shape held vs).variables
+clone_within pool j shape None vs own h = h
+clone_within pool j shape (Some r) vs own h = with_within j _ vs (renumbered r (references_made pool) shape own) h
+
+transfer_within : (j of : ℕ) (m : Medium) (held : Option Reference) (vs : List (Option Medium)) → IsVariableWithin (Some m) → AreVariables vs → AreVariables (transfer_held j of m held vs).variables
+transfer_within j of m None vs own h = h
+transfer_within j of m (Some r) vs own h = with_within j m (with_medium of (detached m) vs) own (with_within of (detached m) vs tt h)
+
+close_within : (pool : List PoolEntry) (who : Who) (of : ℕ) (m : Medium) (held : Option Reference) (vs : List (Option Medium)) → AreVariables vs → AreVariables (close_held pool who of m held vs).variables
+close_within pool who of m None vs h = h
+close_within pool who of m (Some r) vs h = with_within of (detached m) vs tt h
+
+copy_within : (chunk : Option Chunk) (of : ℕ) (o : Options) (size : ℕ) (vs : List (Option Medium)) → AreVariables vs → AreVariables (copy_came chunk of o size vs).variables
+copy_within chunk of options.Nothing size vs h = h
+copy_within chunk of (options.Audio o) size vs h = there_within (medium_at vs of) vs _ (medium_within vs of h) h (λ m own. h)
+copy_within chunk of (options.Frame o) size vs h = there_within (medium_at vs of) vs _ (medium_within vs of h) h (λ m own. h)
+
+came_within : (pool : List PoolEntry) (who : Who) (chunk : Option Chunk) (x : MediaStep) (vs : List (Option Medium)) → IsContentWithin x → AreVariables vs → IsCameWithin (media_came pool who chunk x vs)
+came_within pool who chunk (media.Audio bind init) vs small h = audio_within pool who.step init vs h
+came_within pool who chunk (media.Frame bind None) vs small h = h
+came_within pool who chunk (media.Frame bind (Some init)) vs small h = frame_within pool who.step init vs small h
+came_within pool who chunk (media.Encode on content) vs small h = tt
+came_within pool who chunk (media.Take on bind kind) vs small h = tt
+came_within pool who chunk (media.Clone of bind) vs small h = there_within (medium_at vs of.step) vs _ (medium_within vs of.step h) h (λ m own. clone_within pool who.step m.shape m.held vs own h)
+came_within pool who chunk (media.Transfer of bind) vs small h = there_within (medium_at vs of.step) vs _ (medium_within vs of.step h) h (λ m own. transfer_within who.step of.step m m.held vs own h)
+came_within pool who chunk (media.CloseData of) vs small h = there_within (medium_at vs of.step) vs _ (medium_within vs of.step h) h (λ m own. close_within pool who of.step m m.held vs h)
+came_within pool who chunk (media.Copy of o size) vs small h = copy_within chunk of.step o size vs h
+came_within pool who chunk (media.Size of o) vs small h = there_within (medium_at vs of.step) vs _ (medium_within vs of.step h) h (λ m own. h)
+
+-- ---- what steps answer
+
+abbrev pub IsAnswerWithin : ScriptData → Option Came → Type 0
+IsAnswerWithin s None = Unit {0}
+IsAnswerWithin s (Some y) = FitsResult s y.answer
+
+-- a chunk that is copied has bytes
+abbrev pub IsChunkOfBytes : Option Chunk → Type 0
+IsChunkOfBytes None = Unit {0}
+IsChunkOfBytes (Some c) = IsBytes c.bytes
+
+-- a destination's size is at most what a script may ask for
+abbrev pub IsSizeSmall : MediaStep → Type 0
+IsSizeSmall (media.Copy of o size) = size ≤ most_chunk
+IsSizeSmall x = Unit {0}
+
+pub size_small_of : (codecs : List CodecItem) (before : List Step) (x : MediaStep) → is_sound_media codecs before x ≡ true → IsSizeSmall x
+size_small_of codecs before (media.Copy of o size) sound =
+    let named = and_parts (is_variable before is_copied of) _ sound in
+    leb-true size most_chunk (and_parts (are_options_of o of.kind) (nat_le size most_chunk) named.1).1
+size_small_of codecs before x sound = tt
+
+chunk_answers : (s : ScriptData) (o : Option Chunk) (size : ℕ) → size ≤ most_chunk → IsChunkOfBytes o → FitsResult s (copy_chunk o size)
+chunk_answers s None size few small = tt
+chunk_answers s (Some c) size few small = chunk_copy_fits s size c.bytes (omega (arith, few)) small
+
+-- the bytes of a frame that its shape needs
+frame_small : (shape : PictureShape) (held : Option Reference) → IsHeldWithin held (PictureOf shape) → IsBytes (unwrap_or (frames.content_of (frame_of shape held)) [])
+frame_small shape None h = nothing_small
+frame_small shape (Some r) h = take_small (picture_size shape) r.bytes h
+
+sound_answers : (s : ScriptData) (shape : SoundShape) (held : Option Reference) (o : Options) (size : ℕ) → size ≤ most_chunk → FitsResult s (copy_sound (sound_of shape held) o size)
+sound_answers s shape held (options.Audio (Some o)) size few = sound_copy_fits s size shape (unwrap_or (audio.content_of (sound_of shape held)) []) (sound.plan_of (sound_of shape held) (copy_options o)) (omega (arith, few))
+sound_answers s shape held (options.Audio None) size few = tt
+sound_answers s shape held (options.Frame o) size few = tt
+sound_answers s shape held options.Nothing size few = tt
+
+frame_answers : (s : ScriptData) (shape : PictureShape) (held : Option Reference) (o : Options) (size : ℕ) → IsHeldWithin held (PictureOf shape) → FitsResult s (copy_frame (frame_of shape held) o size)
+frame_answers s shape held (options.Frame (Some o)) size own =
+    let f = frame_of shape held in
+    frame_copy_fits s (unwrap_or (frames.content_of f) []) (zeros size) (video.plan_for f (option_map rect_of o.rect) (layouts_in o)) (frame_small shape held own) (zeros_small size) (plan_within f (option_map rect_of o.rect) (layouts_in o))
+frame_answers s shape held (options.Frame None) size own = tt
+frame_answers s shape held (options.Audio o) size own = tt
+frame_answers s shape held options.Nothing size own = tt
+
+sound_sizes : (s : ScriptData) (shape : SoundShape) (held : Option Reference) (o : Options) → FitsResult s (size_of_sound (sound_of shape held) o)
+sound_sizes s shape held (options.Audio (Some o)) = sound_size_fits s shape (sound.plan_of (sound_of shape held) (copy_options o))
+sound_sizes s shape held (options.Audio None) = tt
+sound_sizes s shape held (options.Frame o) = tt
+sound_sizes s shape held options.Nothing = tt
+
+frame_sizes : (s : ScriptData) (shape : PictureShape) (held : Option Reference) (o : Options) → FitsResult s (size_of_frame (frame_of shape held) o)
+frame_sizes s shape held (options.Frame (Some o)) = frame_size_fits s (video.plan_for (frame_of shape held) (option_map rect_of o.rect) (layouts_in o)) (plan_within (frame_of shape held) (option_map rect_of o.rect) (layouts_in o))
+frame_sizes s shape held (options.Frame None) = tt
+frame_sizes s shape held (options.Audio o) = tt
+frame_sizes s shape held options.Nothing = tt
+
+copies_fit : (s : ScriptData) (shape : Shape) (held : Option Reference) (o : Options) (size : ℕ) → size ≤ most_chunk → IsHeldWithin held shape → FitsResult s (copy_medium (record { shape = shape; held = held }) o size)
+copies_fit s (SoundOf shape) held o size few own = sound_answers s shape held o size few
+copies_fit s (PictureOf shape) held o size few own = frame_answers s shape held o size own
+
+sizes_fit : (s : ScriptData) (shape : Shape) (held : Option Reference) (o : Options) → FitsResult s (size_of_medium (record { shape = shape; held = held }) o)
+sizes_fit s (SoundOf shape) held o = sound_sizes s shape held o
+sizes_fit s (PictureOf shape) held o = frame_sizes s shape held o
+
+there_answers : (s : ScriptData) (o : Option Medium) (vs : List (Option Medium)) (f : Medium → Came) → IsVariableWithin o → ((m : Medium) → IsVariableWithin (Some m) → FitsResult s (f m).answer) → FitsResult s (if_there o vs f).answer
+there_answers s None vs f own each = tt
+there_answers s (Some m) vs f own each = each m own
+
+audio_answers : (s : ScriptData) (pool : List PoolEntry) (j : ℕ) (o : Option SoundInit) (vs : List (Option Medium)) → FitsResult s (audio_came pool j o vs).answer
+audio_answers s pool j None vs = tt
+audio_answers s pool j (Some i) vs = one (audio.is_invalid i.shape (length i.content))
+  where
+    one : (b : Bool) → FitsResult s (cond b (only_answers (refused dom.TypeErr) vs) (makes pool j (SoundOf i.shape) (take (audio.needed i.shape) i.content) vs)).answer
+    one true = tt
+    one false = tt
+
+picture_answers : (s : ScriptData) (pool : List PoolEntry) (j : ℕ) (o : Option PictureInit) (vs : List (Option Medium)) → FitsResult s (frame_came pool j o vs).answer
+picture_answers s pool j None vs = tt
+picture_answers s pool j (Some i) vs = one (frames.is_invalid i.shape (length i.content))
+  where
+    one : (b : Bool) → FitsResult s (cond b (only_answers (refused dom.TypeErr) vs) (makes pool j (PictureOf i.shape) (take (picture_size i.shape) i.content) vs)).answer
+    one true = tt
+    one false = tt
+
+clone_answers : (s : ScriptData) (pool : List PoolEntry) (j : ℕ) (shape : Shape) (held : Option Reference) (vs : List (Option Medium)) → FitsResult s (clone_held pool j shape held vs).answer
+clone_answers s pool j shape None vs = tt
+clone_answers s pool j shape (Some r) vs = tt
+
+transfer_answers : (s : ScriptData) (j of : ℕ) (m : Medium) (held : Option Reference) (vs : List (Option Medium)) → FitsResult s (transfer_held j of m held vs).answer
+transfer_answers s j of m None vs = tt
+transfer_answers s j of m (Some r) vs = tt
+
+close_answers : (s : ScriptData) (pool : List PoolEntry) (who : Who) (of : ℕ) (m : Medium) (held : Option Reference) (vs : List (Option Medium)) → FitsResult s (close_held pool who of m held vs).answer
+close_answers s pool who of m None vs = tt
+close_answers s pool who of m (Some r) vs = tt
+
+copy_answers : (s : ScriptData) (chunk : Option Chunk) (of : ℕ) (o : Options) (size : ℕ) (vs : List (Option Medium)) → IsChunkOfBytes chunk → size ≤ most_chunk → AreVariables vs → FitsResult s (copy_came chunk of o size vs).answer
+copy_answers s chunk of options.Nothing size vs small few h = chunk_answers s chunk size few small
+copy_answers s chunk of (options.Audio o) size vs small few h = there_answers s (medium_at vs of) vs _ (medium_within vs of h) (λ m own. copies_fit s m.shape m.held (options.Audio o) size few own)
+copy_answers s chunk of (options.Frame o) size vs small few h = there_answers s (medium_at vs of) vs _ (medium_within vs of h) (λ m own. copies_fit s m.shape m.held (options.Frame o) size few own)
+
+media_answers : (s : ScriptData) (pool : List PoolEntry) (who : Who) (chunk : Option Chunk) (x : MediaStep) (vs : List (Option Medium)) → IsChunkOfBytes chunk → IsSizeSmall x → AreVariables vs → IsAnswerWithin s (media_came pool who chunk x vs)
+media_answers s pool who chunk (media.Audio bind init) vs small few h = audio_answers s pool who.step init vs
+media_answers s pool who chunk (media.Frame bind init) vs small few h = picture_answers s pool who.step init vs
+media_answers s pool who chunk (media.Encode on content) vs small few h = tt
+media_answers s pool who chunk (media.Take on bind kind) vs small few h = tt
+media_answers s pool who chunk (media.Clone of bind) vs small few h = there_answers s (medium_at vs of.step) vs _ (medium_within vs of.step h) (λ m own. clone_answers s pool who.step m.shape m.held vs)
+media_answers s pool who chunk (media.Transfer of bind) vs small few h = there_answers s (medium_at vs of.step) vs _ (medium_within vs of.step h) (λ m own. transfer_answers s who.step of.step m m.held vs)
+media_answers s pool who chunk (media.CloseData of) vs small few h = there_answers s (medium_at vs of.step) vs _ (medium_within vs of.step h) (λ m own. close_answers s pool who of.step m m.held vs)
+media_answers s pool who chunk (media.Copy of o size) vs small few h = copy_answers s chunk of.step o size vs small few h
+media_answers s pool who chunk (media.Size of o) vs small few h = there_answers s (medium_at vs of.step) vs _ (medium_within vs of.step h) (λ m own. sizes_fit s m.shape m.held o)
+
+-- ---- a caller's steps
+
+-- what has to be known of the steps on media: their frames' contents, the chunks that they copy, and their sizes
+pub record AreSteps (steps : ℕ → List Step) (chunks : ℕ → MediaStep → Option Chunk) : Type 0 where
+  pub contents : (c j : ℕ) (x : MediaStep) → slice_get (steps c) j ≡ Some (step.Media x) → IsContentWithin x
+  pub copied : (c : ℕ) (x : MediaStep) → IsChunkOfBytes (chunks c x)
+  pub sizes : (c j : ℕ) (x : MediaStep) → slice_get (steps c) j ≡ Some (step.Media x) → IsSizeSmall x
+
+media_of_is : (x : Step) (m : MediaStep) → media_of x ≡ Some m → x ≡ step.Media m
+media_of_is (step.Media x) m is = cc
+media_of_is x m is = absurd cc
+
+media_is : (o : Option Step) (m : MediaStep) → option_and_then media_of o ≡ Some m → o ≡ Some (step.Media m)
+media_is None m is = absurd cc
+media_is (Some x) m is = ap (λ (y : Step). Some y) (media_of_is x m is)
+
+variables_kept : (o : Option Came) (vs : List (Option Medium)) → IsCameWithin o → AreVariables vs → AreVariables (variables_by o vs)
+variables_kept None vs own h = h
+variables_kept (Some y) vs own h = own
+
+came_on_within : (steps : ℕ → List Step) (chunks : ℕ → MediaStep → Option Chunk) (pool : List PoolEntry) (c j : ℕ) (vs : List (Option Medium)) → AreSteps steps chunks → AreVariables vs → IsCameWithin (came_on steps chunks pool c j vs)
+came_on_within steps chunks pool c j vs given h = one (option_and_then media_of (slice_get (steps c) j)) (λ x is. given.contents c j x (media_is (slice_get (steps c) j) x is))
+  where
+    one : (o : Option MediaStep) → ((x : MediaStep) → o ≡ Some x → IsContentWithin x) → IsCameWithin (option_and_then (λ x. media_came (before_step c j pool) (step_by c j) (chunks c x) x vs) o)
+    one None own = tt
+    one (Some x) own = came_within (before_step c j pool) (step_by c j) (chunks c x) x vs (own x refl) h
+
+-- what a caller's variables hold after so many of its steps
+pub variables_within : (steps : ℕ → List Step) (chunks : ℕ → MediaStep → Option Chunk) (pool : List PoolEntry) (c j : ℕ) → AreSteps steps chunks → AreVariables (variables_in steps chunks pool c j)
+variables_within steps chunks pool c zero given = tt
+variables_within steps chunks pool c (suc j) given =
+    let h = variables_within steps chunks pool c j given in
+    let vs = variables_in steps chunks pool c j in
+    variables_kept (came_on steps chunks pool c j vs) vs (came_on_within steps chunks pool c j vs given h) h
+
+pub came_answers : (s : ScriptData) (steps : ℕ → List Step) (chunks : ℕ → MediaStep → Option Chunk) (pool : List PoolEntry) (c j : ℕ) → AreSteps steps chunks → IsAnswerWithin s (came_in steps chunks pool c j)
+came_answers s steps chunks pool c j given = one (option_and_then media_of (slice_get (steps c) j)) (λ x is. given.sizes c j x (media_is (slice_get (steps c) j) x is))
+  where
+    one : (o : Option MediaStep) → ((x : MediaStep) → o ≡ Some x → IsSizeSmall x) → IsAnswerWithin s (option_and_then (λ x. media_came (before_step c j pool) (step_by c j) (chunks c x) x (variables_in steps chunks pool c j)) o)
+    one None few = tt
+    one (Some x) few = media_answers s (before_step c j pool) (step_by c j) (chunks c x) x (variables_in steps chunks pool c j) (given.copied c x) (few x refl) (variables_within steps chunks pool c j given)
+
+-- the answer of a step on media
+pub media_fits : (s : ScriptData) (o : Option Came) (r : StepResult) → IsAnswerWithin s o → IsMediaAnswer o r → FitsResult s r
+media_fits s None r within is = absurd is
+media_fits s (Some y) r within is = subst (FitsResult s) (sym is) within

@@ -1,0 +1,141 @@
+-- What the history of a pool that callers' steps account for holds is within its types.
+use Rattle.std.proofs.Common.{ℕ, zero, suc, ◌≡◌, ◌<◌, ◌≤◌, ◌+◌, ◌^◌, not, Bool, true, false, cond, List, [], ◌∷◌, ◌++◌, length, length-append, Option, Some, None, refl, ap, sym, subst, ◌∙◌, arith, append_assoc, append-nil, eq-eqb}
+use Rattle.std.specs.Prelude.{nat_lt, slice_get, ◌==◌}
+use Rattle.std.specs.List.{AllByRecursion}
+use Rattle.std.proofs.lemmas.Bool.{and_parts, and_from, eqb-true, ltb-true}
+use Rattle.std.proofs.lemmas.List.Sums.{count_by-le-length}
+use Rattle.wc_base.specs.declared.who.By.{By}
+use Rattle.wc_base.specs.declared.who.By.TheVariants as by
+use Rattle.wc_chunk.specs.declared.chunk.Chunk.{Chunk}
+use Rattle.wc_pool.specs.declared.entry.PoolEntry.{PoolEntry}
+use Rattle.wc_pool.specs.declared.entry.PoolOp.{PoolOp}
+use Rattle.wc_pool.specs.declared.entry.PoolOp.TheVariants as op
+use Rattle.wc_pool.specs.Bag.{makes, mints, resource_of, is_number, is_live, resources_made, references_made, references_of, is_held, held_in, count_below, is_legal_next, is_legal_from, is_legal_pool}
+use Rattle.wc_pool.specs.Laws.{LiveAreNumbered}
+use Rattle.script_types.specs.declared.script.ScriptData.{ScriptData}
+use Rattle.script_types.specs.declared.steps.MediaStep.{MediaStep}
+use Rattle.script_types.specs.declared.steps.Step.{Step}
+use Rattle.media_variables.specs.Variables.{Came}
+use Rattle.media_accounts.specs.Accounts.{is_by_step, ops_by, owes, IsOfCaller, MediaAreIn, came_in}
+use Rattle.trace_text.specs.Report.{lines_from, pool_lines}
+use Rattle.report_lines.specs.Fits.{FitsBy, FitsPoolOp, FitsLine}
+
+-- ---- counts
+
+one_if : (b : Bool) → cond b 1 0 ≤ 1
+one_if true = omega arith
+one_if false = omega arith
+
+count_small : (p : ℕ → Bool) (n : ℕ) → count_below p n ≤ n
+count_small p zero = omega arith
+count_small p (suc n) = omega (arith, count_small p n, one_if (p n))
+
+-- a number that passes a test
+record Passes (p : ℕ → Bool) : Type 0 where
+  number : ℕ
+  passes : p number ≡ true
+
+count_exists : (p : ℕ → Bool) (n : ℕ) → (count_below p n ≡ 0 → ⊥) → Passes p
+count_exists p zero some = absurd (some refl)
+count_exists p (suc n) some = one (p n) refl some (count_exists p n)
+  where
+    one : (b : Bool) → p n ≡ b → (count_below p n + cond b 1 0 ≡ 0 → ⊥) → ((count_below p n ≡ 0 → ⊥) → Passes p) → Passes p
+    one true is any rest = record { number = n; passes = is }
+    one false is any rest = rest (λ none. any (omega (arith, none)))
+
+-- ---- what an entry does
+
+number_is : (o : Option ℕ) (r : ℕ) → is_number o r ≡ true → o ≡ Some r
+number_is None r h = absurd cc
+number_is (Some k) r h = ap (λ (n : ℕ). Some n) (eqb-true k r h)
+
+live_is : (r f : ℕ) (h : List PoolEntry) → is_live r f h ≡ true → resource_of f h ≡ Some r
+live_is r f h e = number_is (resource_of f h) r e
+
+-- a resource that is held has a number below the next one
+held_small : LiveAreNumbered → (r : ℕ) (h : List PoolEntry) → is_legal_pool h ≡ true → is_held r h ≡ true → r < resources_made h
+held_small numbered r h legal held =
+    let some : references_of r h ≡ 0 → ⊥ = λ none. (let bad : false ≡ true = sym (ap not (eq-eqb (references_of r h) 0 none)) ∙ held in cc) in
+    let one = count_exists (λ f. is_live r f h) (references_made h) some in
+    (numbered h one.number r legal (live_is r one.number h one.passes)).1
+
+op_fits : LiveAreNumbered → (h : List PoolEntry) (cause : By) (o : PoolOp) → length h < 2 ^ 64 → is_legal_pool h ≡ true → is_legal_next h (record { by = cause; op = o }) ≡ true → FitsPoolOp o
+op_fits numbered h cause (op.Make r f) few legal next =
+    let parts = and_parts (r == resources_made h) (f == references_made h) next in
+    (omega (arith, few, count_by-le-length makes h, eqb-true r (resources_made h) parts.0), omega (arith, few, count_by-le-length mints h, eqb-true f (references_made h) parts.1))
+op_fits numbered h cause (op.Clone r f) few legal next =
+    let parts = and_parts (is_held r h) (f == references_made h) next in
+    (omega (arith, few, count_by-le-length makes h, held_small numbered r h legal parts.0), omega (arith, few, count_by-le-length mints h, eqb-true f (references_made h) parts.1))
+op_fits numbered h cause (op.End r f last) few legal next =
+    let parts = and_parts (is_live r f h) _ next in
+    let below = numbered h f r legal (live_is r f h parts.0) in
+    (omega (arith, few, count_by-le-length makes h, below.1), omega (arith, few, count_by-le-length mints h, below.0))
+
+-- ---- a legal history
+
+legal_more : (before l : List PoolEntry) (e : PoolEntry) → is_legal_from before l ≡ true → is_legal_next (before ++ l) e ≡ true → is_legal_from before (l ++ e ∷ []) ≡ true
+legal_more before [] e legal next = and_from (is_legal_next before e) true (ap (λ (h : List PoolEntry). is_legal_next h e) (sym (append-nil before)) ∙ next) refl
+legal_more before (d ∷ ds) e legal next =
+    let parts = and_parts (is_legal_next before d) (is_legal_from (before ++ d ∷ []) ds) legal in
+    and_from (is_legal_next before d) (is_legal_from (before ++ d ∷ []) (ds ++ e ∷ [])) parts.0
+    (legal_more (before ++ d ∷ []) ds e parts.1 (ap (λ (h : List PoolEntry). is_legal_next h e) (append_assoc before (d ∷ []) ds) ∙ next))
+
+ops_fit : LiveAreNumbered → (before rest : List PoolEntry) → length before + length rest < 2 ^ 64 → is_legal_pool before ≡ true → is_legal_from before rest ≡ true
+    → (n : ℕ) (e : PoolEntry) → slice_get rest n ≡ Some e → FitsPoolOp e.op
+ops_fit numbered before [] few legal more n e is = absurd cc
+ops_fit numbered before (d ∷ ds) few legal more zero e is =
+    let parts = and_parts (is_legal_next before d) (is_legal_from (before ++ d ∷ []) ds) more in
+    let same : d ≡ e = cc in
+    subst (λ (x : PoolEntry). FitsPoolOp x.op) same (op_fits numbered before d.by d.op (omega (arith, few)) legal parts.0)
+ops_fit numbered before (d ∷ ds) few legal more (suc n) e is =
+    let parts = and_parts (is_legal_next before d) (is_legal_from (before ++ d ∷ []) ds) more in
+    ops_fit numbered (before ++ d ∷ []) ds (omega (arith, few, length-append before (d ∷ []))) (legal_more [] before d legal parts.0) parts.1 n e is
+
+-- the numbers of a legal history's entries, where it has fewer than 2 ^ 64
+pub pool_ops_fit : LiveAreNumbered → (pool : List PoolEntry) → length pool < 2 ^ 64 → is_legal_pool pool ≡ true → (n : ℕ) (e : PoolEntry) → slice_get pool n ≡ Some e → FitsPoolOp e.op
+pool_ops_fit numbered pool few legal n e is = ops_fit numbered [] pool (omega (arith, few)) refl legal n e is
+
+pub held_up_to : (pool : List PoolEntry) → held_in pool ≤ length pool
+held_up_to pool = omega (arith, count_small (λ r. is_held r pool) (resources_made pool), count_by-le-length makes pool)
+
+-- ---- whose entries they are
+
+-- a step that has an entry did something
+ops_some : (c j n : ℕ) (pool : List PoolEntry) (e : PoolEntry) → slice_get pool n ≡ Some e → is_by_step c j e.by ≡ true → ops_by c j pool ≡ [] → ⊥
+ops_some c j n [] e is own none = absurd cc
+ops_some c j zero (d ∷ ds) e is own none =
+    let same : d ≡ e = cc in
+    let its : is_by_step c j d.by ≡ true = ap (λ (x : PoolEntry). is_by_step c j x.by) same ∙ own in
+    let bad : d.op ∷ ops_by c j ds ≡ [] = sym (ap (λ (b : Bool). cond b (d.op ∷ ops_by c j ds) (ops_by c j ds)) its) ∙ none in
+    absurd cc
+ops_some c j (suc n) (d ∷ ds) e is own none = next (is_by_step c j d.by) none (λ rest. ops_some c j n ds e is own rest)
+  where
+    next : (b : Bool) → cond b (d.op ∷ ops_by c j ds) (ops_by c j ds) ≡ [] → (ops_by c j ds ≡ [] → ⊥) → ⊥
+    next true some more = absurd cc
+    next false rest more = more rest
+
+owing : (b : Bool) (y : Option Came) → (owes b y ≡ [] → ⊥) → b ≡ true
+owing true y some = refl
+owing false y some = absurd (some refl)
+
+-- a caller's step that was made
+abbrev pub IsMadeStep : (ℕ → ℕ) → By → Type 0
+IsMadeStep made (by.Caller who) = who.step < made who.caller
+IsMadeStep made (by.Codec k place) = ⊥
+
+pub entry_made : (steps : ℕ → List Step) (chunks : ℕ → MediaStep → Option Chunk) (made : ℕ → ℕ) (pool : List PoolEntry) → MediaAreIn steps chunks made pool → (n : ℕ) (e : PoolEntry) → slice_get pool n ≡ Some e → IsMadeStep made e.by
+entry_made steps chunks made pool h n e is = of (e.by) refl (h.callers n e is)
+  where
+    of : (b : By) → e.by ≡ b → IsOfCaller b → IsMadeStep made b
+    of (by.Caller who) its caller =
+        let own : is_by_step who.caller who.step e.by ≡ true =
+        ap (λ (b : By). is_by_step who.caller who.step b) its ∙ and_from (who.caller == who.caller) (who.step == who.step) (eq-eqb who.caller who.caller refl) (eq-eqb who.step who.step refl) in
+        ltb-true who.step (made who.caller)
+        (owing (nat_lt who.step (made who.caller)) (came_in steps chunks pool who.caller who.step) (λ none. ops_some who.caller who.step n pool e is own (h.owed who.caller who.step ∙ none)))
+    of (by.Codec k place) its caller = absurd caller
+
+-- ---- the lines
+
+pub pool_lines_fit : (s : ScriptData) (n : ℕ) (es : List PoolEntry) → n + length es < 2 ^ 64 → ((i : ℕ) (e : PoolEntry) → slice_get es i ≡ Some e → FitsBy s e.by × FitsPoolOp e.op) → AllByRecursion (FitsLine s) (lines_from pool_lines n es)
+pool_lines_fit s n [] few h = tt
+pool_lines_fit s n (e ∷ es) few h = let own = h 0 e refl in ((omega (arith, few), own.0, own.1), pool_lines_fit s (n + 1) es (omega (arith, few)) (λ i d is. h (suc i) d is))
