@@ -126,6 +126,18 @@ is_decoder kinds.AudioDecoder = true
 is_decoder kinds.AudioEncoder = false
 is_decoder kinds.VideoDecoder = true
 
+-- bytes of video that say that they are added to the picture before them (our choice: those that begin with 1)
+abbrev pub adds_to_picture : List ℕ → Bool
+adds_to_picture [] = false
+adds_to_picture (b ∷ bs) = b == 1
+
+-- A chunk with which a decoder can begin: a video decoder looks at the bytes too (W3C WebCodecs, 3.5 'Methods' of
+-- VideoDecoder, decode).
+abbrev pub is_key_chunk : Kind → Chunk → Bool
+is_key_chunk kinds.AudioDecoder chunk = chunk.key
+is_key_chunk kinds.AudioEncoder chunk = chunk.key
+is_key_chunk kinds.VideoDecoder chunk = chunk.key && not (adds_to_picture chunk.bytes)
+
 -- A call that was not refused queues its message and processes.
 abbrev pub with_message : ℕ → Work → Control → Control
 with_message place w s = process (record s { messages = s.messages ++ record { place = place; work = w } ∷ [] })

@@ -33,7 +33,7 @@ use Rattle.codec_model.specs.declared.entry.Call.{Call}
 use Rattle.codec_model.specs.declared.entry.Call.TheVariants as call
 use Rattle.codec_model.specs.declared.entry.Entry.{Entry}
 use Rattle.codec_model.specs.declared.entry.Entry.TheVariants as entry
-use Rattle.codec_model.specs.Control.{Control, opening_control, may_start, after_configure, after_decode, after_flush, start_front, done_running, at_next_place, after_removal, after_close, may_reclaim, run_front}
+use Rattle.codec_model.specs.Control.{Control, opening_control, is_key_chunk, may_start, after_configure, after_decode, after_flush, start_front, done_running, at_next_place, after_removal, after_close, may_reclaim, run_front}
 
 -- what the coder was given in one epoch: its last configuration, and the commands since
 pub record Given : Type 0 where
@@ -111,7 +111,7 @@ configure_error config c =
 abbrev pub decode_error : Chunk → Control → Option DomError
 decode_error chunk c = elim (c.phase) [
   | Unconfigured ↦ Some dom.InvalidState
-  | Configured ↦ (if c.key_required && not chunk.key then Some dom.Data else None)
+  | Configured ↦ (if c.key_required && not (is_key_chunk c.opening.kind chunk) then Some dom.Data else None)
   | Closed ↦ Some dom.InvalidState
 ]
 

@@ -5,7 +5,7 @@ ghost use Rattle.codec_model.specs.Control.{at_next_place, after_configure, afte
 ghost use Rattle.codec_model.specs.Shown.{IsAnswer, exception_of as the_exception, call_shows, removal_shows, reclaim_shows, turn_shows, turn_word, closes};
 
 use crate::queues::{
-    close_answer, codes_work, decodes, halts, keep_dequeues, kind_of_work, later, queue_end,
+    close_answer, codes_work, decodes, halts, is_key_chunk, keep_dequeues, kind_of_work, later, queue_end,
     remove_promise, reserve_places, room_for, schedule_dequeue, turn_answer,
 };
 use codec_model::{
@@ -173,7 +173,7 @@ impl Machine {
     }
 
     /// The error with which a call is refused: `TypeErr` for a config that is not valid, `InvalidState` in a state
-    /// without the call, `Data` where a key chunk is required.
+    /// without the call, `Data` where a key chunk is required, which a video decoder finds by the bytes too.
     pub fn error_of(&self, call: &Call) -> Option<DomError>
         ensures { result ≡ call_error call.now self.now }
     {
@@ -187,7 +187,7 @@ impl Machine {
             }
             Call::Decode(chunk) => match self.phase {
                 CodecState::Configured => {
-                    if self.key_required && !chunk.key {
+                    if self.key_required && !is_key_chunk(self.opening.kind, chunk) {
                         Some(DomError::Data)
                     } else {
                         None

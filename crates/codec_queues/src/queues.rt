@@ -2,6 +2,7 @@
 ghost use Rattle.std.specs.Prelude.{ℕ, ◌≡◌, ◌<◌, ◌≤◌, ◌*◌, ◌+◌, ◌^◌, ◌++◌, ◌∷◌, [], max, length, count_by, filter, not, ◌==◌, ◌&&◌, ◌||◌, if◌then◌else◌, unwrap_or, OnOk, IfOk, None, Some, true, false};
 ghost use Rattle.std.specs.VecDeque.{deque_len, deque_capacity};
 ghost use Rattle.codec_model.specs.Control.{is_coded, kind_of, is_decoder, is_dequeue, is_desaturate, refusal_of, with_ran, with_desaturate, with_output, with_end, halts};
+ghost use Rattle.codec_model.specs.Control as spec;
 ghost use Rattle.codec_model.specs.Shown.{IsAnswer, word_of_task, task_shows, close_shows, closes};
 ghost use Rattle.codec_queues.specs.Rising.{IsRising};
 
@@ -11,6 +12,7 @@ use codec_model::{
 use coder_api::Unit;
 use std::collections::VecDeque;
 use wc_base::{DomError, List, NoMemory};
+use wc_chunk::Chunk;
 
 pub fn codes_work(work: &Work) -> bool
     ensures { result ≡ is_coded work.now }
@@ -35,6 +37,26 @@ pub fn decodes(kind: Kind) -> bool
         Kind::AudioDecoder => true,
         Kind::AudioEncoder => false,
         Kind::VideoDecoder => true,
+    }
+}
+
+fn adds_to_picture(bytes: &[u8]) -> bool
+    ensures { result ≡ spec.adds_to_picture bytes.now }
+{
+    match bytes.first() {
+        Some(byte) => *byte == 1,
+        None => false,
+    }
+}
+
+/// Whether a codec of this kind can begin with a chunk.
+pub fn is_key_chunk(kind: Kind, chunk: &Chunk) -> bool
+    ensures { result ≡ spec.is_key_chunk kind chunk.now }
+{
+    match kind {
+        Kind::AudioDecoder => chunk.key,
+        Kind::AudioEncoder => chunk.key,
+        Kind::VideoDecoder => chunk.key && !adds_to_picture(&chunk.bytes),
     }
 }
 

@@ -15,7 +15,8 @@ use Rattle.script_types.specs.declared.steps.Step.TheVariants as step
 
 abbrev pub is_built_kind : Kind → Bool
 is_built_kind kind.AudioDecoder = true
-is_built_kind _ = false
+is_built_kind kind.AudioEncoder = false
+is_built_kind kind.VideoDecoder = true
 
 -- what a caller does with its own media is built; what hands them to a codec, and what takes a codec's outputs, is not
 abbrev pub is_built_media : MediaStep → Bool

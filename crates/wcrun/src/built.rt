@@ -9,7 +9,10 @@ use script_types::{CallerItem, CodecItem, Kind, MediaStep, Place, Script, Step};
 fn is_built_kind(kind: Kind) -> bool
     ensures { result ≡ spec.is_built_kind kind }
 {
-    kind == Kind::AudioDecoder
+    match kind {
+        Kind::AudioDecoder | Kind::VideoDecoder => true,
+        Kind::AudioEncoder => false,
+    }
 }
 
 fn is_built_media(step: &MediaStep) -> bool

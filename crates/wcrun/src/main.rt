@@ -23,6 +23,7 @@ use calls::want_memory;
 use coder_api::CoderBox;
 use flac_decode::FlacDecoder;
 use g711::Law;
+use raw_video::RawVideo;
 pub use refusal::Refusal;
 use sample_coder::{Coding, SampleCoder};
 use sample_conversion::SampleSize;
@@ -30,7 +31,7 @@ use std::alloc::Global;
 use std::process::ExitCode;
 use std::rt::Env;
 use std::{env, io};
-use wc_base::{Output, SystemFiles};
+use wc_base::{Output, PictureFormat, SystemFiles};
 use wc_config::{CodecId, Role};
 
 // How many boxes of each coder there are.
@@ -56,6 +57,7 @@ const CODECS: [CodecId; 11] = [
 enum CoderKind {
     Samples(Coding),
     FlacDecoder,
+    RawVideo(PictureFormat),
 }
 
 // The coder of a role and a codec: each codec has an arm here, and None says that its coder is not built.
@@ -71,7 +73,18 @@ fn kind_of(role: Role, codec: CodecId) -> Option<CoderKind> {
             Role::Decode => Some(CoderKind::FlacDecoder),
             Role::Encode => None,
         },
-        CodecId::RawI420 | CodecId::RawI422 | CodecId::RawI444 | CodecId::RawNv12 => None,
+        CodecId::RawI420 => raw_video(role, PictureFormat::I420),
+        CodecId::RawI422 => raw_video(role, PictureFormat::I422),
+        CodecId::RawI444 => raw_video(role, PictureFormat::I444),
+        CodecId::RawNv12 => raw_video(role, PictureFormat::Nv12),
+    }
+}
+
+// Raw video is decoded alone.
+fn raw_video(role: Role, format: PictureFormat) -> Option<CoderKind> {
+    match role {
+        Role::Decode => Some(CoderKind::RawVideo(format)),
+        Role::Encode => None,
     }
 }
 
@@ -110,6 +123,12 @@ fn main(rt: HostRuntime) -> ExitCode {
                         Ok(coder) => CoderBox::of(coder),
                         Err(_) => return ExitCode::from(want_memory(&mut sink)),
                     },
+                    Some(CoderKind::RawVideo(format)) => {
+                        match Box::new(alloc, RawVideo::new(format)) {
+                            Ok(coder) => CoderBox::of(coder),
+                            Err(_) => return ExitCode::from(want_memory(&mut sink)),
+                        }
+                    }
                     None => continue,
                 };
                 if coders.push(coder).is_err() {
