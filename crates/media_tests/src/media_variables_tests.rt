@@ -6,8 +6,8 @@ use bytes::Bytes;
 use media_variables::CallerMedia;
 use report_text::StepResult;
 use script_types::{
-    AudioOptions, CallerItem, FormatWord, FrameOptions, LayoutWords, MediaStep, Options, PictureInit,
-    RectWords, SoundInit, Variable, VariableKind, copied,
+    AudioOptions, CallerItem, FormatWord, FrameOptions, LayoutWords, MediaStep, Options,
+    PictureInit, RectWords, SoundInit, Variable, VariableKind, copied,
 };
 use std::alloc::Global;
 use std::process::Abort;
@@ -225,11 +225,13 @@ fn is_answer(answer: &Option<StepResult>, wanted: Wanted) -> bool {
             *count == n && bytes.as_slice() == to
         }
         (
-            Some(StepResult::CopiedFrame {
-                count,
-                layouts,
-                bytes,
-            }),
+            Some(
+                StepResult::CopiedFrame {
+                    count,
+                    layouts,
+                    bytes,
+                },
+            ),
             Wanted::CopiedFrame(n, planes, to),
         ) => *count == n && *layouts == planes && bytes.as_slice() == to,
         (None, Wanted::Nothing) => true,
@@ -405,15 +407,31 @@ fn each_kind_of_step_is_answered(rt: HostRuntime) -> Result<(), Fail> {
         (0, Act::Audio(Some(SOUND)), Wanted::Done),
         (0, Act::Clone(0), Wanted::Done),
         (0, Act::Transfer(0), Wanted::Done),
-        (0, Act::CopyAudio(2, plain(0, None), 8), Wanted::Copied(8, SOUND)),
-        (0, Act::CopyAudio(1, plain(1, plane), 6), Wanted::Copied(4, &[2, 0, 4, 0, 0, 0])),
-        (0, Act::CopyAudio(2, plain(0, u8s), 4), Wanted::Copied(4, &[128, 128, 128, 128])),
+        (
+            0,
+            Act::CopyAudio(2, plain(0, None), 8),
+            Wanted::Copied(8, SOUND),
+        ),
+        (
+            0,
+            Act::CopyAudio(1, plain(1, plane), 6),
+            Wanted::Copied(4, &[2, 0, 4, 0, 0, 0]),
+        ),
+        (
+            0,
+            Act::CopyAudio(2, plain(0, u8s), 4),
+            Wanted::Copied(4, &[128, 128, 128, 128]),
+        ),
         (0, Act::SizeAudio(1, plain(0, s32s)), Wanted::Size(16)),
         (0, Act::CloseData(2), Wanted::Done),
         (0, Act::CloseData(2), Wanted::Done),
         (1, Act::Frame(Some(PICTURE)), Wanted::Done),
         (1, Act::SizeFrame(9, None), Wanted::Size(17)),
-        (1, Act::CopyFrame(9, None, &[], 17), Wanted::CopiedFrame(17, tight, PICTURE)),
+        (
+            1,
+            Act::CopyFrame(9, None, &[], 17),
+            Wanted::CopiedFrame(17, tight, PICTURE),
+        ),
         (
             1,
             Act::CopyFrame(9, rect(2, 2, 1, 1), &[], 4),
@@ -428,7 +446,11 @@ fn each_kind_of_step_is_answered(rt: HostRuntime) -> Result<(), Fail> {
         (1, Act::CloseData(9), Wanted::Done),
         (1, Act::Transfer(14), Wanted::Done),
         (1, Act::SizeFrame(16, rect(2, 0, 1, 1)), Wanted::Size(3)),
-        (1, Act::CopyChunk(Some(&[1, 2]), 3), Wanted::Copied(2, &[1, 2, 0])),
+        (
+            1,
+            Act::CopyChunk(Some(&[1, 2]), 3),
+            Wanted::Copied(2, &[1, 2, 0]),
+        ),
         (0, Act::Take, Wanted::Nothing),
     ];
     let entries = [
