@@ -23,7 +23,8 @@ pub fn names_of_sound_scripts()
 /// script with the same report are equal, whatever boxes were made for each.
 ///
 /// That holds where the script's moments, rates, channels, sizes, timestamps and durations, and those of its chunk files,
-/// are within their types, and the boxes are fewer than 2^64 (`AreWithin`): nothing is asked of the run itself.
+/// are within their types, what its chunks and frames hold is bytes, and the boxes are fewer than 2^64 (`AreWithin`): nothing is
+/// asked of the run itself.
 pub fn legal_runs_are_told()
     ensures told { LegalRunsAreTold }
     ensures determine { LegalReportsDetermineRuns }
