@@ -5,9 +5,9 @@ use coder_api::Unit;
 use std::alloc::{AllocError, Global};
 use std::process::Abort;
 use std::test::Fail;
-use wc_base::{List, SampleFormat, Samples, SoundShape, Text};
+use wc_base::{DomError, List, SampleFormat, Samples, SoundShape, Text};
 use wc_chunk::Chunk;
-use wc_config::{AudioDecoderConfig, Config};
+use wc_config::{AudioDecoderConfig, Config, VideoDecoderConfig};
 
 fn pcm(alloc: Global) -> Result<Call, AllocError> {
     Ok(Call::Configure(Config::AudioDecoder(AudioDecoderConfig {
@@ -129,5 +129,63 @@ fn ordinary_run(rt: HostRuntime) -> Result<(), Fail> {
     assert!(rt; ordinary(alloc, &mut machine)?);
     delivers(&rt, alloc, &mut machine)?;
     ended(&rt, &machine);
+    Ok(())
+}
+
+fn raw_video(alloc: Global) -> Result<Call, AllocError> {
+    Ok(Call::Configure(Config::VideoDecoder(VideoDecoderConfig {
+        codec: Text::of(String::from_str(alloc, "x-raw-i420")?),
+        width: Some(1),
+        height: Some(1),
+        aspect_width: None,
+        aspect_height: None,
+    })))
+}
+
+fn decode(alloc: Global, key: bool, bytes: &[u8]) -> Result<Call, AllocError> {
+    Ok(Call::Decode(Chunk {
+        key,
+        timestamp: 0,
+        duration: None,
+        bytes: Bytes::from_vec(Vec::from_slice(alloc, bytes)?)?,
+    }))
+}
+
+// Compares whether each chunk is refused.
+fn each_is_refused(
+    rt: &impl Abort,
+    alloc: Global,
+    machine: &Machine,
+    rows: &[(bool, &[u8], bool)],
+) -> Result<(), AllocError> {
+    for (key, bytes, refused) in rows {
+        let error = machine.error_of(&decode(alloc, *key, bytes)?);
+        assert_eq!(rt; error, refused.then_some(DomError::Data));
+    }
+    Ok(())
+}
+
+#[test]
+fn key_chunks_of_video_are_looked_at(rt: HostRuntime) -> Result<(), Fail> {
+    let alloc = rt.alloc();
+    let opening = Opening {
+        kind: Kind::VideoDecoder,
+        saturation: 4,
+    };
+    let mut machine = Machine::open(alloc, opening).expect(&rt, "a machine");
+    assert!(rt; call(&mut machine, raw_video(alloc)?));
+    let wanted: [(bool, &[u8], bool); 7] = [
+        (true, &[0, 1, 2, 3], false),
+        (true, &[1, 1, 2, 3], true),
+        (true, &[1], true),
+        (true, &[2], false),
+        (true, &[], false),
+        (false, &[0, 1, 2, 3], true),
+        (false, &[], true),
+    ];
+    each_is_refused(&rt, alloc, &machine, &wanted)?;
+    assert!(rt; call(&mut machine, decode(alloc, true, &[0, 1, 2, 3])?));
+    let not_wanted: [(bool, &[u8], bool); 2] = [(true, &[1], false), (false, &[1], false)];
+    each_is_refused(&rt, alloc, &machine, &not_wanted)?;
     Ok(())
 }

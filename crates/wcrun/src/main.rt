@@ -17,6 +17,8 @@ mod refusal;
 mod rows;
 #[cfg(test)]
 mod tests;
+#[cfg(test)]
+mod video_rows;
 
 pub use calls::top;
 use calls::want_memory;

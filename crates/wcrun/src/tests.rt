@@ -3,12 +3,13 @@ use crate::top;
 use coder_api::CoderBox;
 use flac_decode::FlacDecoder;
 use g711::Law;
+use raw_video::RawVideo;
 use sample_coder::{Coding, SampleCoder};
 use sample_conversion::SampleSize;
 use std::alloc::Global;
 use std::process::Abort;
 use std::test::Fail;
-use wc_base::{MemFiles, MemSink};
+use wc_base::{MemFiles, MemSink, PictureFormat};
 use wc_config::Role;
 
 const ORDINARY: &str =
@@ -108,7 +109,7 @@ held 0
 end
 ";
 
-// Ends a call on files that hold one script, with these reads and writes failing, and with three coders.
+// Ends a call on files that hold one script, with these reads and writes failing, and with seven coders.
 pub(crate) fn call(
     alloc: Global,
     file: Vec<u8>,
@@ -140,6 +141,14 @@ pub(crate) fn call_on(
         coders.push(CoderBox::of(coder))?;
     }
     coders.push(CoderBox::of(Box::new(alloc, FlacDecoder::new(alloc))?))?;
+    for format in [
+        PictureFormat::I420,
+        PictureFormat::I422,
+        PictureFormat::I444,
+        PictureFormat::Nv12,
+    ] {
+        coders.push(CoderBox::of(Box::new(alloc, RawVideo::new(format))?))?;
+    }
     let status = top(alloc, &given, &mut files, &mut sink, coders);
     Ok((status, sink))
 }
