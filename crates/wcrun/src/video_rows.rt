@@ -299,7 +299,8 @@ end
 
 // A picture of each format, of odd sizes: halves are rounded up, so that 3 by 3 pixels have 9, 4 and 4 bytes in I420 and 9, 6
 // and 6 in I422, 3 by 1 have 3 times 3 in I444, and 1 by 3 have 3 and 4 in NV12.
-const EACH_FORMAT: &str = r#"{"codecs":[{"name":"d","kind":"video-decoder"},{"name":"e","kind":"video-decoder"},
+const EACH_FORMAT: &str =
+    r#"{"codecs":[{"name":"d","kind":"video-decoder"},{"name":"e","kind":"video-decoder"},
 {"name":"f","kind":"video-decoder"},{"name":"g","kind":"video-decoder"}],"callers":[{"name":"a","steps":[
 {"do":"configure","on":"d","config":{"codec":"x-raw-i420","codedWidth":3,"codedHeight":3}},
 {"do":"chunk","as":"d","init":{"type":"key","timestamp":-1,"data":"000102030405060708090a0b0c0d0e0f1011"}},
