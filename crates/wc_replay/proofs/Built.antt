@@ -1,5 +1,5 @@
 -- A script in which nothing is at fault can be played.
-use Rattle.std.proofs.Common.{ℕ, zero, suc, ◌≡◌, ◌<◌, true, List, [], ◌∷◌, ◌++◌, take, Option, Some, None, refl, ap, sym, subst, ◌∙◌, arith}
+use Rattle.std.proofs.Common.{ℕ, ◌≡◌, ◌<◌, true, List, [], ◌∷◌, ◌++◌, take, Option, Some, None, refl, arith}
 use Rattle.std.specs.Prelude.{length, slice_get, unwrap_or}
 use Rattle.std.specs.List.{list_all}
 use Rattle.std.proofs.lemmas.Bool.{and_parts, and_from, ltb-true}
@@ -21,6 +21,10 @@ few_before : (s : ScriptData) (c j : ℕ) (x : Step) → is_sound s ≡ true →
 few_before s c j x h is =
     let there = stands_in s.callers c j x is in
     omega (arith, few_steps s c there.caller h there.is_caller, slice_get_within there.caller.steps j x there.is_step)
+
+-- a caller that has a step is one of the script's
+pub caller_within : (s : ScriptData) (c j : ℕ) (x : Step) → step_in s c j ≡ Some x → c < length s.callers
+caller_within s c j x is = let there = stands_in s.callers c j x is in slice_get_within s.callers c there.caller there.is_caller
 
 -- ---- what steps name
 

@@ -27,7 +27,7 @@ use Rattle.codec_model.specs.declared.entry.Work.{Work}
 use Rattle.codec_model.specs.Control.{Control, kind_of, front, start_item, may_start, may_reclaim}
 use Rattle.codec_model.specs.Replay.{State, missing_coder, entry_of, removal_entry, removal_error, answer_to, turn_step}
 use Rattle.codec_core.specs.Codec.{Codec, item_parts, state_at, Makes, KeepsRunning, kept_box, handed_back, closes_now}
-use Rattle.codec_core.specs.Owning.{asked_of, IsOwnJob, KeepsAsked}
+use Rattle.codec_core.specs.Owning.{IsOwnJob, KeepsAsked}
 use Rattle.codec_core.specs.Job.{JobValue, DoneValue, IsJobOf, EndsBy, outcome_of, stopped_box, missing_id}
 use Rattle.codec_accounts.specs.Boxes.{Act, Other, act_of, lacking, start_act, removal_act, closes_codec}
 use Rattle.codec_accounts.specs.Registry.{BoxOut}

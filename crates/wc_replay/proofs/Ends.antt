@@ -12,6 +12,7 @@ use Rattle.trace_text.specs.declared.run.CallerTrace.{CallerTrace}
 use Rattle.trace_text.specs.declared.run.CodecTrace.{CodecTrace}
 use Rattle.trace_text.specs.declared.run.Run.{Run}
 use Rattle.report_text.specs.declared.result.StepResult.{StepResult}
+use Rattle.wc_pool.specs.declared.entry.PoolEntry.{PoolEntry}
 use Rattle.trace_text.specs.Fits.{FollowsTheOrder, recorded_of}
 use Rattle.codec_accounts.specs.Codec.{CodecValue, histories}
 use Rattle.trace_text.specs.Follow.{order_items, Recorded, Course, record_of, Follows, nothing_yet}
@@ -38,12 +39,12 @@ entries_again (d ∷ ds) = ap (λ (l : List (List Entry)). d.history ∷ l) (ent
 
 run_recorded : (v : Course) (run : Run) → IsRunOf v run → recorded_of run ≡ record_of v
 run_recorded v run is =
-    same _ _ _ _ run.slots v.slots.history
+    same _ _ _ _ run.pool v.media.pool run.slots v.slots.history
     (ap (λ (cs : List CallerTrace). map (λ (c : CallerTrace). c.results) cs) is.callers ∙ results_again v.callers)
-    (ap (λ (ts : List CodecTrace). map (λ (t : CodecTrace). t.entries) ts) is.codecs ∙ entries_again v.codecs) is.slots
+    (ap (λ (ts : List CodecTrace). map (λ (t : CodecTrace). t.entries) ts) is.codecs ∙ entries_again v.codecs) is.pool is.slots
   where
-    same : (a b : List (List StepResult)) (hs is : List (List Entry)) (s t : List SlotEntry) → a ≡ b → hs ≡ is → s ≡ t → ◌≡◌ {A = Recorded} (record { callers = a; codecs = hs; slots = s }) (record { callers = b; codecs = is; slots = t })
-    same a b hs is s t p q r = cc
+    same : (a b : List (List StepResult)) (hs is : List (List Entry)) (p q : List PoolEntry) (s t : List SlotEntry) → a ≡ b → hs ≡ is → p ≡ q → s ≡ t → ◌≡◌ {A = Recorded} (record { callers = a; codecs = hs; pool = p; slots = s }) (record { callers = b; codecs = is; pool = q; slots = t })
+    same a b hs is p q s t e f g h = cc
 
 pub run_follows : (s : ScriptData) (media : List (List Chunk)) (made : List CoderId) (v : Course) (run : Run) → Follows s media (order_items s) (nothing_yet s made) v → IsRunOf v run → FollowsTheOrder s media made run
 run_follows s media made v run follows is = record { course = v; follows = follows; is_recorded = run_recorded v run is }

@@ -7,6 +7,7 @@ use Rattle.codec_model.specs.declared.entry.Entry.{Entry}
 use Rattle.codec_model.specs.declared.entry.PromiseState.{PromiseState}
 use Rattle.codec_model.specs.declared.entry.PromiseState.TheVariants.{Pending}
 use Rattle.codec_accounts.specs.Codec.{CodecValue, codec_at}
+use Rattle.media_variables.specs.Variables.{Media}
 use Rattle.report_text.specs.declared.result.StepResult.{StepResult}
 use Rattle.report_text.specs.declared.result.StepResult.TheVariants as result
 use Rattle.trace_text.specs.Follow.{Course, after_move, advance, look_of_flush, promise_after}
@@ -49,11 +50,11 @@ set_same [] k = refl
 set_same (d ∷ ds) zero = refl
 set_same (d ∷ ds) (suc k) = ap (λ (l : List CodecValue). d ∷ l) (set_same ds k)
 
-same_course : (a : List (List StepResult)) (c d : List CodecValue) (s t : SlotsValue) → c ≡ d → s ≡ t → ◌≡◌ {A = Course} (record { callers = a; codecs = c; slots = s }) (record { callers = a; codecs = d; slots = t })
-same_course a c d s t p q = cc
+same_course : (a : List (List StepResult)) (m : Media) (c d : List CodecValue) (s t : SlotsValue) → c ≡ d → s ≡ t → ◌≡◌ {A = Course} (record { callers = a; codecs = c; media = m; slots = s }) (record { callers = a; codecs = d; media = m; slots = t })
+same_course a m c d s t p q = cc
 
 -- an entry of one codec, or none, is the move that it makes
 pub advance_is : (v : Course) (k : ℕ) (o : Option Entry) (codecs : List CodecValue) (slots : SlotsValue) → codecs ≡ slice_set v.codecs k (codec_by k o v.slots (codec_at k v.codecs)) → slots ≡ registry_by k o v.slots (codec_at k v.codecs)
-    → ◌≡◌ {A = Course} (record { callers = v.callers; codecs = codecs; slots = slots }) (after_move (advance k o) v)
-advance_is v k None codecs slots is went = same_course v.callers codecs v.codecs slots v.slots (is ∙ set_same v.codecs k) went
-advance_is v k (Some e) codecs slots is went = same_course v.callers codecs _ slots _ is went
+    → ◌≡◌ {A = Course} (record { callers = v.callers; codecs = codecs; media = v.media; slots = slots }) (after_move (advance k o) v)
+advance_is v k None codecs slots is went = same_course v.callers v.media codecs v.codecs slots v.slots (is ∙ set_same v.codecs k) went
+advance_is v k (Some e) codecs slots is went = same_course v.callers v.media codecs _ slots _ is went

@@ -14,6 +14,7 @@ use Rattle.codec_accounts.specs.Owed.{at}
 use Rattle.codec_accounts.specs.Codec.{CodecValue, codec_at}
 use Rattle.trace_text.specs.Follow.{Recorded, Course, opening_in, opening_at}
 use Rattle.trace_text.specs.Fits.{recorded_of, FollowsTheOrder, AreLegalTraces, IsLegalRun}
+use Rattle.wc_pool.specs.Bag.{held_in}
 use Rattle.order_laws.specs.Course.{IsCourse}
 use Rattle.wc_replay.specs.Player.{AreShownTraces, IsRunOf, trace_of}
 
@@ -30,13 +31,12 @@ legal_traces (c ∷ cs) (t ∷ ts) shown legal = (
   legal_traces cs ts shown.1 (λ k. legal (suc k)),
 )
 
--- A run that follows the order of a sound script, with traces that show what they must and nothing held, is legal.
+-- A run that follows the order of a sound script, with traces that show what they must and the count of what is held, is legal.
 pub legal_run_of : (s : ScriptData) (media : List (List Chunk)) (made : List CoderId) (run : Run) (follows : FollowsTheOrder s media made run) → IsCourse s made follows.course → ((k : ℕ) → IsLegal (opening_at s k) (at k (recorded_of run).codecs))
-    → AreShownTraces s.codecs run.codecs → run.pool ≡ [] → run.held ≡ 0 → IsLegalRun s run
-legal_run_of s media made run follows is legal shown pool held = record {
+    → AreShownTraces s.codecs run.codecs → run.held ≡ held_in run.pool → IsLegalRun s run
+legal_run_of s media made run follows is legal shown held = record {
   callers = sym (length-map run.callers (λ (c : CallerTrace). c.results)) ∙ (ap (λ (w : Recorded). length w.callers) follows.is_recorded ∙ is.callers);
   codecs = legal_traces s.codecs run.codecs shown legal;
-  pool = pool;
   held = held;
 }
 
@@ -49,3 +49,7 @@ shown_traces (c ∷ cs) (d ∷ ds) long openings = (record { opening = openings 
 
 pub run_shows : (s : ScriptData) (made : List CoderId) (v : Course) (run : Run) → IsCourse s made v → IsRunOf v run → AreShownTraces s.codecs run.codecs
 run_shows s made v run course is = subst (AreShownTraces s.codecs) (sym is.codecs) (shown_traces s.codecs v.codecs course.codecs course.openings)
+
+-- what is held, by the run's own pool
+pub run_holds : (v : Course) (run : Run) → IsRunOf v run → run.held ≡ held_in run.pool
+run_holds v run is = is.held ∙ ap held_in (sym is.pool)

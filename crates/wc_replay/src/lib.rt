@@ -2,6 +2,7 @@
 #![tactic(auto)]
 
 mod boxes;
+mod copied;
 mod desk;
 mod missing;
 mod moving;

@@ -1,9 +1,10 @@
 // Replays a script.
-ghost use Rattle.std.specs.Prelude.{◌≡◌, ◌≤◌, [], IfOk, OnOk, IsSome, None, map, length, true};
+ghost use Rattle.std.specs.Prelude.{◌≡◌, ◌≤◌, IfOk, OnOk, IsSome, None, map, length, true};
 ghost use Rattle.std.specs.List.{list_all};
 ghost use Rattle.trace_text.specs.Fits.{IsLegalRun, Fits, FollowsTheOrder};
 ghost use Rattle.trace_text.specs.Follow.{Follows, nothing_yet, opening_of, order_items};
 ghost use Rattle.trace_text.specs.Missing.{missing_in};
+ghost use Rattle.wc_pool.specs.Bag.{held_in};
 ghost use Rattle.wc_replay.specs.Player.{IsPlayable, is_openable, new_desk, new_results, trace_of, caller_trace, IsRunOf, AreShownTraces};
 ghost use Rattle.script_types.specs.Built.{unbuilt_in};
 
@@ -12,6 +13,7 @@ use crate::results::Results;
 use crate::steps::Player;
 use codec_model::Opening;
 use coder_api::Coder;
+use media_variables::CallerMedia;
 use order_laws::{following_fits, following_stands};
 use script_types::{CallerItem, CodecItem, OrderItem, Script, ScriptData};
 use slot_registry::Slots;
@@ -138,6 +140,7 @@ fn open_player<C: Coder>(
     Ok(Player {
         desks: open_desks(alloc, script.codecs.as_slice())?,
         callers: open_callers(alloc, script.callers.as_slice())?,
+        media: CallerMedia::open(alloc, script.callers.as_slice())?,
         slots: Slots::open(alloc, coders)?,
     })
 }
@@ -149,14 +152,16 @@ fn run_of<C: Coder>(alloc: Global, player: Player<C>) -> Result<Run, NoMemory>
     let Player {
         desks,
         callers,
+        media,
         slots,
     } = player;
+    let held = media.held();
     Ok(Run {
         callers: List::of(caller_traces(alloc, callers)?),
         codecs: List::of(codec_traces(alloc, desks)?),
-        pool: List::empty(alloc),
+        pool: List::of(media.into_entries()),
         slots: List::of(slots.into_entries()),
-        held: 0,
+        held,
     })
 }
 
@@ -172,7 +177,7 @@ fn play<C: Coder>(
     ensures follows { IfOk result
         (λ run. FollowsTheOrder script.now media.now (map C.coder coders.items) run) }
     ensures shows { IfOk result (λ run. AreShownTraces script.now.codecs run.codecs) }
-    ensures media { IfOk result (λ run. (run.pool ≡ []) × (run.held ≡ 0)) }
+    ensures held { IfOk result (λ run. run.held ≡ held_in run.pool) }
 {
     let mut player = open_player(alloc, script, coders)?;
     take_items(&mut player, alloc, script, media)?;

@@ -3,17 +3,20 @@ ghost use Rattle.std.specs.Prelude.{◌≡◌, ◌≤◌, ◌<◌, ℕ, Bool, fa
 ghost use Rattle.codec_accounts.specs.Codec.{codec_at, AreGivable};
 ghost use Rattle.codec_accounts.specs.Owed.{at};
 ghost use Rattle.trace_text.specs.Fits.{called};
-ghost use Rattle.trace_text.specs.Follow.{with_result, after_move, advance, item_entry, call_move, decode_move, removal_move, look_of_flush, look_of_state, step_move, follow_item, steps_of, source_error};
+ghost use Rattle.media_variables.specs.Variables.{media_came, variables_of};
+ghost use Rattle.trace_text.specs.Follow.{with_result, after_move, advance, item_entry, call_move, decode_move, media_move, removal_move, look_of_flush, look_of_state, step_move, follow_item, steps_of, source_error};
 ghost use Rattle.report_text.specs.declared.result.StepResult.TheVariants as came;
 ghost use Rattle.script_types.specs.declared.script.OrderItem.TheVariants as item;
 ghost use Rattle.wc_replay.specs.Player.{IsInRange, LooksInRange, IsPlayable, call_in};
 
+use crate::copied::copied_chunk;
 use crate::desk::{Answer, Desk};
 use crate::moving::{call_at, remove_at, take_at};
 use crate::results::{Results, made_by, note, result_of};
 use codec_model::{Call, PromiseState, Removal};
 use coder_api::Coder;
-use script_types::{ChunkSource, OrderItem, ScriptData, Step};
+use media_variables::CallerMedia;
+use script_types::{ChunkSource, MediaStep, OrderItem, ScriptData, Step};
 use slot_registry::Slots;
 use std::alloc::Global;
 use std::marker::Model;
@@ -21,11 +24,12 @@ use trace_text::{StepResult, find_chunk, steps_of};
 use wc_base::{DomError, List, NoMemory, Who};
 use wc_chunk::Chunk;
 
-/// The codecs, each caller's results so far, and the registry of the boxes.
+/// The codecs, each caller's results so far, the callers' media, and the registry of the boxes.
 #[derive(Drop)]
 pub(crate) struct Player<C: Coder> {
     pub(crate) desks: Vec<Desk<C>>,
     pub(crate) callers: Vec<Results>,
+    pub(crate) media: CallerMedia,
     pub(crate) slots: Slots<C>,
 }
 
@@ -34,7 +38,7 @@ impl<C: Coder> Model for Player<C> {
 
     ghost Value = { Course };
 
-    ghost view = { λ p. record { callers = p.callers.items; codecs = p.desks.items; slots = p.slots } };
+    ghost view = { λ p. record { callers = p.callers.items; codecs = p.desks.items; media = p.media; slots = p.slots } };
 }
 
 /// The exception of a chunk's init; a chunk of a file has none.
@@ -189,9 +193,33 @@ impl<C: Coder> Player<C> {
         note(&mut self.callers, who.caller, call_result(codec, answer))
     }
 
-    /// A step of a caller, one of these steps of its own. A step on media is not built, and makes nothing.
+    /// A step on media of a caller, and its answer; `chunk` is the one that the step copies, if it copies one. A step that
+    /// encodes or takes is not built, and makes nothing.
+    fn handle(
+        &mut self,
+        alloc: Global,
+        who: Who,
+        chunk: Option<Chunk>,
+        step: &MediaStep,
+    ) -> Result<(), NoMemory>
+        requires { who.caller < length self.old.media.variables }
+        ensures { OnOk result
+            (self.new
+            ≡ after_move
+            (media_move who
+            (media_came self.old.media.pool who chunk step.now
+            (variables_of who.caller self.old.media.variables))) self.old) }
+    {
+        match self.media.step(alloc, who, chunk, step)? {
+            Some(came) => note(&mut self.callers, who.caller, came),
+            None => Ok(()),
+        }
+    }
+
+    /// A step of a caller, one of these steps of its own.
     fn step(
         &mut self,
+        alloc: Global,
         media: &[List<Chunk>],
         steps: &[Step],
         who: Who,
@@ -201,6 +229,7 @@ impl<C: Coder> Player<C> {
         requires steps { steps_of script.now who.caller ≡ steps.now }
         requires range { (k : ℕ) → called step.now ≡ Some k → k < length self.old.codecs }
         requires state { LooksInRange (length self.old.codecs) step.now }
+        requires caller { who.caller < length self.old.media.variables }
         requires givable { AreGivable self.old.codecs self.old.slots.history }
         ensures { OnOk result
             (self.new
@@ -222,18 +251,23 @@ impl<C: Coder> Player<C> {
             Step::Reset { on } => self.remove(who, *on, Removal::Reset),
             Step::Close { on } => self.remove(who, *on, Removal::Close),
             Step::State { on } => self.look_at_state(who, *on),
-            Step::Media(_) => Ok(()),
+            Step::Media(handled) => {
+                let chunk = copied_chunk(media, steps, handled)?;
+                self.handle(alloc, who, chunk, handled)
+            }
         }
     }
 
     /// The next step of a caller, if it has one.
     fn next(
         &mut self,
+        alloc: Global,
         script: &ScriptData,
         media: &[List<Chunk>],
         caller: u32,
     ) -> Result<(), NoMemory>
         requires codecs { length self.old.codecs ≡ length script.now.codecs }
+        requires callers { length self.old.media.variables ≡ length script.now.callers }
         requires playable { IsPlayable script.now }
         requires givable { AreGivable self.old.codecs self.old.slots.history }
         ensures { OnOk result
@@ -247,7 +281,7 @@ impl<C: Coder> Player<C> {
                     caller,
                     step: number as u32,
                 };
-                self.step(media, steps, who, step, script)
+                self.step(alloc, media, steps, who, step, script)
             }
             None => Ok(()),
         }
@@ -276,6 +310,7 @@ impl<C: Coder> Player<C> {
         item: OrderItem,
     ) -> Result<(), NoMemory>
         requires codecs { length self.old.codecs ≡ length script.now.codecs }
+        requires callers { length self.old.media.variables ≡ length script.now.callers }
         requires playable { IsPlayable script.now }
         requires range { IsInRange (length self.old.codecs) item }
         requires givable { AreGivable self.old.codecs self.old.slots.history }
@@ -283,7 +318,7 @@ impl<C: Coder> Player<C> {
             ((wants : Bool) × (self.new ≡ follow_item script.now media.now wants item self.old)) }
     {
         match item {
-            OrderItem::Caller(caller) => self.next(script, media, caller),
+            OrderItem::Caller(caller) => self.next(alloc, script, media, caller),
             OrderItem::Start(codec) => self.advance(alloc, codec, item),
             OrderItem::Done { codec, at: _ } => self.advance(alloc, codec, item),
             OrderItem::Turn(codec) => self.advance(alloc, codec, item),

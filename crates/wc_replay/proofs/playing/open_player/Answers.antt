@@ -1,6 +1,7 @@
-use Rattle.std.proofs.Common.{◌≡◌, List, map, ap, ◌∙◌}
+use Rattle.std.proofs.Common.{◌≡◌, List, [], map, ap, ◌∙◌}
 use Rattle.slot_registry.specs.Slots.{SlotsValue}
 use Rattle.codec_accounts.specs.Codec.{CodecValue}
+use Rattle.media_variables.specs.Variables.{Media}
 use Rattle.script_types.specs.declared.script.CallerItem.{CallerItem}
 use Rattle.script_types.specs.declared.script.CodecItem.{CodecItem}
 use Rattle.report_text.specs.declared.result.StepResult.{StepResult}
@@ -8,12 +9,16 @@ use Rattle.trace_text.specs.Follow.{Course}
 use Rattle.wc_replay.specs.Player.{new_desk, new_results}
 use Rattle.wc_replay.proofs.playing.open_player.Goals as goal
 
-same_course : (a b : List (List StepResult)) (c d : List CodecValue) (s t : SlotsValue) → a ≡ b → c ≡ d → s ≡ t → ◌≡◌ {A = Course} (record { callers = a; codecs = c; slots = s }) (record { callers = b; codecs = d; slots = t })
-same_course a b c d s t p q r = cc
+same_course : (a b : List (List StepResult)) (c d : List CodecValue) (m n : Media) (s t : SlotsValue) → a ≡ b → c ≡ d → m ≡ n → s ≡ t → ◌≡◌ {A = Course} (record { callers = a; codecs = c; media = m; slots = s }) (record { callers = b; codecs = d; media = n; slots = t })
+same_course a b c d m n s t e f g h = cc
+
+abbrev no_media : List CallerItem → Media
+no_media cs = record { variables = map (λ c. []) cs; pool = [] }
 
 pub returns : goal.returns
 returns g c =
-    same_course _ _ _ _ _ _
+    same_course _ _ _ _ _ _ _ _
     (c.in_ok-open_callers.ensures ∙ ap (λ (cs : List CallerItem). map new_results cs) c.as_slice-2.ensures)
     (c.in_ok-open_desks.ensures ∙ ap (λ (cs : List CodecItem). map new_desk cs) c.as_slice.ensures)
-    c.in_ok-open.ensures
+    (c.in_ok-open.ensures ∙ ap (λ (cs : List CallerItem). no_media cs) c.as_slice-3.ensures)
+    c.in_ok-open-2.ensures

@@ -1,7 +1,8 @@
-use Rattle.std.proofs.Common.{◌≡◌, IfOk, true, List, [], map, subst, sym}
+use Rattle.std.proofs.Common.{◌≡◌, IfOk, true, map, subst, sym}
 use Rattle.std.specs.List.{list_all}
 use Rattle.std.proofs.lemmas.Result.{IfOk-weaker}
 use Rattle.script_types.specs.declared.script.ScriptData.{ScriptData}
+use Rattle.wc_pool.specs.Bag.{held_in}
 use Rattle.trace_text.specs.declared.run.Run.{Run}
 use Rattle.trace_text.specs.Fits.{IsLegalRun, Fits, FollowsTheOrder}
 use Rattle.trace_text.specs.Follow.{order_items}
@@ -25,9 +26,9 @@ returns-clause-legal g c =
     let said = c.play.ensures in
     let playable : IsPlayable s = subst IsPlayable (sym c.data.ensures.data) (playable_of c.args.script.now c.data.ensures.sound) in
     subst (λ (script : ScriptData). IfOk c.play.result (λ (run : Run). IsLegalRun script run)) c.data.ensures.data
-    (if_ok_three c.play.result (λ (run : Run). FollowsTheOrder s media ids run) (λ (run : Run). AreShownTraces s.codecs run.codecs) (λ (run : Run). (run.pool ≡ []) × (run.held ≡ 0)) (λ (run : Run). IsLegalRun s run)
-    (λ run follows shows media_are. legal_run_of s media ids run follows (c.following_stands.ensures s media ids (order_items s) follows.course playable.faultless follows.follows)
-    (λ k. c.following_fits.ensures.legal s media ids run k playable.faultless follows) shows media_are.0 media_are.1) said.follows said.shows said.media)
+    (if_ok_three c.play.result (λ (run : Run). FollowsTheOrder s media ids run) (λ (run : Run). AreShownTraces s.codecs run.codecs) (λ (run : Run). run.held ≡ held_in run.pool) (λ (run : Run). IsLegalRun s run)
+    (λ run follows shows held. legal_run_of s media ids run follows (c.following_stands.ensures s media ids (order_items s) follows.course playable.faultless follows.follows)
+    (λ k. c.following_fits.ensures.legal s media ids run k playable.faultless follows) shows held) said.follows said.shows said.held)
 
 pub returns-clause-fits : goal.returns-clause-fits
 returns-clause-fits g c =

@@ -12,6 +12,10 @@ pub take-requires-clause-codecs : goal.take-requires-clause-codecs
 take-requires-clause-codecs g c κs within =
     (c.following_stands.ensures c.args.script.now c.args.media.now c.args.player.now.slots.made (take c.loop-item.item-index (order_items c.args.script.now)) c.loop-item.player c.requires.playable.faultless c.loop-item.invariant).codecs
 
+pub take-requires-clause-callers : goal.take-requires-clause-callers
+take-requires-clause-callers g c κs within =
+    (c.following_stands.ensures c.args.script.now c.args.media.now c.args.player.now.slots.made (take c.loop-item.item-index (order_items c.args.script.now)) c.loop-item.player c.requires.playable.faultless c.loop-item.invariant).media
+
 pub take-requires-clause-range : goal.take-requires-clause-range
 take-requires-clause-range g c κs within =
     let s = c.args.script.now in

@@ -1,4 +1,4 @@
-use Rattle.std.proofs.Common.{◌≡◌, sym, ◌∙◌, ap, subst, option_map}
+use Rattle.std.proofs.Common.{sym, ◌∙◌, ap, subst, option_map}
 use Rattle.slot_registry.specs.Slots.{SlotsValue}
 use Rattle.codec_model.specs.declared.entry.Entry.TheVariants as entry
 use Rattle.codec_core.specs.Codec.{Codec, state_at, closes_now}
@@ -6,7 +6,7 @@ use Rattle.trace_text.specs.Follow.{turn_entry}
 use Rattle.codec_accounts.specs.Codec.{CodecValue}
 use Rattle.wc_replay.specs.Desk as desk
 use Rattle.wc_replay.specs.Desk.{box_out}
-use Rattle.wc_replay.proofs.Desks.{seen, makes_seen, makes_none, makes_some, Parts, parts_of, turn_goes, turn_there, no_turn}
+use Rattle.wc_replay.proofs.Desks.{seen, makes_seen, makes_none, makes_some, parts_of, turn_goes, turn_there, no_turn}
 use Rattle.wc_replay.proofs.desk.Desk.turn.Goals as goal
 use Rattle.wc_replay.proofs.desk.Desk.turn.Goals.{in-Some, in_default}
 

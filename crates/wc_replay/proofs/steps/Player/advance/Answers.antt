@@ -8,7 +8,7 @@ use Rattle.wc_replay.proofs.steps.Player.advance.Goals as goal
 pub returns : goal.returns
 returns g c =
     let p = c.self.inside in
-    let v : Course = record { callers = p.callers.items; codecs = p.desks.items; slots = p.slots } in
+    let v : Course = record { callers = p.callers.items; codecs = p.desks.items; media = p.media; slots = p.slots } in
     let k = c.args.codec in
     on_ok_weaker c.take_at.result
     (λ made. (made.0, advance_is v k (item_entry made.0 c.args.item (codec_at k v.codecs)) c.take_at.new.desks.items c.take_at.new.slots made.1 made.2 ∙ ap (λ (u : Course). after_move (advance k (item_entry made.0 c.args.item (codec_at k u.codecs))) u) c.self.view_is))
