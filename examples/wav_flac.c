@@ -1,4 +1,4 @@
-/* Turns a WAV file of 16 or 24 bits into a native FLAC file, and back:
+/* Turns a WAV file of 8, 16, 24 or 32 bits and 1 to 8 channels into a native FLAC file, and back:
  *     wav_flac encode IN.wav OUT.flac
  *     wav_flac decode IN.flac OUT.wav
  */
@@ -39,40 +39,47 @@ static void put_little(uint8_t *bytes, int count, uint32_t number)
         bytes[i] = (uint8_t)number;
 }
 
-static void put_big(uint8_t *bytes, int count, uint64_t number)
-{
-    for (; count-- > 0; number >>= 8)
-        bytes[count] = (uint8_t)number;
-}
-
 static void write_all(FILE *out, const void *bytes, size_t count)
 {
     if (fwrite(bytes, 1, count, out) != count)
         stop("cannot write");
 }
 
+static int has_depth(uint32_t depth)
+{
+    return depth == 8 || depth == 16 || depth == 24 || depth == 32;
+}
+
+/* Samples of one byte have their middle at 128; the others are in two's complement, the low byte first. */
 static int32_t wav_sample(const uint8_t *bytes, int size)
 {
+    if (size == 1)
+        return bytes[0] - 128;
     uint32_t up = little(bytes, size) << (32 - 8 * size);
     return (int32_t)up / (1 << (32 - 8 * size));
 }
 
-/* fLaC and STREAMINFO; the frames' sizes and the samples' sum are left unknown. */
+static void put_wav_sample(uint8_t *bytes, int size, int32_t sample)
+{
+    put_little(bytes, size, (uint32_t)sample + (size == 1 ? 128 : 0));
+}
+
+/* The frames' sizes and the samples' sum are left unknown. */
 static void write_description(FILE *out, const zemirako_flac_format *f, uint64_t total)
 {
-    uint8_t head[42] = {'f', 'L', 'a', 'C', 0x80, 0, 0, 34};
-    put_big(head + 8, 2, BLOCK);
-    put_big(head + 10, 2, BLOCK);
-    put_big(head + 18, 8,
-            (uint64_t)f->rate << 44 | (uint64_t)(f->channels - 1) << 41 | (uint64_t)(f->depth - 1) << 36 | total);
-    write_all(out, head, sizeof head);
+    zemirako_flac_description d = {total, BLOCK, BLOCK, 0, 0, f->rate, f->channels, f->depth, {0}};
+    uint8_t bytes[ZEMIRAKO_FLAC_DESCRIPTION_SIZE];
+    size_t size;
+    if (zemirako_flac_write_description(&d, bytes, sizeof bytes, &size) != ZEMIRAKO_DONE)
+        stop("the sound cannot be described");
+    write_all(out, bytes, size);
 }
 
 static void encode(const uint8_t *wav, size_t count, FILE *out)
 {
-    zemirako_flac_format f = {0, 0, 0, LEVEL};
     const uint8_t *data = NULL;
     size_t length = 0;
+    uint32_t tag = 0, rate = 0, channels = 0, depth = 0;
     if (count < 12 || memcmp(wav, "RIFF", 4) || memcmp(wav + 8, "WAVE", 4))
         stop("not a WAV file");
     for (size_t at = 12; at + 8 <= count;) {
@@ -81,18 +88,22 @@ static void encode(const uint8_t *wav, size_t count, FILE *out)
         if (size > count - at - 8)
             size = count - at - 8;
         if (!memcmp(wav + at, "fmt ", 4) && size >= 16) {
-            f.channels = (uint8_t)little(chunk + 2, 2);
-            f.rate = little(chunk + 4, 4);
-            f.depth = (uint8_t)little(chunk + 14, 2);
+            tag = little(chunk, 2);
+            if (tag == 0xfffe && size >= 26) /* the tag stands behind the other fields */
+                tag = little(chunk + 24, 2);
+            channels = little(chunk + 2, 2);
+            rate = little(chunk + 4, 4);
+            depth = little(chunk + 14, 2);
         } else if (!memcmp(wav + at, "data", 4)) {
             data = chunk;
             length = size;
         }
         at += 8 + size + size % 2;
     }
-    if (!data || (f.depth != 16 && f.depth != 24) || f.channels < 1 || f.channels > 8)
-        stop("not PCM of 16 or 24 bits and 1 to 8 channels");
+    if (!data || tag != 1 || !has_depth(depth) || channels < 1 || channels > 8)
+        stop("not PCM of 8, 16, 24 or 32 bits and 1 to 8 channels");
 
+    zemirako_flac_format f = {rate, (uint8_t)channels, (uint8_t)depth, LEVEL};
     size_t size = f.depth / 8, frame = size * f.channels, total = length / frame;
     size_t room = zemirako_flac_most_bytes(&f, BLOCK);
     int32_t *samples = memory(sizeof *samples * BLOCK * f.channels);
@@ -133,8 +144,8 @@ static void decode(const uint8_t *flac, size_t count, FILE *out)
     zemirako_flac_description d;
     if (zemirako_flac_read_description(flac, count, &d) != ZEMIRAKO_DONE)
         stop("not a FLAC file");
-    if (d.depth != 16 && d.depth != 24)
-        stop("not 16 or 24 bits");
+    if (!has_depth(d.depth))
+        stop("not 8, 16, 24 or 32 bits");
     size_t at = 4; /* behind the mark: blocks of metadata, the last of which is marked */
     for (int last = 0; !last; at += 4 + (size_t)(flac[at + 1] << 16 | flac[at + 2] << 8 | flac[at + 3])) {
         if (count < 4 || at > count - 4)
@@ -155,7 +166,7 @@ static void decode(const uint8_t *flac, size_t count, FILE *out)
             zemirako_flac_decode_frame(flac + at, end, &d, samples, room, &block) != ZEMIRAKO_DONE)
             stop("a frame was not decoded");
         for (size_t i = 0; i < (size_t)block * d.channels; i++)
-            put_little(bytes + i * size, (int)size, (uint32_t)samples[i]);
+            put_wav_sample(bytes + i * size, (int)size, samples[i]);
         write_all(out, bytes, (size_t)block * d.channels * size);
         length += block * d.channels * (uint32_t)size;
     }

@@ -69,6 +69,18 @@ typedef struct zemirako_flac_description {
  * ZEMIRAKO_DONE; or ZEMIRAKO_REFUSED where the bytes do not begin so, the rate is 0, or the depth is below 4. */
 uint32_t zemirako_flac_read_description(const uint8_t *bytes, size_t bytes_count, zemirako_flac_description *description);
 
+/* How many bytes a description has. */
+#define ZEMIRAKO_FLAC_DESCRIPTION_SIZE 42
+
+/* Puts a description at the front of `bytes`: `fLaC`, and the block STREAMINFO with its header, as the last block of
+ * metadata; and its size, 42, into `size`. zemirako_flac_read_description reads the same description from it. It takes no
+ * memory.
+ * ZEMIRAKO_DONE; ZEMIRAKO_TOO_SMALL where bytes_count is below 42, and then only `size` is written; or ZEMIRAKO_INVALID
+ * exactly where a field is out of its range: min_block and max_block 0 to 65535, min_frame and max_frame 0 to 16777215,
+ * rate 1 to 1048575, channels 1 to 8, depth 4 to 32, total 0 to 68719476735. */
+uint32_t zemirako_flac_write_description(const zemirako_flac_description *description, uint8_t *bytes, size_t bytes_count,
+                                         size_t *size);
+
 /* Finds after how many bytes the FLAC frame of the described stream ends that begins at the front of `bytes`, and puts their
  * count into `end`: so many first bytes are a frame, and no other number of them is. It takes memory.
  * ZEMIRAKO_DONE; ZEMIRAKO_REFUSED where no first bytes are a frame of the stream; ZEMIRAKO_NO_MEMORY; or ZEMIRAKO_INVALID

@@ -165,6 +165,75 @@ static void try_descriptions(void)
     expect(zemirako_flac_read_description(no_rate, HEAD, &d) == ZEMIRAKO_REFUSED, "description", "no rate");
 }
 
+static void try_written(const char *row, zemirako_flac_description d, uint32_t status)
+{
+    uint8_t bytes[ZEMIRAKO_FLAC_DESCRIPTION_SIZE + 1];
+    for (size_t room = 0; room <= sizeof bytes; room += room == 0 ? sizeof bytes - 2 : 1) {
+        zemirako_flac_description again;
+        size_t size = 99, small = room < ZEMIRAKO_FLAC_DESCRIPTION_SIZE;
+        memset(bytes, 7, sizeof bytes);
+        uint32_t got = zemirako_flac_write_description(&d, bytes, room, &size);
+        expect(got == (status == ZEMIRAKO_DONE && small ? ZEMIRAKO_TOO_SMALL : status), "writing a description", row);
+        expect(size == (status == ZEMIRAKO_DONE ? ZEMIRAKO_FLAC_DESCRIPTION_SIZE : 99), "size of a description", row);
+        expect(bytes[ZEMIRAKO_FLAC_DESCRIPTION_SIZE] == 7, "nothing behind a description", row);
+        if (got != ZEMIRAKO_DONE) {
+            expect(bytes[0] == 7 && bytes[41] == 7, "nothing where it is not written", row);
+            continue;
+        }
+        memset(&again, 5, sizeof again);
+        expect(zemirako_flac_read_description(bytes, size, &again) == ZEMIRAKO_DONE, "read again", row);
+        expect(again.total == d.total && again.min_block == d.min_block && again.max_block == d.max_block &&
+                   again.min_frame == d.min_frame && again.max_frame == d.max_frame && again.rate == d.rate &&
+                   again.channels == d.channels && again.depth == d.depth && !memcmp(again.md5, d.md5, 16),
+               "the same again", row);
+    }
+}
+
+static void try_written_descriptions(void)
+{
+    zemirako_flac_description d = example_description(), most, it;
+    uint8_t bytes[HEAD];
+    size_t size;
+    try_written("example", d, ZEMIRAKO_DONE);
+    zemirako_flac_write_description(&d, bytes, sizeof bytes, &size);
+    expect(!memcmp(bytes, example, HEAD), "bytes of a description", "example");
+    memset(&most, 0xff, sizeof most);
+    most.total = 0xfffffffffu;
+    most.min_block = most.max_block = 0xffff;
+    most.min_frame = most.max_frame = 0xffffff;
+    most.rate = 0xfffff;
+    most.channels = 8;
+    most.depth = 32;
+    try_written("all at most", most, ZEMIRAKO_DONE);
+    memset(&it, 0, sizeof it);
+    it.rate = it.channels = 1;
+    it.depth = 4;
+    try_written("all at least", it, ZEMIRAKO_DONE);
+    static const struct {
+        const char *row;
+        size_t at; /* the field that is changed */
+        uint32_t value;
+    } rows[] = {
+        {"min_block", offsetof(zemirako_flac_description, min_block), 0x10000},
+        {"max_block", offsetof(zemirako_flac_description, max_block), 0x10000},
+        {"min_frame", offsetof(zemirako_flac_description, min_frame), 0x1000000},
+        {"max_frame", offsetof(zemirako_flac_description, max_frame), 0x1000000},
+        {"rate of 0", offsetof(zemirako_flac_description, rate), 0},
+        {"rate of 2^20", offsetof(zemirako_flac_description, rate), 0x100000},
+        {"no channels", offsetof(zemirako_flac_description, channels), 0},
+        {"nine channels", offsetof(zemirako_flac_description, channels), 9},
+        {"depth of 3", offsetof(zemirako_flac_description, depth), 3},
+        {"depth of 33", offsetof(zemirako_flac_description, depth), 33},
+    };
+    for (size_t i = 0; i < sizeof rows / sizeof *rows; i++) {
+        it = most;
+        memcpy((char *)&it + rows[i].at, &rows[i].value, sizeof rows[i].value);
+        try_written(rows[i].row, it, ZEMIRAKO_INVALID);
+    }
+    most.total = 0x1000000000u;
+    try_written("total of 2^36", most, ZEMIRAKO_INVALID);
+}
+
 /* What a row of the calls that read a frame changes of the example. */
 static const struct {
     const char *row;
@@ -346,13 +415,41 @@ static uint32_t sum_of(const uint8_t *bytes, size_t count, uint32_t bits, uint32
 /* The header of a frame that try_broken makes: a number in one byte, the block size in one, and the rate by its code. */
 #define HEADER_SUM 6
 
+/* Where broken frames are written with what they came to, for tools/library-frames.py: of each its description, its status,
+ * the frame's size in four bytes, the frame, and where it is one its block in four bytes, and its samples in four each. */
+static FILE *kept;
+
+static void keep_number(uint32_t number)
+{
+    for (int i = 0; i < 4; i++)
+        putc((int)(number >> 8 * i & 255), kept);
+}
+
+static void keep(const zemirako_flac_description *d, uint32_t status, const uint8_t *frame, size_t size, uint32_t block,
+                 const int32_t *samples)
+{
+    uint8_t head[HEAD];
+    size_t count;
+    expect(zemirako_flac_write_description(d, head, sizeof head, &count) == ZEMIRAKO_DONE, "description", "broken frame");
+    fwrite(head, 1, sizeof head, kept);
+    putc((int)status, kept);
+    keep_number((uint32_t)size);
+    fwrite(frame, 1, size, kept);
+    if (status != ZEMIRAKO_DONE)
+        return;
+    keep_number(block);
+    for (size_t i = 0; i < (size_t)block * d->channels; i++)
+        keep_number((uint32_t)samples[i]);
+}
+
 static void try_broken(void)
 {
+    static int32_t all[3 * 65535];
     static const uint8_t depths[] = {8, 16, 24, 32};
     long accepted = 0;
     for (int n = 0; n < 100000; n++) {
         zemirako_flac_format f = {44100, (uint8_t)(1 + n % 3), depths[n / 3 % 4], (uint8_t)(n % 9)};
-        int32_t samples[3 * BLOCK], again[3 * BLOCK];
+        int32_t samples[3 * BLOCK], again[3 * BLOCK] = {0};
         uint8_t bytes[3 * (BLOCK * 4 + 1) + 32];
         size_t count = (size_t)f.channels * BLOCK, size = 0;
         for (size_t i = 0; i < count; i++)
@@ -375,11 +472,20 @@ static void try_broken(void)
         uint32_t status = zemirako_flac_decode_frame(exact, size, &d, again, count, &block);
         uint32_t found = zemirako_flac_frame_end(exact, size, &d, &end);
         int is_frame = status == ZEMIRAKO_DONE || status == ZEMIRAKO_TOO_SMALL;
+        const int32_t *out = again;
+        if (status == ZEMIRAKO_TOO_SMALL) {
+            expect((size_t)block * f.channels > count, "need", "broken frame");
+            status = zemirako_flac_decode_frame(exact, size, &d, all, (size_t)block * f.channels, &block);
+            expect(status == ZEMIRAKO_DONE, "a room of the need", "broken frame");
+            out = all;
+        }
         expect(is_frame || status == ZEMIRAKO_REFUSED, "status", "broken frame");
         expect(is_frame == (found == ZEMIRAKO_DONE && end == size), "end and frame agree", "broken frame");
         int64_t limit = (int64_t)1 << (f.depth - 1);
         for (size_t i = 0; status == ZEMIRAKO_DONE && i < (size_t)block * f.channels; i++)
-            expect(again[i] >= -limit && again[i] < limit, "depth", "broken frame");
+            expect(out[i] >= -limit && out[i] < limit, "depth", "broken frame");
+        if (kept)
+            keep(&d, status, exact, size, block, out);
         accepted += is_frame;
         free(exact);
     }
@@ -519,10 +625,16 @@ static void try_no_memory(void)
     }
 }
 
-int main(void)
+/* With the name of a file, broken frames are kept there. */
+int main(int count, char **words)
 {
+    if (count == 2 && !(kept = fopen(words[1], "wb"))) {
+        perror(words[1]);
+        return 2;
+    }
     try_laws();
     try_descriptions();
+    try_written_descriptions();
     try_frames();
     try_small_rooms();
     try_blocks();
@@ -530,6 +642,7 @@ int main(void)
     try_broken();
     try_copies();
     try_no_memory();
+    expect(!kept || !fclose(kept), "writing", "broken frames");
     printf(failures ? "%d failed\n" : "all as said\n", failures);
     return failures != 0;
 }

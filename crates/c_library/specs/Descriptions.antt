@@ -1,9 +1,11 @@
 -- Descriptions of FLAC streams, as C sees them.
-use Rattle.std.specs.Prelude.{ℕ, Bool, ◌≡◌, ◌&&◌, nat_le, List, Option, Some, None}
-use Rattle.wc_config.specs.Streams.{streaminfo_of}
+use Rattle.std.specs.Prelude.{ℕ, Bool, true, ◌≡◌, ◌&&◌, ◌||◌, ◌==◌, nat_le, IsTrue, List, length, Option, Some, None}
+use Rattle.flac_definitions.specs.Bits.{bits_in}
+use Rattle.flac_description.specs.Descriptions.{CanBeWritten, description_bits}
+use Rattle.wc_config.specs.Streams.{is_usable, streaminfo_of}
 use Rattle.wc_config.specs.declared.stream_info.StreamInfo.{StreamInfo}
 use Rattle.c_library.specs.declared.description.FlacDescription.{FlacDescription}
-use Rattle.c_library.specs.Status.{done, refused}
+use Rattle.c_library.specs.Status.{done, refused, too_small, invalid, fill_status, filled}
 
 -- the stream that a description describes
 abbrev pub stream_of : FlacDescription → StreamInfo
@@ -30,3 +32,20 @@ Reads None old new status = (status ≡ refused) × (new ≡ old)
 
 abbrev pub IsDescription : List ℕ → FlacDescription → FlacDescription → ℕ → Type 0
 IsDescription bytes old new status = Reads (streaminfo_of bytes) old new status
+
+-- what a description can say: each field fits its bits, and the rate and the depth are those of sound
+pub record IsDescribable (info : StreamInfo) : Type 0 where
+  pub fields : CanBeWritten info
+  pub usable : is_usable info ≡ true
+
+-- the bytes of a stream's description, as the last block, at the front of some room
+abbrev pub IsWritten : StreamInfo → ℕ → List ℕ → List ℕ → Type 0
+IsWritten info status old new =
+    (written : List ℕ)
+    × ((bits_in written ≡ description_bits true info)
+    × ((status ≡ fill_status written old)
+    × (new ≡ filled written old)))
+
+-- what a call answers that writes a description
+abbrev pub IsWriteStatus : ℕ → Type 0
+IsWriteStatus s = IsTrue ((s == done) || (s == too_small) || (s == invalid))

@@ -23,7 +23,8 @@ pub struct FlacFormat {
 }
 
 /// Codes a block of 1 to 65535 frames, whose channels stand one after another, with a number below 2^31: the bytes of its
-/// frame stand at the front of `bytes`, and `size` says how many they are, also where they do not fit.
+/// frame stand at the front of `bytes`, and `size` says how many they are, also where they do not fit. `coded` is the clause
+/// of `flac_blocks::encode_block`.
 #[unsafe(no_mangle)]
 pub extern "C" fn zemirako_flac_encode_block(
     alloc: Global,
@@ -57,7 +58,8 @@ pub extern "C" fn zemirako_flac_encode_block(
     }
 }
 
-/// How many bytes the frame of a block of so many frames has at most, whatever its samples and its number are.
+/// How many bytes the frame of a block of so many frames has at most, whatever its samples and its number are: by the lengths
+/// of the law `flac_block_laws::written_frames_are_read`.
 #[unsafe(no_mangle)]
 pub extern "C" fn zemirako_flac_most_bytes(format: &FlacFormat, block: u32) -> usize
     ensures room { IsRoom (format_of format.now) block result }

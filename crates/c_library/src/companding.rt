@@ -6,7 +6,7 @@ ghost use Rattle.c_library.specs.Status.{fill_status, filled};
 use crate::status::{DONE, TOO_SMALL};
 use g711::{alaw_decode, alaw_encode, ulaw_decode, ulaw_encode};
 
-/// Puts the values that A-law codes stand for at the front of `samples`.
+/// Puts the values that A-law codes stand for at the front of `samples`: the clause of `g711::alaw_decode`, for each code.
 #[unsafe(no_mangle)]
 pub extern "C" fn zemirako_alaw_decode(codes: &[u8], samples: &mut [i16]) -> u32
     ensures status { result ≡ fill_status (map alaw_value codes.now) samples.old }
@@ -19,7 +19,7 @@ pub extern "C" fn zemirako_alaw_decode(codes: &[u8], samples: &mut [i16]) -> u32
     DONE
 }
 
-/// Puts the values that mu-law codes stand for at the front of `samples`.
+/// Puts the values that mu-law codes stand for at the front of `samples`: the clause of `g711::ulaw_decode`, for each code.
 #[unsafe(no_mangle)]
 pub extern "C" fn zemirako_ulaw_decode(codes: &[u8], samples: &mut [i16]) -> u32
     ensures status { result ≡ fill_status (map ulaw_value codes.now) samples.old }
@@ -32,7 +32,7 @@ pub extern "C" fn zemirako_ulaw_decode(codes: &[u8], samples: &mut [i16]) -> u32
     DONE
 }
 
-/// Puts the A-law codes of samples at the front of `codes`.
+/// Puts the A-law codes of samples at the front of `codes`: the clause `code` of `g711::alaw_encode`, for each sample.
 #[unsafe(no_mangle)]
 pub extern "C" fn zemirako_alaw_encode(samples: &[i16], codes: &mut [u8]) -> u32
     ensures status { result ≡ fill_status (map alaw_code samples.now) codes.old }
@@ -45,7 +45,7 @@ pub extern "C" fn zemirako_alaw_encode(samples: &[i16], codes: &mut [u8]) -> u32
     DONE
 }
 
-/// Puts the mu-law codes of samples at the front of `codes`.
+/// Puts the mu-law codes of samples at the front of `codes`: the clause `code` of `g711::ulaw_encode`, for each sample.
 #[unsafe(no_mangle)]
 pub extern "C" fn zemirako_ulaw_encode(samples: &[i16], codes: &mut [u8]) -> u32
     ensures status { result ≡ fill_status (map ulaw_code samples.now) codes.old }

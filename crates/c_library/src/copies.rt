@@ -29,7 +29,8 @@ pub struct Part {
     pub count: u32,
 }
 
-/// Copies a part of some sound in another format to the front of `to`; `size` says how many bytes it has.
+/// Copies a part of some sound in another format to the front of `to`; `size` says how many bytes it has. `copied` is the
+/// clause of `sample_conversion::copy_channel` for a format by channels, and else that of `copy_frames`.
 #[unsafe(no_mangle)]
 pub extern "C" fn zemirako_copy_sound(
     sound: &Sound,

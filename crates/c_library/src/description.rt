@@ -1,8 +1,12 @@
 // Descriptions of FLAC streams.
-ghost use Rattle.std.specs.Prelude.{◌≡◌, ◌<◌, ◌≤◌, nat_le, nat_lt, ◌&&◌};
-ghost use Rattle.c_library.specs.Descriptions.{stream_of, has_depth, IsDescription};
+ghost use Rattle.std.specs.Prelude.{◌≡◌, ◌<◌, ◌≤◌, nat_le, nat_lt, ◌&&◌, ◌⊎◌, true, false, Some};
+ghost use Rattle.wc_config.specs.Streams.{streaminfo_of};
+ghost use Rattle.c_library.specs.Descriptions.{stream_of, has_depth, IsDescription, IsDescribable, IsWritten, IsWriteStatus};
+ghost use Rattle.c_library.specs.Frames.{HasValues};
+ghost use Rattle.c_library.specs.Status.{done, too_small, invalid};
 
-use crate::status::{DONE, REFUSED};
+use crate::status::{DONE, INVALID, REFUSED, put_bytes};
+use flac_description::{DESCRIPTION_SIZE, can_be_written, write_streaminfo};
 use wc_config::{StreamInfo, read_streaminfo};
 
 /// What a FLAC stream says of itself (RFC 9639, section 8.2): block sizes in frames, frame sizes in bytes, `rate` in frames
@@ -21,7 +25,8 @@ pub struct FlacDescription {
     pub md5: [u8; 16],
 }
 
-/// Reads the description at the front of `bytes`: the stream's mark and its STREAMINFO block.
+/// Reads the description at the front of `bytes`: the stream's mark and its STREAMINFO block. The clause is that of
+/// `wc_config::read_streaminfo`.
 #[unsafe(no_mangle)]
 pub extern "C" fn zemirako_flac_read_description(
     bytes: &[u8],
@@ -36,6 +41,43 @@ pub extern "C" fn zemirako_flac_read_description(
         }
         None => REFUSED,
     }
+}
+
+/// Puts a description at the front of some room: the stream's mark and its STREAMINFO block, as the last block. `size` says
+/// how many bytes it has, also where they do not fit. `written` and `read` are the clauses `bits` and `read` of
+/// `flac_description::write_streaminfo`.
+#[unsafe(no_mangle)]
+pub extern "C" fn zemirako_flac_write_description(
+    description: &FlacDescription,
+    bytes: &mut [u8],
+    size: &mut usize,
+) -> u32
+    ensures written { HasValues result
+        → IsWritten (stream_of description.now) result bytes.old bytes.new }
+    ensures size { HasValues result → size.new ≡ 42 }
+    ensures read { result ≡ done → streaminfo_of bytes.new ≡ Some (stream_of description.now) }
+    ensures kept { (HasValues result → ⊥) → bytes.new ≡ bytes.old }
+    ensures kept_size { (HasValues result → ⊥) → size.new ≡ size.old }
+    ensures valid { IsDescribable (stream_of description.now) → result ≡ invalid → ⊥ }
+    ensures invalid { (IsDescribable (stream_of description.now) → ⊥) → result ≡ invalid }
+    ensures status { IsWriteStatus result }
+{
+    let info = stream_of(description);
+    if !can_be_described(&info) {
+        return INVALID;
+    }
+    let mut written = [0; 42];
+    write_streaminfo(&info, &mut written);
+    *size = DESCRIPTION_SIZE;
+    put_bytes(&written, bytes)
+}
+
+/// Whether there are bytes that are read as the description.
+fn can_be_described(info: &StreamInfo) -> bool
+    ensures yes { result ≡ true → IsDescribable info.now }
+    ensures no { result ≡ false → IsDescribable info.now → ⊥ }
+{
+    info.rate >= 1 && info.depth >= 4 && can_be_written(info)
 }
 
 fn description_of(info: &StreamInfo) -> FlacDescription

@@ -15,7 +15,8 @@ use std::alloc::Global;
 use wc_base::NoMemory;
 use wc_config::StreamInfo;
 
-/// Finds after how many bytes the frame ends with which `bytes` begin.
+/// Finds after how many bytes the frame ends with which `bytes` begin. `found` and `none` are the clause of
+/// `flac_decode::frame_end`.
 #[unsafe(no_mangle)]
 pub extern "C" fn zemirako_flac_frame_end(
     alloc: Global,
@@ -44,7 +45,8 @@ pub extern "C" fn zemirako_flac_frame_end(
 }
 
 /// Decodes the frame that `frame` is: its samples, frame by frame, stand at the front of `samples`, and their count in each
-/// channel in `block`. Where they do not fit, `block` says how many they are.
+/// channel in `block`. Where they do not fit, `block` says how many they are. `decoded` and `refused` are the clause
+/// `decoded` of `flac_decode::decode_frame`, `fits` and `small` its clause `size`.
 #[unsafe(no_mangle)]
 pub extern "C" fn zemirako_flac_decode_frame(
     alloc: Global,

@@ -1,8 +1,10 @@
-//! Tests of FLAC's bits, sums, frame headers and coded residuals.
+//! Tests of FLAC's bits, sums, descriptions, frame headers and coded residuals.
 #![tactic(auto)]
 
 #[cfg(test)]
 mod bits_tests;
+#[cfg(test)]
+mod description_tests;
 #[cfg(test)]
 mod header_tests;
 #[cfg(test)]
