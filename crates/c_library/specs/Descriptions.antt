@@ -1,5 +1,5 @@
 -- Descriptions of FLAC streams, as C sees them.
-use Rattle.std.specs.Prelude.{ℕ, Bool, true, ◌≡◌, ◌&&◌, ◌||◌, ◌==◌, nat_le, IsTrue, List, length, Option, Some, None}
+use Rattle.std.specs.Prelude.{ℕ, Bool, true, ◌≡◌, ◌&&◌, ◌||◌, ◌==◌, nat_le, IsTrue, List, Option, Some, None}
 use Rattle.flac_definitions.specs.Bits.{bits_in}
 use Rattle.flac_description.specs.Descriptions.{CanBeWritten, description_bits}
 use Rattle.wc_config.specs.Streams.{is_usable, streaminfo_of}
