@@ -1,13 +1,13 @@
 #!/usr/bin/env python3
-"""Decodes the 100,000 broken frames of tools/library-test.sh by the program, and compares with what the library said.
+"""Decodes the 100,000 broken frames of tools/library-test.sh by the program's decoder, and compares with the library.
 
-    tools/library-frames.py [--program PATH] [FILE]
+    tools/library-frames.py [--each PATH] [--program PATH [--replayed N]] FILE
 
 FILE is what `tools/library-test.sh FOLDER FILE` kept: each frame with its description, the library's status and its samples.
-They are replayed by `wcrun` (crates/wcrun/out/wcrun, where PATH is left out), 10,000 in a script: one decoder is configured
-with each frame's description, decodes it and is reset. A frame has to be decoded exactly where the library decoded it, to the
-same samples. With --write FOLDER the scripts and chunk files are only written there, and with --read FOLDER the reports
-NAME.report in it are compared. Ends with 1 where the two differ. Needs python3.
+All frames are decoded by `flac_speed each` (crates/flac_speed/out/flac_speed, where PATH is left out), which calls the decoder
+of the program frame by frame. With --program the first N (500 where it is left out) are replayed by `wcrun` besides, in
+scripts of 100: one decoder is configured with each frame's description, decodes it and is reset. A frame has to be decoded
+exactly where the library decoded it, to the same samples. Ends with 1 where the two differ. Needs python3.
 """
 import argparse
 import json
@@ -17,7 +17,7 @@ import sys
 import tempfile
 
 DONE = 0
-SCRIPT = 10000
+SCRIPT = 100
 
 
 def frames_of(path):
@@ -43,6 +43,39 @@ def sound_of(samples, depth):
         value = int.from_bytes(samples[i : i + 4], "little", signed=True) << (8 * size - depth)
         out += value.to_bytes(size, "little", signed=True)
     return bytes(out)
+
+
+def checksum(data):
+    """FNV-1a of 64 bits, as `flac_speed each` prints it."""
+    total = 0xCBF29CE484222325
+    for byte in data:
+        total = (total ^ byte) * 0x100000001B3 & (1 << 64) - 1
+    return f"{total:016x}"
+
+
+def line_of(head, samples):
+    """What `flac_speed each` prints for a frame."""
+    if samples is None:
+        return "-"
+    channels, depth = (head[20] >> 1 & 7) + 1, ((head[20] & 1) << 4 | head[21] >> 4) + 1
+    return f"{len(samples) // (channels * (2 if depth <= 16 else 4))} {checksum(samples)}"
+
+
+def differing(program, frames, work):
+    """The numbers of the frames that `flac_speed each` decodes otherwise: those of one description are in one file."""
+    parts = {}
+    for number, (head, frame, samples) in enumerate(frames):
+        parts.setdefault(head, []).append((number, frame, samples))
+    found = []
+    for place, (head, part) in enumerate(parts.items()):
+        path = f"{work}/each-{place:02}"
+        with open(path, "wb") as file:
+            file.write(head + b"".join(len(frame).to_bytes(4, "big") + frame for _, frame, _ in part))
+        lines = subprocess.run([program, "each", path], check=True, capture_output=True, text=True).stdout.splitlines()
+        if len(lines) != len(part):
+            sys.exit(f"{len(part)} frames, {len(lines)} answers")
+        found += [number for (number, _, samples), line in zip(part, lines) if line != line_of(head, samples)]
+    return found
 
 
 def script_of(frames, first):
@@ -75,43 +108,46 @@ def answers_in(report):
     return decoded, refused, outputs
 
 
+def replayed_otherwise(program, frames, work):
+    """The numbers of the frames that `wcrun` decodes otherwise."""
+    found = []
+    for first in range(0, len(frames), SCRIPT):
+        part = frames[first : first + SCRIPT]
+        script, chunks = script_of(part, first)
+        with open(f"{work}/frames.json", "w") as file:
+            file.write(script)
+        with open(f"{work}/f{first}", "wb") as file:
+            file.write(chunks)
+        words = [program, "replay", "frames.json"]
+        report = subprocess.run(words, cwd=work, check=True, capture_output=True, text=True).stdout
+        decoded, refused, outputs = answers_in(report)
+        for number, (_, _, samples) in enumerate(part, first):
+            said = number in decoded, number in refused, outputs.get(number)
+            if said != (samples is not None, samples is None, samples):
+                found.append(number)
+    return found
+
+
 def main():
     parser = argparse.ArgumentParser(description=__doc__.splitlines()[0])
     parser.add_argument("file")
-    parser.add_argument("--program", default="crates/wcrun/out/wcrun")
-    parser.add_argument("--write")
-    parser.add_argument("--read")
+    parser.add_argument("--each", default="crates/flac_speed/out/flac_speed")
+    parser.add_argument("--program")
+    parser.add_argument("--replayed", type=int, default=500)
     options = parser.parse_args()
     frames = list(frames_of(options.file))
-    program, bad, taken = os.path.abspath(options.program), 0, 0
+    taken = sum(samples is not None for _, _, samples in frames)
     with tempfile.TemporaryDirectory() as work:
-        folder = options.write or options.read or work
-        for first in range(0, len(frames), SCRIPT):
-            part = frames[first : first + SCRIPT]
-            name = f"{folder}/frames-{first:06}"
-            if options.read:
-                with open(f"{name}.report") as file:
-                    report = file.read()
-            else:
-                script, chunks = script_of(part, first)
-                with open(f"{name}.json", "w") as file:
-                    file.write(script)
-                with open(f"{folder}/f{first}", "wb") as file:
-                    file.write(chunks)
-                if options.write:
-                    continue
-                words = [program, "replay", os.path.basename(f"{name}.json")]
-                report = subprocess.run(words, cwd=folder, check=True, capture_output=True, text=True).stdout
-            decoded, refused, outputs = answers_in(report)
-            for number, (_, frame, samples) in enumerate(part, first):
-                said = number in decoded, number in refused, outputs.get(number)
-                taken += said[0]
-                if said != (samples is not None, samples is None, samples):
-                    bad += 1
-                    print(f"frame {number}, {frame.hex()[:80]}: the program differs")
-    if not options.write:
-        print(f"{len(frames)} frames, {taken} decoded by the program, {bad} differ")
-    sys.exit(1 if bad else 0)
+        found = differing(os.path.abspath(options.each), frames, work)
+        print(f"{len(frames)} frames, {taken} decoded by the library; by flac_speed {len(found)} differ", flush=True)
+        if options.program:
+            some = frames[: options.replayed]
+            more = replayed_otherwise(os.path.abspath(options.program), some, work)
+            print(f"{len(some)} replayed by wcrun, {len(more)} differ")
+            found += more
+    for number in found[:10]:
+        print(f"frame {number}: {frames[number][1].hex()}")
+    sys.exit(1 if found else 0)
 
 
 if __name__ == "__main__":

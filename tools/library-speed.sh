@@ -16,7 +16,7 @@ gcc -std=gnu11 -Wall -Wextra -Werror -O2 -g -I"$folder" -o "$work/library" "$top
   -L"$folder" -lzemirako -lFLAC -lm
 
 echo "load: $(cut -d ' ' -f 1-3 /proc/loadavg) on $(nproc) processors; libFLAC $(pkg-config --modversion flac)"
-for row in "16 0" "16 6" "24 6"; do
+for row in "16 4" "16 6" "24 6"; do
   read -r depth level <<<"$row"
   "$work/library" "$depth" "$level" "$seconds" 9 >"$work/times"
   valgrind --tool=callgrind --callgrind-out-file="$work/out" "$work/library" "$depth" "$level" 1 1 >"$work/few" 2>/dev/null
