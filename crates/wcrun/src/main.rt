@@ -33,7 +33,7 @@ use std::alloc::Global;
 use std::process::ExitCode;
 use std::rt::Env;
 use std::{env, io};
-use wc_base::{Output, PictureFormat, SystemFiles};
+use wc_base::{NoMemory, Output, PictureFormat, SystemFiles};
 use wc_config::{CodecId, Role};
 
 // How many boxes of each coder there are.
@@ -98,16 +98,21 @@ fn words(rt: &(impl Env + Alloc<A = Global>)) -> io::Result<Vec<String>> {
     Ok(words)
 }
 
+// Words that are not UTF-8 are no command.
+fn command_words(rt: &(impl Env + Alloc<A = Global>)) -> Result<Vec<String>, NoMemory> {
+    match words(rt) {
+        Ok(words) => Ok(words),
+        Err(fault) if fault.kind() == io::ErrorKind::OutOfMemory => Err(NoMemory),
+        Err(_) => Ok(Vec::new(rt.alloc())),
+    }
+}
+
 fn main(rt: HostRuntime) -> ExitCode {
     let alloc = rt.alloc();
     let mut sink = Output::new(io::writer(&rt));
-    // Words that are not UTF-8 are no command.
-    let words = match words(&rt) {
+    let words = match command_words(&rt) {
         Ok(words) => words,
-        Err(fault) if fault.kind() == io::ErrorKind::OutOfMemory => {
-            return ExitCode::from(want_memory(&mut sink));
-        }
-        Err(_) => Vec::new(alloc),
+        Err(_) => return ExitCode::from(want_memory(&mut sink)),
     };
     // A function that handed out boxed coders would be refused: nothing could be told of what is in them.
     let mut coders = Vec::new(alloc);
