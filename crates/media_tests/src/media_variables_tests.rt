@@ -288,7 +288,7 @@ fn each_comes_to(
     for (j, (caller, act, wanted)) in rows.iter().enumerate() {
         let who = Who {
             caller: *caller,
-            step: j as u32,
+            step: u32::try_from(j).expect(rt, "a number of 32 bits"),
         };
         let right = comes_to(alloc, &mut media, who, *act, *wanted)?;
         assert!(rt; right, "at {j}");
