@@ -7,5 +7,5 @@ mod residual;
 mod sums;
 
 pub use laws::{no_plan_is_below, written_residuals_are_read};
-pub use plan::{RicePlan, best_below, best_parameters};
+pub use plan::{RicePlan, best_below, best_parameters, least_bits};
 pub use residual::write_residual;

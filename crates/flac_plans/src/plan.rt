@@ -5,7 +5,7 @@ ghost use Rattle.flac_definitions.specs.ResidualSpelling.{folded_value};
 ghost use Rattle.flac_plans.specs.Plans.{fits, finest, best_partition, best_parameter, cost, part_of, part_bits, row, table, plan_bits, IsPlan, IsUsable, IsWindow, leasts};
 
 use crate::sums::{
-    Window, all_folded, best_of, bound_for, narrowed_by, part, push_joined, push_row,
+    Window, all_folded, best_of, bound_for, narrowed_by, part, part_of, push_joined, push_row,
 };
 use std::alloc::Global;
 use wc_base::NoMemory;
@@ -40,8 +40,29 @@ pub fn best_below(
     ensures usable { IfOk result (λ o. IfSome o (IsUsable block order)) }
     ensures small { IfOk result (λ o. IfSome o (λ plan. plan.bits < 2 ^ 63)) }
 {
-    let zs = all_folded(alloc, residual)?;
-    best_plan(alloc, zs.as_slice(), block, order, most, limit)
+    if limit <= least_bits(residual, block, order, most) {
+        return Ok(None);
+    }
+    match best_parameters(alloc, residual, block, order, most) {
+        Ok(plan) => Ok(Some(plan)),
+        Err(e) => Err(e),
+    }
+}
+
+/// A number of bits that no plan goes below, seen by the sums of the finest parts alone.
+pub fn least_bits(residual: &[i32], block: u32, order: u32, most: u32) -> u64
+    requires block { block ≤ 65535 }
+    requires order { order < block }
+    requires count { length residual.now + order ≡ block }
+    requires most { most ≤ 15 }
+    ensures least { result ≤ plan_bits block order (map folded_value residual.now)
+        (best_partition block order most (map folded_value residual.now)) }
+    ensures small { result < 2 ^ 63 + 2 ^ 32 }
+{
+    let finest = finest(block, order, most);
+    let size = (block >> finest) as usize;
+    let parts = 1usize << finest;
+    10 + least_of(residual, size, order as usize, parts)
 }
 
 /// The first plan with the fewest bits, over the partition orders up to `max_partition` that fit and the parameters 0
@@ -84,50 +105,18 @@ fn best_of_folded(
     searched(alloc, zs, block, order, max_partition.min(15))
 }
 
-/// The first plan with the fewest bits, of folded values; none where none has fewer than `limit`.
-fn best_plan(
-    alloc: Global,
-    zs: &[u32],
-    block: u32,
-    order: u32,
-    most: u32,
-    limit: u64,
-) -> Result<Option<RicePlan>, NoMemory>
-    requires block { block ≤ 65535 }
-    requires order { order < block }
-    requires count { length zs.now + order ≡ block }
-    requires most { most ≤ 15 }
-    ensures plan { IfOk result
-        (λ o. IfSome o (IsPlan block order zs.now (best_partition block order most zs.now))) }
-    ensures none { IfOk result (λ o. IfNone o
-        (limit ≤ plan_bits block order zs.now (best_partition block order most zs.now))) }
-    ensures usable { IfOk result (λ o. IfSome o (IsUsable block order)) }
-    ensures small { IfOk result (λ o. IfSome o (λ plan. plan.bits < 2 ^ 63)) }
-{
-    let finest = finest(block, order, most);
-    let size = (block >> finest) as usize;
-    let parts = 1usize << finest;
-    if limit <= 10 + least_of(zs, size, order as usize, parts) {
-        return Ok(None);
-    }
-    match searched(alloc, zs, block, order, most) {
-        Ok(plan) => Ok(Some(plan)),
-        Err(e) => Err(e),
-    }
-}
-
 /// Bits that the parts do not go below.
-fn least_of(zs: &[u32], size: usize, order: usize, parts: usize) -> u64
+fn least_of(residual: &[i32], size: usize, order: usize, parts: usize) -> u64
     requires size { size ≤ 65535 }
     requires order { order < size }
-    requires count { parts * size ≡ length zs.now + order }
+    requires count { parts * size ≡ length residual.now + order }
     requires few { parts ≤ 32768 }
-    ensures least { result ≤ leasts size order zs.now parts }
+    ensures least { result ≤ leasts size order (map folded_value residual.now) parts }
     ensures small { result ≤ 2 ^ 63 + 2 ^ 31 }
 {
     let mut sum = 0u64;
     for j in 0..parts {
-        sum += bound_for(part(zs, size, order, j));
+        sum += bound_for(part_of(residual, size, order, j));
     }
     sum
 }

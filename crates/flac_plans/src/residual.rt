@@ -7,7 +7,7 @@ ghost use Rattle.flac_plans.specs.Plans.{IsUsable, part_of};
 ghost use Rattle.flac_plans.specs.Spelling.{rice_bits, part_spelled, residual_bits};
 
 use crate::plan::RicePlan;
-use crate::sums::folded_value;
+use crate::sums::{folded_value, part_of};
 use flac_write::BitWriter;
 use wc_base::NoMemory;
 
@@ -51,18 +51,6 @@ fn write_head(w: &mut BitWriter, partition: u32) -> Result<(), NoMemory>
 {
     w.put(2, 0)?;
     w.put(4, partition as u64)
-}
-
-/// One of the parts of a residual.
-fn part_of(residual: &[i32], size: usize, order: usize, j: usize) -> &[i32]
-    requires size { size ≤ 65535 }
-    requires order { order < size }
-    requires within { (j + 1) * size ≤ length residual.now + order }
-    ensures { map folded_value result.now
-        ≡ part_of size order (map folded_value residual.now) j }
-{
-    let begin = (j * size).saturating_sub(order);
-    &residual[begin..(j + 1) * size - order]
 }
 
 /// Appends a part.

@@ -1,8 +1,8 @@
 // Sums of quotients, part by part.
-ghost use Rattle.std.specs.Prelude.{◌≡◌, ◌<◌, ◌≤◌, ◌+◌, ◌-◌, ◌*◌, ◌/◌, ◌^◌, ◌++◌, ◌∷◌, [], length, map, IfOk, OnOk, sum_by};
+ghost use Rattle.std.specs.Prelude.{ℕ, ◌≡◌, ◌<◌, ◌≤◌, ◌+◌, ◌-◌, ◌*◌, ◌/◌, ◌^◌, ◌++◌, ◌∷◌, [], length, map, IfOk, OnOk, sum_by};
 ghost use Rattle.std.specs.List.{range_with_len};
 ghost use Rattle.flac_definitions.specs.ResidualSpelling.{folded_value};
-ghost use Rattle.flac_plans.specs.Plans.{quotients, total, cost, best_parameter, part_of, row, table, IsBelow, IsFirstLeast, IsWindow, least};
+ghost use Rattle.flac_plans.specs.Plans.{quotients, total, cost, best_parameter, part_of, row, table, IsFirstLeast, IsWindow, least};
 
 use std::alloc::Global;
 use wc_base::NoMemory;
@@ -73,6 +73,19 @@ pub fn part(zs: &[u32], size: usize, order: usize, j: usize) -> &[u32]
 {
     let begin = (j * size).saturating_sub(order);
     &zs[begin..(j + 1) * size - order]
+}
+
+/// One of the parts of a residual.
+pub fn part_of(residual: &[i32], size: usize, order: usize, j: usize) -> &[i32]
+    requires size { size ≤ 65535 }
+    requires order { order < size }
+    requires within { (j + 1) * size ≤ length residual.now + order }
+    ensures value { map folded_value result.now
+        ≡ part_of size order (map folded_value residual.now) j }
+    ensures count { length result.now ≤ size }
+{
+    let begin = (j * size).saturating_sub(order);
+    &residual[begin..(j + 1) * size - order]
 }
 
 /// Parameters from which on and up to which the best of each part is.
@@ -285,15 +298,13 @@ fn sum_at(
     left_sums[c] + right_sums[c]
 }
 
-/// Bits that no parameter goes below, for values with this sum.
-fn bound_of(zs: &[u32], sum: u64) -> u64
-    requires count { length zs.now ≤ 65535 }
-    requires sum { sum ≡ total zs.now }
-    requires small { sum ≤ 2 ^ 48 }
-    ensures below { IsBelow result zs.now }
+/// Bits that no parameter goes below, for so many values with this sum.
+fn bound_of(count: u64, sum: u64) -> u64
+    requires count { count ≤ 65535 }
+    requires sum { sum ≤ 2 ^ 48 }
+    ensures below { (k : ℕ) → k ≤ 14 → result ≤ count * k + (sum + count) / 2 ^ k }
     ensures small { result ≤ 2 ^ 48 + 2 ^ 16 }
 {
-    let count = zs.len() as u64;
     let mut bound = sum + count;
     for k in 1u32..15 {
         bound = bound.min(count * k as u64 + ((sum + count) >> k));
@@ -301,11 +312,24 @@ fn bound_of(zs: &[u32], sum: u64) -> u64
     bound
 }
 
-/// Bits that no parameter goes below, for a part.
-pub fn bound_for(zs: &[u32]) -> u64
-    requires { length zs.now ≤ 65535 }
-    ensures below { result ≤ least zs.now }
+/// Bits that no parameter goes below, for a part of a residual.
+pub fn bound_for(values: &[i32]) -> u64
+    requires { length values.now ≤ 65535 }
+    ensures below { result ≤ least (map folded_value values.now) }
     ensures small { result ≤ 2 ^ 48 + 2 ^ 16 }
 {
-    bound_of(zs, quotients(zs, 0))
+    bound_of(values.len() as u64, folded_sum(values))
+}
+
+/// The sum of folded values, which are kept nowhere.
+fn folded_sum(values: &[i32]) -> u64
+    requires { length values.now ≤ 65535 }
+    ensures value { result ≡ total (map folded_value values.now) }
+    ensures bound { result ≤ length values.now * 2 ^ 32 }
+{
+    let mut sum = 0u64;
+    for value in values {
+        sum += folded_value(*value) as u64;
+    }
+    sum
 }

@@ -1,3 +1,4 @@
+pub mod Earlier
 pub mod Numbers
 pub mod Ranges
 pub mod Residuals

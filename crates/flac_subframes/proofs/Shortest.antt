@@ -22,7 +22,7 @@ takes f a b h = ap (λ (t : Bool). cond t b a) (lt-ltb (f b) (f a) h)
 pub keeps : {A : Type 0} (f : A → ℕ) (a b : A) → f a ≤ f b → shorter f a b ≡ a
 keeps f a b h = ap (λ (t : Bool). cond t b a) (le-ltb (f b) (f a) h)
 
-shorter_assoc : {A : Type 0} (f : A → ℕ) (a b c : A) → shorter f (shorter f a b) c ≡ shorter f a (shorter f b c)
+pub shorter_assoc : {A : Type 0} (f : A → ℕ) (a b c : A) → shorter f (shorter f a b) c ≡ shorter f a (shorter f b c)
 shorter_assoc {A} f a b c = elim (cases_lt (f b) (f a)) [
   | inl l ↦ (elim (cases_lt (f c) (f b)) [
     | inl m ↦ ap (λ (x : A). shorter f x c) (takes f a b l) ∙ (takes f b c m ∙ sym (ap (shorter f a) (takes f b c m) ∙ takes f a c (omega (arith, l, m))))

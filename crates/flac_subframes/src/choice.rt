@@ -1,15 +1,16 @@
 // The candidate of least length.
-ghost use Rattle.std.specs.Prelude.{◌≡◌, ◌<◌, ◌≤◌, ◌+◌, ◌*◌, ◌^◌, true, length, map, min, IfOk, if◌then◌else◌};
+ghost use Rattle.std.specs.Prelude.{◌≡◌, ◌<◌, ◌≤◌, ◌+◌, ◌-◌, ◌*◌, ◌^◌, true, length, map, min, IfOk, if◌then◌else◌};
 ghost use Rattle.std.specs.Ordering.{int_eq};
 ghost use Rattle.std.specs.List.{flat_map, range_with_len};
 ghost use Rattle.flac_plans.specs.Plans.{best_partition, IsPlan, IsUsable};
 ghost use Rattle.flac_subframes.specs.Fixed.{at, residuals, folded_residual, are_in_range, AreWithin};
-ghost use Rattle.flac_subframes.specs.Candidates.{is_constant, are_all, fixed_candidates, candidates, candidate_bits, shorter, first_shortest, best_candidate, plain_candidate, IsChoice};
+ghost use Rattle.flac_subframes.specs.Candidates.{is_constant, are_all, fixed_candidates, candidates, candidate_bits, shorter, first_shortest, best_candidate, plain_candidate, best_of_order, IsChoice};
 ghost use Rattle.flac_subframes.specs.declared.candidate.Candidate.TheVariants.{Constant, Verbatim, Fixed};
 
 use crate::candidate::{Candidate, Choice};
-use crate::orders::{are_within, residual_of, to_next_order};
-use flac_plans::{RicePlan, best_below};
+use crate::likely::likely_order;
+use crate::orders::{are_within, residual_of, small_residual, to_next_order};
+use flac_plans::{RicePlan, best_below, best_parameters, least_bits};
 use std::alloc::Global;
 use wc_base::NoMemory;
 
@@ -63,7 +64,7 @@ fn with_orders(
     Ok(best)
 }
 
-/// The same for small samples, whose residuals are made one from another.
+/// The same for small samples, whose residuals are made one from another, with a likely order first.
 fn with_small_orders(
     alloc: Global,
     samples: &[i32],
@@ -84,15 +85,240 @@ fn with_small_orders(
         (flat_map (fixed_candidates most samples.now) (range_with_len 0 (last + 1))))) }
 {
     let mut residual = Vec::from_slice(alloc, samples)?;
-    let mut bound = 1u32 << 25;
-    let mut best = with_kept(alloc, samples, depth, most, 0, residual.as_slice(), first)?;
-    for order in 0..last {
-        to_next_order(samples, order, &mut residual, bound);
-        bound *= 2;
+    let likely = likely_order(samples, last);
+    let rises = likely == 0 || likely as usize >= samples.len();
+    if rises {
+        return in_turn(alloc, samples, depth, most, last, &mut residual, first);
+    }
+    from_likely(
+        alloc,
+        samples,
+        depth,
+        most,
+        likely,
+        last,
+        &mut residual,
+        first,
+    )
+}
+
+/// The same, order by order.
+fn in_turn(
+    alloc: Global,
+    samples: &[i32],
+    depth: u32,
+    most: u32,
+    last: u32,
+    residual: &mut Vec<i32>,
+    first: Choice,
+) -> Result<Choice, NoMemory>
+    requires some { 0 < length samples.now }
+    requires count { length samples.now ≤ 65535 }
+    requires depth { depth ≤ 33 }
+    requires most { most ≤ 6 }
+    requires last { last ≤ 4 }
+    requires first { IsChoice depth samples.now first.candidate first }
+    requires within { AreWithin (2 ^ 25) samples.now }
+    requires copied { residual.old.items ≡ samples.now }
+    ensures { IfOk result (IsChoice depth samples.now
+        (first_shortest (candidate_bits depth samples.now) first.candidate
+        (flat_map (fixed_candidates most samples.now) (range_with_len 0 (last + 1))))) }
+{
+    let bound = 1u32 << 25;
+    let best = with_kept(alloc, samples, depth, most, 0, residual.as_slice(), first)?;
+    with_later(alloc, samples, depth, most, 0, last, residual, bound, best)
+}
+
+/// The same, with a likely order first.
+fn from_likely(
+    alloc: Global,
+    samples: &[i32],
+    depth: u32,
+    most: u32,
+    likely: u32,
+    last: u32,
+    residual: &mut Vec<i32>,
+    first: Choice,
+) -> Result<Choice, NoMemory>
+    requires likely { likely ≤ last }
+    requires there { likely < length samples.now }
+    requires some { 0 < length samples.now }
+    requires count { length samples.now ≤ 65535 }
+    requires depth { depth ≤ 33 }
+    requires most { most ≤ 6 }
+    requires last { last ≤ 4 }
+    requires first { IsChoice depth samples.now first.candidate first }
+    requires within { AreWithin (2 ^ 25) samples.now }
+    requires copied { residual.old.items ≡ samples.now }
+    ensures { IfOk result (IsChoice depth samples.now
+        (first_shortest (candidate_bits depth samples.now) first.candidate
+        (flat_map (fixed_candidates most samples.now) (range_with_len 0 (last + 1))))) }
+{
+    let bound = 1u32 << 25;
+    let best = from_order(
+        alloc, samples, depth, most, 0, likely, last, residual, bound,
+    )?;
+    Ok(shorter(first, best))
+}
+
+/// A choice, or the first candidate of least length of the orders behind one up to `last` where it is shorter.
+fn with_later(
+    alloc: Global,
+    samples: &[i32],
+    depth: u32,
+    most: u32,
+    from: u32,
+    last: u32,
+    residual: &mut Vec<i32>,
+    bound: u32,
+    first: Choice,
+) -> Result<Choice, NoMemory>
+    requires some { 0 < length samples.now }
+    requires count { length samples.now ≤ 65535 }
+    requires depth { depth ≤ 33 }
+    requires most { most ≤ 6 }
+    requires from { from ≤ last }
+    requires last { last ≤ 4 }
+    requires residual { residual.old.items ≡ residuals from samples.now }
+    requires bound { bound ≡ 2 ^ 25 * 2 ^ from }
+    requires within { AreWithin bound residual.old.items }
+    requires first { IsChoice depth samples.now first.candidate first }
+    ensures { IfOk result (IsChoice depth samples.now
+        (first_shortest (candidate_bits depth samples.now) first.candidate
+        (flat_map (fixed_candidates most samples.now) (range_with_len (from + 1) (last - from))))) }
+{
+    let mut wide = bound;
+    let mut best = first;
+    for order in from..last {
+        to_next_order(samples, order, residual, wide);
+        wide *= 2;
         let kept = residual.as_slice();
         best = with_kept(alloc, samples, depth, most, order + 1, kept, best)?;
     }
     Ok(best)
+}
+
+/// The first candidate of least length of the orders from one up to `last`: what comes from the likely one on is found
+/// first, and an order before it is not searched where its parts show that it is longer.
+#[tactic(auto, using(crate::proofs::Earlier::doubled))]
+fn from_order(
+    alloc: Global,
+    samples: &[i32],
+    depth: u32,
+    most: u32,
+    order: u32,
+    likely: u32,
+    last: u32,
+    residual: &mut Vec<i32>,
+    bound: u32,
+) -> Result<Choice, NoMemory>
+    requires some { likely < length samples.now }
+    requires count { length samples.now ≤ 65535 }
+    requires depth { depth ≤ 33 }
+    requires most { most ≤ 6 }
+    requires order { order ≤ likely }
+    requires likely { likely ≤ last }
+    requires last { last ≤ 4 }
+    requires small { AreWithin (2 ^ 25) samples.now }
+    requires residual { residual.old.items ≡ residuals order samples.now }
+    requires bound { bound ≡ 2 ^ 25 * 2 ^ order }
+    requires within { AreWithin bound residual.old.items }
+    ensures { IfOk result (IsChoice depth samples.now
+        (first_shortest (candidate_bits depth samples.now)
+        (best_of_order most samples.now order)
+        (flat_map (fixed_candidates most samples.now) (range_with_len (order + 1) (last - order))))) }
+{
+    if order == likely {
+        let first = fixed_choice(alloc, samples, depth, most, order, residual.as_slice())?;
+        return with_later(
+            alloc, samples, depth, most, order, last, residual, bound, first,
+        );
+    }
+    let least = least_length(samples, depth, most, order, residual.as_slice());
+    to_next_order(samples, order, residual, bound);
+    let wide = 2 * bound;
+    let next = order + 1;
+    let behind = from_order(
+        alloc, samples, depth, most, next, likely, last, residual, wide,
+    )?;
+    with_earlier(alloc, samples, depth, most, order, least, behind)
+}
+
+/// The choice of an order before others, or theirs where it is shorter. The order is not searched where its least
+/// length shows that it is longer.
+fn with_earlier(
+    alloc: Global,
+    samples: &[i32],
+    depth: u32,
+    most: u32,
+    order: u32,
+    least: u64,
+    behind: Choice,
+) -> Result<Choice, NoMemory>
+    requires some { order < length samples.now }
+    requires count { length samples.now ≤ 65535 }
+    requires depth { depth ≤ 33 }
+    requires most { most ≤ 6 }
+    requires order { order ≤ 4 }
+    requires small { AreWithin (2 ^ 25) samples.now }
+    requires least { least ≤ candidate_bits depth samples.now (best_of_order most samples.now order) }
+    requires behind { IsChoice depth samples.now behind.candidate behind }
+    ensures { IfOk result (IsChoice depth samples.now (shorter (candidate_bits depth samples.now)
+        (best_of_order most samples.now order) behind.candidate)) }
+{
+    if behind.bits < least {
+        return Ok(behind);
+    }
+    let residual = small_residual(alloc, samples, order)?;
+    let choice = fixed_choice(alloc, samples, depth, most, order, residual.as_slice())?;
+    Ok(shorter(choice, behind))
+}
+
+/// The best choice of an order, by its residual.
+fn fixed_choice(
+    alloc: Global,
+    samples: &[i32],
+    depth: u32,
+    most: u32,
+    order: u32,
+    residual: &[i32],
+) -> Result<Choice, NoMemory>
+    requires some { order < length samples.now }
+    requires count { length samples.now ≤ 65535 }
+    requires depth { depth ≤ 33 }
+    requires most { most ≤ 6 }
+    requires order { order ≤ 4 }
+    requires residual { residual.now ≡ residuals order samples.now }
+    requires range { are_in_range (residuals order samples.now) ≡ true }
+    ensures { IfOk result
+        (IsChoice depth samples.now (best_of_order most samples.now order)) }
+{
+    let block = samples.len() as u32;
+    match best_parameters(alloc, residual, block, order, most) {
+        Ok(plan) => Ok(Choice {
+            candidate: Candidate::Fixed {
+                order,
+                partition: plan.partition,
+            },
+            bits: 8 + (depth * order) as u64 + plan.bits,
+            plan,
+        }),
+        Err(e) => Err(e),
+    }
+}
+
+/// A length below which no candidate of an order is.
+fn least_length(samples: &[i32], depth: u32, most: u32, order: u32, residual: &[i32]) -> u64
+    requires some { order < length samples.now }
+    requires count { length samples.now ≤ 65535 }
+    requires depth { depth ≤ 33 }
+    requires most { most ≤ 6 }
+    requires order { order ≤ 4 }
+    requires residual { residual.now ≡ residuals order samples.now }
+    ensures { result ≤ candidate_bits depth samples.now (best_of_order most samples.now order) }
+{
+    let block = samples.len() as u32;
+    8 + (depth * order) as u64 + least_bits(residual, block, order, most)
 }
 
 /// Constant where that can be, and verbatim where not.

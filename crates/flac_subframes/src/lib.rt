@@ -3,6 +3,7 @@
 
 mod candidate;
 mod choice;
+mod likely;
 mod orders;
 mod subframe;
 

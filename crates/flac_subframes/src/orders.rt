@@ -229,7 +229,7 @@ fn minus(front: i64, d: i64) -> i64
 }
 
 /// The residual of samples that are small, order by order.
-fn small_residual(alloc: Global, samples: &[i32], order: u32) -> Result<Vec<i32>, NoMemory>
+pub fn small_residual(alloc: Global, samples: &[i32], order: u32) -> Result<Vec<i32>, NoMemory>
     requires some { order < length samples.now }
     requires order { order ≤ 4 }
     requires within { AreWithin (2 ^ 25) samples.now }

@@ -1,4 +1,5 @@
-use Rattle.std.proofs.Common.{arith}
+use Rattle.std.proofs.Common.{map, arith}
+use Rattle.flac_definitions.specs.ResidualSpelling.{folded_value}
 use Rattle.flac_plans.proofs.Least.{leasts_more}
 use Rattle.flac_plans.proofs.plan.least_of.Goals as goal
 
@@ -7,6 +8,6 @@ loop-j-preserved c =
     let a = c.args in
     let v = c.loop-j.invariant in
     record {
-      least = leasts_more a.size a.order a.zs.now c.part.result.now c.loop-j.j c.loop-j.sum c.bound_for-sum.result v.least c.bound_for-sum.ensures.below c.part.ensures.value;
+      least = leasts_more a.size a.order (map folded_value a.residual.now) (map folded_value c.part_of.result.now) c.loop-j.j c.loop-j.sum c.bound_for-sum.result v.least c.bound_for-sum.ensures.below c.part_of.ensures.value;
       small = omega (arith, v.small, c.bound_for-sum.ensures.small);
     }

@@ -18,7 +18,7 @@ loop-j-preserved c =
     let f : ℕ → List Bool = λ (j : ℕ). part_spelled (slice_index plan.parameters.items j) (part_of size a.order zs j) in
     let short : j < length plan.parameters.items = search rules in
     let k : c.index.result.now ≡ slice_index plan.parameters.items j = get_or_read plan.parameters.items j c.index.result.now short c.index.ensures 0 in
-    let got : part_spelled c.index.result.now (map folded_value c.part_of.result.now) ≡ f j = ap (λ (x : ℕ). part_spelled x (map folded_value c.part_of.result.now)) k ∙ ap (part_spelled (slice_index plan.parameters.items j)) c.part_of.ensures in
+    let got : part_spelled c.index.result.now (map folded_value c.part_of.result.now) ≡ f j = ap (λ (x : ℕ). part_spelled x (map folded_value c.part_of.result.now)) k ∙ ap (part_spelled (slice_index plan.parameters.items j)) c.part_of.ensures.value in
     each_more f a.w.now (bits_of 2 0 ++ bits_of 4 plan.partition) c.loop-j.w c.write_part.new.w (part_spelled c.index.result.now (map folded_value c.part_of.result.now)) (range_with_len 0 j) (range_with_len 0 (j + 1)) j (range_more j) c.loop-j.invariant c.in_ok-write_part.ensures.ok got
 
 pub returns-in_err-write_part-clause-err : goal.returns-in_err-write_part-clause-err
@@ -33,6 +33,6 @@ returns-in_err-write_part-clause-err c =
     let short : j < length plan.parameters.items = search rules in
     let less : j < n = subst (λ (m : ℕ). j < m) c.requires.usable.parameters short in
     let k : c.index.result.now ≡ slice_index plan.parameters.items j = get_or_read plan.parameters.items j c.index.result.now short c.index.ensures 0 in
-    let got : part_spelled c.index.result.now (map folded_value c.part_of.result.now) ≡ f j = ap (λ (x : ℕ). part_spelled x (map folded_value c.part_of.result.now)) k ∙ ap (part_spelled (slice_index plan.parameters.items j)) c.part_of.ensures in
+    let got : part_spelled c.index.result.now (map folded_value c.part_of.result.now) ≡ f j = ap (λ (x : ℕ). part_spelled x (map folded_value c.part_of.result.now)) k ∙ ap (part_spelled (slice_index plan.parameters.items j)) c.part_of.ensures.value in
     on_err c.from_residual-in_err-write_part.result
     (each_begun f a.w.now (bits_of 2 0 ++ bits_of 4 plan.partition) c.loop-j.w c.write_part.new.w (part_spelled c.index.result.now (map folded_value c.part_of.result.now)) (range_with_len 0 n) (range_with_len 0 j) (range_with_len (j + 1) (n - j - 1)) j (range_at n j less) c.loop-j.invariant got c.in_err-write_part.ensures.err)

@@ -1,10 +1,10 @@
 use Rattle.std.proofs.Common.{ℕ, List, ap, sym, ◌∙◌, ◌*◌, ◌+◌, ◌-◌, ◌≡◌, map, take, drop}
 use Rattle.std.proofs.lemmas.List.{take-map, drop-map}
 use Rattle.flac_definitions.specs.ResidualSpelling.{folded_value}
-use Rattle.flac_plans.proofs.residual.part_of.Goals as goal
+use Rattle.flac_plans.proofs.sums.part_of.Goals as goal
 
-pub returns : goal.returns
-returns c =
+pub returns-clause-value : goal.returns-clause-value
+returns-clause-value c =
     let xs = c.args.residual.now in
     let b = c.args.j * c.args.size - c.args.order in
     let n = (c.args.j + 1) * c.args.size - c.args.order - b in
