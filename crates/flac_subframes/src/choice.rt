@@ -185,7 +185,8 @@ fn with_later(
     requires first { IsChoice depth samples.now first.candidate first }
     ensures { IfOk result (IsChoice depth samples.now
         (first_shortest (candidate_bits depth samples.now) first.candidate
-        (flat_map (fixed_candidates most samples.now) (range_with_len (from + 1) (last - from))))) }
+        (flat_map (fixed_candidates most samples.now)
+        (range_with_len (from + 1) (last - from))))) }
 {
     let mut wide = bound;
     let mut best = first;
@@ -226,7 +227,8 @@ fn from_order(
     ensures { IfOk result (IsChoice depth samples.now
         (first_shortest (candidate_bits depth samples.now)
         (best_of_order most samples.now order)
-        (flat_map (fixed_candidates most samples.now) (range_with_len (order + 1) (last - order))))) }
+        (flat_map (fixed_candidates most samples.now)
+        (range_with_len (order + 1) (last - order))))) }
 {
     if order == likely {
         let first = fixed_choice(alloc, samples, depth, most, order, residual.as_slice())?;
