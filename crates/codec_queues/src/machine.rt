@@ -5,8 +5,8 @@ ghost use Rattle.codec_model.specs.Control.{at_next_place, after_configure, afte
 ghost use Rattle.codec_model.specs.Shown.{IsAnswer, exception_of as the_exception, call_shows, removal_shows, reclaim_shows, turn_shows, turn_word, closes};
 
 use crate::queues::{
-    close_answer, codes_work, decodes, halts, is_key_chunk, keep_dequeues, kind_of_work, later, queue_end,
-    remove_promise, reserve_places, room_for, schedule_dequeue, turn_answer,
+    close_answer, codes_work, decodes, halts, is_key_chunk, keep_dequeues, kind_of_work, later,
+    queue_end, remove_promise, reserve_places, room_for, schedule_dequeue, turn_answer,
 };
 use codec_model::{
     Answer, Call, CodecState, Ended, Item, Message, Opening, Removal, Running, Showing, Task, Work,
