@@ -41,7 +41,7 @@ use Rattle.codec_model.specs.declared.entry.Task.TheVariants as task
 use Rattle.codec_model.specs.declared.entry.Ended.{Ended}
 use Rattle.codec_model.specs.declared.entry.Ended.TheVariants as ended
 use Rattle.codec_model.specs.declared.entry.Outcome.{Outcome}
-use Rattle.codec_model.specs.Control.{Control, kind_of, is_taken, after_message, process_queue, at_next_place, run_task, done_running, after_end, after_reset, after_close, may_reclaim, may_start}
+use Rattle.codec_model.specs.Control.{Control, kind_of, is_taken, after_message, process_queue, at_next_place, run_task, done_running, after_end, after_reset, after_close, may_reclaim, may_start, is_key_chunk}
 use Rattle.codec_model.specs.Replay.{State, Given, given_more, answer_to, answers_to, opening_state, step, done_ended, ended_of, removal_error, after_call, call_error, accepted, remove_or_refuse, removed, start_step, done_step, with_control, turn_step}
 use Rattle.wc_base.specs.Options.{cond_is, some_same}
 use Rattle.history_laws.specs.Answers.{ran_answer}
@@ -289,7 +289,7 @@ flushes_configured Closed h = absurd cc
 
 accepted_at : (x : Call) (c : Control) (given busy : Given) → call_error x c ≡ None → At c given busy → At (accepted x c) given busy
 accepted_at (call.Configure config) c given busy e h = processed _ given busy (pushed_configure c c.place config given busy h)
-accepted_at (call.Decode chunk) c given busy e h = processed _ given busy (pushed_other c (record { place = c.place; work = work.Coded chunk }) given busy (decodes_configured c.phase (c.key_required && not chunk.key) e) h)
+accepted_at (call.Decode chunk) c given busy e h = processed _ given busy (pushed_other c (record { place = c.place; work = work.Coded chunk }) given busy (decodes_configured c.phase (c.key_required && not (is_key_chunk c.opening.kind chunk)) e) h)
 accepted_at call.Flush c given busy e h = processed _ given busy (pushed_other c (record { place = c.place; work = work.Flush }) given busy (flushes_configured c.phase e) h)
 
 called_at : (o : Option DomError) (x : Call) (c : Control) (given busy : Given) → call_error x c ≡ o → At c given busy → At (after_call o x c) given busy
