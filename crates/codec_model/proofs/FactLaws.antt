@@ -17,6 +17,9 @@ use Rattle.codec_model.specs.declared.entry.Call.{Call}
 use Rattle.codec_model.specs.declared.entry.Call.TheVariants as call
 use Rattle.codec_model.specs.declared.entry.Entry.{Entry}
 use Rattle.codec_model.specs.declared.entry.Entry.TheVariants as entry
+use Rattle.codec_model.specs.declared.entry.HeldSound.{HeldSound}
+use Rattle.codec_model.specs.declared.entry.Handed.TheVariants as handed
+use Rattle.codec_model.specs.declared.entry.Coded.TheVariants as coded
 use Rattle.codec_model.specs.declared.entry.Work.{Work}
 use Rattle.codec_model.specs.declared.entry.Work.TheVariants as work
 use Rattle.codec_model.specs.declared.entry.WorkKind.{WorkKind}
@@ -29,8 +32,8 @@ use Rattle.codec_model.specs.declared.entry.Task.TheVariants as task
 use Rattle.codec_model.specs.declared.entry.Ended.{Ended}
 use Rattle.codec_model.specs.declared.entry.Ended.TheVariants as ended
 use Rattle.codec_model.specs.declared.entry.Outcome.{Outcome}
-use Rattle.codec_model.specs.Control.{Control, is_coded, kind_of, is_decoder, is_close, is_dequeue, is_desaturate, coded_running, coded_out, is_taken, after_message, takes_front, process_queue, at_next_place, run_front, run_task, done_running, after_end, refusal_of, after_reset, after_close, after_removal, may_reclaim, may_start, start_front}
-use Rattle.codec_model.specs.Replay.{State, opening_state, step, replay, replay_from, done_ended, ended_of, removal_error, after_call, call_error, call_step, accepted, removal_step, remove_or_refuse, start_step, done_step, with_control, turn_step}
+use Rattle.codec_model.specs.Control.{Control, is_coded, kind_of, is_decoder, is_close, is_dequeue, is_desaturate, coded_running, coded_out, is_taken, after_message, takes_front, process_queue, at_next_place, run_front, run_task, done_running, after_end, refusal_of, after_reset, after_close, after_removal, may_reclaim, may_start, start_front, after_encode, after_take, may_take}
+use Rattle.codec_model.specs.Replay.{State, opening_state, step, replay, replay_from, done_ended, ended_of, removal_error, after_call, call_error, call_step, accepted, removal_step, remove_or_refuse, start_step, done_step, with_control, turn_step, is_configured}
 use Rattle.codec_model.specs.Facts.{bit, with_event, is_unblock, is_process, resolves, is_configure, flushes, configures_now, flushes_now, CountsMessages, HaltsForClose, IsNumbered, IsBefore, NumbersItems, BlocksForConfigure, SaturatesForCoded, KeepsSaturation, ProcessesSoon, OwesPromises, NamesEarlier, IsNeverStuck, IsQuiet, OwesNothing, EndsQuiet}
 
 -- counts of one more at the end and at the front
@@ -772,8 +775,8 @@ accepted_sound (call.Configure config) c h =
     let s : Control = record (at_next_place c) { phase = Configured; key_required = is_decoder c.opening.kind || c.key_required; messages = c.messages ++ record { place = c.place; work = work.Configure config } ∷ [] } in
     process_sound s.messages s refl (configure_kept config c h.0)
 accepted_sound (call.Decode chunk) c h =
-    let s : Control = record (at_next_place c) { key_required = false; size = c.size + 1; messages = c.messages ++ record { place = c.place; work = work.Coded chunk } ∷ [] } in
-    process_sound s.messages s refl (decode_kept chunk c h.0)
+    let s : Control = record (at_next_place c) { key_required = false; size = c.size + 1; messages = c.messages ++ record { place = c.place; work = work.Coded (coded.Chunk chunk) } ∷ [] } in
+    process_sound s.messages s refl (decode_kept (coded.Chunk chunk) c h.0)
 accepted_sound call.Flush c h =
     let s : Control = record (at_next_place c) { key_required = is_decoder c.opening.kind || c.key_required; pending = c.pending ++ c.place ∷ []; messages = c.messages ++ record { place = c.place; work = work.Flush } ∷ [] } in
     process_sound s.messages s refl (flush_kept c h.0)
@@ -816,12 +819,28 @@ turn_step_sound : (ts : List Task) (s t : State) → s.control.tasks ≡ ts → 
 turn_step_sound [] s t e h sound = absurd cc
 turn_step_sound (x ∷ ts) s t e h sound = subst (λ (c : Control). Sound c) (sym (turned_control x ts s t h)) (turn_sound x ts s.control e sound)
 
+encode_sound : (x : HeldSound) (c : Control) → Sound c → Sound (after_encode c.place x (at_next_place c))
+encode_sound x c h =
+    let s : Control = record (at_next_place c) { size = c.size + 1; messages = c.messages ++ record { place = c.place; work = work.Coded (coded.Sound x) } ∷ [] } in
+    process_sound s.messages s refl (decode_kept (coded.Sound x) c h.0)
+
+taken_sound : (c : Control) → Sound c → Sound (after_take (at_next_place c))
+taken_sound c h = (entered_kept c.messages c h.0, h.1)
+
+kept_sound : (b : Bool) (s t : State) → cond b None (Some (with_control (at_next_place s.control) s)) ≡ Some t → Sound s.control → Sound t.control
+kept_sound true s t h sound = absurd cc
+kept_sound false s t h sound = sound_at (with_control (at_next_place s.control) s) t (some_same _ _ h) (entered_kept s.control.messages s.control sound.0, sound.1)
+
 step_sound : (e : Entry) (s t : State) → step e s ≡ Some t → Sound s.control → Sound t.control
 step_sound (entry.Configure who config) s t h sound = sound_at (call_step (call.Configure config) s) t (some_same _ _ h) (call_sound (call_error (call.Configure config) s.control) (call.Configure config) s.control sound)
 step_sound (entry.Decode who chunk) s t h sound = sound_at (call_step (call.Decode chunk) s) t (some_same _ _ h) (call_sound (call_error (call.Decode chunk) s.control) (call.Decode chunk) s.control sound)
+step_sound (entry.Encode who handed.Gone) s t h sound = sound_at _ t (some_same _ _ h) (entered_kept s.control.messages s.control sound.0, sound.1)
+step_sound (entry.Encode who handed.Kept) s t h sound = kept_sound (is_configured s.control) s t h sound
+step_sound (entry.Encode who (handed.Cloned x)) s t h sound = subst (λ (u : State). Sound u.control) (some_same _ t (cond_is (is_configured s.control) _ t h).1) (encode_sound x s.control sound)
 step_sound (entry.Flush who) s t h sound = sound_at (call_step call.Flush s) t (some_same _ _ h) (call_sound (call_error call.Flush s.control) call.Flush s.control sound)
 step_sound (entry.Reset who) s t h sound = sound_at (removal_step removal.Reset s) t (some_same _ _ h) (refused_or_sound (removal_error s.control) removal.Reset s sound)
 step_sound (entry.Close who) s t h sound = sound_at (removal_step removal.Close s) t (some_same _ _ h) (refused_or_sound (removal_error s.control) removal.Close s sound)
+step_sound (entry.Take who unit) s t h sound = subst (λ (u : State). Sound u.control) (some_same _ t (cond_is (may_take unit s.control) _ t h).1) (taken_sound s.control sound)
 step_sound (entry.Start epoch item) s t h sound = start_step_sound s.control.work epoch item s t refl h sound
 step_sound (entry.Done epoch item moment x) s t h sound = done_step_sound s.control.running epoch item moment x s t refl h sound
 step_sound entry.Turn s t h sound = turn_step_sound s.control.tasks s t refl h sound

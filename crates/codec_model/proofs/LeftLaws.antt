@@ -50,7 +50,7 @@ left_with ms s = 7 * length ms + 4 * length s.work + running_weight s.running + 
 
 taken_left : (w : Work) (at : ℕ) (ms : List Message) (s : Control) → left_with ms (record (after_message (record { place = at; work = w }) s) { messages = ms }) ≤ left_with (record { place = at; work = w } ∷ ms) s
 taken_left (work.Configure config) at ms s = omega (arith, longer s.work (record { number = s.next_item; place = at; work = work.Configure config }))
-taken_left (work.Coded chunk) at ms s = omega (arith, longer s.work (record { number = s.next_item; place = at; work = work.Coded chunk }), event_weight true s.scheduled s.tasks)
+taken_left (work.Coded input) at ms s = omega (arith, longer s.work (record { number = s.next_item; place = at; work = work.Coded input }), event_weight true s.scheduled s.tasks)
 taken_left work.Flush at ms s = omega (arith, longer s.work (record { number = s.next_item; place = at; work = work.Flush }))
 
 process_left_by : (m : Message) (ms : List Message) (s : Control) (b : Bool) → s.messages ≡ m ∷ ms → left (process_queue ms (record (after_message m s) { messages = ms })) ≤ left_with ms (record (after_message m s) { messages = ms }) → left (cond b (process_queue ms (record (after_message m s) { messages = ms })) s) ≤ left_with (m ∷ ms) s

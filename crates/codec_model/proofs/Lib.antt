@@ -1,2 +1,3 @@
 pub mod FactLaws
 pub mod LeftLaws
+pub mod HeldLaws

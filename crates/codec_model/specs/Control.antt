@@ -1,12 +1,13 @@
 -- The control state of a codec, and the steps of its algorithms on it (W3C WebCodecs, sections 2.2 'Control Messaging
 -- Model', 2.3 'Codec Work Parallel Queue', and the algorithms of AudioDecoder; saturation and what a removal does to
 -- epochs and tasks are our choice).
-use Rattle.std.specs.Prelude.{ℕ, ◌+◌, ◌-◌, ◌*◌, ◌==◌, max, Bool, true, false, not, ◌&&◌, ◌||◌, List, [], ◌∷◌, ◌++◌, length, count_by, sum_by, filter, drop, map, nat_le, Option, Some, None, is_some, is_none, if◌then◌else◌, unwrap_or}
+use Rattle.std.specs.Prelude.{ℕ, ◌+◌, ◌-◌, ◌*◌, ◌==◌, max, Bool, true, false, not, ◌&&◌, ◌||◌, List, [], ◌∷◌, ◌++◌, length, count_by, sum_by, filter, drop, map, nat_le, nat_lt, bytes_eq, Option, Some, None, is_some, is_none, if◌then◌else◌, unwrap_or}
 use Rattle.wc_config.specs.declared.config.Config.{Config}
 use Rattle.wc_chunk.specs.declared.chunk.Chunk.{Chunk}
 use Rattle.wc_base.specs.declared.error.DomError.{DomError}
 use Rattle.wc_base.specs.declared.error.DomError.TheVariants as dom
 use Rattle.codec_definitions.specs.declared.unit.Unit as media
+use Rattle.codec_definitions.specs.declared.unit.Unit.TheVariants as unit_of
 use Rattle.wc_config.specs.declared.config.AudioDecoderConfig.{AudioDecoderConfig}
 use Rattle.wc_config.specs.declared.kind.Kind.{Kind}
 use Rattle.wc_config.specs.declared.kind.Kind.TheVariants as kinds
@@ -15,6 +16,10 @@ use Rattle.codec_model.specs.declared.entry.Removal.{Removal}
 use Rattle.codec_model.specs.declared.entry.Removal.TheVariants as removal
 use Rattle.codec_model.specs.declared.entry.CodecState.{CodecState}
 use Rattle.codec_model.specs.declared.entry.CodecState.TheVariants.{Unconfigured, Configured, Closed}
+use Rattle.codec_model.specs.declared.entry.Pair.{Pair}
+use Rattle.codec_model.specs.declared.entry.HeldSound.{HeldSound}
+use Rattle.codec_model.specs.declared.entry.Coded.{Coded}
+use Rattle.codec_model.specs.declared.entry.Coded.TheVariants as coded
 use Rattle.codec_model.specs.declared.entry.Work.{Work}
 use Rattle.codec_model.specs.declared.entry.Work.TheVariants as work
 use Rattle.codec_model.specs.declared.entry.WorkKind.{WorkKind}
@@ -65,13 +70,20 @@ at_next_place s = record s { place = s.place + 1 }
 
 abbrev pub is_coded : Work → Bool
 is_coded (work.Configure config) = false
-is_coded (work.Coded chunk) = true
+is_coded (work.Coded input) = true
 is_coded work.Flush = false
 
 abbrev pub kind_of : Work → WorkKind
 kind_of (work.Configure config) = kind.Configure
-kind_of (work.Coded chunk) = kind.Coded
+kind_of (work.Coded input) = kind.Coded
 kind_of work.Flush = kind.Flush
+
+-- the reference that a message or an item holds, if it holds one
+abbrev pub held_of : Work → Option Pair
+held_of (work.Configure config) = None
+held_of (work.Coded (coded.Chunk chunk)) = None
+held_of (work.Coded (coded.Sound sound)) = Some sound.pair
+held_of work.Flush = None
 
 -- the coded items of this epoch that are queued or running
 abbrev pub coded_running : ℕ → Option Running → ℕ
@@ -95,7 +107,7 @@ with_item m s = record s { work = s.work ++ record { number = s.next_item; place
 abbrev pub after_message : Message → Control → Control
 after_message m s = elim (m.work) [
   | work.Configure config ↦ with_item m (record s { blocked = true })
-  | work.Coded chunk ↦ with_item m (with_dequeue (record s { saturated = coded_out s + 1 == s.opening.saturation; size = s.size - 1 }))
+  | work.Coded input ↦ with_item m (with_dequeue (record s { saturated = coded_out s + 1 == s.opening.saturation; size = s.size - 1 }))
   | work.Flush ↦ with_item m s
 ]
 
@@ -146,7 +158,10 @@ abbrev pub after_configure : ℕ → Config → Control → Control
 after_configure place config s = with_message place (work.Configure config) (record s { phase = Configured; key_required = is_decoder s.opening.kind || s.key_required })
 
 abbrev pub after_decode : ℕ → Chunk → Control → Control
-after_decode place chunk s = with_message place (work.Coded chunk) (record s { key_required = false; size = s.size + 1 })
+after_decode place chunk s = with_message place (work.Coded (coded.Chunk chunk)) (record s { key_required = false; size = s.size + 1 })
+
+abbrev pub after_encode : ℕ → HeldSound → Control → Control
+after_encode place sound s = with_message place (work.Coded (coded.Sound sound)) (record s { size = s.size + 1 })
 
 abbrev pub after_flush : ℕ → Control → Control
 after_flush place s = with_message place work.Flush (record s { key_required = is_decoder s.opening.kind || s.key_required; pending = s.pending ++ place ∷ [] })
@@ -297,8 +312,38 @@ opening_control o = record {
   progress = None;
 }
 
+-- the same description, or none of both
+abbrev pub same_description : Option (List ℕ) → Option (List ℕ) → Bool
+same_description None None = true
+same_description (Some a) (Some b) = bytes_eq a b
+same_description _ _ = false
+
+-- The config is the one of the last encoded output that was shown: the same codec, rate, channels and description (W3C
+-- WebCodecs, 'Output EncodedAudioChunks' of AudioEncoder).
+abbrev pub is_active : Option AudioDecoderConfig → AudioDecoderConfig → Bool
+is_active None c = false
+is_active (Some a) c = bytes_eq a.codec c.codec && (a.rate == c.rate) && (a.channels == c.channels) && same_description a.description c.description
+
+-- Outputs as they are shown: of one item the first alone can carry a config, and it keeps it exactly where it is not the
+-- active one (W3C WebCodecs, EncodedAudioChunkMetadata).
+abbrev pub carried : Option AudioDecoderConfig → List media.Unit → List media.Unit
+carried active (unit_of.Coded chunk (Some c) ∷ us) = unit_of.Coded chunk (if is_active active c then None else Some c) ∷ us
+carried active us = us
+
+-- the config that is active then
+abbrev pub active_after : Option AudioDecoderConfig → List media.Unit → Option AudioDecoderConfig
+active_after active (unit_of.Coded chunk (Some c) ∷ us) = if is_active active c then active else Some c
+active_after active us = active
+
 abbrev pub with_units : List media.Unit → Control → Control
-with_units units s = record s { shown = s.shown + length units }
+with_units units s = record s { shown = s.shown + length units; active = active_after s.active units }
+
+-- The first output that was shown and not taken yet is taken (our choice).
+abbrev pub after_take : Control → Control
+after_take s = record s { taken = s.taken + 1 }
+
+abbrev pub may_take : ℕ → Control → Bool
+may_take unit s = (unit == s.taken) && nat_lt unit s.shown
 
 -- Outputs are delivered, and then the promise is resolved.
 abbrev pub with_flushed : ℕ → List media.Unit → Control → Control

@@ -36,13 +36,13 @@ resolves p _ = false
 
 abbrev pub is_configure : Work → Bool
 is_configure (work.Configure config) = true
-is_configure (work.Coded chunk) = false
+is_configure (work.Coded input) = false
 is_configure work.Flush = false
 
 -- a flush whose promise is this one
 abbrev pub flushes : ℕ → ℕ → Work → Bool
 flushes p place (work.Configure config) = false
-flushes p place (work.Coded chunk) = false
+flushes p place (work.Coded input) = false
 flushes p place work.Flush = place == p
 
 -- a configure item of this epoch that is at work

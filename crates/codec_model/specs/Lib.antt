@@ -5,3 +5,4 @@ pub mod Rows
 pub mod Facts
 pub mod ShownLaws
 pub mod Earlier
+pub mod Held

@@ -12,9 +12,17 @@ use Rattle.codec_definitions.specs.declared.unit.Unit as media
 use Rattle.codec_definitions.specs.declared.command.Command.{Command}
 use Rattle.codec_definitions.specs.declared.command.Command.TheVariants as command
 use Rattle.codec_definitions.specs.Answers.{answers, last_answer}
-use Rattle.coder_api.specs.Meaning.{serves}
+use Rattle.codec_definitions.specs.declared.unit.Unit.TheVariants as unit_of
+use Rattle.wc_config.specs.declared.config.AudioDecoderConfig.{AudioDecoderConfig}
+use Rattle.coder_api.specs.Meaning.{Configured as Serving, new_state, serves, setup_of}
 use Rattle.codec_model.specs.declared.entry.Opening.{Opening}
 use Rattle.codec_model.specs.declared.entry.CodecState.TheVariants.{Unconfigured, Configured, Closed}
+use Rattle.codec_model.specs.declared.entry.Pair.{Pair}
+use Rattle.codec_model.specs.declared.entry.HeldSound.{HeldSound}
+use Rattle.codec_model.specs.declared.entry.Handed.{Handed}
+use Rattle.codec_model.specs.declared.entry.Handed.TheVariants as handed
+use Rattle.codec_model.specs.declared.entry.Coded.{Coded}
+use Rattle.codec_model.specs.declared.entry.Coded.TheVariants as coded
 use Rattle.codec_model.specs.declared.entry.Work.{Work}
 use Rattle.codec_model.specs.declared.entry.Work.TheVariants as work
 use Rattle.codec_model.specs.declared.entry.WorkKind.{WorkKind}
@@ -33,7 +41,7 @@ use Rattle.codec_model.specs.declared.entry.Call.{Call}
 use Rattle.codec_model.specs.declared.entry.Call.TheVariants as call
 use Rattle.codec_model.specs.declared.entry.Entry.{Entry}
 use Rattle.codec_model.specs.declared.entry.Entry.TheVariants as entry
-use Rattle.codec_model.specs.Control.{Control, opening_control, is_key_chunk, may_start, after_configure, after_decode, after_flush, start_front, done_running, at_next_place, after_removal, after_close, may_reclaim, run_front}
+use Rattle.codec_model.specs.Control.{Control, opening_control, is_key_chunk, may_start, after_configure, after_decode, after_flush, start_front, done_running, at_next_place, after_removal, after_close, may_reclaim, run_front, held_of, after_encode, after_take, may_take}
 
 -- what the coder was given in one epoch: its last configuration, and the commands since
 pub record Given : Type 0 where
@@ -43,9 +51,14 @@ pub record Given : Type 0 where
 abbrev pub nothing_given : Given
 nothing_given = record { config = Bad; commands = [] }
 
+-- what a coder is asked with an input
+abbrev pub command_of : Coded → Command
+command_of (coded.Chunk chunk) = command.Chunk chunk
+command_of (coded.Sound sound) = command.Sound sound.samples
+
 abbrev pub given_more : Work → Given → Given
 given_more (work.Configure config) g = record { config = config; commands = [] }
-given_more (work.Coded chunk) g = record g { commands = g.commands ++ command.Chunk chunk ∷ [] }
+given_more (work.Coded input) g = record g { commands = g.commands ++ command_of input ∷ [] }
 given_more work.Flush g = record g { commands = g.commands ++ command.Drain ∷ [] }
 
 -- the coder that a config asks for serves another config too
@@ -57,18 +70,20 @@ serves_too (Some id) config = serves id config
 -- one, unless the coder that was given commands before serves it.
 abbrev pub missing_coder : Given → Work → Option CoderId
 missing_coder g (work.Configure config) = if is_supported config && not (serves_too (coder_id_of g.config) config) then coder_id_of config else None
-missing_coder g (work.Coded chunk) = None
+missing_coder g (work.Coded input) = None
 missing_coder g work.Flush = None
 
 pub record State : Type 0 where
   pub control : Control
-  -- what was given in this epoch by the items that start_front
+  -- what was given in this epoch by the items that started
   pub given : Given
   -- what the running item's epoch was given, up to it
   pub running_given : Given
+  -- the reference that it holds, if it holds one
+  pub running_held : Option Pair
 
 abbrev pub opening_state : Opening → State
-opening_state o = record { control = opening_control o; given = nothing_given; running_given = nothing_given }
+opening_state o = record { control = opening_control o; given = nothing_given; running_given = nothing_given; running_held = None }
 
 -- The codec's definition over the whole list of what was given since the configuration.
 abbrev pub answers_by : Option CoderId → Given → List (Option (List media.Unit))
@@ -78,11 +93,28 @@ answers_by (Some id) g = answers id g.config g.commands
 abbrev pub answers_to : Given → List (Option (List media.Unit))
 answers_to g = answers_by (coder_id_of g.config) g
 
+-- The decoder's config for what is coded by a config; a decoder's outputs have none.
+abbrev pub decoder_config : Config → Option AudioDecoderConfig
+decoder_config c = setup_of (Serving c new_state)
+
+-- the first of an item's encoded outputs carries this config
+abbrev pub with_config : AudioDecoderConfig → List media.Unit → List media.Unit
+with_config c (unit_of.Coded chunk config ∷ us) = unit_of.Coded chunk (Some c) ∷ us
+with_config c us = us
+
+abbrev pub labelled : Option AudioDecoderConfig → List media.Unit → List media.Unit
+labelled None us = us
+labelled (Some c) us = with_config c us
+
+abbrev pub labelled_answer : Option AudioDecoderConfig → Option (List media.Unit) → Option (List media.Unit)
+labelled_answer c None = None
+labelled_answer c (Some us) = Some (labelled c us)
+
 -- what the last of what was given gives: no units for a config that is supported, or a refusal
 abbrev pub answer_to : WorkKind → Given → Option (List media.Unit)
 answer_to kind.Configure g = if is_supported g.config then Some [] else None
-answer_to kind.Coded g = last_answer (answers_to g)
-answer_to kind.Flush g = last_answer (answers_to g)
+answer_to kind.Coded g = labelled_answer (decoder_config g.config) (last_answer (answers_to g))
+answer_to kind.Flush g = labelled_answer (decoder_config g.config) (last_answer (answers_to g))
 
 abbrev pub ended_run : ℕ → Option (List media.Unit) → Option Ended
 ended_run units None = None
@@ -140,6 +172,22 @@ after_call (Some error) x c = at_next_place c
 abbrev pub call_step : Call → State → State
 call_step x s = with_control (after_call (call_error x s.control) x s.control) s
 
+abbrev pub is_configured : Control → Bool
+is_configured c = elim (c.phase) [ Unconfigured ↦ false | Configured ↦ true | Closed ↦ false ]
+
+-- The error with which an encode is refused: of detached data first (W3C WebCodecs, 3.6 'Methods' of AudioEncoder).
+abbrev pub encode_error : Bool → Control → Option DomError
+encode_error detached c = if detached then Some dom.TypeErr else (if is_configured c then None else Some dom.InvalidState)
+
+-- An encode: of data that is not detached, the codec makes a clone exactly where it is configured.
+abbrev pub encode_step : Handed → State → Option State
+encode_step handed.Gone s = Some (with_control (at_next_place s.control) s)
+encode_step handed.Kept s = if is_configured s.control then None else Some (with_control (at_next_place s.control) s)
+encode_step (handed.Cloned sound) s = if is_configured s.control then Some (with_control (after_encode s.control.place sound (at_next_place s.control)) s) else None
+
+abbrev pub take_step : ℕ → State → Option State
+take_step unit s = if may_take unit s.control then Some (with_control (after_take (at_next_place s.control)) s) else None
+
 -- a removal begins a new epoch, to which nothing was given
 abbrev pub removed : Control → State → State
 removed c s = record s { control = c; given = nothing_given }
@@ -156,7 +204,7 @@ abbrev pub start_step : List Item → ℕ → ℕ → State → Option State
 start_step [] epoch item s = None
 start_step (i ∷ is) epoch item s =
     if may_start s.control && (epoch == s.control.epoch) && (item == i.number)
-    then (let g = given_more i.work s.given in Some (record { control = start_front (at_next_place s.control); given = g; running_given = g }))
+    then (let g = given_more i.work s.given in Some (record { control = start_front (at_next_place s.control); given = g; running_given = g; running_held = held_of i.work }))
     else None
 
 abbrev pub done_ended : Running → Option Ended → ℕ → State → Option State
@@ -177,9 +225,11 @@ turn_step (t ∷ ts) s = Some (with_control (run_front (at_next_place s.control)
 abbrev pub step : Entry → State → Option State
 step (entry.Configure who config) s = Some (call_step (call.Configure config) s)
 step (entry.Decode who chunk) s = Some (call_step (call.Decode chunk) s)
+step (entry.Encode who handed) s = encode_step handed s
 step (entry.Flush who) s = Some (call_step call.Flush s)
 step (entry.Reset who) s = Some (removal_step removal.Reset s)
 step (entry.Close who) s = Some (removal_step removal.Close s)
+step (entry.Take who unit) s = take_step unit s
 step (entry.Start epoch item) s = start_step s.control.work epoch item s
 step (entry.Done epoch item moment o) s = done_step s.control.running epoch item moment o s
 step entry.Turn s = turn_step s.control.tasks s

@@ -3,6 +3,8 @@ use Rattle.std.specs.Prelude.{ℕ, ◌≡◌, ◌+◌, Bool, true, false, List, 
 use Rattle.wc_base.specs.declared.error.DomError.{DomError}
 use Rattle.wc_base.specs.declared.error.DomError.TheVariants as dom
 use Rattle.codec_definitions.specs.declared.unit.Unit as media
+use Rattle.codec_model.specs.declared.entry.Handed.{Handed}
+use Rattle.codec_model.specs.declared.entry.Handed.TheVariants as handed
 use Rattle.codec_model.specs.declared.entry.Opening.{Opening}
 use Rattle.codec_model.specs.declared.entry.PromiseEnd.{PromiseEnd}
 use Rattle.codec_model.specs.declared.entry.PromiseState.{PromiseState}
@@ -21,7 +23,8 @@ use Rattle.codec_model.specs.declared.entry.Call.{Call}
 use Rattle.codec_model.specs.declared.entry.Call.TheVariants as call
 use Rattle.codec_model.specs.declared.entry.Entry.{Entry}
 use Rattle.codec_model.specs.declared.entry.Entry.TheVariants as entry
-use Rattle.codec_model.specs.Control.{Control}
+use Rattle.wc_config.specs.declared.config.AudioDecoderConfig.{AudioDecoderConfig}
+use Rattle.codec_model.specs.Control.{Control, carried}
 use Rattle.codec_model.specs.Replay.{State, step, opening_state, configure_error, decode_error, flush_error, removal_error}
 
 abbrev pub refusal : Option DomError → List Event
@@ -76,17 +79,31 @@ task_shows (task.Flushed promise units) first pending = outputs_from first units
 task_shows task.Dequeue first pending = Dequeue ∷ []
 task_shows (task.Close error) first pending = close_shows error pending
 
+-- a task, its outputs as they are shown where this config is active
+abbrev pub task_carried : Option AudioDecoderConfig → Task → Task
+task_carried active (task.Output units) = task.Output (carried active units)
+task_carried active (task.Flushed promise units) = task.Flushed promise (carried active units)
+task_carried active t = t
+
 -- what the turn of the front task shows
 abbrev pub turn_shows : List Task → Control → List Event
 turn_shows [] c = []
-turn_shows (t ∷ ts) c = task_shows t c.shown c.pending
+turn_shows (t ∷ ts) c = task_shows (task_carried c.active t) c.shown c.pending
+
+-- what became of an encode's data tells its error, if it has one
+abbrev pub handed_error : Handed → Option DomError
+handed_error handed.Gone = Some dom.TypeErr
+handed_error handed.Kept = Some dom.InvalidState
+handed_error (handed.Cloned sound) = None
 
 abbrev pub shows : Entry → State → List Event
 shows (entry.Configure who config) s = call_shows (call.Configure config) s.control.place (configure_error config s.control)
 shows (entry.Decode who chunk) s = call_shows (call.Decode chunk) s.control.place (decode_error chunk s.control)
+shows (entry.Encode who handed) s = refusal (handed_error handed)
 shows (entry.Flush who) s = call_shows call.Flush s.control.place (flush_error s.control)
 shows (entry.Reset who) s = removal_shows (removal_error s.control) s.control.pending
 shows (entry.Close who) s = removal_shows (removal_error s.control) s.control.pending
+shows (entry.Take who unit) s = []
 shows (entry.Start epoch item) s = []
 shows (entry.Done epoch item moment o) s = []
 shows entry.Turn s = turn_shows s.control.tasks s.control

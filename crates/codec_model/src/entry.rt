@@ -1,6 +1,6 @@
 // The entries of a codec's history, and what its queues hold.
 use coder_api::Unit;
-use wc_base::{DomError, List, Who};
+use wc_base::{DomError, List, Samples, Who};
 use wc_chunk::Chunk;
 use wc_config::{Config, Kind};
 
@@ -24,6 +24,31 @@ pub enum Outcome {
     NoMemory,
 }
 
+/// A reference to a media resource, by the numbers that its pool gave.
+#[derive(Clone, Copy, Debug, PartialEq, Eq)]
+pub struct Pair {
+    pub resource: u64,
+    pub reference: u64,
+}
+
+/// Samples that a codec was given, with the reference that it holds to them.
+#[derive(Debug, PartialEq, Drop)]
+pub struct HeldSound {
+    pub samples: Samples,
+    pub pair: Pair,
+}
+
+/// What became of the data of an `encode`.
+#[derive(Debug, PartialEq, Drop)]
+pub enum Handed {
+    /// It was detached.
+    Gone,
+    /// The codec was not configured, and made no clone.
+    Kept,
+    /// The codec made a clone of it.
+    Cloned(HeldSound),
+}
+
 /// One event of a codec.
 #[derive(Debug, PartialEq, Drop)]
 pub enum Entry {
@@ -37,6 +62,11 @@ pub enum Entry {
         who: Who,
         chunk: Chunk,
     },
+    /// A caller's `encode`.
+    Encode {
+        who: Who,
+        handed: Handed,
+    },
     /// A caller's `flush`, whose promise has the entry's place as its name.
     Flush {
         who: Who,
@@ -48,6 +78,11 @@ pub enum Entry {
     /// A caller's `close`.
     Close {
         who: Who,
+    },
+    /// A caller took the first output that was shown and not taken yet. Outputs are numbered from 0 as they are shown.
+    Take {
+        who: Who,
+        unit: u64,
     },
     /// The front item of the work queue began.
     Start {
@@ -77,11 +112,18 @@ pub enum CodecState {
     Closed,
 }
 
+/// An input of a coder: a chunk that is decoded, or samples that are encoded.
+#[derive(Debug, PartialEq, Drop)]
+pub enum Coded {
+    Chunk(Chunk),
+    Sound(HeldSound),
+}
+
 /// What a control message or a work item asks for.
 #[derive(Debug, PartialEq, Drop)]
 pub enum Work {
     Configure(Config),
-    Coded(Chunk),
+    Coded(Coded),
     Flush,
 }
 

@@ -8,10 +8,11 @@ mod rows;
 mod showing;
 
 pub use entry::{
-    Answer, Call, CodecState, Ended, Entry, Event, Item, Message, Opening, Outcome, PromiseEnd,
-    PromiseState, Removal, Running, Showing, Shown, Task, TurnWord, Work, WorkKind,
+    Answer, Call, CodecState, Coded, Ended, Entry, Event, Handed, HeldSound, Item, Message,
+    Opening, Outcome, Pair, PromiseEnd, PromiseState, Removal, Running, Showing, Shown, Task,
+    TurnWord, Work, WorkKind,
 };
-pub use facts::{never_stuck, steps_leave_fewer};
+pub use facts::{never_stuck, references_are_held, steps_leave_fewer};
 pub use rows::{closing_run, ordinary_run, resetting_run, saturating_run};
 pub use showing::{exception_of, shown_list};
 pub use wc_config::Kind;

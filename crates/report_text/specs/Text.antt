@@ -70,6 +70,8 @@ result_text codecs (result.Local error) = answer_text error
 result_text codecs (result.Look n length end) = look_name codecs n length <> codes " " <> promise_text end
 result_text codecs (result.State n length state size) =
     look_name codecs n length <> codes " " <> state_text state <> codes " " <> decimal size
+result_text codecs (result.Unit n place number) = entry_name codecs n place <> codes " unit " <> decimal number
+result_text codecs (result.NoUnit n length) = look_name codecs n length <> codes " none"
 result_text codecs (result.Copied n bytes) = copied_text n ++ hex_or_dash bytes
 result_text codecs (result.CopiedFrame n layouts bytes) = copied_frame_text n layouts ++ hex_or_dash bytes
 result_text codecs (result.Size n) = codes "size " <> decimal n
@@ -100,10 +102,11 @@ turn_text (Some turn.Flushed) = codes "flushed"
 turn_text (Some turn.Dequeue) = codes "dequeue"
 turn_text (Some (turn.Close error)) = codes "close " <> error_name error
 
--- a call as `A.J configure = R`, and the entries that no caller makes by their first word
+-- a call as `A.J configure = R`, a take as `A.J take = M`, and the entries that no caller makes by their first word
 abbrev pub entry_text : List CallerItem → EntryLine → List ℕ
 entry_text callers (entry.Call who word error) =
     who_text callers who <> codes " " <> call_word word <> codes " = " <> answer_text error
+entry_text callers (entry.Take who unit) = who_text callers who <> codes " take = " <> decimal unit
 entry_text callers (entry.Start epoch item) = codes "start " <> item_text epoch item
 entry_text callers (entry.Done epoch item moment outcome) =
     codes "done " <> item_text epoch item <> codes " " <> decimal moment <> codes " " <> outcome_text outcome

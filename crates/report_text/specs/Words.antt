@@ -52,6 +52,7 @@ state_text state.Closed = codes "closed"
 abbrev pub call_word : CallWord → List ℕ
 call_word call.Configure = codes "configure"
 call_word call.Decode = codes "decode"
+call_word call.Encode = codes "encode"
 call_word call.Flush = codes "flush"
 call_word call.Reset = codes "reset"
 call_word call.Close = codes "close"

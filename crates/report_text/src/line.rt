@@ -12,19 +12,24 @@ use wc_pool::PoolEntry;
 pub enum CallWord {
     Configure,
     Decode,
+    Encode,
     Flush,
     Reset,
     Close,
 }
 
-/// What stands on an entry's line behind its place: a call with its exception but not its arguments, a turn with the
-/// task that it ran.
+/// What stands on an entry's line behind its place: a call with its exception but not its arguments, a take with the number
+/// of the output, a turn with the task that it ran.
 #[derive(Clone, Copy, Debug, PartialEq, Eq)]
 pub enum EntryLine {
     Call {
         who: Who,
         call: CallWord,
         error: Option<DomError>,
+    },
+    Take {
+        who: Who,
+        unit: u64,
     },
     Start {
         epoch: u64,

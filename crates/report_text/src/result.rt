@@ -32,6 +32,17 @@ pub enum StepResult {
         state: CodecState,
         size: u64,
     },
+    /// A take that found an output: its entry's place, and the output's number.
+    Unit {
+        codec: u32,
+        place: u64,
+        number: u64,
+    },
+    /// A take that found none, after so many entries of its codec.
+    NoUnit {
+        codec: u32,
+        length: u64,
+    },
     /// A copy of audio data or of a chunk: how many bytes were written, and the whole destination.
     Copied {
         count: u64,
@@ -79,6 +90,16 @@ impl StepResult {
                 state,
                 size,
             },
+            StepResult::Unit {
+                codec,
+                place,
+                number,
+            } => StepResult::Unit {
+                codec,
+                place,
+                number,
+            },
+            StepResult::NoUnit { codec, length } => StepResult::NoUnit { codec, length },
             StepResult::Copied { count, ref bytes } => StepResult::Copied {
                 count,
                 bytes: bytes.clone()?,

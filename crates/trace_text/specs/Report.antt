@@ -73,13 +73,16 @@ abbrev pub refusal_in : List Event → Option DomError
 refusal_in (event.Refusal error ∷ events) = Some error
 refusal_in _ = None
 
--- what stands on an entry's line behind its place: a call with its exception, a turn with the task that it ran
+-- what stands on an entry's line behind its place: a call with its exception, a take with the output's number, a turn with the
+-- task that it ran
 abbrev pub entry_line_of : Entry → Shown → EntryLine
 entry_line_of (entry.Configure who config) shown = entry_line.Call who call.Configure (refusal_in shown.events)
 entry_line_of (entry.Decode who chunk) shown = entry_line.Call who call.Decode (refusal_in shown.events)
+entry_line_of (entry.Encode who handed) shown = entry_line.Call who call.Encode (refusal_in shown.events)
 entry_line_of (entry.Flush who) shown = entry_line.Call who call.Flush (refusal_in shown.events)
 entry_line_of (entry.Reset who) shown = entry_line.Call who call.Reset (refusal_in shown.events)
 entry_line_of (entry.Close who) shown = entry_line.Call who call.Close (refusal_in shown.events)
+entry_line_of (entry.Take who unit) shown = entry_line.Take who unit
 entry_line_of (entry.Start epoch item) shown = entry_line.Start epoch item
 entry_line_of (entry.Done epoch item moment outcome) shown = entry_line.Done epoch item moment outcome
 entry_line_of entry.Turn shown = entry_line.Turn shown.turn
