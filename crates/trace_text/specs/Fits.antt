@@ -43,6 +43,11 @@ called (step.Await promise) = None
 called (step.State on) = None
 called (step.Media x) = None
 
+-- the codec that a step takes an output of, if it takes one
+abbrev pub taken_from : Step → Option ℕ
+taken_from (step.Media (on_media.Take on bind kind)) = Some on
+taken_from _ = None
+
 -- what a run recorded, without what its entries showed
 abbrev pub recorded_of : Run → Recorded
 recorded_of run = record { callers = map (λ c. c.results) run.callers; codecs = map (λ c. c.entries) run.codecs; pool = run.pool; slots = run.slots }
@@ -101,9 +106,13 @@ IsTakeResult w who k (result.Unit other p n) = (other ≡ k) × (entry_in w k p 
 IsTakeResult w who k (result.NoUnit other n) = other ≡ k
 IsTakeResult w who k _ = ⊥
 
+-- by the codec that a step takes an output of, if it takes one, and by the codec that it calls
+abbrev pub IsResultBy : ScriptData → Recorded → Who → Option ℕ → Option ℕ → StepResult → Type 0
+IsResultBy s w who (Some k) calls r = IsTakeResult w who k r
+IsResultBy s w who None calls r = IsAnswerOf s w calls r
+
 abbrev pub IsResultOf : ScriptData → Recorded → Who → Step → StepResult → Type 0
-IsResultOf s w who (step.Media (on_media.Take on bind kind)) r = IsTakeResult w who on r
-IsResultOf s w who x r = IsAnswerOf s w (called x) r
+IsResultOf s w who x r = IsResultBy s w who (taken_from x) (called x) r
 
 -- Each call of a caller's steps stands once, in its codec's history, at the place that its result names, and no other entry
 -- names a caller's step.
