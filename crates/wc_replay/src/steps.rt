@@ -2,10 +2,10 @@
 ghost use Rattle.std.specs.Prelude.{◌≡◌, ◌≤◌, ◌<◌, ℕ, Bool, false, Some, OnOk, IfOk, length, slice_get, option_copied, None};
 ghost use Rattle.codec_accounts.specs.Codec.{codec_at, AreGivable};
 ghost use Rattle.codec_accounts.specs.Owed.{at};
-ghost use Rattle.trace_text.specs.Fits.{called};
-ghost use Rattle.script_types.specs.declared.steps.MediaStep.TheVariants as on_media;
+ghost use Rattle.trace_text.specs.Fits.{called, taken_from};
+ghost use Rattle.script_types.specs.declared.steps.Step.TheVariants as a_step;
 ghost use Rattle.media_variables.specs.Variables.{media_came, taken_came, variables_of};
-ghost use Rattle.trace_text.specs.Follow.{with_result, after_move, advance, item_entry, call_move, decode_move, handle_move, take_move, found_at, removal_move, look_of_flush, look_of_state, step_move, follow_item, steps_of, source_error};
+ghost use Rattle.trace_text.specs.Follow.{with_result, after_move, advance, item_entry, call_move, decode_move, handle_move, media_move, take_move, found_at, removal_move, look_of_flush, look_of_state, step_move, follow_item, steps_of, source_error};
 ghost use Rattle.report_text.specs.declared.result.StepResult.TheVariants as came;
 ghost use Rattle.script_types.specs.declared.script.OrderItem.TheVariants as item;
 ghost use Rattle.wc_replay.specs.Player.{IsInRange, LooksInRange, IsPlayable, call_in};
@@ -144,6 +144,16 @@ fn no_unit<C: Coder>(desks: &[Desk<C>], codec: u32) -> StepResult
     }
 }
 
+/// The codec that a step on media takes an output of, if it takes one.
+fn taken_from(step: &MediaStep) -> Option<u32>
+    ensures { result ≡ taken_from (a_step.Media step.now) }
+{
+    match step {
+        MediaStep::Take { on, .. } => Some(*on),
+        _ => None,
+    }
+}
+
 fn step_at(steps: &[Step], number: usize) -> Option<&Step>
     ensures { option_copied result ≡ slice_get steps.now number }
 {
@@ -263,6 +273,32 @@ impl<C: Coder> Player<C> {
         note(&mut self.callers, who.caller, came)
     }
 
+    /// A step of a caller on media: a take of a codec's output, or one that no codec has a part in.
+    fn on_media(
+        &mut self,
+        alloc: Global,
+        media: &[List<Chunk>],
+        steps: &[Step],
+        who: Who,
+        step: &MediaStep,
+        script: &ScriptData,
+    ) -> Result<(), NoMemory>
+        requires steps { steps_of script.now who.caller ≡ steps.now }
+        requires range { LooksInRange (length self.old.codecs) (a_step.Media step.now) }
+        requires caller { who.caller < length self.old.media.variables }
+        ensures { OnOk result
+            (self.new
+            ≡ after_move (media_move script.now media.now who step.now self.old) self.old) }
+    {
+        match taken_from(step) {
+            Some(codec) => self.receive(who, codec),
+            None => {
+                let chunk = copied_chunk(media, steps, step)?;
+                self.handle(alloc, who, chunk, step)
+            }
+        }
+    }
+
     /// A step of a caller, one of these steps of its own.
     fn step(
         &mut self,
@@ -298,11 +334,7 @@ impl<C: Coder> Player<C> {
             Step::Reset { on } => self.remove(who, *on, Removal::Reset),
             Step::Close { on } => self.remove(who, *on, Removal::Close),
             Step::State { on } => self.look_at_state(who, *on),
-            Step::Media(MediaStep::Take { on, .. }) => self.receive(who, *on),
-            Step::Media(handled) => {
-                let chunk = copied_chunk(media, steps, handled)?;
-                self.handle(alloc, who, chunk, handled)
-            }
+            Step::Media(handled) => self.on_media(alloc, media, steps, who, handled, script),
         }
     }
 
