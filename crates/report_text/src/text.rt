@@ -69,6 +69,33 @@ impl fmt::Display for LayoutsText {
     }
 }
 
+// The entry or the look that a step's result names, before a blank, and nothing where it names none.
+#[derive(Drop)]
+struct NamedText<'a> {
+    codecs: &'a [CodecItem],
+    answer: &'a StepResult,
+}
+
+impl fmt::Display for NamedText<'_> {
+    ghost output = { λ n. Some (spec.named_text n.codecs.now n.answer.now) };
+
+    fn fmt<W: fmt::Write>(&self, f: &mut fmt::Formatter<W>) -> fmt::Result {
+        match self.answer {
+            StepResult::Call { codec, place, .. } | StepResult::Unit { codec, place, .. } => {
+                let entry = EntryName(self.codecs, *codec, *place);
+                write!(f, "{entry} ")
+            }
+            StepResult::Look { codec, length, .. }
+            | StepResult::State { codec, length, .. }
+            | StepResult::NoUnit { codec, length } => {
+                let look = LookName(self.codecs, *codec, *length);
+                write!(f, "{look} ")
+            }
+            _ => Ok(()),
+        }
+    }
+}
+
 // What a step came to, without the destination of a copy.
 #[derive(Drop)]
 struct ResultText<'a> {
@@ -80,33 +107,22 @@ impl fmt::Display for ResultText<'_> {
     ghost output = { λ r. Some (spec.result_head r.codecs.now r.answer.now) };
 
     fn fmt<W: fmt::Write>(&self, f: &mut fmt::Formatter<W>) -> fmt::Result {
-        let codecs = self.codecs;
+        let name = NamedText {
+            codecs: self.codecs,
+            answer: self.answer,
+        };
+        write!(f, "{name}")?;
         match self.answer {
-            StepResult::Call {
-                codec,
-                place,
-                error,
-            } => {
-                let entry = EntryName(codecs, *codec, *place);
-                let answer = answer_text(*error);
-                write!(f, "{entry} {answer}")
+            StepResult::Call { error, .. } | StepResult::Local { error } => {
+                write!(f, "{}", answer_text(*error))
             }
-            StepResult::Local { error } => write!(f, "{}", answer_text(*error)),
-            StepResult::Look { codec, length, end } => {
-                let look = LookName(codecs, *codec, *length);
-                let end = Standing(*end);
-                write!(f, "{look} {end}")
-            }
-            StepResult::State {
-                codec,
-                length,
-                state,
-                size,
-            } => {
-                let look = LookName(codecs, *codec, *length);
+            StepResult::Look { end, .. } => write!(f, "{}", Standing(*end)),
+            StepResult::State { state, size, .. } => {
                 let state = state_text(*state);
-                write!(f, "{look} {state} {size}")
+                write!(f, "{state} {size}")
             }
+            StepResult::Unit { number, .. } => write!(f, "unit {number}"),
+            StepResult::NoUnit { .. } => write!(f, "none"),
             StepResult::Copied { count, bytes: _ } => write!(f, "copied {count} "),
             StepResult::CopiedFrame {
                 count,
@@ -183,6 +199,13 @@ impl fmt::Display for EntryText<'_> {
                 let call = call_word(call);
                 let answer = answer_text(error);
                 write!(f, "{step} {call} = {answer}")
+            }
+            EntryLine::Take { who, unit } => {
+                let step = StepName {
+                    callers: self.callers,
+                    who,
+                };
+                write!(f, "{step} take = {unit}")
             }
             EntryLine::Start { epoch, item } => {
                 let item = ItemName { epoch, item };

@@ -59,6 +59,7 @@ pub fn call_word(call: CallWord) -> &'static str
     match call {
         CallWord::Configure => "configure",
         CallWord::Decode => "decode",
+        CallWord::Encode => "encode",
         CallWord::Flush => "flush",
         CallWord::Reset => "reset",
         CallWord::Close => "close",
