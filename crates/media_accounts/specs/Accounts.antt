@@ -105,17 +105,6 @@ abbrev pub IsQuiet : (ℕ → List Step) → (ℕ → ℕ → MediaStep → Brou
 IsQuiet steps brought c j = (x : MediaStep) (pool : List PoolEntry) (vs : List (Option Medium)) →
     option_and_then media_of (slice_get (steps c) j) ≡ Some x → media_came pool (step_by c j) (brought c j x) x vs ≡ None
 
--- a step on media leaves all accounted
-abbrev pub StepsStayAccounted : Type 0
-StepsStayAccounted = (steps : ℕ → List Step) (brought : ℕ → ℕ → MediaStep → Brought) (made more : ℕ → ℕ) (pool : List PoolEntry) (c : ℕ) (x : MediaStep) (y : Came) →
-    MediaAreIn steps brought made pool → OneMore made more c → Next steps brought made pool c x y →
-    After steps brought made more pool (pool ++ entries_of (step_by c (made c)) y.does) c y
-
--- and so does any other step
-abbrev pub OthersStayAccounted : Type 0
-OthersStayAccounted = (steps : ℕ → List Step) (brought : ℕ → ℕ → MediaStep → Brought) (made more : ℕ → ℕ) (pool : List PoolEntry) (c : ℕ) →
-    MediaAreIn steps brought made pool → OneMore made more c → IsQuiet steps brought c (made c) → MediaAreIn steps brought more pool
-
 -- What stands of all callers' media after so many steps of each: the pool's history has what those steps call for, each
 -- variable holds what its caller's steps left, and each reference that one holds is live and held by no other. There are
 -- so many callers.
