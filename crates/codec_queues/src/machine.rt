@@ -158,6 +158,13 @@ impl Machine {
         self.progress
     }
 
+    /// How many outputs were taken, which is the number of the next one.
+    pub fn taken(&self) -> u64
+        ensures { result ≡ self.now.taken }
+    {
+        self.taken
+    }
+
     /// The item that a start would take: the front one, where none is at work and the codec is not halted.
     pub fn start_item(&self) -> Option<&Item>
         ensures { option_map (λ i. i.now) result ≡ start_item self.now }
