@@ -8,6 +8,10 @@ use Rattle.wc_config.specs.Configs.{is_supported, coder_id_of}
 use Rattle.codec_model.specs.declared.entry.Call.{Call}
 use Rattle.codec_model.specs.declared.entry.Call.TheVariants as call
 use Rattle.codec_model.specs.declared.entry.CodecState.TheVariants.{Configured}
+use Rattle.codec_model.specs.declared.entry.HeldSound.{HeldSound}
+use Rattle.codec_model.specs.declared.entry.Handed.{Handed}
+use Rattle.codec_model.specs.declared.entry.Handed.TheVariants as handed
+use Rattle.codec_model.specs.declared.entry.Coded.TheVariants as coded
 use Rattle.codec_model.specs.declared.entry.Ended.{Ended}
 use Rattle.codec_model.specs.declared.entry.Entry.{Entry}
 use Rattle.codec_model.specs.declared.entry.Entry.TheVariants as entry
@@ -22,9 +26,10 @@ use Rattle.codec_model.specs.declared.entry.Task.TheVariants as task
 use Rattle.codec_model.specs.declared.entry.Work.{Work}
 use Rattle.codec_model.specs.declared.entry.Work.TheVariants as work
 use Rattle.codec_model.specs.declared.entry.WorkKind.TheVariants as kind
-use Rattle.codec_model.specs.Control.{Control, at_next_place, is_decoder, is_taken, with_message, after_message, process_queue, run_task, is_close, kind_of, may_start, may_reclaim, front, start_item, start_front, start_first, after_end, done_running, after_removal, after_close, run_front, run_first}
-use Rattle.codec_model.specs.Replay.{State, Given, given_more, step, missing_coder, serves_too, removal_error, call_error, after_call, start_step, done_step, done_ended, ended_of, turn_step, remove_or_refuse, call_step, with_control, removed}
-use Rattle.codec_accounts.specs.Boxes.{Act, Asks, Begins, Ends, Removes, Other, lacking, start_act, removal_act, closes_codec, act_of}
+use Rattle.codec_model.specs.Control.{Control, at_next_place, held_of, is_decoder, is_taken, with_message, after_message, process_queue, run_task, is_close, kind_of, may_start, may_reclaim, front, start_item, start_front, start_first, after_end, done_running, after_removal, after_close, run_front, run_first, after_encode, after_take, may_take}
+use Rattle.codec_model.specs.Replay.{State, Given, given_more, step, missing_coder, serves_too, removal_error, call_error, after_call, start_step, done_step, done_ended, ended_of, turn_step, remove_or_refuse, call_step, with_control, removed, is_configured, encode_step, take_step}
+use Rattle.codec_model.specs.Held.{closes_codec}
+use Rattle.codec_accounts.specs.Boxes.{Act, Asks, Begins, Ends, Removes, Other, lacking, start_act, removal_act, act_of}
 
 -- the running item and the epoch stay
 pub record SameRun (s t : Control) : Type 0 where
@@ -65,7 +70,7 @@ same_after s x t running epoch h = record { running = h.running ∙ running; epo
 
 message_same : (w : Work) (place : ℕ) (ms : List Message) (s : Control) → SameRun s (record (after_message (record { place = place; work = w }) s) { messages = ms })
 message_same (work.Configure config) place ms s = record { running = refl; epoch = refl }
-message_same (work.Coded chunk) place ms s = record { running = refl; epoch = refl }
+message_same (work.Coded input) place ms s = record { running = refl; epoch = refl }
 message_same work.Flush place ms s = record { running = refl; epoch = refl }
 
 process_same : (ms : List Message) (s : Control) → SameRun s (process_queue ms s)
@@ -89,7 +94,7 @@ call_same None (call.Configure config) c =
     with_message_same c.place (work.Configure config) c (record s { phase = Configured; key_required = is_decoder s.opening.kind || s.key_required }) refl refl
 call_same None (call.Decode chunk) c =
     let s = at_next_place c in
-    with_message_same c.place (work.Coded chunk) c (record s { key_required = false; size = s.size + 1 }) refl refl
+    with_message_same c.place (work.Coded (coded.Chunk chunk)) c (record s { key_required = false; size = s.size + 1 }) refl refl
 call_same None call.Flush c =
     let s = at_next_place c in
     with_message_same c.place work.Flush c (record s { key_required = is_decoder s.opening.kind || s.key_required; pending = s.pending ++ c.place ∷ [] }) refl refl
@@ -125,6 +130,25 @@ keeps s u t is same given = (
 call_makes : (x : Call) (s t : State) → Some (call_step x s) ≡ Some t → ActMakes Other s t
 call_makes x s t h = keeps s (call_step x s) t (some_same (call_step x s) t h) (call_same (call_error x s.control) x s.control) refl
 
+encode_same : (sound : HeldSound) (c : Control) → SameRun c (after_encode c.place sound (at_next_place c))
+encode_same sound c = with_message_same c.place (work.Coded (coded.Sound sound)) c (record (at_next_place c) { size = c.size + 1 }) refl refl
+
+kept_makes : (b : Bool) (s t : State) → cond b None (Some (with_control (at_next_place s.control) s)) ≡ Some t → ActMakes Other s t
+kept_makes true s t h = absurd cc
+kept_makes false s t h = keeps s (with_control (at_next_place s.control) s) t (some_same _ t h) (record { running = refl; epoch = refl }) refl
+
+encode_makes : (x : Handed) (s t : State) → encode_step x s ≡ Some t → ActMakes Other s t
+encode_makes handed.Gone s t h = keeps s (with_control (at_next_place s.control) s) t (some_same _ t h) (record { running = refl; epoch = refl }) refl
+encode_makes handed.Kept s t h = kept_makes (is_configured s.control) s t h
+encode_makes (handed.Cloned sound) s t h =
+    let u = with_control (after_encode s.control.place sound (at_next_place s.control)) s in
+    keeps s u t (some_same u t (cond_some (is_configured s.control) (Some u) t h).1) (encode_same sound s.control) refl
+
+take_makes : (unit : ℕ) (s t : State) → take_step unit s ≡ Some t → ActMakes Other s t
+take_makes unit s t h =
+    let u = with_control (after_take (at_next_place s.control)) s in
+    keeps s u t (some_same u t (cond_some (may_take unit s.control) (Some u) t h).1) (record { running = refl; epoch = refl }) refl
+
 -- a removal keeps the running item and begins a new epoch
 removes : (s u t : State) → Some u ≡ Some t → u.control.running ≡ s.control.running → u.running_given ≡ s.running_given → u.control.epoch ≡ s.control.epoch + 1 → ActMakes Removes s t
 removes s u t h running given epoch =
@@ -140,14 +164,14 @@ needs_work : (w : Work) (g : Given) (id : CoderId) → missing_coder g w ≡ Som
 needs_work (work.Configure config) g id h =
     let parts = cond_some (is_supported config && not (serves_too (coder_id_of g.config) config)) (coder_id_of config) id h in
     (refl, (and_parts _ _ parts.0).0)
-needs_work (work.Coded chunk) g id h = absurd cc
+needs_work (work.Coded input) g id h = absurd cc
 needs_work work.Flush g id h = absurd cc
 
 start_makes : (is : List Item) (epoch item : ℕ) (s t : State) → s.control.work ≡ is → start_step is epoch item s ≡ Some t → ActMakes (start_act (lacking s.given (start_item s.control))) s t
 start_makes [] epoch item s t work h = absurd cc
 start_makes (i ∷ rest) epoch item s t work h =
     let g = given_more i.work s.given in
-    let u : State = record { control = start_front (at_next_place s.control); given = g; running_given = g } in
+    let u : State = record { control = start_front (at_next_place s.control); given = g; running_given = g; running_held = held_of i.work } in
     let same_epoch = may_start s.control && (epoch == s.control.epoch) in
     let parts = cond_some (same_epoch && (item == i.number)) (Some u) t h in
     let may : may_start s.control ≡ true = (and_parts (may_start s.control) (epoch == s.control.epoch) (and_parts same_epoch (item == i.number) parts.0).0).0 in
@@ -168,7 +192,7 @@ start_makes (i ∷ rest) epoch item s t work h =
     none_runs None h = refl
     none_runs (Some r) h = absurd cc
 
-    by_lack : (o : Option CoderId) → missing_coder s.given i.work ≡ o → (r : Running) (starts : Starts s t) → record { control = start_front (at_next_place s.control); given = given_more i.work s.given; running_given = given_more i.work s.given } ≡ t → starts.item ≡ r → r.kind ≡ kind_of i.work → ActMakes (start_act o) s t
+    by_lack : (o : Option CoderId) → missing_coder s.given i.work ≡ o → (r : Running) (starts : Starts s t) → record { control = start_front (at_next_place s.control); given = given_more i.work s.given; running_given = given_more i.work s.given; running_held = held_of i.work } ≡ t → starts.item ≡ r → r.kind ≡ kind_of i.work → ActMakes (start_act o) s t
     by_lack None lacks r starts is same kinds = starts
     by_lack (Some id) lacks r starts is same kinds =
         let needs = needs_work i.work s.given id lacks in (
@@ -229,9 +253,11 @@ turn_makes (task.Dequeue ∷ ts) s t tasks h = task_makes task.Dequeue ts s t re
 pub act_makes : (e : Entry) (s t : State) → step e s ≡ Some t → ActMakes (act_of e s) s t
 act_makes (entry.Configure who config) s t h = call_makes (call.Configure config) s t h
 act_makes (entry.Decode who chunk) s t h = call_makes (call.Decode chunk) s t h
+act_makes (entry.Encode who x) s t h = encode_makes x s t h
 act_makes (entry.Flush who) s t h = call_makes call.Flush s t h
 act_makes (entry.Reset who) s t h = removal_makes (removal_error s.control) removal.Reset s t h
 act_makes (entry.Close who) s t h = removal_makes (removal_error s.control) removal.Close s t h
+act_makes (entry.Take who unit) s t h = take_makes unit s t h
 act_makes (entry.Start epoch item) s t h = start_makes s.control.work epoch item s t refl h
 act_makes (entry.Done epoch item moment outcome) s t h = done_makes s.control.running epoch item moment outcome s t refl h
 act_makes entry.Turn s t h = turn_makes s.control.tasks s t refl h

@@ -1,5 +1,5 @@
 -- A codec's box goes back by the entry that `lets` names.
-use Rattle.std.proofs.Common.{ℕ, suc, ◌+◌, ◌<◌, ◌≤◌, ◌≡◌, ◌==◌, not, Bool, true, false, cond, List, [], ◌∷◌, ◌++◌, length, Option, Some, None, is_some, refl, ap, sym, subst, ◌∙◌, arith, leb, eq-eqb}
+use Rattle.std.proofs.Common.{ℕ, suc, ◌+◌, ◌<◌, ◌≤◌, ◌≡◌, not, Bool, true, false, cond, List, [], ◌∷◌, ◌++◌, length, Option, Some, None, is_some, refl, ap, sym, subst, ◌∙◌, arith, leb, eq-eqb}
 use Rattle.std.specs.Prelude.{option_and_then, unwrap_or}
 use Rattle.std.proofs.lemmas.Bool.{le-leb, lt-leb, ne_eqb}
 use Rattle.codec_model.specs.declared.entry.Opening.{Opening}
@@ -11,7 +11,7 @@ use Rattle.codec_accounts.specs.OwedLaws.{owed_more}
 use Rattle.codec_accounts.specs.Boxes.{Act, Asks, Begins, Ends, Removes, Other, Stay, Kept, Leaving, Left, runs_after, stay_at, stays, left_by, lets, act_of, after, acts_of}
 use Rattle.codec_accounts.specs.BoxesLaws.{stays_snoc}
 use Rattle.codec_accounts.specs.Codec.{is_old}
-use Rattle.codec_accounts.specs.ActLaws.{Starts, KeepsItem, ActMakes, act_makes}
+use Rattle.codec_accounts.specs.ActLaws.{Starts, ActMakes, act_makes}
 use Rattle.codec_accounts.specs.Asked.{Asked, nothing_asked, asked_by, asked_from, asked_in, asked_at}
 
 -- What is known of a codec's box, asked for at p, before the entry at a place.

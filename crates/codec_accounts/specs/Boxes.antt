@@ -4,10 +4,10 @@ use Rattle.std.specs.List.{flat_map}
 use Rattle.wc_config.specs.declared.codec.CoderId.{CoderId}
 use Rattle.codec_model.specs.declared.entry.Opening.{Opening}
 use Rattle.codec_model.specs.declared.entry.Item.{Item}
-use Rattle.codec_model.specs.declared.entry.Task.{Task}
 use Rattle.codec_model.specs.declared.entry.Entry.{Entry}
 use Rattle.codec_model.specs.declared.entry.Entry.TheVariants as entry
-use Rattle.codec_model.specs.Control.{start_item, is_close}
+use Rattle.codec_model.specs.Control.{start_item}
+use Rattle.codec_model.specs.Held.{closes_codec}
 use Rattle.codec_model.specs.Replay.{State, Given, step, opening_state, missing_coder, removal_error}
 use Rattle.codec_accounts.specs.Owed.{state_on, owed}
 
@@ -33,17 +33,15 @@ abbrev pub removal_act : Bool → Act
 removal_act true = Removes
 removal_act false = Other
 
-abbrev pub closes_codec : List Task → Bool
-closes_codec [] = false
-closes_codec (t ∷ ts) = is_close t
-
 -- what an entry is to its codec's box, by the state before it
 abbrev pub act_of : Entry → State → Act
 act_of (entry.Configure who config) t = Other
 act_of (entry.Decode who chunk) t = Other
+act_of (entry.Encode who handed) t = Other
 act_of (entry.Flush who) t = Other
 act_of (entry.Reset who) t = removal_act (is_none (removal_error t.control))
 act_of (entry.Close who) t = removal_act (is_none (removal_error t.control))
+act_of (entry.Take who unit) t = Other
 act_of (entry.Start epoch item) t = start_act (lacking t.given (start_item t.control))
 act_of (entry.Done epoch item moment outcome) t = Ends
 act_of entry.Turn t = removal_act (closes_codec t.control.tasks)

@@ -20,7 +20,8 @@ use Rattle.codec_model.specs.declared.entry.Task.TheVariants as task
 use Rattle.codec_model.specs.Control.{Control, start_item, turn_closes}
 use Rattle.codec_model.specs.Replay.{State, opening_state, step, replay, entry_of, removal_entry, removal_error}
 use Rattle.codec_model.specs.ShownLaws.{replay_more}
-use Rattle.codec_accounts.specs.Boxes.{Act, Asks, Begins, Ends, Removes, Other, Kept, stays, act_of, lets, lacking, start_act, removal_act, closes_codec, acts_of}
+use Rattle.codec_accounts.specs.Boxes.{Act, Asks, Begins, Ends, Removes, Other, Kept, stays, act_of, lets, lacking, start_act, removal_act, acts_of}
+use Rattle.codec_model.specs.Held.{closes_codec}
 use Rattle.codec_accounts.specs.Codec.{is_old}
 use Rattle.codec_accounts.specs.Asked.{Asked, asked_by, asked_in, asked_at}
 use Rattle.codec_accounts.specs.AskedLaws.{IsAsked, asked_is, asked_more, lets_now, LetsGo}

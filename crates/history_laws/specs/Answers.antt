@@ -1,5 +1,5 @@
 -- What is known of the answers that items have.
-use Rattle.std.proofs.Common.{◌≡◌, List, [], ◌∷◌, ◌++◌, Option, Some, None, refl, subst, ◌∙◌}
+use Rattle.std.proofs.Common.{◌≡◌, Bool, true, false, cond, List, [], ◌∷◌, ◌++◌, Option, Some, None, is_some, refl, ap, subst, ◌∙◌}
 use Rattle.std.specs.List.{AllByRecursion}
 use Rattle.wc_base.specs.Options.{cond_is, some_same}
 use Rattle.wc_config.specs.declared.codec.CoderId.{CoderId}
@@ -13,7 +13,12 @@ use Rattle.codec_model.specs.declared.entry.WorkKind.TheVariants as kind
 use Rattle.codec_model.specs.declared.entry.Ended.TheVariants as ended
 use Rattle.codec_model.specs.declared.entry.Outcome.{Outcome}
 use Rattle.codec_model.specs.declared.entry.Outcome.TheVariants as outcome
-use Rattle.codec_model.specs.Replay.{Given, answer_to, answers_by, ended_of, ended_run, ended_refused}
+use Rattle.codec_model.specs.Replay.{Given, answer_to, answers_by, decoder_config, labelled, labelled_answer, ended_of, ended_run, ended_refused}
+
+-- what is there only where a test fails
+pub kept_is : {X : Type 0} (b : Bool) (x t : X) → cond b None (Some x) ≡ Some t → x ≡ t
+kept_is true x t h = absurd cc
+kept_is false x t h = some_same x t h
 
 -- an item that ran gave the units of its answer
 pub ran_answer : (k : WorkKind) (g : Given) (x : Outcome) (us : List media.Unit) → ended_of k g x ≡ Some (ended.Ran us) → answer_to k g ≡ Some us
@@ -47,17 +52,24 @@ last_where Q P id c each before (x ∷ xs) us all h = here (answer_after id c be
     here None e more l = absurd cc
     here (Some vs) e more l = later vs (answers_from id c (before ++ x ∷ []) xs) e more l
 
--- the same of an item's answer
+-- the same of an item's answer, whose first unit may carry a decoder's config
 pub answer_where : (Q : Command → Type 0) (P : List media.Unit → Type 0) (w : WorkKind) (g : Given) (us : List media.Unit) → P []
     → ((id : CoderId) (before : List Command) (x : Command) (vs : List media.Unit) → Q x → answer_after id g.config before x ≡ Some vs → P vs)
+    → ((vs : List media.Unit) → is_some (coder_id_of g.config) ≡ true → P vs → P (labelled (decoder_config g.config) vs))
     → AllByRecursion Q g.commands → answer_to w g ≡ Some us → P us
-answer_where Q P w g us none each all h = by w h
+answer_where Q P w g us none each label all h = by w h
   where
-    by_coder : (o : Option CoderId) → last_answer (answers_by o g) ≡ Some us → P us
-    by_coder None e = absurd cc
-    by_coder (Some id) e = last_where Q P id g.config (each id) [] g.commands us all e
+    carrying : (id : CoderId) (a : Option (List media.Unit)) → coder_id_of g.config ≡ Some id → last_answer (answers_by (Some id) g) ≡ a → labelled_answer (decoder_config g.config) a ≡ Some us → P us
+    carrying id None is last e = absurd cc
+    carrying id (Some vs) is last e =
+        subst P (some_same (labelled (decoder_config g.config) vs) us e)
+        (label vs (ap (λ (o : Option CoderId). is_some o) is) (last_where Q P id g.config (each id) [] g.commands vs all last))
+
+    by_coder : (o : Option CoderId) → coder_id_of g.config ≡ o → labelled_answer (decoder_config g.config) (last_answer (answers_by o g)) ≡ Some us → P us
+    by_coder None is e = absurd cc
+    by_coder (Some id) is e = carrying id (last_answer (answers_by (Some id) g)) is refl e
 
     by : (k : WorkKind) → answer_to k g ≡ Some us → P us
     by kind.Configure e = subst P (some_same [] us (cond_is (is_supported g.config) (Some []) us e).1) none
-    by kind.Coded e = by_coder (coder_id_of g.config) e
-    by kind.Flush e = by_coder (coder_id_of g.config) e
+    by kind.Coded e = by_coder (coder_id_of g.config) refl e
+    by kind.Flush e = by_coder (coder_id_of g.config) refl e

@@ -3,3 +3,5 @@ pub mod Answers
 pub mod OutputLaws
 pub mod Numbers
 pub mod NumberLaws
+pub mod CountLaws
+pub mod WholeLaws

@@ -1,10 +1,8 @@
 -- No number of a codec's state is above the number of its entries.
-use Rattle.std.proofs.Common.{ℕ, zero, suc, ◌≡◌, ◌+◌, ◌-◌, ◌≤◌, ◌&&◌, not, Bool, true, false, eqb, cond, List, [], ◌∷◌, ◌++◌, length, length-append, Option, Some, None, refl, ap, sym, subst, ◌∙◌, arith}
-use Rattle.std.specs.Prelude.{max, unwrap_or, option_and_then}
-use Rattle.std.specs.List.{AllByRecursion}
+use Rattle.std.proofs.Common.{ℕ, ◌≡◌, ◌+◌, ◌≤◌, ◌&&◌, Bool, true, false, eqb, cond, List, [], ◌∷◌, ◌++◌, length, length-append, Option, Some, None, refl, ap, sym, subst, ◌∙◌, arith}
+use Rattle.std.specs.Prelude.{max, unwrap_or}
 use Rattle.wc_base.specs.declared.error.DomError.{DomError}
 use Rattle.wc_base.specs.Options.{cond_is, some_same}
-use Rattle.codec_definitions.specs.declared.unit.Unit as media
 use Rattle.codec_model.specs.declared.entry.Opening.{Opening}
 use Rattle.codec_model.specs.declared.entry.Removal.{Removal}
 use Rattle.codec_model.specs.declared.entry.Removal.TheVariants as removal
@@ -12,22 +10,23 @@ use Rattle.codec_model.specs.declared.entry.Call.{Call}
 use Rattle.codec_model.specs.declared.entry.Call.TheVariants as call
 use Rattle.codec_model.specs.declared.entry.Entry.{Entry}
 use Rattle.codec_model.specs.declared.entry.Entry.TheVariants as entry
+use Rattle.codec_model.specs.declared.entry.HeldSound.{HeldSound}
+use Rattle.codec_model.specs.declared.entry.Handed.TheVariants as handed
+use Rattle.codec_model.specs.declared.entry.Coded.TheVariants as coded
 use Rattle.codec_model.specs.declared.entry.Work.{Work}
 use Rattle.codec_model.specs.declared.entry.Work.TheVariants as work
-use Rattle.codec_model.specs.declared.entry.WorkKind.{WorkKind}
-use Rattle.codec_model.specs.declared.entry.WorkKind.TheVariants as item
 use Rattle.codec_model.specs.declared.entry.Message.{Message}
 use Rattle.codec_model.specs.declared.entry.Item.{Item}
 use Rattle.codec_model.specs.declared.entry.Running.{Running}
 use Rattle.codec_model.specs.declared.entry.Task.{Task}
 use Rattle.codec_model.specs.declared.entry.Task.TheVariants as task
 use Rattle.codec_model.specs.declared.entry.Ended.{Ended}
-use Rattle.codec_model.specs.declared.entry.Ended.TheVariants as ended
 use Rattle.codec_model.specs.declared.entry.Outcome.{Outcome}
-use Rattle.codec_model.specs.Control.{Control, is_taken, after_message, process_queue, at_next_place, run_task, done_running, after_end, start_first, after_reset, after_close, may_reclaim, may_start}
-use Rattle.codec_model.specs.Replay.{State, opening_state, step, replay, replay_from, done_ended, ended_of, removal_error, after_call, call_error, accepted, remove_or_refuse, start_step, done_step, turn_step}
+use Rattle.codec_model.specs.Control.{Control, is_taken, after_message, process_queue, at_next_place, run_task, done_running, after_end, start_first, after_reset, after_close, after_encode, after_take, may_take, may_reclaim, may_start}
+use Rattle.codec_model.specs.Replay.{State, opening_state, step, done_ended, ended_of, removal_error, after_call, call_error, accepted, is_configured, remove_or_refuse, start_step, done_step, turn_step}
 use Rattle.history_laws.specs.Numbers.{AreItemsUpTo, IsUpTo}
 use Rattle.history_laws.specs.OutputLaws.{all_append}
+use Rattle.history_laws.specs.Answers.{kept_is}
 
 items_up : (n : ℕ) (is : List Item) → AreItemsUpTo n is → AreItemsUpTo (n + 1) is
 items_up n [] h = tt
@@ -73,7 +72,7 @@ item_up n at w ms c h = all_append (λ (i : Item). i.number ≤ n) c.work (recor
 
 taken_up : (n : ℕ) (at : ℕ) (w : Work) (ms : List Message) (c : Control) → IsUpToWith n (record { place = at; work = w } ∷ ms) c → IsUpToWith n ms (record (after_message (record { place = at; work = w }) c) { messages = ms })
 taken_up n at (work.Configure config) ms c h = record { place = h.place; epoch = h.epoch; size = h.size; next = omega (arith, h.next); queued = item_up n at (work.Configure config) ms c h; running = h.running }
-taken_up n at (work.Coded chunk) ms c h = record { place = h.place; epoch = h.epoch; size = omega (arith, h.size); next = omega (arith, h.next); queued = item_up n at (work.Coded chunk) ms c h; running = h.running }
+taken_up n at (work.Coded input) ms c h = record { place = h.place; epoch = h.epoch; size = omega (arith, h.size); next = omega (arith, h.next); queued = item_up n at (work.Coded input) ms c h; running = h.running }
 taken_up n at work.Flush ms c h = record { place = h.place; epoch = h.epoch; size = h.size; next = omega (arith, h.next); queued = item_up n at work.Flush ms c h; running = h.running }
 
 with_queue : (n : ℕ) (ms : List Message) (c : Control) → c.messages ≡ ms → IsUpToWith n ms c → IsUpTo n c
@@ -106,8 +105,11 @@ queued_up n m c d place epoch size next messages items busy h = record {
 
 accepted_up : (n : ℕ) (x : Call) (c : Control) → IsUpTo n c → IsUpTo (n + 1) (accepted x c)
 accepted_up n (call.Configure given) c h = processed_up (n + 1) _ (queued_up n (record { place = c.place; work = work.Configure given }) c (record c { phase = _; key_required = _ }) refl refl (omega arith) refl refl refl refl h)
-accepted_up n (call.Decode chunk) c h = processed_up (n + 1) _ (queued_up n (record { place = c.place; work = work.Coded chunk }) c (record c { key_required = false; size = c.size + 1 }) refl refl (omega arith) refl refl refl refl h)
+accepted_up n (call.Decode chunk) c h = processed_up (n + 1) _ (queued_up n (record { place = c.place; work = work.Coded (coded.Chunk chunk) }) c (record c { key_required = false; size = c.size + 1 }) refl refl (omega arith) refl refl refl refl h)
 accepted_up n call.Flush c h = processed_up (n + 1) _ (queued_up n (record { place = c.place; work = work.Flush }) c (record c { key_required = _; pending = _ }) refl refl (omega arith) refl refl refl refl h)
+
+encoded_up : (n : ℕ) (sound : HeldSound) (c : Control) → IsUpTo n c → IsUpTo (n + 1) (after_encode c.place sound (at_next_place c))
+encoded_up n sound c h = processed_up (n + 1) _ (queued_up n (record { place = c.place; work = work.Coded (coded.Sound sound) }) c (record c { size = c.size + 1 }) refl refl (omega arith) refl refl refl refl h)
 
 called_up : (n : ℕ) (o : Option DomError) (x : Call) (c : Control) → IsUpTo n c → IsUpTo (n + 1) (after_call o x c)
 called_up n None x c h = accepted_up n x c h
@@ -211,12 +213,21 @@ turned_up n (x ∷ ts) s t e step h = by x step e
 
 -- ---- entries
 
+taken_by : (n : ℕ) (c : Control) → IsUpTo n c → IsUpTo (n + 1) (after_take (at_next_place c))
+taken_by n c h = same_up (n + 1) (at_next_place c) (after_take (at_next_place c)) refl refl refl refl refl refl refl (entered n c h)
+
 pub step_up : (n : ℕ) (e : Entry) (s t : State) → step e s ≡ Some t → IsUpTo n s.control → IsUpTo (n + 1) t.control
 step_up n (entry.Configure who given) s t is h = subst (λ (u : State). IsUpTo (n + 1) u.control) (some_same _ t is) (called_up n (call_error (call.Configure given) s.control) (call.Configure given) s.control h)
 step_up n (entry.Decode who chunk) s t is h = subst (λ (u : State). IsUpTo (n + 1) u.control) (some_same _ t is) (called_up n (call_error (call.Decode chunk) s.control) (call.Decode chunk) s.control h)
+step_up n (entry.Encode who handed.Gone) s t is h = subst (λ (u : State). IsUpTo (n + 1) u.control) (some_same _ t is) (entered n s.control h)
+step_up n (entry.Encode who handed.Kept) s t is h = subst (λ (u : State). IsUpTo (n + 1) u.control) (kept_is (is_configured s.control) _ t is) (entered n s.control h)
+step_up n (entry.Encode who (handed.Cloned sound)) s t is h =
+    subst (λ (u : State). IsUpTo (n + 1) u.control) (some_same _ t (cond_is (is_configured s.control) _ t is).1) (encoded_up n sound s.control h)
 step_up n (entry.Flush who) s t is h = subst (λ (u : State). IsUpTo (n + 1) u.control) (some_same _ t is) (called_up n (call_error call.Flush s.control) call.Flush s.control h)
 step_up n (entry.Reset who) s t is h = subst (λ (u : State). IsUpTo (n + 1) u.control) (some_same _ t is) (removal_up n (removal_error s.control) removal.Reset s h)
 step_up n (entry.Close who) s t is h = subst (λ (u : State). IsUpTo (n + 1) u.control) (some_same _ t is) (removal_up n (removal_error s.control) removal.Close s h)
+step_up n (entry.Take who unit) s t is h =
+    subst (λ (u : State). IsUpTo (n + 1) u.control) (some_same _ t (cond_is (may_take unit s.control) _ t is).1) (taken_by n s.control h)
 step_up n (entry.Start epoch number) s t is h = started_up n s.control.work epoch number s t refl is h
 step_up n (entry.Done epoch number moment x) s t is h = done_step_up n s.control.running epoch number moment x s t is h
 step_up n entry.Turn s t is h = turned_up n s.control.tasks s t refl is h

@@ -1,18 +1,17 @@
--- What every output of a history is, where its configs and chunks are such and a codec's definition gives such outputs for
+-- What every output of a history is, where its configs and inputs are such and a codec's definition gives such outputs for
 -- them.
-use Rattle.std.proofs.Common.{ℕ, ◌≡◌, ◌+◌, ◌&&◌, not, Bool, true, false, eqb, cond, List, [], ◌∷◌, ◌++◌, length, Option, Some, None, refl, ap, sym, subst, ◌∙◌, append_assoc}
+use Rattle.std.proofs.Common.{ℕ, ◌≡◌, ◌+◌, ◌&&◌, not, Bool, true, false, eqb, cond, List, [], ◌∷◌, ◌++◌, length, Option, Some, None, is_some, refl, ap, sym, subst, ◌∙◌, append_assoc}
 use Rattle.std.specs.Prelude.{option_map, unwrap_or, max, count_by, filter}
 use Rattle.std.specs.List.{AllByRecursion}
 use Rattle.wc_base.specs.declared.error.DomError.{DomError}
 use Rattle.wc_base.specs.declared.error.DomError.TheVariants as dom
 use Rattle.wc_base.specs.Options.{cond_is, some_same}
-use Rattle.wc_config.specs.declared.codec.CoderId.{CoderId}
-use Rattle.wc_config.specs.declared.config.Config.{Config}
-use Rattle.wc_config.specs.Configs.{is_valid, is_supported, coder_id_of}
+use Rattle.wc_config.specs.Configs.{is_valid, coder_id_of}
+use Rattle.wc_config.specs.declared.config.AudioDecoderConfig.{AudioDecoderConfig}
 use Rattle.codec_definitions.specs.declared.unit.Unit as media
+use Rattle.codec_definitions.specs.declared.unit.Unit.TheVariants as unit
 use Rattle.codec_definitions.specs.declared.command.Command.{Command}
 use Rattle.codec_definitions.specs.declared.command.Command.TheVariants as command
-use Rattle.codec_definitions.specs.Answers.{answer_after, until_refused, answers_from, last_answer}
 use Rattle.codec_model.specs.declared.entry.Opening.{Opening}
 use Rattle.codec_model.specs.declared.entry.Removal.{Removal}
 use Rattle.codec_model.specs.declared.entry.Removal.TheVariants as removal
@@ -22,6 +21,10 @@ use Rattle.codec_model.specs.declared.entry.Entry.{Entry}
 use Rattle.codec_model.specs.declared.entry.Entry.TheVariants as entry
 use Rattle.codec_model.specs.declared.entry.Event.{Event}
 use Rattle.codec_model.specs.declared.entry.Event.TheVariants as event
+use Rattle.codec_model.specs.declared.entry.HeldSound.{HeldSound}
+use Rattle.codec_model.specs.declared.entry.Handed.TheVariants as handed
+use Rattle.codec_model.specs.declared.entry.Coded.{Coded}
+use Rattle.codec_model.specs.declared.entry.Coded.TheVariants as coded
 use Rattle.codec_model.specs.declared.entry.Work.{Work}
 use Rattle.codec_model.specs.declared.entry.Work.TheVariants as work
 use Rattle.codec_model.specs.declared.entry.WorkKind.{WorkKind}
@@ -34,12 +37,11 @@ use Rattle.codec_model.specs.declared.entry.Task.TheVariants as task
 use Rattle.codec_model.specs.declared.entry.Ended.{Ended}
 use Rattle.codec_model.specs.declared.entry.Ended.TheVariants as ended
 use Rattle.codec_model.specs.declared.entry.Outcome.{Outcome}
-use Rattle.codec_model.specs.declared.entry.Outcome.TheVariants as outcome
-use Rattle.codec_model.specs.Control.{Control, is_taken, after_message, process_queue, at_next_place, run_task, done_running, after_end, start_first, is_dequeue, is_desaturate, with_desaturate, after_reset, after_close, may_reclaim, may_start}
-use Rattle.codec_model.specs.Replay.{State, Given, given_more, answer_to, answers_by, opening_state, nothing_given, step, done_ended, ended_of, configure_error, decode_error, flush_error, removal_error, after_call, call_error, accepted, remove_or_refuse, removed, start_step, done_step, with_control, turn_step}
-use Rattle.codec_model.specs.Shown.{refusal, rejection, rejections, outputs_from, turn_shows, removal_shows, shows, event_units, units_in, each_shown, each_shown_from}
-use Rattle.history_laws.specs.Outputs.{IsOwnCommand, Judge, HoldsOwn}
-use Rattle.history_laws.specs.Answers.{ran_answer, answer_where}
+use Rattle.codec_model.specs.Control.{Control, is_taken, after_message, process_queue, at_next_place, run_task, done_running, after_end, start_first, is_dequeue, is_desaturate, with_desaturate, after_reset, after_close, after_encode, after_take, may_take, carried, is_active, may_reclaim, may_start}
+use Rattle.codec_model.specs.Replay.{State, Given, command_of, decoder_config, labelled, is_configured, given_more, answer_to, opening_state, nothing_given, step, done_ended, ended_of, configure_error, decode_error, flush_error, removal_error, after_call, call_error, accepted, remove_or_refuse, removed, start_step, done_step, with_control, turn_step}
+use Rattle.codec_model.specs.Shown.{refusal, rejection, rejections, outputs_from, turn_shows, removal_shows, handed_error, shows, event_units, units_in, each_shown, each_shown_from}
+use Rattle.history_laws.specs.Outputs.{IsOwnCommand, MayCarry, Judge, HoldsOwn}
+use Rattle.history_laws.specs.Answers.{kept_is, ran_answer, answer_where}
 
 pub all_append : {X : Type 0} (P : X → Type 0) (xs ys : List X) → AllByRecursion P xs → AllByRecursion P ys → AllByRecursion P (xs ++ ys)
 all_append P [] ys h k = k
@@ -53,21 +55,38 @@ all_more P xs y h k = all_append P xs (y ∷ []) h (k, tt)
 abbrev AllOf : Judge → List media.Unit → Type 0
 AllOf k us = AllByRecursion k.output us
 
--- the config and the chunks that a coder was given are such
+abbrev IsOwn : Judge → Command → Type 0
+IsOwn k x = IsOwnCommand k.chunk k.sound x
+
+-- the config and the inputs that a coder was given are such
 abbrev IsOwnGiven : Judge → Given → Type 0
-IsOwnGiven k g = k.config g.config × AllByRecursion (IsOwnCommand k.chunk) g.commands
+IsOwnGiven k g = k.config g.config × AllByRecursion (IsOwn k) g.commands
 
 none_given : (k : Judge) → IsOwnGiven k nothing_given
 none_given k = (k.nothing, tt)
 
+label_own : (k : Judge) (o : Option AudioDecoderConfig) (us : List media.Unit) → MayCarry k.config o → AllOf k us → AllOf k (labelled o us)
+label_own k None us fine h = h
+label_own k (Some d) [] fine h = h
+label_own k (Some d) (unit.Sound samples ∷ us) fine h = h
+label_own k (Some d) (unit.Image picture ∷ us) fine h = h
+label_own k (Some d) (unit.Coded chunk config ∷ us) fine h = (k.relabel chunk config (Some d) fine h.0, h.1)
+
 given_of : (k : Judge) (w : WorkKind) (g : Given) (us : List media.Unit) → IsOwnGiven k g → answer_to w g ≡ Some us → AllOf k us
-given_of k w g us own h = answer_where (IsOwnCommand k.chunk) (AllOf k) w g us tt (λ id before x vs fine is. k.gives id g.config before x vs own.0 fine is) own.1 h
+given_of k w g us own h =
+    answer_where (IsOwn k) (AllOf k) w g us tt (λ id before x vs fine is. k.gives id g.config before x vs own.0 fine is)
+    (λ vs coder all. label_own k (decoder_config g.config) vs (by coder (decoder_config g.config) refl) all) own.1 h
+  where
+    by : is_some (coder_id_of g.config) ≡ true → (o : Option AudioDecoderConfig) → decoder_config g.config ≡ o → MayCarry k.config o
+    by coder None is = tt
+    by coder (Some d) is = record { config = g.config; passed = own.0; has_coder = coder; decodes = is }
 
 -- ---- states
 
 abbrev IsOwnWork : Judge → Work → Type 0
 IsOwnWork k (work.Configure c) = k.config c
-IsOwnWork k (work.Coded chunk) = k.chunk chunk
+IsOwnWork k (work.Coded (coded.Chunk chunk)) = k.chunk chunk
+IsOwnWork k (work.Coded (coded.Sound sound)) = k.sound sound.samples
 IsOwnWork k work.Flush = Unit {0}
 
 abbrev IsOwnTask : Judge → Task → Type 0
@@ -101,9 +120,9 @@ taken_own k (work.Configure given) at ms c h w all = record {
   items = all_more (λ (i : Item). IsOwnWork k i.work) c.work (record { number = c.next_item; place = at; work = work.Configure given }) h.items w;
   tasks = h.tasks;
 }
-taken_own k (work.Coded chunk) at ms c h w all = record {
+taken_own k (work.Coded input) at ms c h w all = record {
   messages = all;
-  items = all_more (λ (i : Item). IsOwnWork k i.work) c.work (record { number = c.next_item; place = at; work = work.Coded chunk }) h.items w;
+  items = all_more (λ (i : Item). IsOwnWork k i.work) c.work (record { number = c.next_item; place = at; work = work.Coded input }) h.items w;
   tasks = dequeue_own k (not c.scheduled) c.tasks h.tasks;
 }
 taken_own k work.Flush at ms c h w all = record {
@@ -150,8 +169,11 @@ same_own k c d messages items tasks h = record {
 
 accepted_own : (k : Judge) (x : Call) (c : Control) → IsOwnCall k x → OwnControl k c → OwnControl k (accepted x c)
 accepted_own k (call.Configure given) c own h = processed_own k _ (same_own k _ _ refl refl refl (queued_own k c (record { place = c.place; work = work.Configure given }) h own))
-accepted_own k (call.Decode chunk) c own h = processed_own k _ (same_own k _ _ refl refl refl (queued_own k c (record { place = c.place; work = work.Coded chunk }) h own))
+accepted_own k (call.Decode chunk) c own h = processed_own k _ (same_own k _ _ refl refl refl (queued_own k c (record { place = c.place; work = work.Coded (coded.Chunk chunk) }) h own))
 accepted_own k call.Flush c own h = processed_own k _ (same_own k _ _ refl refl refl (queued_own k c (record { place = c.place; work = work.Flush }) h tt))
+
+encoded_own : (k : Judge) (sound : HeldSound) (c : Control) → k.sound sound.samples → OwnControl k c → OwnControl k (after_encode c.place sound (at_next_place c))
+encoded_own k sound c own h = processed_own k _ (same_own k _ _ refl refl refl (queued_own k c (record { place = c.place; work = work.Coded (coded.Sound sound) }) h own))
 
 called_own : (k : Judge) (o : Option DomError) (x : Call) (c : Control) → (o ≡ None → IsOwnCall k x) → OwnControl k c → OwnControl k (after_call o x c)
 called_own k None x c own h = accepted_own k x c (own refl) h
@@ -199,10 +221,14 @@ removal_own k (Some error) r s own = with_own k (at_next_place s.control) s (ent
 
 -- ---- starts
 
+command_own : (k : Judge) (x : Coded) → IsOwnWork k (work.Coded x) → IsOwn k (command_of x)
+command_own k (coded.Chunk chunk) own = own
+command_own k (coded.Sound sound) own = own
+
 more_own : (k : Judge) (w : Work) (g : Given) → IsOwnWork k w → IsOwnGiven k g → IsOwnGiven k (given_more w g)
 more_own k (work.Configure c) g own h = (own, tt)
-more_own k (work.Coded chunk) g own h = (h.0, all_more (IsOwnCommand k.chunk) g.commands (command.Chunk chunk) h.1 own)
-more_own k work.Flush g own h = (h.0, all_more (IsOwnCommand k.chunk) g.commands command.Drain h.1 tt)
+more_own k (work.Coded input) g own h = (h.0, all_more (IsOwn k) g.commands (command_of input) h.1 (command_own k input own))
+more_own k work.Flush g own h = (h.0, all_more (IsOwn k) g.commands command.Drain h.1 tt)
 
 started_own : (k : Judge) (is : List Item) (epoch number : ℕ) (s t : State) → s.control.work ≡ is → start_step is epoch number s ≡ Some t → Own k s → Own k t
 started_own k [] epoch number s t e step h = absurd cc
@@ -301,6 +327,10 @@ step_own k (entry.Configure who given) s t is own h =
     subst (λ (u : State). Own k u) (some_same _ t is)
     (call_own k (call.Configure given) s (λ taken. own (accepted_valid (is_valid given) _ taken)) h)
 step_own k (entry.Decode who chunk) s t is own h = subst (λ (u : State). Own k u) (some_same _ t is) (call_own k (call.Decode chunk) s (λ taken. own) h)
+step_own k (entry.Encode who handed.Gone) s t is own h = subst (λ (u : State). Own k u) (some_same _ t is) (with_own k _ s (entered_own k s.control h.control) h)
+step_own k (entry.Encode who handed.Kept) s t is own h = subst (λ (u : State). Own k u) (kept_is (is_configured s.control) _ t is) (with_own k _ s (entered_own k s.control h.control) h)
+step_own k (entry.Encode who (handed.Cloned sound)) s t is own h =
+    subst (λ (u : State). Own k u) (some_same _ t (cond_is (is_configured s.control) _ t is).1) (with_own k _ s (encoded_own k sound s.control own h.control) h)
 step_own k (entry.Flush who) s t is own h = subst (λ (u : State). Own k u) (some_same _ t is) (call_own k call.Flush s (λ taken. tt) h)
 step_own k (entry.Reset who) s t is own h =
     subst (λ (u : State). Own k u) (some_same _ t is)
@@ -308,6 +338,8 @@ step_own k (entry.Reset who) s t is own h =
 step_own k (entry.Close who) s t is own h =
     subst (λ (u : State). Own k u) (some_same _ t is)
     (removal_own k (removal_error s.control) removal.Close s h)
+step_own k (entry.Take who unit) s t is own h =
+    subst (λ (u : State). Own k u) (some_same _ t (cond_is (may_take unit s.control) _ t is).1) (with_own k _ s (same_own k s.control (after_take (at_next_place s.control)) refl refl refl h.control) h)
 step_own k (entry.Start epoch number) s t is own h = started_own k s.control.work epoch number s t refl is h
 step_own k (entry.Done epoch number moment x) s t is own h = done_step_own k s.control.running epoch number moment x s t is h
 step_own k entry.Turn s t is own h = turned_own k s.control.tasks s t refl is h
@@ -324,7 +356,7 @@ outputs_own : (k : Judge) (n : ℕ) (us : List media.Unit) → AllOf k us → Al
 outputs_own k n [] h = tt
 outputs_own k n (u ∷ us) h = (h.0, outputs_own k (n + 1) us h.1)
 
-units_append : (xs ys : List Event) → units_in (xs ++ ys) ≡ units_in xs ++ units_in ys
+pub units_append : (xs ys : List Event) → units_in (xs ++ ys) ≡ units_in xs ++ units_in ys
 units_append [] ys = refl
 units_append (x ∷ xs) ys =
     ap (λ (us : List media.Unit). event_units x ++ us) (units_append xs ys)
@@ -354,22 +386,35 @@ flushed_own : (k : Judge) (n promise : ℕ) (us : List media.Unit) → AllOf k u
 flushed_own k n promise [] h = tt
 flushed_own k n promise (u ∷ us) h = (h.0, flushed_own k (n + 1) promise us h.1)
 
+carried_own : (k : Judge) (active : Option AudioDecoderConfig) (us : List media.Unit) → AllOf k us → AllOf k (carried active us)
+carried_own k active [] h = tt
+carried_own k active (unit.Sound samples ∷ us) h = h
+carried_own k active (unit.Image picture ∷ us) h = h
+carried_own k active (unit.Coded chunk None ∷ us) h = h
+carried_own k active (unit.Coded chunk (Some c) ∷ us) h = by (is_active active c)
+  where
+    by : (b : Bool) → AllOf k (unit.Coded chunk (cond b None (Some c)) ∷ us)
+    by true = (k.relabel chunk (Some c) None tt h.0, h.1)
+    by false = h
+
 task_shown_own : (k : Judge) (ts : List Task) (c : Control) → AreOwnTasks k ts → AllOf k (units_in (turn_shows ts c))
 task_shown_own k [] c h = tt
 task_shown_own k (task.Unblock ∷ ts) c h = tt
 task_shown_own k (task.Process ∷ ts) c h = tt
 task_shown_own k (task.Desaturate ∷ ts) c h = tt
-task_shown_own k (task.Output units ∷ ts) c h = outputs_own k _ units h.0
-task_shown_own k (task.Flushed promise units ∷ ts) c h = flushed_own k _ promise units h.0
+task_shown_own k (task.Output units ∷ ts) c h = outputs_own k _ (carried c.active units) (carried_own k c.active units h.0)
+task_shown_own k (task.Flushed promise units ∷ ts) c h = flushed_own k _ promise (carried c.active units) (carried_own k c.active units h.0)
 task_shown_own k (task.Dequeue ∷ ts) c h = tt
 task_shown_own k (task.Close error ∷ ts) c h = closing_none k error error c.pending
 
 shows_own : (k : Judge) (e : Entry) (s : State) → Own k s → AllOf k (units_in (shows e s))
 shows_own k (entry.Configure who given) s h = refusal_none k (configure_error given s.control)
 shows_own k (entry.Decode who chunk) s h = refusal_none k (decode_error chunk s.control)
+shows_own k (entry.Encode who handed) s h = refusal_none k (handed_error handed)
 shows_own k (entry.Flush who) s h = rejection_none k s.control.place (flush_error s.control)
 shows_own k (entry.Reset who) s h = removal_none k (removal_error s.control) s.control.pending
 shows_own k (entry.Close who) s h = removal_none k (removal_error s.control) s.control.pending
+shows_own k (entry.Take who unit) s h = tt
 shows_own k (entry.Start epoch number) s h = tt
 shows_own k (entry.Done epoch number moment x) s h = tt
 shows_own k entry.Turn s h = task_shown_own k s.control.tasks s.control h.control.tasks

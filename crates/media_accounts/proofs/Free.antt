@@ -3,7 +3,8 @@ use Rattle.std.proofs.Common.{ℕ, ◌≡◌, Bool, true, false, cond, List, Opt
 use Rattle.std.specs.Prelude.{length, take}
 use Rattle.wc_base.specs.declared.error.DomError.TheVariants as dom
 use Rattle.wc_base.specs.declared.who.Who.{Who}
-use Rattle.wc_chunk.specs.declared.chunk.Chunk.{Chunk}
+use Rattle.codec_definitions.specs.declared.unit.Unit as output
+use Rattle.codec_definitions.specs.declared.unit.Unit.TheVariants as unit
 use Rattle.picture_planes.specs.Planes.{picture_size}
 use Rattle.wc_pool.specs.declared.entry.PoolEntry.{PoolEntry}
 use Rattle.wc_pool.specs.declared.entry.PoolOp.{PoolOp}
@@ -13,7 +14,8 @@ use Rattle.wc_audio.specs.Sound.{needed, is_invalid}
 use Rattle.wc_video.specs.Frames as frames
 use Rattle.script_types.specs.declared.steps.MediaStep.{MediaStep}
 use Rattle.script_types.specs.declared.steps.MediaStep.TheVariants as media
-use Rattle.media_variables.specs.Variables.{Shape, SoundOf, PictureOf, Reference, Medium, Came, medium_at, only_answers, refused, makes, clone_held, close_held, is_last, if_there, media_came}
+use Rattle.report_text.specs.declared.result.StepResult.{StepResult}
+use Rattle.media_variables.specs.Variables.{Shape, SoundOf, PictureOf, Reference, Medium, Came, medium_at, only_answers, refused, makes, clone_held, close_held, is_last, if_there, Taken, Brought, unit_came, taken_came, media_came}
 
 does_not : (a y : Came) (o : PoolOp) → a.does ≡ Some o → Some a ≡ Some y → y.does ≡ None → ⊥
 does_not a y o is came none =
@@ -43,15 +45,25 @@ close_there : (p q : List PoolEntry) (who : Who) (of : ℕ) (o : Option Medium) 
 close_there p q who of None vs y came none = came
 close_there p q who of (Some m) vs y came none = close_free p q who of m m.held vs y came none
 
-pub came_free : (p q : List PoolEntry) (who : Who) (chunk : Option Chunk) (x : MediaStep) (vs : List (Option Medium)) (y : Came) → media_came p who chunk x vs ≡ Some y → y.does ≡ None → media_came q who chunk x vs ≡ Some y
-came_free p q who chunk (media.Audio bind None) vs y came none = came
-came_free p q who chunk (media.Audio bind (Some i)) vs y came none = init_free p q who.step (SoundOf i.shape) (take (needed i.shape) i.content) vs y (is_invalid i.shape (length i.content)) came none
-came_free p q who chunk (media.Frame bind None) vs y came none = came
-came_free p q who chunk (media.Frame bind (Some i)) vs y came none = init_free p q who.step (PictureOf i.shape) (take (picture_size i.shape) i.content) vs y (frames.is_invalid i.shape (length i.content)) came none
-came_free p q who chunk (media.Encode on content) vs y came none = absurd cc
-came_free p q who chunk (media.Take on bind kind) vs y came none = absurd cc
-came_free p q who chunk (media.Clone of bind) vs y came none = clone_there p q who.step (medium_at vs of.step) vs y came none
-came_free p q who chunk (media.Transfer of bind) vs y came none = came
-came_free p q who chunk (media.CloseData of) vs y came none = close_there p q who of.step (medium_at vs of.step) vs y came none
-came_free p q who chunk (media.Copy of o size) vs y came none = came
-came_free p q who chunk (media.Size of o) vs y came none = came
+-- an output makes a resource, unless it is a chunk
+unit_free : (p q : List PoolEntry) (j : ℕ) (answer : StepResult) (u : output.Unit) (vs : List (Option Medium)) (y : Came) → Some (unit_came p j answer u vs) ≡ Some y → y.does ≡ None → Some (unit_came q j answer u vs) ≡ Some y
+unit_free p q j answer (unit.Sound s) vs y came none = absurd (does_not (unit_came p j answer (unit.Sound s) vs) y (op.Make (resources_made p) (references_made p)) refl came none)
+unit_free p q j answer (unit.Image i) vs y came none = absurd (does_not (unit_came p j answer (unit.Image i) vs) y (op.Make (resources_made p) (references_made p)) refl came none)
+unit_free p q j answer (unit.Coded chunk config) vs y came none = came
+
+taken_free : (p q : List PoolEntry) (j : ℕ) (t : Option Taken) (vs : List (Option Medium)) (y : Came) → taken_came p j t vs ≡ Some y → y.does ≡ None → taken_came q j t vs ≡ Some y
+taken_free p q j None vs y came none = absurd cc
+taken_free p q j (Some t) vs y came none = unit_free p q j t.answer t.unit vs y came none
+
+pub came_free : (p q : List PoolEntry) (who : Who) (b : Brought) (x : MediaStep) (vs : List (Option Medium)) (y : Came) → media_came p who b x vs ≡ Some y → y.does ≡ None → media_came q who b x vs ≡ Some y
+came_free p q who b (media.Audio bind None) vs y came none = came
+came_free p q who b (media.Audio bind (Some i)) vs y came none = init_free p q who.step (SoundOf i.shape) (take (needed i.shape) i.content) vs y (is_invalid i.shape (length i.content)) came none
+came_free p q who b (media.Frame bind None) vs y came none = came
+came_free p q who b (media.Frame bind (Some i)) vs y came none = init_free p q who.step (PictureOf i.shape) (take (picture_size i.shape) i.content) vs y (frames.is_invalid i.shape (length i.content)) came none
+came_free p q who b (media.Encode on content) vs y came none = absurd cc
+came_free p q who b (media.Take on bind kind) vs y came none = taken_free p q who.step b.taken vs y came none
+came_free p q who b (media.Clone of bind) vs y came none = clone_there p q who.step (medium_at vs of.step) vs y came none
+came_free p q who b (media.Transfer of bind) vs y came none = came
+came_free p q who b (media.CloseData of) vs y came none = close_there p q who of.step (medium_at vs of.step) vs y came none
+came_free p q who b (media.Copy of o size) vs y came none = came
+came_free p q who b (media.Size of o) vs y came none = came

@@ -1,13 +1,16 @@
 -- What stands of all callers' media.
-use Rattle.std.proofs.Common.{ℕ, zero, suc, ◌≡◌, ◌≢◌, ◌<◌, inl, inr, Bool, List, [], ◌∷◌, ◌++◌, length, map, Option, Some, None, refl, ap, sym, subst, ◌∙◌, arith}
-use Rattle.std.specs.Prelude.{slice_set, option_and_then}
-use Rattle.std.proofs.lemmas.Bool.{cases_eq, le-ltb}
+use Rattle.std.proofs.Common.{ℕ, zero, suc, ◌≡◌, ◌≢◌, ◌≤◌, ◌<◌, inl, inr, Bool, ltb, List, [], ◌∷◌, ◌++◌, length, map, Option, Some, None, refl, ap, sym, subst, ◌∙◌, arith}
+use Rattle.std.specs.Prelude.{slice_get, slice_set, option_and_then}
+use Rattle.std.proofs.lemmas.Bool.{cases_eq, cases_lt, le-ltb}
 use Rattle.script_types.specs.declared.script.CallerItem.{CallerItem}
 use Rattle.script_types.specs.declared.steps.MediaStep.{MediaStep}
-use Rattle.media_variables.specs.Variables.{Medium, media_came, entries_of, variables_of, medium_at}
+use Rattle.script_types.specs.declared.steps.Step.{Step}
+use Rattle.wc_base.specs.declared.who.Who.{Who}
+use Rattle.wc_pool.specs.declared.entry.PoolEntry.{PoolEntry}
+use Rattle.media_variables.specs.Variables.{Medium, Came, Brought, media_came, entries_of, variables_of, medium_at}
 use Rattle.media_variables.specs.Held.{reference_at, AreHeld, StayHeld, DoLegally}
-use Rattle.media_accounts.specs.Accounts.{step_by, before_step, variables_by, owes, came_in, variables_in, Next, NothingStands, StepsStand, OthersStand}
-use Rattle.media_accounts.proofs.Steps.{media_stay, other_stays}
+use Rattle.media_accounts.specs.Accounts.{step_by, before_step, media_of, variables_by, owes, came_on, came_in, variables_in, Next, IsBroughtToo, NothingStands, StepsStand, OthersStand, LaterStand}
+use Rattle.media_accounts.proofs.Steps.{media_stay, quiet_came, other_stays}
 
 -- ---- lists of variables
 
@@ -49,10 +52,10 @@ none_held callers = record {
 -- ---- before any step
 
 pub nothing_stands : NothingStands
-nothing_stands steps chunks callers = record {
+nothing_stands steps brought callers = record {
   accounted = record {
     legal = refl;
-    owed = λ c j. sym (ap (λ (b : Bool). owes b (came_in steps chunks [] c j)) (le-ltb j 0 (omega arith)));
+    owed = λ c j. sym (ap (λ (b : Bool). owes b (came_in steps brought [] c j)) (le-ltb j 0 (omega arith)));
     callers = λ n e is. absurd cc;
     rises = λ c i j m n d e lt is its one two. absurd cc;
   };
@@ -64,24 +67,24 @@ nothing_stands steps chunks callers = record {
 -- ---- a step on media
 
 pub step_stands : StayHeld → DoLegally → StepsStand
-step_stands stay legally steps chunks made more callers m c x y st lt one is comes =
+step_stands stay legally steps brought made more callers m c x y st lt one is comes =
     let who = step_by c (made c) in
     let there : c < length m.variables = (let n = st.there in omega (arith, lt, n)) in
-    let next : Next steps chunks made m.pool c x y = record {
+    let next : Next steps brought made m.pool c x y = record {
       is_step = is;
-      comes = subst (λ (vs : List (Option Medium)). media_came m.pool who (chunks c x) x vs ≡ Some y) (st.variables c) comes;
-      legal = λ e made_it. legally m.pool who m.variables (chunks c x) x y e st.accounted.legal st.held comes made_it;
+      comes = subst (λ (vs : List (Option Medium)). media_came m.pool who (brought c (made c) x) x vs ≡ Some y) (st.variables c) comes;
+      legal = λ e made_it. legally m.pool who m.variables (brought c (made c) x) x y e st.accounted.legal st.held comes made_it;
     } in
-    let after = media_stay steps chunks made more m.pool c x y st.accounted one next in
+    let after = media_stay steps brought made more m.pool c x y st.accounted one next in
     record {
       stands = record {
         accounted = after.accounted;
         variables = λ d. elim (cases_eq d c) [
-          | inl same ↦ subst (λ (k : ℕ). variables_of k (slice_set m.variables c y.variables) ≡ variables_in steps chunks (m.pool ++ entries_of who y.does) k (more k)) (sym same)
-              (variables_here c y.variables m.variables there ∙ sym (ap (variables_in steps chunks (m.pool ++ entries_of who y.does) c) one.here ∙ after.variables))
+          | inl same ↦ subst (λ (k : ℕ). variables_of k (slice_set m.variables c y.variables) ≡ variables_in steps brought (m.pool ++ entries_of who y.does) k (more k)) (sym same)
+              (variables_here c y.variables m.variables there ∙ sym (ap (variables_in steps brought (m.pool ++ entries_of who y.does) c) one.here ∙ after.variables))
           | inr other ↦ variables_else d c y.variables m.variables other ∙ (st.variables d ∙ sym (after.others d other))
         ];
-        held = stay m.pool who m.variables (chunks c x) x y st.accounted.legal there st.held comes;
+        held = stay m.pool who m.variables (brought c (made c) x) x y st.accounted.legal there st.held comes;
         there = set_long c y.variables m.variables ∙ st.there;
       };
       here = after.here;
@@ -91,14 +94,62 @@ step_stands stay legally steps chunks made more callers m c x y st lt one is com
 -- ---- any other step
 
 pub other_stands : OthersStand
-other_stands steps chunks made more callers m c st one none = record {
-  accounted = other_stays steps chunks made more m.pool c st.accounted one none;
+other_stands steps brought made more callers m c st one quiet = record {
+  accounted = other_stays steps brought made more m.pool c st.accounted one quiet;
   variables = λ d. elim (cases_eq d c) [
-    | inr other ↦ st.variables d ∙ ap (variables_in steps chunks m.pool d) (sym (one.others d other))
-    | inl same ↦ subst (λ (k : ℕ). variables_of k m.variables ≡ variables_in steps chunks m.pool k (more k)) (sym same)
-        (st.variables c ∙ sym (ap (variables_in steps chunks m.pool c) one.here
-        ∙ ap (λ (o : Option MediaStep). variables_by (option_and_then (λ (x : MediaStep). media_came (before_step c (made c) m.pool) (step_by c (made c)) (chunks c x) x (variables_in steps chunks m.pool c (made c))) o) (variables_in steps chunks m.pool c (made c))) none))
+    | inr other ↦ st.variables d ∙ ap (variables_in steps brought m.pool d) (sym (one.others d other))
+    | inl same ↦ subst (λ (k : ℕ). variables_of k m.variables ≡ variables_in steps brought m.pool k (more k)) (sym same)
+        (st.variables c ∙ sym (ap (variables_in steps brought m.pool c) one.here
+        ∙ ap (λ (o : Option Came). variables_by o (variables_in steps brought m.pool c (made c))) (quiet_came steps brought m.pool c (made c) (variables_in steps brought m.pool c (made c)) quiet)))
   ];
   held = st.held;
   there = st.there;
+}
+
+-- ---- more is brought
+
+-- what a step comes to is the same where the same is brought to it
+came_too : (before : List PoolEntry) (who : Who) (vs : List (Option Medium)) (later brings : MediaStep → Brought) (o : Option MediaStep) → ((x : MediaStep) → later x ≡ brings x)
+    → option_and_then (λ (x : MediaStep). media_came before who (later x) x vs) o ≡ option_and_then (λ (x : MediaStep). media_came before who (brings x) x vs) o
+came_too before who vs later brings None same = refl
+came_too before who vs later brings (Some x) same = ap (λ (b : Brought). media_came before who b x vs) (same x)
+
+module _ (steps : ℕ → List Step) (brought later : ℕ → ℕ → MediaStep → Brought) (made : ℕ → ℕ) (pool : List PoolEntry) (too : IsBroughtToo made brought later) where
+  came_on_too : (c j : ℕ) (vs us : List (Option Medium)) → j < made c → us ≡ vs → came_on steps later pool c j us ≡ came_on steps brought pool c j vs
+  came_on_too c j vs us lt same =
+      came_too (before_step c j pool) (step_by c j) us (later c j) (brought c j) (option_and_then media_of (slice_get (steps c) j)) (λ x. too c j x lt)
+      ∙ ap (came_on steps brought pool c j) same
+
+  variables_too : (c j : ℕ) → j ≤ made c → variables_in steps later pool c j ≡ variables_in steps brought pool c j
+  variables_too c zero le = refl
+  variables_too c (suc j) le =
+      let vs = variables_too c j (omega (arith, le)) in
+      let came = came_on_too c j (variables_in steps brought pool c j) (variables_in steps later pool c j) (omega (arith, le)) vs in
+      ap (λ (y : Option Came). variables_by y (variables_in steps later pool c j)) came
+      ∙ ap (variables_by (came_in steps brought pool c j)) vs
+
+  came_in_too : (c j : ℕ) → j < made c → came_in steps later pool c j ≡ came_in steps brought pool c j
+  came_in_too c j lt = came_on_too c j (variables_in steps brought pool c j) (variables_in steps later pool c j) lt (variables_too c j (omega (arith, lt)))
+
+  -- a step that was not made owes nothing, whatever it comes to
+  owes_too : (c j : ℕ) → owes (ltb j (made c)) (came_in steps brought pool c j) ≡ owes (ltb j (made c)) (came_in steps later pool c j)
+  owes_too c j = elim (cases_lt j (made c)) [
+    | inl lt ↦ ap (owes (ltb j (made c))) (sym (came_in_too c j lt))
+    | inr le ↦ ap (λ (b : Bool). owes b (came_in steps brought pool c j)) (le-ltb j (made c) le) ∙ sym (ap (λ (b : Bool). owes b (came_in steps later pool c j)) (le-ltb j (made c) le))
+  ]
+
+pub later_stand : LaterStand
+later_stand steps brought later made callers m st too = record {
+  stands = record {
+    accounted = record {
+      legal = st.accounted.legal;
+      owed = λ c j. st.accounted.owed c j ∙ owes_too steps brought later made m.pool too c j;
+      callers = st.accounted.callers;
+      rises = st.accounted.rises;
+    };
+    variables = λ c. st.variables c ∙ sym (variables_too steps brought later made m.pool too c (made c) (omega arith));
+    held = st.held;
+    there = st.there;
+  };
+  same = came_in_too steps brought later made m.pool too;
 }

@@ -4,14 +4,14 @@ use Rattle.std.specs.Prelude.{slice_get, option_and_then, ◌&&◌}
 use Rattle.std.specs.Option.{option_to_list}
 use Rattle.std.proofs.lemmas.Bool.{and_parts, cases_eq, cases_lt, eqb-true, eq-eqb, ne_eqb, lt-ltb, le-ltb}
 use Rattle.wc_base.specs.declared.who.By.TheVariants as by
-use Rattle.wc_chunk.specs.declared.chunk.Chunk.{Chunk}
+use Rattle.wc_base.specs.declared.who.Who.{Who}
 use Rattle.wc_pool.specs.declared.entry.PoolEntry.{PoolEntry}
 use Rattle.wc_pool.specs.declared.entry.PoolOp.{PoolOp}
 use Rattle.script_types.specs.declared.steps.MediaStep.{MediaStep}
 use Rattle.script_types.specs.declared.steps.Step.{Step}
 use Rattle.script_types.specs.declared.steps.Step.TheVariants as step
-use Rattle.media_variables.specs.Variables.{Medium, Came, media_came, entries_of}
-use Rattle.media_accounts.specs.Accounts.{step_by, is_by_step, before_step, ops_by, media_of, variables_by, owes, IsOfCaller, came_on, variables_in, came_in, MediaAreIn, Next, After, OneMore}
+use Rattle.media_variables.specs.Variables.{Medium, Came, Brought, media_came, entries_of}
+use Rattle.media_accounts.specs.Accounts.{step_by, is_by_step, before_step, ops_by, media_of, variables_by, owes, IsOfCaller, came_on, variables_in, came_in, MediaAreIn, Next, After, OneMore, IsQuiet}
 use Rattle.media_accounts.proofs.Pools.{get_more, before_new, before_same, ops_more, ops_some, legal_more}
 use Rattle.media_accounts.proofs.Free.{came_free}
 
@@ -33,30 +33,36 @@ other_step c i j apart = ap (λ (b : Bool). b && eqb j i) (eq-eqb c c refl) ∙ 
 same_step : (c d i j : ℕ) → is_by_step d i (by.Caller (step_by c j)) ≡ true → (c ≡ d) × (j ≡ i)
 same_step c d i j h = let parts = and_parts (eqb c d) (eqb j i) h in (eqb-true c d parts.0, eqb-true j i parts.1)
 
+-- what a step that comes to nothing comes to
+came_none : (pool : List PoolEntry) (who : Who) (brings : MediaStep → Brought) (o : Option MediaStep) (vs : List (Option Medium)) → ((x : MediaStep) → o ≡ Some x → media_came pool who (brings x) x vs ≡ None)
+    → option_and_then (λ (x : MediaStep). media_came pool who (brings x) x vs) o ≡ None
+came_none pool who brings None vs quiet = refl
+came_none pool who brings (Some x) vs quiet = quiet x refl
+
 -- ---- what steps came to, as the history grows
 
-module _ (steps : ℕ → List Step) (chunks : ℕ → MediaStep → Option Chunk) where
-  came_same : (pool new : List PoolEntry) (c j : ℕ) (vs us : List (Option Medium)) → before_step c j new ≡ before_step c j pool → us ≡ vs → came_on steps chunks new c j us ≡ came_on steps chunks pool c j vs
+module _ (steps : ℕ → List Step) (brought : ℕ → ℕ → MediaStep → Brought) where
+  came_same : (pool new : List PoolEntry) (c j : ℕ) (vs us : List (Option Medium)) → before_step c j new ≡ before_step c j pool → us ≡ vs → came_on steps brought new c j us ≡ came_on steps brought pool c j vs
   came_same pool new c j vs us is same =
-      ap (λ (b : List PoolEntry). option_and_then (λ (x : MediaStep). media_came b (step_by c j) (chunks c x) x us) (option_and_then media_of (slice_get (steps c) j))) is
-      ∙ ap (λ (v : List (Option Medium)). came_on steps chunks pool c j v) same
+      ap (λ (b : List PoolEntry). option_and_then (λ (x : MediaStep). media_came b (step_by c j) (brought c j x) x us) (option_and_then media_of (slice_get (steps c) j))) is
+      ∙ ap (λ (v : List (Option Medium)). came_on steps brought pool c j v) same
 
-  variables_stay : (pool : List PoolEntry) (e : PoolEntry) (c j : ℕ) → ((i : ℕ) → i < j → is_by_step c i e.by ≡ false) → variables_in steps chunks (pool ++ e ∷ []) c j ≡ variables_in steps chunks pool c j
+  variables_stay : (pool : List PoolEntry) (e : PoolEntry) (c j : ℕ) → ((i : ℕ) → i < j → is_by_step c i e.by ≡ false) → variables_in steps brought (pool ++ e ∷ []) c j ≡ variables_in steps brought pool c j
   variables_stay pool e c zero other = refl
   variables_stay pool e c (suc j) other =
       let vs = variables_stay pool e c j (λ i lt. other i (omega (arith, lt))) in
-      let came = came_same pool (pool ++ e ∷ []) c j (variables_in steps chunks pool c j) (variables_in steps chunks (pool ++ e ∷ []) c j) (before_same c j [] pool e (other j (omega arith))) vs in
-      ap (λ (y : Option Came). variables_by y (variables_in steps chunks (pool ++ e ∷ []) c j)) came
-      ∙ ap (λ (v : List (Option Medium)). variables_by (came_in steps chunks pool c j) v) vs
+      let came = came_same pool (pool ++ e ∷ []) c j (variables_in steps brought pool c j) (variables_in steps brought (pool ++ e ∷ []) c j) (before_same c j [] pool e (other j (omega arith))) vs in
+      ap (λ (y : Option Came). variables_by y (variables_in steps brought (pool ++ e ∷ []) c j)) came
+      ∙ ap (λ (v : List (Option Medium)). variables_by (came_in steps brought pool c j) v) vs
 
-  came_stays : (pool : List PoolEntry) (e : PoolEntry) (c j : ℕ) → ((i : ℕ) → i ≤ j → is_by_step c i e.by ≡ false) → came_in steps chunks (pool ++ e ∷ []) c j ≡ came_in steps chunks pool c j
+  came_stays : (pool : List PoolEntry) (e : PoolEntry) (c j : ℕ) → ((i : ℕ) → i ≤ j → is_by_step c i e.by ≡ false) → came_in steps brought (pool ++ e ∷ []) c j ≡ came_in steps brought pool c j
   came_stays pool e c j other =
-      came_same pool (pool ++ e ∷ []) c j (variables_in steps chunks pool c j) (variables_in steps chunks (pool ++ e ∷ []) c j) (before_same c j [] pool e (other j (omega arith)))
+      came_same pool (pool ++ e ∷ []) c j (variables_in steps brought pool c j) (variables_in steps brought (pool ++ e ∷ []) c j) (before_same c j [] pool e (other j (omega arith)))
       (variables_stay pool e c j (λ i lt. other i (omega (arith, lt))))
 
   -- a step on media, by its variables and what stands before its entry
-  came_here : (pool : List PoolEntry) (c j : ℕ) (x : MediaStep) (vs : List (Option Medium)) → slice_get (steps c) j ≡ Some (step.Media x) → came_on steps chunks pool c j vs ≡ media_came (before_step c j pool) (step_by c j) (chunks c x) x vs
-  came_here pool c j x vs is = ap (λ (o : Option Step). option_and_then (λ (z : MediaStep). media_came (before_step c j pool) (step_by c j) (chunks c z) z vs) (option_and_then media_of o)) is
+  came_here : (pool : List PoolEntry) (c j : ℕ) (x : MediaStep) (vs : List (Option Medium)) → slice_get (steps c) j ≡ Some (step.Media x) → came_on steps brought pool c j vs ≡ media_came (before_step c j pool) (step_by c j) (brought c j x) x vs
+  came_here pool c j x vs is = ap (λ (o : Option Step). option_and_then (λ (z : MediaStep). media_came (before_step c j pool) (step_by c j) (brought c j z) z vs) (option_and_then media_of o)) is
 
   -- ---- what is owed
 
@@ -80,26 +86,26 @@ module _ (steps : ℕ → List Step) (chunks : ℕ → MediaStep → Option Chun
   owed_here made more c y one = ap (λ (b : Bool). owes b y) (lt-ltb (made c) (more c) (let h = one.here in omega (arith, h)))
 
   -- the next step did nothing yet
-  owed_none : (made : ℕ → ℕ) (pool : List PoolEntry) (c : ℕ) → MediaAreIn steps chunks made pool → ops_by c (made c) pool ≡ []
-  owed_none made pool c m = m.owed c (made c) ∙ ap (λ (b : Bool). owes b (came_in steps chunks pool c (made c))) (le-ltb (made c) (made c) (omega arith))
+  owed_none : (made : ℕ → ℕ) (pool : List PoolEntry) (c : ℕ) → MediaAreIn steps brought made pool → ops_by c (made c) pool ≡ []
+  owed_none made pool c m = m.owed c (made c) ∙ ap (λ (b : Bool). owes b (came_in steps brought pool c (made c))) (le-ltb (made c) (made c) (omega arith))
 
   -- ---- a step that does nothing to the pool
 
   -- all steps owe what they did, where the next one owes nothing
-  quiet_owed : (made more : ℕ → ℕ) (pool : List PoolEntry) (c : ℕ) → MediaAreIn steps chunks made pool → OneMore made more c → option_to_list (option_and_then (λ (z : Came). z.does) (came_in steps chunks pool c (made c))) ≡ []
-      → (d i : ℕ) → ops_by d i pool ≡ owes (ltb i (more d)) (came_in steps chunks pool d i)
+  quiet_owed : (made more : ℕ → ℕ) (pool : List PoolEntry) (c : ℕ) → MediaAreIn steps brought made pool → OneMore made more c → option_to_list (option_and_then (λ (z : Came). z.does) (came_in steps brought pool c (made c))) ≡ []
+      → (d i : ℕ) → ops_by d i pool ≡ owes (ltb i (more d)) (came_in steps brought pool d i)
   quiet_owed made more pool c m one nothing d i = elim (cases_eq d c) [
-    | inr other ↦ m.owed d i ∙ sym (owed_still made more c d i (came_in steps chunks pool d i) one (λ same at. other same))
+    | inr other ↦ m.owed d i ∙ sym (owed_still made more c d i (came_in steps brought pool d i) one (λ same at. other same))
     | inl same ↦ elim (cases_eq i (made c)) [
-      | inr apart ↦ m.owed d i ∙ sym (owed_still made more c d i (came_in steps chunks pool d i) one (λ _ at. apart at))
-      | inl at ↦ subst (λ (k : ℕ). ops_by k i pool ≡ owes (ltb i (more k)) (came_in steps chunks pool k i)) (sym same)
-          (subst (λ (n : ℕ). ops_by c n pool ≡ owes (ltb n (more c)) (came_in steps chunks pool c n)) (sym at)
-          (owed_none made pool c m ∙ sym (owed_here made more c (came_in steps chunks pool c (made c)) one ∙ nothing)))
+      | inr apart ↦ m.owed d i ∙ sym (owed_still made more c d i (came_in steps brought pool d i) one (λ _ at. apart at))
+      | inl at ↦ subst (λ (k : ℕ). ops_by k i pool ≡ owes (ltb i (more k)) (came_in steps brought pool k i)) (sym same)
+          (subst (λ (n : ℕ). ops_by c n pool ≡ owes (ltb n (more c)) (came_in steps brought pool c n)) (sym at)
+          (owed_none made pool c m ∙ sym (owed_here made more c (came_in steps brought pool c (made c)) one ∙ nothing)))
     ]
   ]
 
-  quiet_stays : (made more : ℕ → ℕ) (pool : List PoolEntry) (c : ℕ) → MediaAreIn steps chunks made pool → OneMore made more c → option_to_list (option_and_then (λ (z : Came). z.does) (came_in steps chunks pool c (made c))) ≡ []
-      → MediaAreIn steps chunks more pool
+  quiet_stays : (made more : ℕ → ℕ) (pool : List PoolEntry) (c : ℕ) → MediaAreIn steps brought made pool → OneMore made more c → option_to_list (option_and_then (λ (z : Came). z.does) (came_in steps brought pool c (made c))) ≡ []
+      → MediaAreIn steps brought more pool
   quiet_stays made more pool c m one nothing = record {
     legal = m.legal;
     owed = quiet_owed made more pool c m one nothing;
@@ -107,25 +113,29 @@ module _ (steps : ℕ → List Step) (chunks : ℕ → MediaStep → Option Chun
     rises = m.rises;
   }
 
-  pub other_stays : (made more : ℕ → ℕ) (pool : List PoolEntry) (c : ℕ) → MediaAreIn steps chunks made pool → OneMore made more c → option_and_then media_of (slice_get (steps c) (made c)) ≡ None → MediaAreIn steps chunks more pool
-  other_stays made more pool c m one none =
-      quiet_stays made more pool c m one (ap (λ (o : Option MediaStep). option_to_list (option_and_then (λ (z : Came). z.does) (option_and_then (λ (x : MediaStep). media_came (before_step c (made c) pool) (step_by c (made c)) (chunks c x) x (variables_in steps chunks pool c (made c))) o))) none)
+  -- a step that is none on media, or comes to nothing
+  pub quiet_came : (pool : List PoolEntry) (c j : ℕ) (vs : List (Option Medium)) → IsQuiet steps brought c j → came_on steps brought pool c j vs ≡ None
+  quiet_came pool c j vs quiet = came_none (before_step c j pool) (step_by c j) (brought c j) (option_and_then media_of (slice_get (steps c) j)) vs (λ x is. quiet x (before_step c j pool) vs is)
 
-  quiet_after : (made more : ℕ → ℕ) (pool : List PoolEntry) (c : ℕ) (x : MediaStep) (y : Came) → MediaAreIn steps chunks made pool → OneMore made more c → Next steps chunks made pool c x y → y.does ≡ None → After steps chunks made more pool pool c y
+  pub other_stays : (made more : ℕ → ℕ) (pool : List PoolEntry) (c : ℕ) → MediaAreIn steps brought made pool → OneMore made more c → IsQuiet steps brought c (made c) → MediaAreIn steps brought more pool
+  other_stays made more pool c m one quiet =
+      quiet_stays made more pool c m one (ap (λ (o : Option Came). option_to_list (option_and_then (λ (z : Came). z.does) o)) (quiet_came pool c (made c) (variables_in steps brought pool c (made c)) quiet))
+
+  quiet_after : (made more : ℕ → ℕ) (pool : List PoolEntry) (c : ℕ) (x : MediaStep) (y : Came) → MediaAreIn steps brought made pool → OneMore made more c → Next steps brought made pool c x y → y.does ≡ None → After steps brought made more pool pool c y
   quiet_after made more pool c x y m one next none =
-      let vs = variables_in steps chunks pool c (made c) in
-      let here : came_in steps chunks pool c (made c) ≡ Some y = came_here pool c (made c) x vs next.is_step ∙ came_free pool (before_step c (made c) pool) (step_by c (made c)) (chunks c x) x vs y next.comes none in
+      let vs = variables_in steps brought pool c (made c) in
+      let here : came_in steps brought pool c (made c) ≡ Some y = came_here pool c (made c) x vs next.is_step ∙ came_free pool (before_step c (made c) pool) (step_by c (made c)) (brought c (made c) x) x vs y next.comes none in
       record {
         accounted = quiet_stays made more pool c m one (ap (λ (o : Option Came). option_to_list (option_and_then (λ (z : Came). z.does) o)) here ∙ ap (λ (o : Option PoolOp). option_to_list o) none);
         here = here;
         earlier = λ d j lt. refl;
         variables = ap (λ (o : Option Came). variables_by o vs) here;
-        others = λ d other. ap (variables_in steps chunks pool d) (one.others d other);
+        others = λ d other. ap (variables_in steps brought pool d) (one.others d other);
       }
 
   -- ---- a step with an entry
 
-  module _ (made more : ℕ → ℕ) (pool : List PoolEntry) (c : ℕ) (x : MediaStep) (y : Came) (m : MediaAreIn steps chunks made pool) (one : OneMore made more c) (next : Next steps chunks made pool c x y) (o : PoolOp) (does : y.does ≡ Some o) where
+  module _ (made more : ℕ → ℕ) (pool : List PoolEntry) (c : ℕ) (x : MediaStep) (y : Came) (m : MediaAreIn steps brought made pool) (one : OneMore made more c) (next : Next steps brought made pool c x y) (o : PoolOp) (does : y.does ≡ Some o) where
     abbrev new_entry : PoolEntry
     new_entry = entry_by c (made c) o
 
@@ -142,49 +152,49 @@ module _ (steps : ℕ → List Step) (chunks : ℕ → MediaStep → Option Chun
     before_here : before_step c (made c) longer ≡ pool
     before_here = before_new c (made c) [] pool new_entry (owed_none made pool c m) (its_own c (made c))
 
-    variables_here : variables_in steps chunks longer c (made c) ≡ variables_in steps chunks pool c (made c)
+    variables_here : variables_in steps brought longer c (made c) ≡ variables_in steps brought pool c (made c)
     variables_here = variables_stay pool new_entry c (made c) (λ i lt. apart_from c i (λ _ e. omega (arith, lt, e)))
 
-    came_now : came_in steps chunks longer c (made c) ≡ Some y
+    came_now : came_in steps brought longer c (made c) ≡ Some y
     came_now =
-        came_here longer c (made c) x (variables_in steps chunks longer c (made c)) next.is_step
-        ∙ (ap (λ (b : List PoolEntry). media_came b (step_by c (made c)) (chunks c x) x (variables_in steps chunks longer c (made c))) before_here
-        ∙ (ap (λ (v : List (Option Medium)). media_came pool (step_by c (made c)) (chunks c x) x v) variables_here ∙ next.comes))
+        came_here longer c (made c) x (variables_in steps brought longer c (made c)) next.is_step
+        ∙ (ap (λ (b : List PoolEntry). media_came b (step_by c (made c)) (brought c (made c) x) x (variables_in steps brought longer c (made c))) before_here
+        ∙ (ap (λ (v : List (Option Medium)). media_came pool (step_by c (made c)) (brought c (made c) x) x v) variables_here ∙ next.comes))
 
-    came_before : (d i : ℕ) → i < made d → came_in steps chunks longer d i ≡ came_in steps chunks pool d i
+    came_before : (d i : ℕ) → i < made d → came_in steps brought longer d i ≡ came_in steps brought pool d i
     came_before d i lt = came_stays pool new_entry d i (λ k le. apart_from d k (λ same e. (let at = ap made same in omega (arith, lt, le, e, at))))
 
     -- a step that was not made owes nothing, whatever it comes to
-    owes_same : (d i : ℕ) → owes (ltb i (made d)) (came_in steps chunks pool d i) ≡ owes (ltb i (made d)) (came_in steps chunks longer d i)
+    owes_same : (d i : ℕ) → owes (ltb i (made d)) (came_in steps brought pool d i) ≡ owes (ltb i (made d)) (came_in steps brought longer d i)
     owes_same d i = elim (cases_lt i (made d)) [
       | inl lt ↦ ap (owes (ltb i (made d))) (sym (came_before d i lt))
-      | inr le ↦ ap (λ (b : Bool). owes b (came_in steps chunks pool d i)) (le-ltb i (made d) le) ∙ sym (ap (λ (b : Bool). owes b (came_in steps chunks longer d i)) (le-ltb i (made d) le))
+      | inr le ↦ ap (λ (b : Bool). owes b (came_in steps brought pool d i)) (le-ltb i (made d) le) ∙ sym (ap (λ (b : Bool). owes b (came_in steps brought longer d i)) (le-ltb i (made d) le))
     ]
 
-    owed_apart : (d i : ℕ) → ((d ≡ c) → (i ≡ made c) → ⊥) → ops_by d i longer ≡ owes (ltb i (more d)) (came_in steps chunks longer d i)
+    owed_apart : (d i : ℕ) → ((d ≡ c) → (i ≡ made c) → ⊥) → ops_by d i longer ≡ owes (ltb i (more d)) (came_in steps brought longer d i)
     owed_apart d i apart =
         ops_more d i pool new_entry
         ∙ (ap (λ (b : Bool). ops_by d i pool ++ cond b (o ∷ []) []) (apart_from d i apart)
         ∙ (append-nil (ops_by d i pool)
         ∙ (m.owed d i
-        ∙ (owes_same d i ∙ sym (owed_still made more c d i (came_in steps chunks longer d i) one apart)))))
+        ∙ (owes_same d i ∙ sym (owed_still made more c d i (came_in steps brought longer d i) one apart)))))
 
-    owed_now : ops_by c (made c) longer ≡ owes (ltb (made c) (more c)) (came_in steps chunks longer c (made c))
+    owed_now : ops_by c (made c) longer ≡ owes (ltb (made c) (more c)) (came_in steps brought longer c (made c))
     owed_now =
         ops_more c (made c) pool new_entry
         ∙ (ap (λ (b : Bool). ops_by c (made c) pool ++ cond b (o ∷ []) []) (its_own c (made c))
         ∙ (ap (λ (l : List PoolOp). l ++ o ∷ []) (owed_none made pool c m)
-        ∙ sym (owed_here made more c (came_in steps chunks longer c (made c)) one
+        ∙ sym (owed_here made more c (came_in steps brought longer c (made c)) one
         ∙ (ap (λ (z : Option Came). option_to_list (option_and_then (λ (w : Came). w.does) z)) came_now
         ∙ ap (λ (z : Option PoolOp). option_to_list z) does))))
 
-    owed_all : (d i : ℕ) → ops_by d i longer ≡ owes (ltb i (more d)) (came_in steps chunks longer d i)
+    owed_all : (d i : ℕ) → ops_by d i longer ≡ owes (ltb i (more d)) (came_in steps brought longer d i)
     owed_all d i = elim (cases_eq d c) [
       | inr other ↦ owed_apart d i (λ same at. other same)
       | inl same ↦ elim (cases_eq i (made c)) [
         | inr apart ↦ owed_apart d i (λ _ at. apart at)
-        | inl at ↦ subst (λ (k : ℕ). ops_by k i longer ≡ owes (ltb i (more k)) (came_in steps chunks longer k i)) (sym same)
-            (subst (λ (n : ℕ). ops_by c n longer ≡ owes (ltb n (more c)) (came_in steps chunks longer c n)) (sym at) owed_now)
+        | inl at ↦ subst (λ (k : ℕ). ops_by k i longer ≡ owes (ltb i (more k)) (came_in steps brought longer k i)) (sym same)
+            (subst (λ (n : ℕ). ops_by c n longer ≡ owes (ltb n (more c)) (came_in steps brought longer c n)) (sym at) owed_now)
       ]
     ]
 
@@ -192,7 +202,7 @@ module _ (steps : ℕ → List Step) (chunks : ℕ → MediaStep → Option Chun
     was_made : (d i n : ℕ) (e : PoolEntry) → slice_get pool n ≡ Some e → is_by_step d i e.by ≡ true → i < made d
     was_made d i n e is its = elim (cases_lt i (made d)) [
       | inl lt ↦ lt
-      | inr le ↦ absurd (ops_some d i n pool e is its (m.owed d i ∙ ap (λ (b : Bool). owes b (came_in steps chunks pool d i)) (le-ltb i (made d) le)))
+      | inr le ↦ absurd (ops_some d i n pool e is its (m.owed d i ∙ ap (λ (b : Bool). owes b (came_in steps brought pool d i)) (le-ltb i (made d) le)))
     ]
 
     rises_still : (d i j p n : ℕ) (e f : PoolEntry) → p < n → slice_get longer p ≡ Some e → slice_get longer n ≡ Some f → is_by_step d i e.by ≡ true → is_by_step d j f.by ≡ true → i < j
@@ -219,7 +229,7 @@ module _ (steps : ℕ → List Step) (chunks : ℕ → MediaStep → Option Chun
       | inr new ↦ subst (λ (z : PoolEntry). IsOfCaller z.by) (sym new.1) tt
     ]
 
-    loud_after : After steps chunks made more pool longer c y
+    loud_after : After steps brought made more pool longer c y
     loud_after = record {
       accounted = record {
         legal = legal_more pool new_entry m.legal (next.legal new_entry (ap (entries_of (step_by c (made c))) does));
@@ -229,19 +239,19 @@ module _ (steps : ℕ → List Step) (chunks : ℕ → MediaStep → Option Chun
       };
       here = came_now;
       earlier = came_before;
-      variables = ap (λ (z : Option Came). variables_by z (variables_in steps chunks longer c (made c))) came_now;
+      variables = ap (λ (z : Option Came). variables_by z (variables_in steps brought longer c (made c))) came_now;
       others = λ d other. (
           variables_stay pool new_entry d (more d) (λ i lt. apart_from d i (λ same at. other same))
-          ∙ ap (variables_in steps chunks pool d) (one.others d other)
+          ∙ ap (variables_in steps brought pool d) (one.others d other)
           );
     }
 
   -- ---- both
 
-  pub media_stay : (made more : ℕ → ℕ) (pool : List PoolEntry) (c : ℕ) (x : MediaStep) (y : Came) → MediaAreIn steps chunks made pool → OneMore made more c → Next steps chunks made pool c x y
-      → After steps chunks made more pool (pool ++ entries_of (step_by c (made c)) y.does) c y
+  pub media_stay : (made more : ℕ → ℕ) (pool : List PoolEntry) (c : ℕ) (x : MediaStep) (y : Came) → MediaAreIn steps brought made pool → OneMore made more c → Next steps brought made pool c x y
+      → After steps brought made more pool (pool ++ entries_of (step_by c (made c)) y.does) c y
   media_stay made more pool c x y m one next = by_op y.does refl
     where
-      by_op : (o : Option PoolOp) → y.does ≡ o → After steps chunks made more pool (pool ++ entries_of (step_by c (made c)) y.does) c y
-      by_op None is = subst (λ (l : List PoolEntry). After steps chunks made more pool l c y) (sym (ap (λ (o : Option PoolOp). pool ++ entries_of (step_by c (made c)) o) is ∙ append-nil pool)) (quiet_after made more pool c x y m one next is)
-      by_op (Some o) is = subst (λ (l : List PoolEntry). After steps chunks made more pool l c y) (sym (ap (λ (z : Option PoolOp). pool ++ entries_of (step_by c (made c)) z) is)) (loud_after made more pool c x y m one next o is)
+      by_op : (o : Option PoolOp) → y.does ≡ o → After steps brought made more pool (pool ++ entries_of (step_by c (made c)) y.does) c y
+      by_op None is = subst (λ (l : List PoolEntry). After steps brought made more pool l c y) (sym (ap (λ (o : Option PoolOp). pool ++ entries_of (step_by c (made c)) o) is ∙ append-nil pool)) (quiet_after made more pool c x y m one next is)
+      by_op (Some o) is = subst (λ (l : List PoolEntry). After steps brought made more pool l c y) (sym (ap (λ (z : Option PoolOp). pool ++ entries_of (step_by c (made c)) z) is)) (loud_after made more pool c x y m one next o is)

@@ -5,7 +5,6 @@ use Rattle.std.specs.Option.{option_to_list}
 use Rattle.wc_base.specs.declared.who.By.{By}
 use Rattle.wc_base.specs.declared.who.By.TheVariants as by
 use Rattle.wc_base.specs.declared.who.Who.{Who}
-use Rattle.wc_chunk.specs.declared.chunk.Chunk.{Chunk}
 use Rattle.wc_pool.specs.declared.entry.PoolEntry.{PoolEntry}
 use Rattle.wc_pool.specs.declared.entry.PoolOp.{PoolOp}
 use Rattle.wc_pool.specs.Bag.{is_legal_next, is_legal_pool}
@@ -13,7 +12,7 @@ use Rattle.script_types.specs.declared.steps.MediaStep.{MediaStep}
 use Rattle.script_types.specs.declared.steps.Step.{Step}
 use Rattle.script_types.specs.declared.steps.Step.TheVariants as step
 use Rattle.script_types.specs.declared.script.CallerItem.{CallerItem}
-use Rattle.media_variables.specs.Variables.{Medium, Media, Came, media_came, entries_of, variables_of, after_came}
+use Rattle.media_variables.specs.Variables.{Medium, Media, Came, Brought, media_came, entries_of, variables_of, after_came}
 use Rattle.media_variables.specs.Held.{AreHeld}
 
 -- the step with this number of the caller with this number
@@ -56,13 +55,13 @@ abbrev pub IsOfCaller : By → Type 0
 IsOfCaller (by.Caller who) = Unit {0}
 IsOfCaller (by.Codec k place) = ⊥
 
--- `steps` has the steps of each caller, and `chunks` the chunk that a caller's step on media copies, if it copies one
-module _ (steps : ℕ → List Step) (chunks : ℕ → MediaStep → Option Chunk) where
+-- `steps` has the steps of each caller, and `brought` what is given from elsewhere to a caller's step on media
+module _ (steps : ℕ → List Step) (brought : ℕ → ℕ → MediaStep → Brought) where
   -- What a step on media comes to, after these variables of its caller: numbers of resources and references are those that
   -- are next where the step's own entry stands.
   abbrev pub came_on : List PoolEntry → ℕ → ℕ → List (Option Medium) → Option Came
   came_on pool c j vs =
-      option_and_then (λ x. media_came (before_step c j pool) (step_by c j) (chunks c x) x vs) (option_and_then media_of (slice_get (steps c) j))
+      option_and_then (λ x. media_came (before_step c j pool) (step_by c j) (brought c j x) x vs) (option_and_then media_of (slice_get (steps c) j))
 
   -- the variables of a caller after so many of its steps
   abbrev pub variables_in : List PoolEntry → ℕ → ℕ → List (Option Medium)
@@ -85,7 +84,7 @@ module _ (steps : ℕ → List Step) (chunks : ℕ → MediaStep → Option Chun
   -- the next step of a caller is this one on media, and comes to this; what it does to the pool is legal there
   pub record Next (made : ℕ → ℕ) (pool : List PoolEntry) (c : ℕ) (x : MediaStep) (y : Came) : Type 0 where
     pub is_step : slice_get (steps c) (made c) ≡ Some (step.Media x)
-    pub comes : media_came pool (step_by c (made c)) (chunks c x) x (variables_in pool c (made c)) ≡ Some y
+    pub comes : media_came pool (step_by c (made c)) (brought c (made c) x) x (variables_in pool c (made c)) ≡ Some y
     pub legal : (e : PoolEntry) → entries_of (step_by c (made c)) y.does ≡ e ∷ [] → is_legal_next pool e ≡ true
 
   -- what was in the pool's history stands after that step, and the step came to just that
@@ -101,46 +100,51 @@ pub record OneMore (made more : ℕ → ℕ) (c : ℕ) : Type 0 where
   pub here : more c ≡ suc (made c)
   pub others : (d : ℕ) → d ≢ c → more d ≡ made d
 
--- a step on media leaves all accounted
-abbrev pub StepsStayAccounted : Type 0
-StepsStayAccounted = (steps : ℕ → List Step) (chunks : ℕ → MediaStep → Option Chunk) (made more : ℕ → ℕ) (pool : List PoolEntry) (c : ℕ) (x : MediaStep) (y : Came) →
-    MediaAreIn steps chunks made pool → OneMore made more c → Next steps chunks made pool c x y →
-    After steps chunks made more pool (pool ++ entries_of (step_by c (made c)) y.does) c y
-
--- and so does any other step
-abbrev pub OthersStayAccounted : Type 0
-OthersStayAccounted = (steps : ℕ → List Step) (chunks : ℕ → MediaStep → Option Chunk) (made more : ℕ → ℕ) (pool : List PoolEntry) (c : ℕ) →
-    MediaAreIn steps chunks made pool → OneMore made more c → option_and_then media_of (slice_get (steps c) (made c)) ≡ None →
-    MediaAreIn steps chunks more pool
+-- The step is none on media, or one that came to nothing, whatever the pool and the variables.
+abbrev pub IsQuiet : (ℕ → List Step) → (ℕ → ℕ → MediaStep → Brought) → ℕ → ℕ → Type 0
+IsQuiet steps brought c j = (x : MediaStep) (pool : List PoolEntry) (vs : List (Option Medium)) →
+    option_and_then media_of (slice_get (steps c) j) ≡ Some x → media_came pool (step_by c j) (brought c j x) x vs ≡ None
 
 -- What stands of all callers' media after so many steps of each: the pool's history has what those steps call for, each
 -- variable holds what its caller's steps left, and each reference that one holds is live and held by no other. There are
 -- so many callers.
-pub record MediaStand (steps : ℕ → List Step) (chunks : ℕ → MediaStep → Option Chunk) (made : ℕ → ℕ) (callers : ℕ) (m : Media) : Type 0 where
-  pub accounted : MediaAreIn steps chunks made m.pool
-  pub variables : (c : ℕ) → variables_of c m.variables ≡ variables_in steps chunks m.pool c (made c)
+pub record MediaStand (steps : ℕ → List Step) (brought : ℕ → ℕ → MediaStep → Brought) (made : ℕ → ℕ) (callers : ℕ) (m : Media) : Type 0 where
+  pub accounted : MediaAreIn steps brought made m.pool
+  pub variables : (c : ℕ) → variables_of c m.variables ≡ variables_in steps brought m.pool c (made c)
   pub held : AreHeld m.pool m.variables
   pub there : length m.variables ≡ callers
 
 -- all stands before any step
 abbrev pub NothingStands : Type 0
-NothingStands = (steps : ℕ → List Step) (chunks : ℕ → MediaStep → Option Chunk) (callers : List CallerItem) →
-    MediaStand steps chunks (λ c. 0) (length callers) (record { variables = map (λ c. []) callers; pool = [] })
+NothingStands = (steps : ℕ → List Step) (brought : ℕ → ℕ → MediaStep → Brought) (callers : List CallerItem) →
+    MediaStand steps brought (λ c. 0) (length callers) (record { variables = map (λ c. []) callers; pool = [] })
 
 -- The next step of a caller is this one on media, and comes to this; what it came to is told by the pool's history, and what
 -- all earlier steps came to is told as before.
-pub record StepStands (steps : ℕ → List Step) (chunks : ℕ → MediaStep → Option Chunk) (made more : ℕ → ℕ) (callers : ℕ) (m : Media) (c : ℕ) (y : Came) : Type 0 where
-  pub stands : MediaStand steps chunks more callers (after_came (step_by c (made c)) y m)
-  pub here : came_in steps chunks (after_came (step_by c (made c)) y m).pool c (made c) ≡ Some y
-  pub earlier : (d j : ℕ) → j < made d → came_in steps chunks (after_came (step_by c (made c)) y m).pool d j ≡ came_in steps chunks m.pool d j
+pub record StepStands (steps : ℕ → List Step) (brought : ℕ → ℕ → MediaStep → Brought) (made more : ℕ → ℕ) (callers : ℕ) (m : Media) (c : ℕ) (y : Came) : Type 0 where
+  pub stands : MediaStand steps brought more callers (after_came (step_by c (made c)) y m)
+  pub here : came_in steps brought (after_came (step_by c (made c)) y m).pool c (made c) ≡ Some y
+  pub earlier : (d j : ℕ) → j < made d → came_in steps brought (after_came (step_by c (made c)) y m).pool d j ≡ came_in steps brought m.pool d j
 
 abbrev pub StepsStand : Type 0
-StepsStand = (steps : ℕ → List Step) (chunks : ℕ → MediaStep → Option Chunk) (made more : ℕ → ℕ) (callers : ℕ) (m : Media) (c : ℕ) (x : MediaStep) (y : Came) →
-    MediaStand steps chunks made callers m → c < callers → OneMore made more c → slice_get (steps c) (made c) ≡ Some (step.Media x) →
-    media_came m.pool (step_by c (made c)) (chunks c x) x (variables_of c m.variables) ≡ Some y →
-    StepStands steps chunks made more callers m c y
+StepsStand = (steps : ℕ → List Step) (brought : ℕ → ℕ → MediaStep → Brought) (made more : ℕ → ℕ) (callers : ℕ) (m : Media) (c : ℕ) (x : MediaStep) (y : Came) →
+    MediaStand steps brought made callers m → c < callers → OneMore made more c → slice_get (steps c) (made c) ≡ Some (step.Media x) →
+    media_came m.pool (step_by c (made c)) (brought c (made c) x) x (variables_of c m.variables) ≡ Some y →
+    StepStands steps brought made more callers m c y
 
 abbrev pub OthersStand : Type 0
-OthersStand = (steps : ℕ → List Step) (chunks : ℕ → MediaStep → Option Chunk) (made more : ℕ → ℕ) (callers : ℕ) (m : Media) (c : ℕ) →
-    MediaStand steps chunks made callers m → OneMore made more c → option_and_then media_of (slice_get (steps c) (made c)) ≡ None →
-    MediaStand steps chunks more callers m
+OthersStand = (steps : ℕ → List Step) (brought : ℕ → ℕ → MediaStep → Brought) (made more : ℕ → ℕ) (callers : ℕ) (m : Media) (c : ℕ) →
+    MediaStand steps brought made callers m → OneMore made more c → IsQuiet steps brought c (made c) → MediaStand steps brought more callers m
+
+-- what is brought to each step that was made is the same
+abbrev pub IsBroughtToo : (ℕ → ℕ) → (ℕ → ℕ → MediaStep → Brought) → (ℕ → ℕ → MediaStep → Brought) → Type 0
+IsBroughtToo made brought later = (c j : ℕ) (x : MediaStep) → j < made c → later c j x ≡ brought c j x
+
+-- then all stands as it did, and each of those steps came to the same
+pub record LaterStands (steps : ℕ → List Step) (brought later : ℕ → ℕ → MediaStep → Brought) (made : ℕ → ℕ) (callers : ℕ) (m : Media) : Type 0 where
+  pub stands : MediaStand steps later made callers m
+  pub same : (c j : ℕ) → j < made c → came_in steps later m.pool c j ≡ came_in steps brought m.pool c j
+
+abbrev pub LaterStand : Type 0
+LaterStand = (steps : ℕ → List Step) (brought later : ℕ → ℕ → MediaStep → Brought) (made : ℕ → ℕ) (callers : ℕ) (m : Media) →
+    MediaStand steps brought made callers m → IsBroughtToo made brought later → LaterStands steps brought later made callers m

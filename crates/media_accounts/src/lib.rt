@@ -3,4 +3,4 @@
 
 mod laws;
 
-pub use laws::{media_stand, steps_stay_accounted};
+pub use laws::{media_stand, what_is_brought_may_grow};

@@ -7,6 +7,8 @@ use Rattle.wc_base.specs.declared.who.By.TheVariants as by
 use Rattle.wc_base.specs.declared.error.DomError.TheVariants as dom
 use Rattle.wc_base.specs.declared.error.NoMemory.{NoMemory}
 use Rattle.wc_chunk.specs.declared.chunk.Chunk.{Chunk}
+use Rattle.codec_definitions.specs.declared.unit.Unit as output
+use Rattle.codec_definitions.specs.declared.unit.Unit.TheVariants as unit
 use Rattle.picture_planes.specs.Planes.{picture_size}
 use Rattle.wc_pool.specs.declared.entry.PoolEntry.{PoolEntry}
 use Rattle.wc_pool.specs.declared.entry.PoolOp.{PoolOp}
@@ -24,9 +26,9 @@ use Rattle.script_types.specs.declared.options.Options.{Options}
 use Rattle.script_types.specs.declared.options.Options.TheVariants as options
 use Rattle.report_text.specs.declared.result.StepResult.{StepResult}
 use Rattle.report_text.specs.declared.result.StepResult.TheVariants as result
-use Rattle.media_variables.specs.Variables.{Reference, Shape, SoundOf, PictureOf, Medium, Came, refused, entries_of, with_medium, detached, medium_at, variables_of, only_answers, makes, audio_came, frame_came, clone_held, transfer_held, close_held, if_there, is_last, copy_came, copy_chunk, copy_medium, size_of_medium, media_came, IsCome, CameTo}
+use Rattle.media_variables.specs.Variables.{Reference, Shape, SoundOf, PictureOf, Medium, Came, refused, entries_of, with_medium, detached, medium_at, variables_of, only_answers, makes, audio_came, frame_came, clone_held, transfer_held, close_held, if_there, is_last, copy_came, copy_chunk, copy_medium, size_of_medium, Taken, Brought, unit_came, taken_came, media_came, IsCome, CameTo}
 use Rattle.media_variables.specs.Held.{held_by, reference_at, IsLiveIn, IsHeldIn, AreHeld, AreLive, StayHeld}
-use Rattle.media_variables.specs.Given.{Reaches}
+use Rattle.media_variables.specs.Given.{Comes, Reaches}
 use Rattle.media_variables.proofs.Ends.{resource_more}
 use Rattle.media_variables.proofs.Places.{medium_here, medium_else, variables_here, variables_else, variables_back, set_again}
 
@@ -238,19 +240,28 @@ abbrev KeepsIf : List PoolEntry → Who → List (List (Option Medium)) → Opti
 KeepsIf pool who all None = Unit {0}
 KeepsIf pool who all (Some c) = Keeps pool who all c
 
-keeps_step : (pool : List PoolEntry) (who : Who) (all : List (List (Option Medium))) (chunk : Option Chunk) (step : MediaStep) → Has pool who all → KeepsIf pool who all (media_came pool who chunk step (variables_of who.caller all))
-keeps_step pool who all chunk (media.Audio bind init) h = keeps_audio pool who all init h
-keeps_step pool who all chunk (media.Frame bind init) h = keeps_frame pool who all init h
-keeps_step pool who all chunk (media.Encode on content) h = tt
-keeps_step pool who all chunk (media.Take on bind kind) h = tt
-keeps_step pool who all chunk (media.Clone of bind) h =
+keeps_unit : (pool : List PoolEntry) (who : Who) (all : List (List (Option Medium))) (answer : StepResult) (u : output.Unit) → Has pool who all → Keeps pool who all (unit_came pool who.step answer u (variables_of who.caller all))
+keeps_unit pool who all answer (unit.Sound s) h = keeps_made pool who all (SoundOf s.shape) s.bytes h
+keeps_unit pool who all answer (unit.Image p) h = keeps_made pool who all (PictureOf p.shape) p.bytes h
+keeps_unit pool who all answer (unit.Coded chunk config) h = keeps_all pool who all answer h
+
+keeps_taken : (pool : List PoolEntry) (who : Who) (all : List (List (Option Medium))) (t : Option Taken) → Has pool who all → KeepsIf pool who all (taken_came pool who.step t (variables_of who.caller all))
+keeps_taken pool who all None h = tt
+keeps_taken pool who all (Some t) h = keeps_unit pool who all t.answer t.unit h
+
+keeps_step : (pool : List PoolEntry) (who : Who) (all : List (List (Option Medium))) (b : Brought) (step : MediaStep) → Has pool who all → KeepsIf pool who all (media_came pool who b step (variables_of who.caller all))
+keeps_step pool who all b (media.Audio bind init) h = keeps_audio pool who all init h
+keeps_step pool who all b (media.Frame bind init) h = keeps_frame pool who all init h
+keeps_step pool who all b (media.Encode on content) h = tt
+keeps_step pool who all b (media.Take on bind kind) h = keeps_taken pool who all b.taken h
+keeps_step pool who all b (media.Clone of bind) h =
     keeps_if_there pool who all (medium_at (variables_of who.caller all) of.step) _ h (λ m e. keeps_clone pool who all m.shape m.held h)
-keeps_step pool who all chunk (media.Transfer of bind) h =
+keeps_step pool who all b (media.Transfer of bind) h =
     keeps_if_there pool who all (medium_at (variables_of who.caller all) of.step) _ h (λ m e. keeps_transfer pool who all of.step m m.held h refl (ap held_by e))
-keeps_step pool who all chunk (media.CloseData of) h =
+keeps_step pool who all b (media.CloseData of) h =
     keeps_if_there pool who all (medium_at (variables_of who.caller all) of.step) _ h (λ m e. keeps_close pool who all of.step m m.held h (ap held_by e))
-keeps_step pool who all chunk (media.Copy of o size) h = keeps_copy pool who all chunk of.step o size h
-keeps_step pool who all chunk (media.Size of o) h =
+keeps_step pool who all b (media.Copy of o size) h = keeps_copy pool who all b.chunk of.step o size h
+keeps_step pool who all b (media.Size of o) h =
     keeps_if_there pool who all (medium_at (variables_of who.caller all) of.step) _ h (λ m e. keeps_all pool who all (size_of_medium m o) h)
 
 unchanged : (pool new : List PoolEntry) (who : Who) (all : List (List (Option Medium))) (after : List (Option Medium)) → AreHeld pool all → new ≡ pool → after ≡ variables_of who.caller all → AreHeld new (slice_set all who.caller after)
@@ -263,13 +274,27 @@ reached_held pool new who all after None answer h keeps r = unchanged pool new w
 reached_held pool new who all after (Some c) answer h keeps r =
     subst (λ (x : List (Option Medium)). AreHeld new (slice_set all who.caller x)) (sym r.2) (subst (λ (x : List PoolEntry). AreHeld x (slice_set all who.caller c.variables)) (sym r.1) keeps)
 
--- the references stay live and apart, whatever the step came to
-pub step_held : LiveAreNumbered → (pool new : List PoolEntry) (who : Who) (all : List (List (Option Medium))) (vs after : List (Option Medium)) (chunk : Option Chunk) (step : MediaStep) (r : Result (Option StepResult) NoMemory) → is_legal_pool pool ≡ true → who.caller < length all → AreHeld pool all → variables_of who.caller all ≡ vs → IfOk r (Reaches who pool new vs after (media_came pool who chunk step vs)) → OnErr r (new ≡ pool) → OnErr r (after ≡ vs) → AreHeld new (slice_set all who.caller after)
-step_held numbered pool new who all vs after chunk step (Ok answer) legal there h is ok same back =
+-- the references stay live and apart, whatever came of it
+came_held : (pool new : List PoolEntry) (who : Who) (all : List (List (Option Medium))) (vs after : List (Option Medium)) (came : List (Option Medium) → Option Came) (r : Result (Option StepResult) NoMemory) → AreHeld pool all → KeepsIf pool who all (came (variables_of who.caller all)) → variables_of who.caller all ≡ vs → IfOk r (Reaches who pool new vs after (came vs)) → OnErr r (new ≡ pool) → OnErr r (after ≡ vs) → AreHeld new (slice_set all who.caller after)
+came_held pool new who all vs after came (Ok answer) h keeps is ok same back =
+    let reached = subst (λ (x : List (Option Medium)). Reaches who pool new x after (came x) answer) (sym is) ok in
+    reached_held pool new who all after (came (variables_of who.caller all)) answer h keeps reached
+came_held pool new who all vs after came (Err e) h keeps is ok same back = unchanged pool new who all after h same (back ∙ sym is)
+
+pub step_held : LiveAreNumbered → (pool new : List PoolEntry) (who : Who) (all : List (List (Option Medium))) (vs after : List (Option Medium)) (b : Brought) (step : MediaStep) (r : Result (Option StepResult) NoMemory) → is_legal_pool pool ≡ true → who.caller < length all → AreHeld pool all → variables_of who.caller all ≡ vs → IfOk r (Reaches who pool new vs after (media_came pool who b step vs)) → OnErr r (new ≡ pool) → OnErr r (after ≡ vs) → AreHeld new (slice_set all who.caller after)
+step_held numbered pool new who all vs after b step r legal there h is ok same back =
     let has : Has pool who all = record { numbered = numbered; legal = legal; there = there; held = h } in
-    let reached = subst (λ (x : List (Option Medium)). Reaches who pool new x after (media_came pool who chunk step x) answer) (sym is) ok in
-    reached_held pool new who all after (media_came pool who chunk step (variables_of who.caller all)) answer h (keeps_step pool who all chunk step has) reached
-step_held numbered pool new who all vs after chunk step (Err e) legal there h is ok same back = unchanged pool new who all after h same (back ∙ sym is)
+    came_held pool new who all vs after (λ x. media_came pool who b step x) r h (keeps_step pool who all b step has) is ok same back
+
+-- an output was taken, or memory was wanted
+abbrev pub HasTaken : Who → List PoolEntry → List PoolEntry → Taken → List (Option Medium) → List (Option Medium) → StepResult → Type 0
+HasTaken who pool new t vs after r = Comes who pool new after (unit_came pool who.step t.answer t.unit vs) r
+
+pub take_held : LiveAreNumbered → (pool new : List PoolEntry) (who : Who) (all : List (List (Option Medium))) (vs after : List (Option Medium)) (t : Taken) (r : Result StepResult NoMemory) → is_legal_pool pool ≡ true → who.caller < length all → AreHeld pool all → variables_of who.caller all ≡ vs → IfOk r (HasTaken who pool new t vs after) → OnErr r (new ≡ pool) → OnErr r (after ≡ vs) → AreHeld new (slice_set all who.caller after)
+take_held numbered pool new who all vs after t (Ok answer) legal there h is ok same back =
+    let has : Has pool who all = record { numbered = numbered; legal = legal; there = there; held = h } in
+    came_held pool new who all vs after (λ x. taken_came pool who.step (Some t) x) (Ok (Some answer)) h (keeps_taken pool who all (Some t) has) is (ap Some ok.answered, ok.history, ok.variables) tt tt
+take_held numbered pool new who all vs after t (Err e) legal there h is ok same back = unchanged pool new who all after h same (back ∙ sym is)
 
 reached_came : (pool new : List PoolEntry) (who : Who) (all : List (List (Option Medium))) (after : List (Option Medium)) (came : Option Came) (answer : Option StepResult) → Reaches who pool new (variables_of who.caller all) after came answer → IsCome (record { variables = all; pool = pool }) (record { variables = slice_set all who.caller after; pool = new }) who came answer
 reached_came pool new who all after None answer r =
@@ -278,16 +303,24 @@ reached_came pool new who all after None answer r =
 reached_came pool new who all after (Some c) answer r =
     (r.0, ap (λ (x : List PoolEntry). record { variables = slice_set all who.caller after; pool = x }) r.1 ∙ ap (λ (x : List (Option Medium)). record { variables = slice_set all who.caller x; pool = pool ++ entries_of who c.does }) r.2)
 
-pub step_came : (pool new : List PoolEntry) (who : Who) (all : List (List (Option Medium))) (vs after : List (Option Medium)) (chunk : Option Chunk) (step : MediaStep) (r : Result (Option StepResult) NoMemory) → variables_of who.caller all ≡ vs → IfOk r (Reaches who pool new vs after (media_came pool who chunk step vs)) → IfOk r (CameTo (record { variables = all; pool = pool }) (record { variables = slice_set all who.caller after; pool = new }) who chunk step)
-step_came pool new who all vs after chunk step (Ok answer) is ok =
-    let reached = subst (λ (x : List (Option Medium)). Reaches who pool new x after (media_came pool who chunk step x) answer) (sym is) ok in
-    reached_came pool new who all after (media_came pool who chunk step (variables_of who.caller all)) answer reached
-step_came pool new who all vs after chunk step (Err e) is ok = tt
+came_came : (pool new : List PoolEntry) (who : Who) (all : List (List (Option Medium))) (vs after : List (Option Medium)) (came : List (Option Medium) → Option Came) (answer : Option StepResult) → variables_of who.caller all ≡ vs → Reaches who pool new vs after (came vs) answer → IsCome (record { variables = all; pool = pool }) (record { variables = slice_set all who.caller after; pool = new }) who (came (variables_of who.caller all)) answer
+came_came pool new who all vs after came answer is ok =
+    let reached = subst (λ (x : List (Option Medium)). Reaches who pool new x after (came x) answer) (sym is) ok in
+    reached_came pool new who all after (came (variables_of who.caller all)) answer reached
+
+pub step_came : (pool new : List PoolEntry) (who : Who) (all : List (List (Option Medium))) (vs after : List (Option Medium)) (b : Brought) (step : MediaStep) (r : Result (Option StepResult) NoMemory) → variables_of who.caller all ≡ vs → IfOk r (Reaches who pool new vs after (media_came pool who b step vs)) → IfOk r (CameTo (record { variables = all; pool = pool }) (record { variables = slice_set all who.caller after; pool = new }) who b step)
+step_came pool new who all vs after b step (Ok answer) is ok = came_came pool new who all vs after (λ x. media_came pool who b step x) answer is ok
+step_came pool new who all vs after b step (Err e) is ok = tt
+
+pub take_came : (pool new : List PoolEntry) (who : Who) (all : List (List (Option Medium))) (vs after : List (Option Medium)) (t : Taken) (r : Result StepResult NoMemory) → variables_of who.caller all ≡ vs → IfOk r (HasTaken who pool new t vs after)
+    → IfOk r (λ a. IsCome (record { variables = all; pool = pool }) (record { variables = slice_set all who.caller after; pool = new }) who (taken_came pool who.step (Some t) (variables_of who.caller all)) (Some a))
+take_came pool new who all vs after t (Ok answer) is ok = came_came pool new who all vs after (λ x. taken_came pool who.step (Some t) x) (Some answer) is (ap Some ok.answered, ok.history, ok.variables)
+take_came pool new who all vs after t (Err e) is ok = tt
 
 -- the same of what a step on media came to
 pub stays_held : LiveAreNumbered → StayHeld
-stays_held numbered pool who all chunk step y legal there h is =
-    subst (KeepsIf pool who all) is (keeps_step pool who all chunk step (record { numbered = numbered; legal = legal; there = there; held = h }))
+stays_held numbered pool who all b step y legal there h is =
+    subst (KeepsIf pool who all) is (keeps_step pool who all b step (record { numbered = numbered; legal = legal; there = there; held = h }))
 
 no_reference : (callers : List CallerItem) (k j : ℕ) → reference_at (map (λ c. []) callers) k j ≡ None
 no_reference [] k j = refl

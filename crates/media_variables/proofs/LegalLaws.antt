@@ -6,6 +6,9 @@ use Rattle.wc_base.specs.declared.who.Who.{Who}
 use Rattle.wc_base.specs.declared.who.By.TheVariants as by
 use Rattle.wc_base.specs.declared.error.DomError.TheVariants as dom
 use Rattle.wc_chunk.specs.declared.chunk.Chunk.{Chunk}
+use Rattle.codec_definitions.specs.declared.unit.Unit as output
+use Rattle.codec_definitions.specs.declared.unit.Unit.TheVariants as unit
+use Rattle.report_text.specs.declared.result.StepResult.{StepResult}
 use Rattle.picture_planes.specs.Planes.{picture_size}
 use Rattle.wc_pool.specs.declared.entry.PoolEntry.{PoolEntry}
 use Rattle.wc_pool.specs.declared.entry.PoolOp.{PoolOp}
@@ -20,7 +23,7 @@ use Rattle.script_types.specs.declared.steps.MediaStep.{MediaStep}
 use Rattle.script_types.specs.declared.steps.MediaStep.TheVariants as media
 use Rattle.script_types.specs.declared.options.Options.{Options}
 use Rattle.script_types.specs.declared.options.Options.TheVariants as options
-use Rattle.media_variables.specs.Variables.{Reference, Shape, SoundOf, PictureOf, Medium, Came, refused, entries_of, medium_at, variables_of, only_answers, makes, audio_came, frame_came, clone_held, transfer_held, close_held, if_there, copy_came, media_came}
+use Rattle.media_variables.specs.Variables.{Reference, Shape, SoundOf, PictureOf, Medium, Came, refused, entries_of, medium_at, variables_of, only_answers, makes, audio_came, frame_came, clone_held, transfer_held, close_held, if_there, copy_came, Taken, Brought, unit_came, taken_came, media_came}
 use Rattle.media_variables.specs.Held.{held_by, IsLiveIn, AreHeld, DoLegally}
 use Rattle.media_variables.proofs.Ends.{held_same}
 
@@ -105,19 +108,28 @@ abbrev LegallyIf : List PoolEntry → Who → Option Came → Type 0
 LegallyIf pool who None = Unit {0}
 LegallyIf pool who (Some y) = Legally pool who y.does
 
-step_legally : LiveAreNumbered → (pool : List PoolEntry) (who : Who) (all : List (List (Option Medium))) (chunk : Option Chunk) (x : MediaStep) → is_legal_pool pool ≡ true → AreHeld pool all → LegallyIf pool who (media_came pool who chunk x (variables_of who.caller all))
-step_legally numbered pool who all chunk (media.Audio bind init) legal h = audio_legally pool who init (variables_of who.caller all)
-step_legally numbered pool who all chunk (media.Frame bind init) legal h = frame_legally pool who init (variables_of who.caller all)
-step_legally numbered pool who all chunk (media.Encode on content) legal h = tt
-step_legally numbered pool who all chunk (media.Take on bind kind) legal h = tt
-step_legally numbered pool who all chunk (media.Clone of bind) legal h =
+unit_legally : (pool : List PoolEntry) (who : Who) (answer : StepResult) (u : output.Unit) (vs : List (Option Medium)) → Legally pool who (unit_came pool who.step answer u vs).does
+unit_legally pool who answer (unit.Sound s) vs = made_legally pool who
+unit_legally pool who answer (unit.Image p) vs = made_legally pool who
+unit_legally pool who answer (unit.Coded chunk config) vs = tt
+
+taken_legally : (pool : List PoolEntry) (who : Who) (t : Option Taken) (vs : List (Option Medium)) → LegallyIf pool who (taken_came pool who.step t vs)
+taken_legally pool who None vs = tt
+taken_legally pool who (Some t) vs = unit_legally pool who t.answer t.unit vs
+
+step_legally : LiveAreNumbered → (pool : List PoolEntry) (who : Who) (all : List (List (Option Medium))) (b : Brought) (x : MediaStep) → is_legal_pool pool ≡ true → AreHeld pool all → LegallyIf pool who (media_came pool who b x (variables_of who.caller all))
+step_legally numbered pool who all b (media.Audio bind init) legal h = audio_legally pool who init (variables_of who.caller all)
+step_legally numbered pool who all b (media.Frame bind init) legal h = frame_legally pool who init (variables_of who.caller all)
+step_legally numbered pool who all b (media.Encode on content) legal h = tt
+step_legally numbered pool who all b (media.Take on bind kind) legal h = taken_legally pool who b.taken (variables_of who.caller all)
+step_legally numbered pool who all b (media.Clone of bind) legal h =
     there_legally pool who (medium_at (variables_of who.caller all) of.step) (variables_of who.caller all) _ (λ m e. clone_legally numbered pool who m.shape m.held (variables_of who.caller all) legal (its_live pool who all of.step m h e))
-step_legally numbered pool who all chunk (media.Transfer of bind) legal h =
+step_legally numbered pool who all b (media.Transfer of bind) legal h =
     there_legally pool who (medium_at (variables_of who.caller all) of.step) (variables_of who.caller all) _ (λ m e. transfer_legally pool who of.step m m.held (variables_of who.caller all))
-step_legally numbered pool who all chunk (media.CloseData of) legal h =
+step_legally numbered pool who all b (media.CloseData of) legal h =
     there_legally pool who (medium_at (variables_of who.caller all) of.step) (variables_of who.caller all) _ (λ m e. close_legally pool who of.step m m.held (variables_of who.caller all) (its_live pool who all of.step m h e))
-step_legally numbered pool who all chunk (media.Copy of o size) legal h = copy_legally pool who chunk of.step o size (variables_of who.caller all)
-step_legally numbered pool who all chunk (media.Size of o) legal h =
+step_legally numbered pool who all b (media.Copy of o size) legal h = copy_legally pool who b.chunk of.step o size (variables_of who.caller all)
+step_legally numbered pool who all b (media.Size of o) legal h =
     there_legally pool who (medium_at (variables_of who.caller all) of.step) (variables_of who.caller all) _ (λ m e. tt)
 
 entry_legally : (pool : List PoolEntry) (who : Who) (o : Option PoolOp) (e : PoolEntry) → Legally pool who o → entries_of who o ≡ e ∷ [] → is_legal_next pool e ≡ true
@@ -127,4 +139,4 @@ entry_legally pool who (Some o) e legally is =
     subst (λ (x : PoolEntry). is_legal_next pool x ≡ true) same legally
 
 pub does_legally : LiveAreNumbered → DoLegally
-does_legally numbered pool who all chunk x y e legal h is makes_it = entry_legally pool who y.does e (subst (LegallyIf pool who) is (step_legally numbered pool who all chunk x legal h)) makes_it
+does_legally numbered pool who all b x y e legal h is makes_it = entry_legally pool who y.does e (subst (LegallyIf pool who) is (step_legally numbered pool who all b x legal h)) makes_it

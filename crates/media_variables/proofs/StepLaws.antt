@@ -3,6 +3,8 @@ use Rattle.std.proofs.Common.{ℕ, ◌≡◌, ◌<◌, ◌≤◌, Bool, true, fa
 use Rattle.std.specs.Prelude.{option_map}
 use Rattle.std.proofs.lemmas.Bool.{false≢true}
 use Rattle.wc_base.specs.declared.who.Who.{Who}
+use Rattle.codec_definitions.specs.declared.unit.Unit as output
+use Rattle.codec_definitions.specs.declared.unit.Unit.TheVariants as unit
 use Rattle.wc_base.specs.declared.error.DomError.TheVariants as dom
 use Rattle.picture_planes.specs.Planes.{picture_size}
 use Rattle.wc_pool.specs.declared.entry.PoolEntry.{PoolEntry}
@@ -13,9 +15,9 @@ use Rattle.script_types.specs.declared.steps.PictureInit.{PictureInit}
 use Rattle.report_text.specs.declared.result.StepResult.{StepResult}
 use Rattle.report_text.specs.declared.result.StepResult.TheVariants as result
 use Rattle.media_variables.specs.declared.given.Given.{Given}
-use Rattle.media_variables.specs.Variables.{Reference, Shape, SoundOf, PictureOf, Medium, Came, refused, entries_of, with_medium, detached, medium_at, only_answers, makes, audio_came, frame_came, clone_held, transfer_held, close_held, if_there}
+use Rattle.media_variables.specs.Variables.{Reference, Shape, SoundOf, PictureOf, Medium, Came, refused, entries_of, with_medium, detached, medium_at, only_answers, makes, audio_came, frame_came, clone_held, transfer_held, close_held, if_there, unit_came}
 use Rattle.media_variables.specs.Held.{held_by}
-use Rattle.media_variables.specs.Given.{Done, Does, Comes, gives_nothing, made_done, audio_done, frame_done, cloned_done, clone_done, transferred_done, transfer_done, closed_answer, closed_op, given_to, without}
+use Rattle.media_variables.specs.Given.{Done, Does, Comes, gives_nothing, made_done, audio_done, frame_done, taken_done, cloned_done, clone_done, transferred_done, transfer_done, closed_answer, closed_op, given_to, without}
 use Rattle.media_variables.proofs.Places.{without_there, without_same}
 
 -- the call found no variable there
@@ -44,6 +46,11 @@ frame_is : (pool : List PoolEntry) (j : ℕ) (init : Option PictureInit) (vs : L
 frame_is pool j None vs = refl
 frame_is pool j (Some i) vs = made_if (frames.is_invalid i.shape (length i.content)) pool j (PictureOf i.shape) (take (picture_size i.shape) i.content) vs
 
+taken_is : (pool : List PoolEntry) (j : ℕ) (answer : StepResult) (u : output.Unit) (vs : List (Option Medium)) → came_of j (taken_done pool answer u) vs ≡ unit_came pool j answer u vs
+taken_is pool j answer (unit.Sound s) vs = refl
+taken_is pool j answer (unit.Image p) vs = refl
+taken_is pool j answer (unit.Coded chunk config) vs = refl
+
 cloned_is : (pool : List PoolEntry) (j : ℕ) (shape : Shape) (held : Option Reference) (vs : List (Option Medium)) → came_of j (cloned_done pool shape held) vs ≡ clone_held pool j shape held vs
 cloned_is pool j shape None vs = refl
 cloned_is pool j shape (Some r) vs = refl
@@ -59,6 +66,10 @@ audio_comes who pool new vs after init g r h answer variables =
 pub frame_comes : (who : Who) (pool new : List PoolEntry) (vs after : List (Option Medium)) (init : Option PictureInit) (g : Given) (r : StepResult) → Does who pool new (frame_done pool init) g → r ≡ g.answer → after ≡ given_to who.step g.medium vs → Comes who pool new after (frame_came pool who.step init vs) r
 frame_comes who pool new vs after init g r h answer variables =
     subst (λ (c : Came). Comes who pool new after c r) (frame_is pool who.step init vs) (done_comes who pool new vs after (frame_done pool init) g r h answer variables)
+
+pub take_comes : (who : Who) (pool new : List PoolEntry) (vs after : List (Option Medium)) (answer : StepResult) (u : output.Unit) (g : Given) (r : StepResult) → Does who pool new (taken_done pool answer u) g → r ≡ g.answer → after ≡ given_to who.step g.medium vs → Comes who pool new after (unit_came pool who.step answer u vs) r
+take_comes who pool new vs after answer u g r h answered variables =
+    subst (λ (c : Came). Comes who pool new after c r) (taken_is pool who.step answer u vs) (done_comes who pool new vs after (taken_done pool answer u) g r h answered variables)
 
 pub clone_comes : (who : Who) (pool new : List PoolEntry) (vs after : List (Option Medium)) (v : Option Medium) (g : Given) (r : StepResult) → Does who pool new (clone_done pool v) g → r ≡ g.answer → after ≡ given_to who.step g.medium vs → Comes who pool new after (if_there v vs (λ m. clone_held pool who.step m.shape m.held vs)) r
 clone_comes who pool new vs after v g r h answer variables =

@@ -2,6 +2,8 @@
 use Rattle.std.specs.Prelude.{ℕ, zero, suc, ◌≡◌, ◌++◌, List, [], ◌∷◌, length, take, Option, Some, None, option_map, if◌then◌else◌}
 use Rattle.wc_base.specs.declared.error.DomError.TheVariants as dom
 use Rattle.wc_base.specs.declared.who.Who.{Who}
+use Rattle.codec_definitions.specs.declared.unit.Unit as output
+use Rattle.codec_definitions.specs.declared.unit.Unit.TheVariants as unit
 use Rattle.picture_planes.specs.Planes.{picture_size}
 use Rattle.wc_pool.specs.declared.entry.PoolEntry.{PoolEntry}
 use Rattle.wc_pool.specs.declared.entry.PoolOp.{PoolOp}
@@ -31,6 +33,10 @@ abbrev pub made_done : List PoolEntry → Shape → List ℕ → Done
 made_done pool shape bytes =
     gives (record { shape = shape; held = Some (record { resource = resources_made pool; number = references_made pool; bytes = bytes }) }) (Some (op.Make (resources_made pool) (references_made pool)))
 
+-- the same, with another answer
+abbrev pub with_answer : StepResult → Done → Done
+with_answer r d = record { given = record { answer = r; medium = d.given.medium }; does = d.does }
+
 abbrev pub audio_done : List PoolEntry → Option SoundInit → Done
 audio_done pool None = gives_nothing (refused dom.TypeErr)
 audio_done pool (Some i) =
@@ -42,6 +48,12 @@ frame_done pool None = gives_nothing (refused dom.TypeErr)
 frame_done pool (Some i) =
     if frames.is_invalid i.shape (length i.content) then gives_nothing (refused dom.TypeErr)
     else made_done pool (PictureOf i.shape) (take (picture_size i.shape) i.content)
+
+-- an output that is taken, with this answer
+abbrev pub taken_done : List PoolEntry → StepResult → output.Unit → Done
+taken_done pool answer (unit.Sound s) = with_answer answer (made_done pool (SoundOf s.shape) s.bytes)
+taken_done pool answer (unit.Image p) = with_answer answer (made_done pool (PictureOf p.shape) p.bytes)
+taken_done pool answer (unit.Coded chunk config) = gives_nothing answer
 
 abbrev pub cloned_done : List PoolEntry → Shape → Option Reference → Done
 cloned_done pool shape None = gives_nothing (refused dom.InvalidState)

@@ -1,14 +1,17 @@
 -- How the crate's own media are seen, and what holds of the references that variables hold.
-use Rattle.std.specs.Prelude.{ℕ, ◌≡◌, ◌<◌, true, List, [], ◌∷◌, ◌++◌, length, slice_set, Option, Some, IfSome, option_map, option_and_then}
+use Rattle.std.specs.Prelude.{ℕ, ◌≡◌, ◌<◌, ◌≤◌, true, List, [], ◌∷◌, ◌++◌, length, slice_set, Option, Some, IfSome, option_map, option_and_then}
 use Rattle.wc_base.specs.declared.who.Who.{Who}
-use Rattle.wc_chunk.specs.declared.chunk.Chunk.{Chunk}
+use Rattle.codec_definitions.specs.declared.unit.Unit as output
+use Rattle.codec_definitions.specs.declared.unit.Unit.TheVariants as unit
+use Rattle.picture_planes.specs.Planes.{picture_size}
+use Rattle.wc_audio.specs.Sound.{needed}
 use Rattle.wc_pool.specs.declared.entry.PoolEntry.{PoolEntry}
 use Rattle.wc_pool.specs.declared.reference.MediaRef.{MediaRef}
 use Rattle.wc_pool.specs.Bag.{resource_of, is_legal_next, is_legal_pool}
 use Rattle.script_types.specs.declared.steps.MediaStep.{MediaStep}
 use Rattle.media_variables.specs.declared.medium.Kind.{Kind}
 use Rattle.media_variables.specs.declared.medium.Kind.TheVariants as kind
-use Rattle.media_variables.specs.Variables.{Reference, Medium, SoundOf, PictureOf, Came, medium_at, variables_of, media_came, entries_of}
+use Rattle.media_variables.specs.Variables.{Reference, Medium, SoundOf, PictureOf, Came, Brought, medium_at, variables_of, media_came, entries_of}
 
 -- without the key of a pool
 abbrev pub reference_of : MediaRef → Reference
@@ -45,12 +48,18 @@ pub record AreHeld (pool : List PoolEntry) (callers : List (List (Option Medium)
 
 -- whatever a step on media comes to, the references that variables hold stay live and apart
 abbrev pub StayHeld : Type 0
-StayHeld = (pool : List PoolEntry) (who : Who) (callers : List (List (Option Medium))) (chunk : Option Chunk) (x : MediaStep) (y : Came) →
-    is_legal_pool pool ≡ true → who.caller < length callers → AreHeld pool callers → media_came pool who chunk x (variables_of who.caller callers) ≡ Some y →
+StayHeld = (pool : List PoolEntry) (who : Who) (callers : List (List (Option Medium))) (b : Brought) (x : MediaStep) (y : Came) →
+    is_legal_pool pool ≡ true → who.caller < length callers → AreHeld pool callers → media_came pool who b x (variables_of who.caller callers) ≡ Some y →
     AreHeld (pool ++ entries_of who y.does) (slice_set callers who.caller y.variables)
 
 -- and what it does to the pool is legal there
 abbrev pub DoLegally : Type 0
-DoLegally = (pool : List PoolEntry) (who : Who) (callers : List (List (Option Medium))) (chunk : Option Chunk) (x : MediaStep) (y : Came) (e : PoolEntry) →
-    is_legal_pool pool ≡ true → AreHeld pool callers → media_came pool who chunk x (variables_of who.caller callers) ≡ Some y →
+DoLegally = (pool : List PoolEntry) (who : Who) (callers : List (List (Option Medium))) (b : Brought) (x : MediaStep) (y : Came) (e : PoolEntry) →
+    is_legal_pool pool ≡ true → AreHeld pool callers → media_came pool who b x (variables_of who.caller callers) ≡ Some y →
     entries_of who y.does ≡ e ∷ [] → is_legal_next pool e ≡ true
+
+-- an output has at least the bytes that its shape needs
+abbrev pub IsEnoughUnit : output.Unit → Type 0
+IsEnoughUnit (unit.Sound s) = needed s.shape ≤ length s.bytes
+IsEnoughUnit (unit.Image p) = picture_size p.shape ≤ length p.bytes
+IsEnoughUnit (unit.Coded chunk config) = Unit {0}

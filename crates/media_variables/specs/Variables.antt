@@ -8,6 +8,8 @@ use Rattle.wc_base.specs.declared.media.PictureShape.{PictureShape}
 use Rattle.wc_base.specs.declared.who.Who.{Who}
 use Rattle.wc_base.specs.declared.who.By.TheVariants as by
 use Rattle.wc_chunk.specs.declared.chunk.Chunk.{Chunk}
+use Rattle.codec_definitions.specs.declared.unit.Unit as output
+use Rattle.codec_definitions.specs.declared.unit.Unit.TheVariants as unit
 use Rattle.wc_chunk.specs.Copied.{copied_count, copied_to}
 use Rattle.picture_planes.specs.Planes.{picture_size}
 use Rattle.wc_pool.specs.declared.entry.PoolEntry.{PoolEntry}
@@ -244,6 +246,29 @@ abbrev pub copy_came : Option Chunk → ℕ → Options → ℕ → List (Option
 copy_came chunk of options.Nothing size vs = only_answers (copy_chunk chunk size) vs
 copy_came chunk of o size vs = if_there (medium_at vs of) vs (λ m. only_answers (copy_medium m o size) vs)
 
+-- ---- outputs of codecs
+
+-- an output that a step takes, and what that answers
+pub record Taken : Type 0 where
+  pub unit : output.Unit
+  pub answer : StepResult
+
+-- what a step is given from elsewhere: the chunk that it copies, and the output that it takes
+pub record Brought : Type 0 where
+  pub chunk : Option Chunk
+  pub taken : Option Taken
+
+-- the output's bytes are those of a new resource; a chunk has none
+abbrev pub unit_came : List PoolEntry → ℕ → StepResult → output.Unit → List (Option Medium) → Came
+unit_came pool j answer (unit.Sound s) vs = record (makes pool j (SoundOf s.shape) s.bytes vs) { answer = answer }
+unit_came pool j answer (unit.Image p) vs = record (makes pool j (PictureOf p.shape) p.bytes vs) { answer = answer }
+unit_came pool j answer (unit.Coded chunk config) vs = only_answers answer vs
+
+-- where no output is taken, the step is none on media
+abbrev pub taken_came : List PoolEntry → ℕ → Option Taken → List (Option Medium) → Option Came
+taken_came pool j None vs = None
+taken_came pool j (Some t) vs = Some (unit_came pool j t.answer t.unit vs)
+
 -- ---- every step
 
 -- the step that defines the chunk which a step copies, if it copies one
@@ -251,18 +276,18 @@ abbrev pub chunk_in : MediaStep → Option ℕ
 chunk_in (media.Copy of options.Nothing size) = Some of.step
 chunk_in _ = None
 
--- What a step on media comes to, after the pool's history and the caller's variables; `chunk` is the one that is copied. A
--- step that encodes or takes is the codec's.
-abbrev pub media_came : List PoolEntry → Who → Option Chunk → MediaStep → List (Option Medium) → Option Came
-media_came pool who chunk (media.Audio bind init) vs = Some (audio_came pool who.step init vs)
-media_came pool who chunk (media.Frame bind init) vs = Some (frame_came pool who.step init vs)
-media_came pool who chunk (media.Encode on content) vs = None
-media_came pool who chunk (media.Take on bind kind) vs = None
-media_came pool who chunk (media.Clone of bind) vs = Some (if_there (medium_at vs of.step) vs (λ m. clone_held pool who.step m.shape m.held vs))
-media_came pool who chunk (media.Transfer of bind) vs = Some (if_there (medium_at vs of.step) vs (λ m. transfer_held who.step of.step m m.held vs))
-media_came pool who chunk (media.CloseData of) vs = Some (if_there (medium_at vs of.step) vs (λ m. close_held pool who of.step m m.held vs))
-media_came pool who chunk (media.Copy of o size) vs = Some (copy_came chunk of.step o size vs)
-media_came pool who chunk (media.Size of o) vs = Some (if_there (medium_at vs of.step) vs (λ m. only_answers (size_of_medium m o) vs))
+-- What a step on media comes to, after the pool's history and the caller's variables, with what is brought to it. A step that
+-- encodes is the codec's.
+abbrev pub media_came : List PoolEntry → Who → Brought → MediaStep → List (Option Medium) → Option Came
+media_came pool who b (media.Audio bind init) vs = Some (audio_came pool who.step init vs)
+media_came pool who b (media.Frame bind init) vs = Some (frame_came pool who.step init vs)
+media_came pool who b (media.Encode on content) vs = None
+media_came pool who b (media.Take on bind kind) vs = taken_came pool who.step b.taken vs
+media_came pool who b (media.Clone of bind) vs = Some (if_there (medium_at vs of.step) vs (λ m. clone_held pool who.step m.shape m.held vs))
+media_came pool who b (media.Transfer of bind) vs = Some (if_there (medium_at vs of.step) vs (λ m. transfer_held who.step of.step m m.held vs))
+media_came pool who b (media.CloseData of) vs = Some (if_there (medium_at vs of.step) vs (λ m. close_held pool who of.step m m.held vs))
+media_came pool who b (media.Copy of o size) vs = Some (copy_came b.chunk of.step o size vs)
+media_came pool who b (media.Size of o) vs = Some (if_there (medium_at vs of.step) vs (λ m. only_answers (size_of_medium m o) vs))
 
 -- the entry of a step, if it makes one
 abbrev pub entries_of : Who → Option PoolOp → List PoolEntry
@@ -278,6 +303,6 @@ abbrev pub IsCome : Media → Media → Who → Option Came → Option StepResul
 IsCome old new who None answer = (answer ≡ None) × (new ≡ old)
 IsCome old new who (Some c) answer = (answer ≡ Some c.answer) × (new ≡ after_came who c old)
 
-abbrev pub CameTo : Media → Media → Who → Option Chunk → MediaStep → Option StepResult → Type 0
-CameTo old new who chunk step answer =
-    IsCome old new who (media_came old.pool who chunk step (variables_of who.caller old.variables)) answer
+abbrev pub CameTo : Media → Media → Who → Brought → MediaStep → Option StepResult → Type 0
+CameTo old new who b step answer =
+    IsCome old new who (media_came old.pool who b step (variables_of who.caller old.variables)) answer

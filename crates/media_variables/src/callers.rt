@@ -1,12 +1,14 @@
 // The media of all callers.
-ghost use Rattle.std.specs.Prelude.{◌≡◌, ◌<◌, [], true, IfOk, OnErr, map, length};
+ghost use Rattle.std.specs.Prelude.{◌≡◌, ◌<◌, [], true, None, Some, IfOk, OnErr, map, length};
 ghost use Rattle.wc_pool.specs.Bag.{held_in, is_legal_pool};
-ghost use Rattle.media_variables.specs.Variables.{CameTo, Media, media_came};
-ghost use Rattle.media_variables.specs.Held.{AreHeld, AreLive};
-ghost use Rattle.media_variables.specs.Given.{Reaches};
+ghost use Rattle.media_variables.specs.Variables.{Brought, CameTo, IsCome, Media, Taken};
+ghost use Rattle.media_variables.specs.Variables.{media_came, taken_came, unit_came, variables_of};
+ghost use Rattle.media_variables.specs.Held.{AreHeld, AreLive, IsEnoughUnit};
+ghost use Rattle.media_variables.specs.Given.{Comes, Reaches};
 
 use crate::medium::Medium;
-use crate::steps::media_step;
+use crate::steps::{media_step, take_step};
+use codec_definitions::Unit;
 use report_text::StepResult;
 use script_types::{CallerItem, MediaStep};
 use std::alloc::Global;
@@ -71,9 +73,23 @@ impl CallerMedia {
         step: &MediaStep,
     ) -> Result<Option<StepResult>, NoMemory>
         requires { who.caller < length self.old.variables }
-        ensures { IfOk result (CameTo self.old self.new who chunk step.now) }
+        ensures { let b : Brought = record { chunk = chunk; taken = None } in
+            IfOk result (CameTo self.old self.new who b step.now) }
     {
         caller_step(alloc, &mut self.pool, &mut self.callers, who, &chunk, step)
+    }
+
+    /// A step of a caller that takes an output of a codec, and its answer. The step's variable holds
+    /// audio data or a video frame with the output's bytes; a chunk makes nothing, and changes nothing.
+    pub fn take(&mut self, who: Who, unit: Unit, answer: StepResult) -> Result<StepResult, NoMemory>
+        requires there { who.caller < length self.old.variables }
+        requires enough { IsEnoughUnit unit }
+        ensures { let taken : Taken = record { unit = unit; answer = answer } in
+            let vs = variables_of who.caller self.old.variables in
+            let came = taken_came self.old.pool who.step (Some taken) vs in
+            IfOk result (λ r. IsCome self.old self.new who came (Some r)) }
+    {
+        caller_take(&mut self.pool, &mut self.callers, who, unit, answer)
     }
 
     /// How many resources have a live reference.
@@ -114,13 +130,41 @@ fn caller_step(
     requires held { AreHeld pool.old callers.old.items }
     ensures came { let old : Media = record { variables = callers.old.items; pool = pool.old } in
         let new : Media = record { variables = callers.new.items; pool = pool.new } in
-        IfOk result (CameTo old new who chunk.now step.now) }
+        let b : Brought = record { chunk = chunk.now; taken = None } in
+        IfOk result (CameTo old new who b step.now) }
     ensures held { AreHeld pool.new callers.new.items }
 {
     references_are_apart();
     let _legal = pool.entries().len();
     match callers.get_mut(who.caller as usize) {
         Some(variables) => variables.step(alloc, pool, who, chunk, step),
+        None => unreachable!(),
+    }
+}
+
+/// A step of a caller that takes an output, on the variables of all.
+fn caller_take(
+    pool: &mut Pool,
+    callers: &mut Vec<Variables>,
+    who: Who,
+    unit: Unit,
+    answer: StepResult,
+) -> Result<StepResult, NoMemory>
+    requires there { who.caller < length callers.old.items }
+    requires held { AreHeld pool.old callers.old.items }
+    requires enough { IsEnoughUnit unit }
+    ensures came { let old : Media = record { variables = callers.old.items; pool = pool.old } in
+        let new : Media = record { variables = callers.new.items; pool = pool.new } in
+        let taken : Taken = record { unit = unit; answer = answer } in
+        let vs = variables_of who.caller callers.old.items in
+        let came = taken_came pool.old who.step (Some taken) vs in
+        IfOk result (λ r. IsCome old new who came (Some r)) }
+    ensures held { AreHeld pool.new callers.new.items }
+{
+    references_are_apart();
+    let _legal = pool.entries().len();
+    match callers.get_mut(who.caller as usize) {
+        Some(variables) => variables.take(pool, who, unit, answer),
         None => unreachable!(),
     }
 }
@@ -136,11 +180,29 @@ impl Variables {
         step: &MediaStep,
     ) -> Result<Option<StepResult>, NoMemory>
         requires { AreLive pool.old self.old }
-        ensures ok { let came = media_came pool.old who chunk.now step.now self.old in
+        ensures ok { let b : Brought = record { chunk = chunk.now; taken = None } in
+            let came = media_came pool.old who b step.now self.old in
             IfOk result (Reaches who pool.old pool.new self.old self.new came) }
         ensures pool { OnErr result (pool.new ≡ pool.old) }
         ensures variables { OnErr result (self.new ≡ self.old) }
     {
         media_step(alloc, pool, who, chunk, step, &mut self.media)
+    }
+
+    /// A step of the caller that takes an output.
+    fn take(
+        &mut self,
+        pool: &mut Pool,
+        who: Who,
+        unit: Unit,
+        answer: StepResult,
+    ) -> Result<StepResult, NoMemory>
+        requires { IsEnoughUnit unit }
+        ensures ok { let came = unit_came pool.old who.step answer unit self.old in
+            IfOk result (Comes who pool.old pool.new self.new came) }
+        ensures pool { OnErr result (pool.new ≡ pool.old) }
+        ensures variables { OnErr result (self.new ≡ self.old) }
+    {
+        take_step(pool, who, unit, answer, &mut self.media)
     }
 }

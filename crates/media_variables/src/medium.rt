@@ -6,12 +6,14 @@ ghost use Rattle.wc_video.specs.Frames as frames;
 ghost use Rattle.wc_pool.specs.Pools.{IsLive};
 ghost use Rattle.media_variables.specs.declared.medium.Kind.TheVariants as kind;
 ghost use Rattle.media_variables.specs.Variables.{detached};
-ghost use Rattle.media_variables.specs.Held.{medium_of, IsHeldIn};
+ghost use Rattle.media_variables.specs.Held.{medium_of, IsEnoughUnit, IsHeldIn};
 ghost use Rattle.media_variables.specs.Given.{Does, audio_done, frame_done, clone_done};
-ghost use Rattle.media_variables.specs.Given.{transfer_done, closed_op};
+ghost use Rattle.media_variables.specs.Given.{taken_done, transfer_done, closed_op};
 ghost use Rattle.media_variables.specs.Variables.{entries_of};
 
 use crate::given::{Given, gives, gives_nothing};
+use codec_definitions::Unit;
+use report_text::StepResult;
 use script_types::{PictureInit, SoundInit};
 use std::alloc::Global;
 use std::marker::Model;
@@ -88,6 +90,33 @@ pub(crate) fn make_frame(
         Err(MediaFault::Dom(e)) => Ok(gives_nothing(e)),
         Err(MediaFault::NoMemory) => Err(NoMemory),
     }
+}
+
+/// Audio data or a video frame with the bytes of an output; a chunk is neither.
+pub(crate) fn make_taken(
+    pool: &mut Pool,
+    who: Who,
+    unit: Unit,
+    answer: StepResult,
+) -> Result<Given, NoMemory>
+    requires { IsEnoughUnit unit }
+    ensures ok { IfOk result (Does who pool.old pool.new (taken_done pool.old answer unit)) }
+    ensures err { OnErr result (pool.new ≡ pool.old) }
+{
+    let by = By::Caller(who);
+    let medium = match unit {
+        Unit::Sound(samples) => Some(Medium {
+            kind: Kind::Audio(AudioData::of_samples(samples, pool, by)?),
+        }),
+        Unit::Image(picture) => Some(Medium {
+            kind: Kind::Frame(VideoFrame::of_picture(picture, pool, by)?),
+        }),
+        Unit::Coded {
+            chunk: _chunk,
+            config: _config,
+        } => None,
+    };
+    Ok(Given { answer, medium })
 }
 
 fn clone_audio(audio: &mut AudioData, pool: &mut Pool, who: Who) -> Result<Given, NoMemory>

@@ -1,17 +1,19 @@
 // What the steps of one caller come to.
-ghost use Rattle.std.specs.Prelude.{◌≡◌, ◌++◌, Option, IfOk, OnErr, option_map, vec_capacity};
-ghost use Rattle.media_variables.specs.Variables.{audio_came, copy_came, frame_came, media_came};
+ghost use Rattle.std.specs.Prelude.{◌≡◌, ◌++◌, Option, None, IfOk, OnErr, option_map, vec_capacity};
+ghost use Rattle.media_variables.specs.Variables.{Brought, audio_came, copy_came, frame_came};
+ghost use Rattle.media_variables.specs.Variables.{media_came, unit_came};
 ghost use Rattle.media_variables.specs.Variables.{if_there, medium_at, clone_held, transfer_held};
 ghost use Rattle.media_variables.specs.Variables.{close_held, only_answers, copy_medium};
 ghost use Rattle.media_variables.specs.Variables.{size_of_medium, entries_of, detached};
-ghost use Rattle.media_variables.specs.Held.{AreLive, IsHeldIn, held_by};
+ghost use Rattle.media_variables.specs.Held.{AreLive, IsEnoughUnit, IsHeldIn, held_by};
 ghost use Rattle.media_variables.specs.Given.{Comes, Does, Reaches, clone_done, transfer_done};
 ghost use Rattle.media_variables.specs.Given.{closed_answer, closed_op, without};
 
 use crate::copies::{copy_chunk, copy_medium, size_of_medium};
 use crate::given::{Given, absent, done};
-use crate::medium::{Medium, make_audio, make_frame};
+use crate::medium::{Medium, make_audio, make_frame, make_taken};
 use crate::variables::{keep, make_room};
+use codec_definitions::Unit;
 use report_text::StepResult;
 use script_types::{MediaStep, Options, PictureInit, SoundInit};
 use std::alloc::Global;
@@ -50,6 +52,26 @@ fn frame_step(
 {
     make_room(variables, who.step)?;
     let given = make_frame(alloc, pool, who, init)?;
+    Ok(keep(variables, who.step, given))
+}
+
+/// A step of a caller that takes an output: its variable holds audio data or a video frame with the
+/// output's bytes, or nothing where it is a chunk.
+pub(crate) fn take_step(
+    pool: &mut Pool,
+    who: Who,
+    unit: Unit,
+    answer: StepResult,
+    variables: &mut Vec<Option<Medium>>,
+) -> Result<StepResult, NoMemory>
+    requires { IsEnoughUnit unit }
+    ensures ok { let came = unit_came pool.old who.step answer unit variables.old.items in
+        IfOk result (Comes who pool.old pool.new variables.new.items came) }
+    ensures pool { OnErr result (pool.new ≡ pool.old) }
+    ensures variables { OnErr result (variables.new.items ≡ variables.old.items) }
+{
+    make_room(variables, who.step)?;
+    let given = make_taken(pool, who, unit, answer)?;
     Ok(keep(variables, who.step, given))
 }
 
@@ -222,7 +244,7 @@ fn medium_at(variables: &[Option<Medium>], of: u32) -> Option<&Medium>
     }
 }
 
-/// A step of a caller; none of one that encodes or takes.
+/// A step of a caller that takes no output; none of one that encodes or is to take one.
 pub(crate) fn media_step(
     alloc: Global,
     pool: &mut Pool,
@@ -232,7 +254,8 @@ pub(crate) fn media_step(
     variables: &mut Vec<Option<Medium>>,
 ) -> Result<Option<StepResult>, NoMemory>
     requires { AreLive pool.old variables.old.items }
-    ensures ok { let came = media_came pool.old who chunk.now step.now variables.old.items in
+    ensures ok { let b : Brought = record { chunk = chunk.now; taken = None } in
+        let came = media_came pool.old who b step.now variables.old.items in
         IfOk result
         (Reaches who pool.old pool.new variables.old.items variables.new.items came) }
     ensures pool { OnErr result (pool.new ≡ pool.old) }

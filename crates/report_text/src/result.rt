@@ -72,11 +72,7 @@ impl StepResult {
                 codec,
                 place,
                 error,
-            } => StepResult::Call {
-                codec,
-                place,
-                error,
-            },
+            } => called(codec, place, error),
             StepResult::Local { error } => StepResult::Local { error },
             StepResult::Look { codec, length, end } => StepResult::Look { codec, length, end },
             StepResult::State {
@@ -84,21 +80,12 @@ impl StepResult {
                 length,
                 state,
                 size,
-            } => StepResult::State {
-                codec,
-                length,
-                state,
-                size,
-            },
+            } => seen(codec, length, state, size),
             StepResult::Unit {
                 codec,
                 place,
                 number,
-            } => StepResult::Unit {
-                codec,
-                place,
-                number,
-            },
+            } => taken(codec, place, number),
             StepResult::NoUnit { codec, length } => StepResult::NoUnit { codec, length },
             StepResult::Copied { count, ref bytes } => StepResult::Copied {
                 count,
@@ -116,5 +103,36 @@ impl StepResult {
             StepResult::Size { size } => StepResult::Size { size },
             StepResult::Absent => StepResult::Absent,
         })
+    }
+}
+
+fn called(codec: u32, place: u64, error: Option<DomError>) -> StepResult
+    ensures { result ≡ StepResult.Call codec place error }
+{
+    StepResult::Call {
+        codec,
+        place,
+        error,
+    }
+}
+
+fn seen(codec: u32, length: u64, state: CodecState, size: u64) -> StepResult
+    ensures { result ≡ StepResult.State codec length state size }
+{
+    StepResult::State {
+        codec,
+        length,
+        state,
+        size,
+    }
+}
+
+fn taken(codec: u32, place: u64, number: u64) -> StepResult
+    ensures { result ≡ StepResult.Unit codec place number }
+{
+    StepResult::Unit {
+        codec,
+        place,
+        number,
     }
 }

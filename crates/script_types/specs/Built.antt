@@ -18,10 +18,9 @@ is_built_kind kind.AudioDecoder = true
 is_built_kind kind.AudioEncoder = false
 is_built_kind kind.VideoDecoder = true
 
--- what a caller does with its own media is built; what hands them to a codec, and what takes a codec's outputs, is not
+-- a step that hands media to a codec is not built
 abbrev pub is_built_media : MediaStep → Bool
 is_built_media (media.Encode on content) = false
-is_built_media (media.Take on bind kind) = false
 is_built_media _ = true
 
 abbrev pub is_built_step : Step → Bool

@@ -1,5 +1,5 @@
 -- When a run is legal, and when it fits its script.
-use Rattle.std.specs.Prelude.{ℕ, ◌≡◌, ◌<◌, ◌≤◌, List, [], ◌∷◌, length, map, take, slice_get, Option, Some, None, option_and_then}
+use Rattle.std.specs.Prelude.{ℕ, ◌≡◌, ◌<◌, ◌≤◌, List, [], ◌∷◌, length, map, take, slice_get, Option, Some, None, option_map, option_and_then}
 use Rattle.wc_base.specs.declared.error.DomError.{DomError}
 use Rattle.wc_base.specs.declared.who.Who.{Who}
 use Rattle.wc_config.specs.declared.codec.CoderId.{CoderId}
@@ -13,6 +13,7 @@ use Rattle.script_types.specs.declared.script.ScriptData.{ScriptData}
 use Rattle.script_types.specs.declared.script.CodecItem.{CodecItem}
 use Rattle.script_types.specs.declared.steps.Step.{Step}
 use Rattle.script_types.specs.declared.steps.MediaStep.{MediaStep}
+use Rattle.script_types.specs.declared.steps.MediaStep.TheVariants as on_media
 use Rattle.script_types.specs.declared.steps.Step.TheVariants as step
 use Rattle.trace_text.specs.declared.run.Run.{Run}
 use Rattle.trace_text.specs.declared.run.CodecTrace.{CodecTrace}
@@ -25,9 +26,9 @@ use Rattle.codec_accounts.specs.Codec.{state_after}
 use Rattle.codec_accounts.specs.Calls.{who_of, Mark, Climbs}
 use Rattle.codec_accounts.specs.Calls as mark
 use Rattle.wc_pool.specs.Bag.{held_in}
-use Rattle.media_variables.specs.Variables.{Came}
+use Rattle.media_variables.specs.Variables.{Came, Taken, Brought}
 use Rattle.media_accounts.specs.Accounts.{came_in, MediaAreIn}
-use Rattle.trace_text.specs.Follow.{Recorded, Course, record_of, opening_of, opening_at, steps_of, chunk_at, copied_chunk, source_error, promise_after, order_items, Follows, nothing_yet}
+use Rattle.trace_text.specs.Follow.{Recorded, Course, record_of, opening_of, opening_at, steps_of, chunk_at, copied_chunk, output_at, source_error, promise_after, order_items, Follows, nothing_yet}
 
 -- the codec that a step calls, if it calls one
 abbrev pub called : Step → Option ℕ
@@ -41,6 +42,11 @@ called (step.Poll promise) = None
 called (step.Await promise) = None
 called (step.State on) = None
 called (step.Media x) = None
+
+-- the codec that a step takes an output of, if it takes one
+abbrev pub taken_from : Step → Option ℕ
+taken_from (step.Media (on_media.Take on bind kind)) = Some on
+taken_from _ = None
 
 -- what a run recorded, without what its entries showed
 abbrev pub recorded_of : Run → Recorded
@@ -68,6 +74,8 @@ mark_of (result.Call k place error) = mark.Call k place
 mark_of (result.Look k length end) = mark.Look k length
 mark_of (result.State k length state size) = mark.Look k length
 mark_of (result.Local error) = mark.Local
+mark_of (result.Unit k place n) = mark.Call k place
+mark_of (result.NoUnit k length) = mark.Look k length
 mark_of (result.Copied n bytes) = mark.Local
 mark_of (result.CopiedFrame n layouts bytes) = mark.Local
 mark_of (result.Size n) = mark.Local
@@ -85,16 +93,32 @@ IsCallResult s w k result.Absent = Unit {0}
 IsCallResult s w k _ = ⊥
 
 -- a step calls a codec by a call result, and no other step has one
-abbrev pub IsResultOf : ScriptData → Recorded → Option ℕ → StepResult → Type 0
-IsResultOf s w (Some k) r = IsCallResult s w k r
-IsResultOf s w None (result.Call k p error) = ⊥
-IsResultOf s w None r = Unit {0}
+abbrev pub IsAnswerOf : ScriptData → Recorded → Option ℕ → StepResult → Type 0
+IsAnswerOf s w (Some k) r = IsCallResult s w k r
+IsAnswerOf s w None (result.Call k p error) = ⊥
+IsAnswerOf s w None (result.Unit k p n) = ⊥
+IsAnswerOf s w None (result.NoUnit k n) = ⊥
+IsAnswerOf s w None r = Unit {0}
+
+-- the result of a step that takes an output of a codec: its entry there, of the output with this number; or that there was none
+abbrev pub IsTakeResult : Recorded → Who → ℕ → StepResult → Type 0
+IsTakeResult w who k (result.Unit other p n) = (other ≡ k) × (entry_in w k p ≡ Some (entry.Take who n))
+IsTakeResult w who k (result.NoUnit other n) = other ≡ k
+IsTakeResult w who k _ = ⊥
+
+-- by the codec that a step takes an output of, if it takes one, and by the codec that it calls
+abbrev pub IsResultBy : ScriptData → Recorded → Who → Option ℕ → Option ℕ → StepResult → Type 0
+IsResultBy s w who (Some k) calls r = IsTakeResult w who k r
+IsResultBy s w who None calls r = IsAnswerOf s w calls r
+
+abbrev pub IsResultOf : ScriptData → Recorded → Who → Step → StepResult → Type 0
+IsResultOf s w who x r = IsResultBy s w who (taken_from x) (called x) r
 
 -- Each call of a caller's steps stands once, in its codec's history, at the place that its result names, and no other entry
 -- names a caller's step.
 pub record CallsAreIn (s : ScriptData) (w : Recorded) : Type 0 where
   -- each step made is a step of the script, with a result of its kind
-  pub made : (c j : ℕ) (r : StepResult) → result_in w c j ≡ Some r → (x : Step) × (step_in s c j ≡ Some x) × IsResultOf s w (called x) r
+  pub made : (c j : ℕ) (r : StepResult) → result_in w c j ≡ Some r → (x : Step) × (step_in s c j ≡ Some x) × IsResultOf s w (record { caller = c; step = j }) x r
   -- the entries that name a caller's step are those of the calls in the results
   pub once : (k : ℕ) → mark.CallsAreIn k (at k w.codecs) (marks_of w)
 
@@ -109,8 +133,11 @@ LookShows s w c (step.Poll promise) (result.Look k n end) =
     (p : ℕ) × (error : Option DomError) × (result_in w c promise.step ≡ Some (result.Call k p error)) × (end ≡ promise_after (opening_at s k) (take n (at k w.codecs)) p)
 LookShows s w c (step.State on) (result.State k n state size) =
     (on ≡ k) × (state ≡ (state_after (opening_at s k) (take n (at k w.codecs))).control.phase) × (size ≡ (state_after (opening_at s k) (take n (at k w.codecs))).control.size)
+LookShows s w c (step.Media (on_media.Take on bind kind)) (result.NoUnit k n) =
+    let h = take n (at k w.codecs) in (on ≡ k) × (output_at (opening_at s k) h (state_after (opening_at s k) h).control.taken ≡ None)
 LookShows s w c x (result.Look k n end) = ⊥
 LookShows s w c x (result.State k n state size) = ⊥
+LookShows s w c x (result.NoUnit k n) = ⊥
 LookShows s w c x r = Unit {0}
 
 -- what each caller's results say of a codec rises with its steps, up to the length of the codec's history
@@ -133,6 +160,7 @@ HasArguments s media who e (step.Decode on chunk) = (value : Chunk) × (chunk_at
 HasArguments s media who e (step.Flush on bind) = e ≡ entry.Flush who
 HasArguments s media who e (step.Reset on) = e ≡ entry.Reset who
 HasArguments s media who e (step.Close on) = e ≡ entry.Close who
+HasArguments s media who e (step.Media (on_media.Take on bind kind)) = (n : ℕ) × (e ≡ entry.Take who n)
 HasArguments s media who e _ = ⊥
 
 abbrev pub ArgumentsAreIn : ScriptData → List (List Chunk) → Recorded → Type 0
@@ -142,9 +170,15 @@ ArgumentsAreIn s media w = (k p : ℕ) (e : Entry) (who : Who) → entry_in w k 
 abbrev pub ArgumentsAreTheScripts : ScriptData → List (List Chunk) → Run → Type 0
 ArgumentsAreTheScripts s media run = ArgumentsAreIn s media (recorded_of run)
 
--- the chunk that a caller's step on media copies, if it copies one
-abbrev pub chunks_of : ScriptData → List (List Chunk) → ℕ → MediaStep → Option Chunk
-chunks_of s media c x = copied_chunk media (steps_of s c) x
+-- the output that a caller's step took, by its result, if it took one
+abbrev pub taken_by : ScriptData → Recorded → Option StepResult → Option Taken
+taken_by s w (Some (result.Unit k p n)) =
+    option_map (λ u. record { unit = u; answer = result.Unit k p n }) (output_at (opening_at s k) (at k w.codecs) n)
+taken_by s w _ = None
+
+-- what is given from elsewhere to a caller's step on media: the chunk that it copies, and the output that it takes
+abbrev pub brought_to : ScriptData → List (List Chunk) → Recorded → ℕ → ℕ → MediaStep → Brought
+brought_to s media w c j x = record { chunk = copied_chunk media (steps_of s c) x; taken = taken_by s w (result_in w c j) }
 
 -- how many steps a caller made
 abbrev pub made_steps : Recorded → ℕ → ℕ
@@ -152,9 +186,9 @@ made_steps w c = length (at c w.callers)
 
 -- what a caller's step on media comes to, after its earlier steps; none of any other step
 abbrev pub came_at : ScriptData → List (List Chunk) → Recorded → ℕ → ℕ → Option Came
-came_at s media w c j = came_in (steps_of s) (chunks_of s media) w.pool c j
+came_at s media w c j = came_in (steps_of s) (brought_to s media w) w.pool c j
 
--- a step that encodes or takes has no answer yet
+-- a step that encodes has no answer yet
 abbrev pub IsMediaAnswer : Option Came → StepResult → Type 0
 IsMediaAnswer None r = ⊥
 IsMediaAnswer (Some y) r = r ≡ y.answer
@@ -163,6 +197,7 @@ IsMediaAnswer (Some y) r = r ≡ y.answer
 -- its variable.
 abbrev pub IsLocalAnswer : ScriptData → List (List Chunk) → Option Came → ℕ → Step → StepResult → Type 0
 IsLocalAnswer s media came c (step.Chunk bind source) r = r ≡ result.Local (source_error source)
+IsLocalAnswer s media came c (step.Media (on_media.Take on bind kind)) r = Unit {0}
 IsLocalAnswer s media came c (step.Media x) r = IsMediaAnswer came r
 IsLocalAnswer s media came c (step.Decode on chunk) result.Absent = chunk_at media (steps_of s c) chunk.step ≡ None
 IsLocalAnswer s media came c x result.Absent = ⊥
@@ -186,7 +221,7 @@ BoxesAreAccounted s made run = let w = recorded_of run in BoxesAccounted made (o
 
 -- The pool's history has what the callers' steps call for, each once and in the order of their caller, and nothing else.
 abbrev pub MediaAreAccounted : ScriptData → List (List Chunk) → Run → Type 0
-MediaAreAccounted s media run = let w = recorded_of run in MediaAreIn (steps_of s) (chunks_of s media) (made_steps w) w.pool
+MediaAreAccounted s media run = let w = recorded_of run in MediaAreIn (steps_of s) (brought_to s media w) (made_steps w) w.pool
 
 -- All entries, results, pool entries and slot entries are those that following the script's order makes, item after item. `made` has the
 -- ids of the coders that were handed in.

@@ -4,6 +4,7 @@ use Rattle.std.specs.Prelude.{slice_get, option_map, option_and_then}
 use Rattle.wc_base.specs.declared.error.DomError.{DomError}
 use Rattle.wc_base.specs.declared.who.Who.{Who}
 use Rattle.codec_model.specs.declared.entry.Entry.{Entry}
+use Rattle.codec_model.specs.declared.entry.Entry.TheVariants as entry
 use Rattle.codec_accounts.specs.Owed.{at}
 use Rattle.codec_accounts.specs.Calls.{who_of, Mark, reach}
 use Rattle.codec_accounts.specs.Calls as mark
@@ -13,7 +14,7 @@ use Rattle.script_types.specs.declared.steps.Step.{Step}
 use Rattle.report_text.specs.declared.result.StepResult.{StepResult}
 use Rattle.report_text.specs.declared.result.StepResult.TheVariants as result
 use Rattle.trace_text.specs.Follow.{Recorded, opening_at}
-use Rattle.trace_text.specs.Fits.{result_in, entry_in, step_in, called, exception_at, mark_of, marks_of, IsResultOf, CallsAreIn, MarksClimb}
+use Rattle.trace_text.specs.Fits.{result_in, entry_in, step_in, called, exception_at, mark_of, marks_of, taken_from, IsAnswerOf, IsResultBy, CallsAreIn, MarksClimb}
 
 -- The entry at this place is the call of this step, and shows this exception.
 pub record KeepsCall (s : ScriptData) (w : Recorded) (who : Who) (k p : ℕ) (error : Option DomError) : Type 0 where
@@ -22,26 +23,34 @@ pub record KeepsCall (s : ScriptData) (w : Recorded) (who : Who) (k p : ℕ) (er
   pub names : who_of entry ≡ Some who
   pub shows : error ≡ exception_at (opening_at s k) (at k w.codecs) p
 
--- Calls by their places: a call's result names its entry, and each entry that names a caller's step is the one in that
--- step's result.
+-- the codec of a call or of a take that found an output, and its entry's place, if the result is one
+abbrev pub made_at : StepResult → Option (ℕ × ℕ)
+made_at (result.Call k place error) = Some (k, place)
+made_at (result.Unit k place n) = Some (k, place)
+made_at _ = None
+
+-- Calls by their places: the result of a call or a take names its entry, and each entry that names a caller's step is the
+-- one in that step's result.
 pub record CallsByPlaces (s : ScriptData) (w : Recorded) : Type 0 where
   pub kept : (c j k p : ℕ) (error : Option DomError) → result_in w c j ≡ Some (result.Call k p error) → KeepsCall s w (record { caller = c; step = j }) k p error
-  pub only : (k p : ℕ) (e : Entry) (who : Who) → entry_in w k p ≡ Some e → who_of e ≡ Some who → (error : Option DomError) × (result_in w who.caller who.step ≡ Some (result.Call k p error))
+  pub taken : (c j k p n : ℕ) → result_in w c j ≡ Some (result.Unit k p n) → entry_in w k p ≡ Some (entry.Take (record { caller = c; step = j }) n)
+  pub only : (k p : ℕ) (e : Entry) (who : Who) → entry_in w k p ≡ Some e → who_of e ≡ Some who → (r : StepResult) × (result_in w who.caller who.step ≡ Some r) × (made_at r ≡ Some (k, p))
 
 -- a look at a codec after this many entries, if the result is one
 abbrev pub look_of : StepResult → Option (ℕ × ℕ)
 look_of (result.Look k length end) = Some (k, length)
 look_of (result.State k length state size) = Some (k, length)
+look_of (result.NoUnit k length) = Some (k, length)
 look_of _ = None
 
--- A caller's calls on a codec rise, and a look saw at most the whole history, all that its caller did on the codec before,
--- and nothing that it did afterwards.
+-- A caller's calls and takes on a codec rise, and a look saw at most the whole history, all that its caller did on the codec
+-- before, and nothing that it did afterwards.
 pub record OrderByPlaces (w : Recorded) : Type 0 where
-  pub stands : (c j k p : ℕ) (e : Option DomError) → result_in w c j ≡ Some (result.Call k p e) → p < length (at k w.codecs)
-  pub rising : (c i j k p q : ℕ) (e f : Option DomError) → i < j → result_in w c i ≡ Some (result.Call k p e) → result_in w c j ≡ Some (result.Call k q f) → p < q
+  pub stands : (c j k p : ℕ) (r : StepResult) → result_in w c j ≡ Some r → made_at r ≡ Some (k, p) → p < length (at k w.codecs)
+  pub rising : (c i j k p q : ℕ) (d r : StepResult) → i < j → result_in w c i ≡ Some d → made_at d ≡ Some (k, p) → result_in w c j ≡ Some r → made_at r ≡ Some (k, q) → p < q
   pub within : (c j k n : ℕ) (r : StepResult) → result_in w c j ≡ Some r → look_of r ≡ Some (k, n) → n ≤ length (at k w.codecs)
-  pub after_calls : (c i j k p n : ℕ) (e : Option DomError) (r : StepResult) → i < j → result_in w c i ≡ Some (result.Call k p e) → result_in w c j ≡ Some r → look_of r ≡ Some (k, n) → p < n
-  pub before_calls : (c i j k p n : ℕ) (e : Option DomError) (r : StepResult) → i < j → result_in w c i ≡ Some r → look_of r ≡ Some (k, n) → result_in w c j ≡ Some (result.Call k p e) → n ≤ p
+  pub after_calls : (c i j k p n : ℕ) (d r : StepResult) → i < j → result_in w c i ≡ Some d → made_at d ≡ Some (k, p) → result_in w c j ≡ Some r → look_of r ≡ Some (k, n) → p < n
+  pub before_calls : (c i j k p n : ℕ) (d r : StepResult) → i < j → result_in w c i ≡ Some d → look_of d ≡ Some (k, n) → result_in w c j ≡ Some r → made_at r ≡ Some (k, p) → n ≤ p
   pub looks_rise : (c i j k m n : ℕ) (q r : StepResult) → i < j → result_in w c i ≡ Some q → look_of q ≡ Some (k, m) → result_in w c j ≡ Some r → look_of r ≡ Some (k, n) → m ≤ n
 
 -- ---- marks
@@ -64,23 +73,31 @@ mark_at w c j r is = get_map mark_of (at c w.callers) j ∙ ap (option_map mark_
 
 -- ---- calls
 
-shows_of : (s : ScriptData) (w : Recorded) (o : Option ℕ) (k p : ℕ) (error : Option DomError) → IsResultOf s w o (result.Call k p error) → error ≡ exception_at (opening_at s k) (at k w.codecs) p
-shows_of s w None k p error h = absurd h
-shows_of s w (Some n) k p error h = subst (λ (m : ℕ). error ≡ exception_at (opening_at s m) (at m w.codecs) p) (sym h.0) h.1
+shows_of : (s : ScriptData) (w : Recorded) (who : Who) (t o : Option ℕ) (k p : ℕ) (error : Option DomError) → IsResultBy s w who t o (result.Call k p error) → error ≡ exception_at (opening_at s k) (at k w.codecs) p
+shows_of s w who (Some n) o k p error h = absurd h
+shows_of s w who None None k p error h = absurd h
+shows_of s w who None (Some n) k p error h = subst (λ (m : ℕ). error ≡ exception_at (opening_at s m) (at m w.codecs) p) (sym h.0) h.1
 
-call_result : (r : StepResult) (k p : ℕ) → mark_of r ≡ mark.Call k p → (error : Option DomError) × (r ≡ result.Call k p error)
-call_result (result.Call n q error) k p is = let a : n ≡ k = cc in let b : q ≡ p = cc in (error, λ i. result.Call (a i) (b i) error)
-call_result (result.Local error) k p is = absurd cc
-call_result (result.Look n q end) k p is = absurd cc
-call_result (result.State n q state size) k p is = absurd cc
-call_result (result.Copied n bytes) k p is = absurd cc
-call_result (result.CopiedFrame n layouts bytes) k p is = absurd cc
-call_result (result.Size n) k p is = absurd cc
-call_result result.Absent k p is = absurd cc
+takes_of : (s : ScriptData) (w : Recorded) (who : Who) (t o : Option ℕ) (k p n : ℕ) → IsResultBy s w who t o (result.Unit k p n) → entry_in w k p ≡ Some (entry.Take who n)
+takes_of s w who (Some m) o k p n h = h.1
+takes_of s w who None None k p n h = absurd h
+takes_of s w who None (Some m) k p n h = absurd h
 
-call_there : (o : Option StepResult) (k p : ℕ) → option_map mark_of o ≡ Some (mark.Call k p) → (error : Option DomError) × (o ≡ Some (result.Call k p error))
+made_mark : (r : StepResult) (k p : ℕ) → mark_of r ≡ mark.Call k p → made_at r ≡ Some (k, p)
+made_mark (result.Call n q error) k p is = let a : n ≡ k = cc in let b : q ≡ p = cc in λ i. Some (a i, b i)
+made_mark (result.Unit n q number) k p is = let a : n ≡ k = cc in let b : q ≡ p = cc in λ i. Some (a i, b i)
+made_mark (result.Local error) k p is = absurd cc
+made_mark (result.Look n q end) k p is = absurd cc
+made_mark (result.NoUnit n q) k p is = absurd cc
+made_mark (result.State n q state size) k p is = absurd cc
+made_mark (result.Copied n bytes) k p is = absurd cc
+made_mark (result.CopiedFrame n layouts bytes) k p is = absurd cc
+made_mark (result.Size n) k p is = absurd cc
+made_mark result.Absent k p is = absurd cc
+
+call_there : (o : Option StepResult) (k p : ℕ) → option_map mark_of o ≡ Some (mark.Call k p) → (r : StepResult) × (o ≡ Some r) × (made_at r ≡ Some (k, p))
 call_there None k p is = absurd cc
-call_there (Some r) k p is = let m : mark_of r ≡ mark.Call k p = cc in let c = call_result r k p m in (c.0, ap (λ x. Some x) c.1)
+call_there (Some r) k p is = let m : mark_of r ≡ mark.Call k p = cc in (r, refl, made_mark r k p m)
 
 -- Calls that stand once do so by their places.
 pub calls_by_places : (s : ScriptData) (w : Recorded) → CallsAreIn s w → CallsByPlaces s w
@@ -88,15 +105,13 @@ calls_by_places s w calls = record {
   kept = λ c j k p error is. (
       let made = calls.made c j (result.Call k p error) is in
       let there = call_stands k (at k w.codecs) (marks_of w) c j p (calls.once k) (mark_in w c j ∙ ap (option_map mark_of) is) in
-      record { entry = there.entry; stands = there.stands; names = there.names; shows = shows_of s w (called made.0) k p error made.2 }
+      record { entry = there.entry; stands = there.stands; names = there.names; shows = shows_of s w (record { caller = c; step = j }) (taken_from made.0) (called made.0) k p error made.2 }
       );
+  taken = λ c j k p n is. (let made = calls.made c j (result.Unit k p n) is in takes_of s w (record { caller = c; step = j }) (taken_from made.0) (called made.0) k p n made.2);
   only = λ k p e who is names. call_there (result_in w who.caller who.step) k p (sym (mark_in w who.caller who.step) ∙ names_call k (at k w.codecs) (marks_of w) p e who (calls.once k) is names);
 }
 
 -- ---- the order
-
-reach_call : (k p : ℕ) → reach k (mark.Call k p) ≡ Some (p, suc p)
-reach_call k p = ap (λ (b : Bool). cond b (Some (p, suc p)) None) (eq-eqb k k refl)
 
 first_of : Option (ℕ × ℕ) → ℕ
 first_of None = 0
@@ -113,10 +128,31 @@ look_reach m q k n is =
     let long : q ≡ n = ap second_of is in
     ap (λ (b : Bool). cond b (Some (q, q)) None) (eq-eqb m k codec) ∙ ap (λ (x : ℕ). Some (x, x)) long
 
+call_reach : (m q k p : ℕ) → ◌≡◌ {A = Option (ℕ × ℕ)} (Some (m, q)) (Some (k, p)) → reach k (mark.Call m q) ≡ Some (p, suc p)
+unfolding first_of second_of
+call_reach m q k p is =
+    let codec : m ≡ k = ap first_of is in
+    let place : q ≡ p = ap second_of is in
+    ap (λ (b : Bool). cond b (Some (q, suc q)) None) (eq-eqb m k codec) ∙ ap (λ (x : ℕ). Some (x, suc x)) place
+
+reach_made : (r : StepResult) (k p : ℕ) → made_at r ≡ Some (k, p) → reach k (mark_of r) ≡ Some (p, suc p)
+reach_made (result.Call m q error) k p is = call_reach m q k p is
+reach_made (result.Unit m q number) k p is = call_reach m q k p is
+reach_made (result.Look m q end) k p is = absurd cc
+reach_made (result.NoUnit m q) k p is = absurd cc
+reach_made (result.State m q state size) k p is = absurd cc
+reach_made (result.Local error) k p is = absurd cc
+reach_made (result.Copied m bytes) k p is = absurd cc
+reach_made (result.CopiedFrame m layouts bytes) k p is = absurd cc
+reach_made (result.Size m) k p is = absurd cc
+reach_made result.Absent k p is = absurd cc
+
 reach_look : (r : StepResult) (k n : ℕ) → look_of r ≡ Some (k, n) → reach k (mark_of r) ≡ Some (n, n)
 reach_look (result.Look m q end) k n is = look_reach m q k n is
 reach_look (result.State m q state size) k n is = look_reach m q k n is
+reach_look (result.NoUnit m q) k n is = look_reach m q k n is
 reach_look (result.Call m q error) k n is = absurd cc
+reach_look (result.Unit m q number) k n is = absurd cc
 reach_look (result.Local error) k n is = absurd cc
 reach_look (result.Copied m bytes) k n is = absurd cc
 reach_look (result.CopiedFrame m layouts bytes) k n is = absurd cc
@@ -126,11 +162,11 @@ reach_look result.Absent k n is = absurd cc
 -- Marks that climb are in order by their places.
 pub order_by_places : (w : Recorded) → MarksClimb w → OrderByPlaces w
 order_by_places w climbs = record {
-  stands = λ c j k p e is. (let lt = (climbs_within k 0 (marks c) (top k) j (mark.Call k p) (p, suc p) (climbs c k) (mark_at w c j (result.Call k p e) is) (reach_call k p)).1 in omega (arith, lt));
-  rising = λ c i j k p q e f lt a b. between c k i j lt (result.Call k p e) (result.Call k q f) (p, suc p) (q, suc q) a b (reach_call k p) (reach_call k q);
+  stands = λ c j k p r is m. (let lt = (climbs_within k 0 (marks c) (top k) j (mark_of r) (p, suc p) (climbs c k) (mark_at w c j r is) (reach_made r k p m)).1 in omega (arith, lt));
+  rising = λ c i j k p q d r lt a x b y. between c k i j lt d r (p, suc p) (q, suc q) a b (reach_made d k p x) (reach_made r k q y);
   within = λ c j k n r is l. (climbs_within k 0 (marks c) (top k) j (mark_of r) (n, n) (climbs c k) (mark_at w c j r is) (reach_look r k n l)).1;
-  after_calls = λ c i j k p n e r lt a b l. between c k i j lt (result.Call k p e) r (p, suc p) (n, n) a b (reach_call k p) (reach_look r k n l);
-  before_calls = λ c i j k p n e r lt a l b. between c k i j lt r (result.Call k p e) (n, n) (p, suc p) a b (reach_look r k n l) (reach_call k p);
+  after_calls = λ c i j k p n d r lt a x b l. between c k i j lt d r (p, suc p) (n, n) a b (reach_made d k p x) (reach_look r k n l);
+  before_calls = λ c i j k p n d r lt a l b x. between c k i j lt d r (n, n) (p, suc p) a b (reach_look d k n l) (reach_made r k p x);
   looks_rise = λ c i j k m n q r lt a l b y. between c k i j lt q r (m, m) (n, n) a b (reach_look q k m l) (reach_look r k n y);
 }
   where

@@ -25,7 +25,7 @@ use Rattle.codec_model.specs.declared.entry.Entry.{Entry}
 use Rattle.codec_model.specs.declared.entry.Entry.TheVariants as entry
 use Rattle.codec_model.specs.Control.{start_item, may_reclaim}
 use Rattle.codec_model.specs.Replay.{Given, entry_of, removal_entry, call_error, removal_error, answer_to}
-use Rattle.codec_model.specs.Shown.{shown, ends_in, promise_state, exception_of}
+use Rattle.codec_model.specs.Shown.{shown, outputs_of, ends_in, promise_state, exception_of}
 use Rattle.codec_accounts.specs.Owed.{at, append_at}
 use Rattle.codec_accounts.specs.Codec.{CodecValue, new_codec, state_of, codecs_after, slots_by, codec_at, histories}
 use Rattle.script_types.specs.declared.script.ScriptData.{ScriptData}
@@ -36,13 +36,14 @@ use Rattle.script_types.specs.declared.steps.ChunkSource.{ChunkSource}
 use Rattle.script_types.specs.declared.steps.ChunkSource.TheVariants as source
 use Rattle.script_types.specs.declared.steps.Step.{Step}
 use Rattle.script_types.specs.declared.steps.MediaStep.{MediaStep}
+use Rattle.script_types.specs.declared.steps.MediaStep.TheVariants as on_media
 use Rattle.script_types.specs.declared.steps.Step.TheVariants as step
 use Rattle.script_types.specs.declared.script.OrderItem.{OrderItem}
 use Rattle.script_types.specs.declared.script.OrderItem.TheVariants as item
 use Rattle.report_text.specs.declared.result.StepResult.{StepResult}
 use Rattle.report_text.specs.declared.result.StepResult.TheVariants as result
 use Rattle.wc_pool.specs.declared.entry.PoolEntry.{PoolEntry}
-use Rattle.media_variables.specs.Variables.{Media, Came, chunk_in, media_came, after_came, variables_of}
+use Rattle.media_variables.specs.Variables.{Media, Came, Taken, chunk_in, media_came, after_came, variables_of}
 
 -- What was recorded so far: each caller's results, each codec's history, the pool's of media, and the registry's.
 pub record Recorded : Type 0 where
@@ -77,6 +78,10 @@ opening_at s k = opening_in s.codecs k
 -- how a promise stands after a history
 abbrev pub promise_after : Opening → List Entry → ℕ → PromiseState
 promise_after o h promise = promise_state (ends_in (shown o h)) promise
+
+-- the output that a codec showed with this number
+abbrev pub output_at : Opening → List Entry → ℕ → Option media.Unit
+output_at o h n = slice_get (outputs_of (shown o h)) n
 
 -- the steps of the caller with this number
 abbrev pub steps_in : List CallerItem → ℕ → List Step
@@ -123,14 +128,15 @@ source_error (source.File file index) = None
 -- ---- moves
 
 -- What an item of the order, or the step of a caller, makes: nothing; a result of a caller alone, as that of a look; the
--- next entry of a codec; both, where a caller's step calls a codec, with the exception that the call shows; or what a step
--- on media comes to.
+-- next entry of a codec; both, where a caller's step calls a codec, with the exception that the call shows; what a step on
+-- media comes to; or that beside the next entry of a codec, of which the step takes an output.
 pub data Move : Type 0 where
   Idle : Move
   Answer : ℕ → StepResult → Move
   Advance : ℕ → Entry → Move
   Ask : ℕ → ℕ → Entry → Option DomError → Move
   Handle : Who → Came → Move
+  Receive : Who → ℕ → Entry → Came → Move
 
 -- one result more of the caller with this number
 abbrev pub with_result : ℕ → StepResult → Course → Course
@@ -150,6 +156,7 @@ after_move (Answer c r) v = with_result c r v
 after_move (Advance k e) v = with_entry k e v
 after_move (Ask c k e error) v = with_result c (result.Call k (length (codec_at k v.codecs).history) error) (with_entry k e v)
 after_move (Handle who y) v = with_result who.caller y.answer (with_media who y v)
+after_move (Receive who k e y) v = with_result who.caller y.answer (with_media who y (with_entry k e v))
 
 -- ---- the next entry of one codec
 
@@ -222,10 +229,29 @@ look_of_flush ds _ = result.Absent
 abbrev pub look_of_state : ℕ → CodecValue → StepResult
 look_of_state k d = let c = (state_of d).control in result.State k (length d.history) c.phase c.size
 
--- a step on media; one that encodes or takes is not built yet, and makes nothing
-abbrev pub media_move : Who → Option Came → Move
-media_move who None = Idle
-media_move who (Some y) = Handle who y
+-- a step on media; one that encodes is not built yet, and makes nothing
+abbrev pub handle_move : Who → Option Came → Move
+handle_move who None = Idle
+handle_move who (Some y) = Handle who y
+
+-- what a take finds: the first output that was shown and not taken yet, if there is one, and its answer
+abbrev pub found_at : ℕ → CodecValue → Option Taken
+found_at k d =
+    let n = (state_of d).control.taken in
+    option_map (λ u. record { unit = u; answer = result.Unit k (length d.history) n }) (output_at d.opening d.history n)
+
+-- a take of a codec, by what it comes to; a look where it found nothing
+abbrev pub take_move : Who → ℕ → CodecValue → Option Came → Move
+take_move who k d None = Answer who.caller (result.NoUnit k (length d.history))
+take_move who k d (Some y) = Receive who k (entry.Take who (state_of d).control.taken) y
+
+abbrev pub media_move : ScriptData → List (List Chunk) → Who → MediaStep → Course → Move
+media_move s media who (on_media.Take on bind kind) v =
+    let b = record { chunk = None; taken = found_at on (codec_at on v.codecs) } in
+    take_move who on (codec_at on v.codecs) (media_came v.media.pool who b (on_media.Take on bind kind) (variables_of who.caller v.media.variables))
+media_move s media who x v =
+    let b = record { chunk = copied_chunk media (steps_of s who.caller) x; taken = None } in
+    handle_move who (media_came v.media.pool who b x (variables_of who.caller v.media.variables))
 
 -- the step of a caller
 abbrev pub step_move : ScriptData → List (List Chunk) → Who → Step → Course → Move
@@ -238,8 +264,7 @@ step_move s media who (step.Await promise) v = Answer who.caller (look_of_flush 
 step_move s media who (step.Reset on) v = removal_move who on removal.Reset (codec_at on v.codecs)
 step_move s media who (step.Close on) v = removal_move who on removal.Close (codec_at on v.codecs)
 step_move s media who (step.State on) v = Answer who.caller (look_of_state on (codec_at on v.codecs))
-step_move s media who (step.Media x) v =
-    media_move who (media_came v.media.pool who (copied_chunk media (steps_of s who.caller) x) x (variables_of who.caller v.media.variables))
+step_move s media who (step.Media x) v = media_move s media who x v
 
 abbrev pub next_move : ScriptData → List (List Chunk) → Who → Option Step → Course → Move
 next_move s media who None v = Idle

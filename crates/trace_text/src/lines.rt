@@ -45,9 +45,14 @@ fn entry_line_of(entry: &Entry, shown: &Shown) -> EntryLine
     match entry {
         Entry::Configure { who, .. } => call_line(*who, CallWord::Configure, shown),
         Entry::Decode { who, .. } => call_line(*who, CallWord::Decode, shown),
+        Entry::Encode { who, .. } => call_line(*who, CallWord::Encode, shown),
         Entry::Flush { who } => call_line(*who, CallWord::Flush, shown),
         Entry::Reset { who } => call_line(*who, CallWord::Reset, shown),
         Entry::Close { who } => call_line(*who, CallWord::Close, shown),
+        Entry::Take { who, unit } => EntryLine::Take {
+            who: *who,
+            unit: *unit,
+        },
         Entry::Start { epoch, item } => EntryLine::Start {
             epoch: *epoch,
             item: *item,

@@ -10,7 +10,8 @@ use Rattle.script_types.specs.declared.script.OrderItem.TheVariants as item
 use Rattle.script_types.specs.declared.script.ScriptData.{ScriptData}
 use Rattle.script_types.specs.declared.steps.Step.{Step}
 use Rattle.script_types.specs.declared.steps.Step.TheVariants as step
-use Rattle.script_types.specs.Sound.{is_sound, are_sound_codecs, is_sound_step, is_sound_item, any_kind}
+use Rattle.script_types.specs.declared.steps.MediaStep.TheVariants as on_media
+use Rattle.script_types.specs.Sound.{is_sound, are_sound_codecs, is_sound_step, is_sound_item, any_kind, gives}
 use Rattle.script_types.specs.SoundLaws.{parts_of, codec_within, few_steps, item_at}
 use Rattle.trace_text.specs.Follow.{steps_of}
 use Rattle.trace_text.specs.Fits.{step_in}
@@ -38,7 +39,15 @@ looks_within codecs before (step.Poll promise) h = tt
 looks_within codecs before (step.Await promise) h = tt
 looks_within codecs before (step.Reset on) h = tt
 looks_within codecs before (step.Close on) h = tt
-looks_within codecs before (step.Media y) h = tt
+looks_within codecs before (step.Media (on_media.Take on bind kind)) h = codec_within codecs (gives kind) on (and_parts _ _ h).0
+looks_within codecs before (step.Media (on_media.Audio bind init)) h = tt
+looks_within codecs before (step.Media (on_media.Frame bind init)) h = tt
+looks_within codecs before (step.Media (on_media.Encode on content)) h = tt
+looks_within codecs before (step.Media (on_media.Clone of bind)) h = tt
+looks_within codecs before (step.Media (on_media.Transfer of bind)) h = tt
+looks_within codecs before (step.Media (on_media.CloseData of)) h = tt
+looks_within codecs before (step.Media (on_media.Copy of o size)) h = tt
+looks_within codecs before (step.Media (on_media.Size of o)) h = tt
 
 -- ---- the order
 

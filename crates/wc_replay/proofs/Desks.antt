@@ -29,7 +29,8 @@ use Rattle.codec_model.specs.Replay.{State, missing_coder, entry_of, removal_ent
 use Rattle.codec_core.specs.Codec.{Codec, item_parts, state_at, Makes, KeepsRunning, kept_box, handed_back, closes_now}
 use Rattle.codec_core.specs.Owning.{IsOwnJob, KeepsAsked}
 use Rattle.codec_core.specs.Job.{JobValue, DoneValue, IsJobOf, EndsBy, outcome_of, stopped_box, missing_id}
-use Rattle.codec_accounts.specs.Boxes.{Act, Other, act_of, lacking, start_act, removal_act, closes_codec}
+use Rattle.codec_accounts.specs.Boxes.{Act, Other, act_of, lacking, start_act, removal_act}
+use Rattle.codec_model.specs.Held.{closes_codec}
 use Rattle.codec_accounts.specs.Registry.{BoxOut}
 use Rattle.codec_accounts.specs.Codec.{Holding, CodecValue, state_of, next_by, BoxStep, Keep, Give, Renew, is_old, box_step, after_give, slots_after, holding_after, step_by, after_entry, slots_by, IsGivable}
 use Rattle.trace_text.specs.Follow.{outcome_for, start_entry, end_of, done_entry, turn_on, turn_entry, reclaim_entry}

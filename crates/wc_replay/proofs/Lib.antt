@@ -4,3 +4,4 @@ pub mod Ends
 pub mod Looks
 pub mod Orders
 pub mod Runs
+pub mod Takes

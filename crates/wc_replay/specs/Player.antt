@@ -8,6 +8,7 @@ use Rattle.script_types.specs.declared.script.CodecItem.{CodecItem}
 use Rattle.script_types.specs.declared.script.ScriptData.{ScriptData}
 use Rattle.script_types.specs.declared.steps.Step.{Step}
 use Rattle.script_types.specs.declared.steps.Step.TheVariants as step
+use Rattle.script_types.specs.declared.steps.MediaStep.TheVariants as on_media
 use Rattle.codec_model.specs.Shown.{each_shown}
 use Rattle.trace_text.specs.declared.run.CallerTrace.{CallerTrace}
 use Rattle.trace_text.specs.declared.run.CodecTrace.{CodecTrace}
@@ -28,12 +29,13 @@ IsInRange n (item.Done k moment) = k < n
 IsInRange n (item.Turn k) = k < n
 IsInRange n (item.Reclaim k moment) = k < n
 
--- a step that looks at a codec's state looks at one of so many
+-- a step that looks at a codec's state, or takes an output of a codec, names one of so many
 abbrev pub LooksInRange : ℕ → Step → Type 0
 LooksInRange n (step.State k) = k < n
+LooksInRange n (step.Media (on_media.Take k bind kind)) = k < n
 LooksInRange n x = Unit {0}
 
--- The script is sound, each look at a state names one of its codecs, each step's number fits in 32 bits, and every item of
+-- The script is sound, each look at a state and each take names one of its codecs, each step's number fits in 32 bits, and every item of
 -- the order names one of the codecs, if it names one.
 pub record IsPlayable (s : ScriptData) : Type 0 where
   pub faultless : is_sound s ≡ true

@@ -9,10 +9,10 @@ ghost use Rattle.codec_model.specs.Control.{kind_of};
 ghost use Rattle.codec_model.specs.Replay.{State, entry_of, removal_entry, call_error, removal_error, answer_to};
 ghost use Rattle.codec_model.specs.Shown.{each_shown, exception_of};
 ghost use Rattle.trace_text.specs.Follow.{promise_after, outcome_for, start_entry, done_entry, turn_entry, reclaim_entry, item_entry};
-ghost use Rattle.wc_replay.specs.Desk.{box_out, LacksBox, more, Makes};
+ghost use Rattle.wc_replay.specs.Desk.{box_out, LacksBox, more, Makes, Received};
 
 use crate::boxes::{fill, give};
-use codec_core::{CallFault, Core, DoneJob, Job};
+use codec_core::{CallFault, Core, DoneJob, Job, Taken};
 use codec_drive::run;
 use codec_model::{Call, CodecState, Entry, Opening, PromiseState, Removal, Shown, shown_list};
 use coder_api::{Coder, SlotBox};
@@ -70,6 +70,13 @@ impl<C: Coder> Desk<C> {
             (λ a. a.error ≡ exception_of call (call_error call (state_of self.old).control)) }
     {
         ask(&mut self.core, who, call)
+    }
+
+    /// A take of a caller: the first output that was shown and not taken yet, if one is left.
+    pub(crate) fn receive(&mut self, who: Who) -> Result<Option<Taken>, NoMemory>
+        ensures { IfOk result (Received who self.old self.new) }
+    {
+        self.core.take(who)
     }
 
     /// A reset or close of a caller, of the codec with this number; the box that it lets go goes back.

@@ -4,9 +4,10 @@ ghost use Rattle.codec_accounts.specs.Codec.{codec_at, codecs_after, slots_by, s
 ghost use Rattle.codec_model.specs.Replay.{entry_of, removal_entry, call_error, removal_error};
 ghost use Rattle.codec_model.specs.Shown.{exception_of};
 ghost use Rattle.trace_text.specs.Follow.{item_entry};
-ghost use Rattle.wc_replay.specs.Desk.{more, codec_by, registry_by};
+ghost use Rattle.wc_replay.specs.Desk.{more, codec_by, registry_by, Received};
 
 use crate::desk::{Answer, Desk};
+use codec_core::Taken;
 use codec_model::{Call, Removal};
 use coder_api::Coder;
 use script_types::OrderItem;
@@ -33,6 +34,25 @@ pub(crate) fn call_at<C: Coder>(
 {
     match desks.get_mut(codec as usize) {
         Some(desk) => desk.call(who, call),
+        None => unreachable!(),
+    }
+}
+
+/// A take of a caller from the codec with this number.
+pub(crate) fn receive_at<C: Coder>(
+    desks: &mut Vec<Desk<C>>,
+    codec: u32,
+    who: Who,
+) -> Result<Option<Taken>, NoMemory>
+    requires { codec < length desks.old.items }
+    ensures taken { IfOk result
+        (Received who (codec_at codec desks.old.items) (codec_at codec desks.new.items)) }
+    ensures others { OnOk result
+        (desks.new.items
+        ≡ slice_set desks.old.items codec (codec_at codec desks.new.items)) }
+{
+    match desks.get_mut(codec as usize) {
+        Some(desk) => desk.receive(who),
         None => unreachable!(),
     }
 }

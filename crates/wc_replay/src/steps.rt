@@ -1,18 +1,20 @@
 // The steps of the callers, and the items of the order.
-ghost use Rattle.std.specs.Prelude.{◌≡◌, ◌≤◌, ◌<◌, ℕ, Bool, false, Some, OnOk, IfOk, length, slice_get, option_copied};
+ghost use Rattle.std.specs.Prelude.{◌≡◌, ◌≤◌, ◌<◌, ℕ, Bool, false, Some, OnOk, IfOk, length, slice_get, option_copied, None};
 ghost use Rattle.codec_accounts.specs.Codec.{codec_at, AreGivable};
 ghost use Rattle.codec_accounts.specs.Owed.{at};
-ghost use Rattle.trace_text.specs.Fits.{called};
-ghost use Rattle.media_variables.specs.Variables.{media_came, variables_of};
-ghost use Rattle.trace_text.specs.Follow.{with_result, after_move, advance, item_entry, call_move, decode_move, media_move, removal_move, look_of_flush, look_of_state, step_move, follow_item, steps_of, source_error};
+ghost use Rattle.trace_text.specs.Fits.{called, taken_from};
+ghost use Rattle.script_types.specs.declared.steps.Step.TheVariants as a_step;
+ghost use Rattle.media_variables.specs.Variables.{media_came, taken_came, variables_of};
+ghost use Rattle.trace_text.specs.Follow.{with_result, after_move, advance, item_entry, call_move, decode_move, handle_move, media_move, take_move, found_at, removal_move, look_of_flush, look_of_state, step_move, follow_item, steps_of, source_error};
 ghost use Rattle.report_text.specs.declared.result.StepResult.TheVariants as came;
 ghost use Rattle.script_types.specs.declared.script.OrderItem.TheVariants as item;
 ghost use Rattle.wc_replay.specs.Player.{IsInRange, LooksInRange, IsPlayable, call_in};
 
 use crate::copied::copied_chunk;
 use crate::desk::{Answer, Desk};
-use crate::moving::{call_at, remove_at, take_at};
+use crate::moving::{call_at, receive_at, remove_at, take_at};
 use crate::results::{Results, made_by, note, result_of};
+use codec_core::Taken;
 use codec_model::{Call, PromiseState, Removal};
 use coder_api::Coder;
 use media_variables::CallerMedia;
@@ -117,6 +119,41 @@ fn state_result<C: Coder>(desks: &[Desk<C>], codec: u32) -> StepResult
     }
 }
 
+/// The result of a take that found this output.
+fn unit_result(codec: u32, taken: &Taken) -> StepResult
+    ensures { result ≡ came.Unit codec taken.now.place taken.now.number }
+{
+    StepResult::Unit {
+        codec,
+        place: taken.place,
+        number: taken.number,
+    }
+}
+
+/// What a take shows that finds no output of a codec.
+fn no_unit<C: Coder>(desks: &[Desk<C>], codec: u32) -> StepResult
+    requires { codec < length desks.now }
+    ensures { result ≡ came.NoUnit codec (length (codec_at codec desks.now).history) }
+{
+    match desks.get(codec as usize) {
+        Some(desk) => {
+            let (length, _, _) = desk.look();
+            StepResult::NoUnit { codec, length }
+        }
+        None => unreachable!(),
+    }
+}
+
+/// The codec that a step on media takes an output of, if it takes one.
+fn taken_from(step: &MediaStep) -> Option<u32>
+    ensures { result ≡ taken_from (a_step.Media step.now) }
+{
+    match step {
+        MediaStep::Take { on, .. } => Some(*on),
+        _ => None,
+    }
+}
+
 fn step_at(steps: &[Step], number: usize) -> Option<&Step>
     ensures { option_copied result ≡ slice_get steps.now number }
 {
@@ -193,8 +230,8 @@ impl<C: Coder> Player<C> {
         note(&mut self.callers, who.caller, call_result(codec, answer))
     }
 
-    /// A step on media of a caller, and its answer; `chunk` is the one that the step copies, if it copies one. A step that
-    /// encodes or takes is not built, and makes nothing.
+    /// A step on media of a caller that is no take, and its answer; `chunk` is the one that the step copies, if it copies
+    /// one. A step that encodes is not built, and makes nothing.
     fn handle(
         &mut self,
         alloc: Global,
@@ -203,16 +240,62 @@ impl<C: Coder> Player<C> {
         step: &MediaStep,
     ) -> Result<(), NoMemory>
         requires { who.caller < length self.old.media.variables }
-        ensures { OnOk result
+        ensures { let b = record { chunk = chunk; taken = None } in
+            OnOk result
             (self.new
             ≡ after_move
-            (media_move who
-            (media_came self.old.media.pool who chunk step.now
+            (handle_move who
+            (media_came self.old.media.pool who b step.now
             (variables_of who.caller self.old.media.variables))) self.old) }
     {
         match self.media.step(alloc, who, chunk, step)? {
             Some(came) => note(&mut self.callers, who.caller, came),
             None => Ok(()),
+        }
+    }
+
+    /// A take of a caller: the next output of the codec becomes what the step's variable holds, if one is left.
+    fn receive(&mut self, who: Who, codec: u32) -> Result<(), NoMemory>
+        requires codec { codec < length self.old.codecs }
+        requires caller { who.caller < length self.old.media.variables }
+        ensures { let d = codec_at codec self.old.codecs in
+            let came = taken_came self.old.media.pool who.step (found_at codec d)
+            (variables_of who.caller self.old.media.variables) in
+            OnOk result (self.new ≡ after_move (take_move who codec d came) self.old) }
+    {
+        let came = match receive_at(&mut self.desks, codec, who)? {
+            Some(taken) => {
+                let answer = unit_result(codec, &taken);
+                self.media.take(who, taken.unit, answer)?
+            }
+            None => no_unit(&self.desks, codec),
+        };
+        note(&mut self.callers, who.caller, came)
+    }
+
+    /// A step of a caller on media: a take of a codec's output, or one that no codec has a part in.
+    fn on_media(
+        &mut self,
+        alloc: Global,
+        media: &[List<Chunk>],
+        steps: &[Step],
+        who: Who,
+        step: &MediaStep,
+        script: &ScriptData,
+    ) -> Result<(), NoMemory>
+        requires steps { steps_of script.now who.caller ≡ steps.now }
+        requires range { LooksInRange (length self.old.codecs) (a_step.Media step.now) }
+        requires caller { who.caller < length self.old.media.variables }
+        ensures { OnOk result
+            (self.new
+            ≡ after_move (media_move script.now media.now who step.now self.old) self.old) }
+    {
+        match taken_from(step) {
+            Some(codec) => self.receive(who, codec),
+            None => {
+                let chunk = copied_chunk(media, steps, step)?;
+                self.handle(alloc, who, chunk, step)
+            }
         }
     }
 
@@ -251,10 +334,7 @@ impl<C: Coder> Player<C> {
             Step::Reset { on } => self.remove(who, *on, Removal::Reset),
             Step::Close { on } => self.remove(who, *on, Removal::Close),
             Step::State { on } => self.look_at_state(who, *on),
-            Step::Media(handled) => {
-                let chunk = copied_chunk(media, steps, handled)?;
-                self.handle(alloc, who, chunk, handled)
-            }
+            Step::Media(handled) => self.on_media(alloc, media, steps, who, handled, script),
         }
     }
 

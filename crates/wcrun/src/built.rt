@@ -18,7 +18,7 @@ fn is_built_kind(kind: Kind) -> bool
 fn is_built_media(step: &MediaStep) -> bool
     ensures { result ≡ spec.is_built_media step.now }
 {
-    !matches!(step, MediaStep::Encode { .. } | MediaStep::Take { .. })
+    !matches!(step, MediaStep::Encode { .. })
 }
 
 fn is_built_step(step: &Step) -> bool

@@ -128,12 +128,11 @@ fn told_of(
 #[test]
 fn each_fault_of_a_script_is_named(rt: HostRuntime) -> Result<(), Fail> {
     let alloc = rt.alloc();
-    let rows: [(&str, Option<&str>, usize, &str); 7] = [
+    let rows: [(&str, Option<&str>, usize, &str); 6] = [
         (CHUNK, Some(CHUNK), 2, "script: twice at step 0 1\n"),
         (DECODE, None, 1, "script: unknown name at step 0 0\n"),
         (CHUNK, None, 2, "script: shape at top\n"),
         (CHUNK, Some(UNKNOWN), 2, "script: shape at step 0 1\n"),
-        (CHUNK, Some(TAKE), 2, "script: unbuilt at step 0 1\n"),
         (TAKE, Some(DECODE), 2, "script: shape at step 0 1\n"),
         (POLL, None, 1, "script: unknown name at step 0 0\n"),
     ];

@@ -16,6 +16,8 @@ mod refusal;
 #[cfg(test)]
 mod rows;
 #[cfg(test)]
+mod take_rows;
+#[cfg(test)]
 mod tests;
 #[cfg(test)]
 mod video_rows;

@@ -245,7 +245,7 @@ held 1
 end
 ";
 
-// An encoder is not built, nor is a step that takes; the first of them is named, and codecs come first.
+// An encoder is not built, nor is a step that encodes; the first of them is named, and codecs come first.
 const ENCODES: &str =
     r#"{"codecs":[{"name":"d","kind":"audio-decoder"},{"name":"e","kind":"audio-encoder"}],
 "callers":[{"name":"a","steps":[
@@ -255,21 +255,6 @@ const ENCODES: &str =
 {"do":"encode","on":"e","data":"x"}]}],
 "order":["a","a","a"]}"#;
 
-const TAKES: &str =
-    r#"{"codecs":[{"name":"d","kind":"audio-decoder"}],"callers":[{"name":"a","steps":[
-{"do":"audio","as":"x","init":{"format":"u8","sampleRate":8000,"numberOfFrames":1,"numberOfChannels":1,
-"timestamp":0,"data":"80"}},
-{"do":"clone","of":"x","as":"y"},
-{"do":"transfer","of":"x","as":"z"},
-{"do":"copy","of":"y","options":{"planeIndex":0},"size":1},
-{"do":"size","of":"y","options":{"planeIndex":0}},
-{"do":"close-data","of":"y"}]},
-{"name":"b","steps":[
-{"do":"frame","as":"x","init":{"format":"NV12","codedWidth":1,"codedHeight":1,"timestamp":0,"data":"000000"}},
-{"do":"take","on":"d","as":"t"},
-{"do":"take","on":"d","as":"u"}]}],
-"order":["a","a","a","a","a","a","b","b","b"]}"#;
-
 #[test]
 fn media_of_callers_go_as_the_order_says(rt: HostRuntime) -> Result<(), Fail> {
     let rows = [
@@ -278,7 +263,6 @@ fn media_of_callers_go_as_the_order_says(rt: HostRuntime) -> Result<(), Fail> {
         (FRAME, 0, FRAME_REPORT),
         (BESIDE_A_DECODER, 0, BESIDE_A_DECODER_REPORT),
         (ENCODES, 3, "script: unbuilt at codec 1\n"),
-        (TAKES, 3, "script: unbuilt at step 1 1\n"),
     ];
     each_ends(&rt, rt.alloc(), &rows)
 }
