@@ -135,6 +135,8 @@ result_plain script (result.Call n place error) names fits = both _ _ (entry_pla
 result_plain script (result.Local error) names fits = answer error
 result_plain script (result.Look n len end) names fits = both _ _ (look_plain script n len names fits.0 fits.1) (both (codes " ") _ blank (promise_plain end))
 result_plain script (result.State n len state size) names fits = both _ _ (look_plain script n len names fits.0 fits.1) (both (codes " ") _ blank (both _ _ (word_plain (state_text state) (state_is_word state)) (both (codes " ") _ blank (number size fits.2))))
+result_plain script (result.Unit n place m) names fits = both _ _ (entry_plain script n place names fits.0 fits.1) (both (codes " unit ") _ (sure refl) (number m fits.2))
+result_plain script (result.NoUnit n len) names fits = both _ _ (look_plain script n len names fits.0 fits.1) (sure refl)
 result_plain script (result.Copied n bytes) names fits = both _ _ (both (codes "copied ") _ (sure refl) (both _ _ (number n fits.0) blank)) (hex bytes fits.1)
 result_plain script (result.CopiedFrame n layouts bytes) names fits =
     both _ _ (both (codes "copied ") _ (sure refl) (both _ _ (number n fits.0) (both (codes " ") _ blank (both _ _ (layouts_plain layouts fits.1) blank)))) (hex bytes fits.2)
@@ -162,6 +164,7 @@ item_plain epoch item a b = both _ _ (number epoch a) (both (codes ".") _ (sure 
 
 entry_line_plain : (script : ScriptData) (e : EntryLine) → AreNames script → FitsEntryLine script e → Plain (entry_text script.callers e)
 entry_line_plain script (entry_line.Call who call error) names fits = both _ _ (who_plain script who names fits) (both (codes " ") _ blank (both _ _ (word_plain (call_word call) (call_is_word call)) (both (codes " = ") _ (sure refl) (answer error))))
+entry_line_plain script (entry_line.Take who unit) names fits = both _ _ (who_plain script who names fits.0) (both (codes " take = ") _ (sure refl) (number unit fits.1))
 entry_line_plain script (entry_line.Start epoch item) names fits = both (codes "start ") _ (sure refl) (item_plain epoch item fits.0 fits.1)
 entry_line_plain script (entry_line.Done epoch item moment outcome) names fits = both (codes "done ") _ (sure refl) (both _ _ (item_plain epoch item fits.0 fits.1) (both (codes " ") _ blank (both _ _ (number moment fits.2) (both (codes " ") _ blank (outcome_plain outcome fits.3)))))
 entry_line_plain script (entry_line.Turn word) names fits = both (codes "turn ") _ (sure refl) (turn_plain word)

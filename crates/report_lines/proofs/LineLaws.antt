@@ -24,6 +24,7 @@ use Rattle.wc_pool.specs.declared.entry.PoolOp.TheVariants as pool
 use Rattle.coder_api.specs.declared.slot.SlotOp.{SlotOp}
 use Rattle.coder_api.specs.declared.slot.SlotOp.TheVariants as slot
 use Rattle.codec_model.specs.declared.entry.CodecState.{CodecState}
+use Rattle.codec_model.specs.declared.entry.CodecState.TheVariants as state
 use Rattle.codec_model.specs.declared.entry.PromiseState.{PromiseState}
 use Rattle.codec_model.specs.declared.entry.PromiseState.TheVariants as promise
 use Rattle.codec_model.specs.declared.entry.Outcome.{Outcome}
@@ -55,7 +56,7 @@ use Rattle.report_text.specs.declared.line.Line.TheVariants as line
 use Rattle.report_text.specs.Words.{call_word}
 use Rattle.report_text.specs.Text.{entry_text}
 use Rattle.report_text.specs.Text.{event_text, line_text}
-use Rattle.report_lines.specs.Reading.{caller_of, codec_of, error_at, answer_at, promise_at, look_at, look_line_at, call_result_at, layout_at, two_layouts_at, three_layouts_at, layouts_at, copied_bytes_at, copied_frame_at, copied_at, copied_line_at, outcome_at, turn_at, start_at, done_at, call_at, by_of, coder_at, refused_at, acquired_at, given_at, op_at, slot_at, made_at, cloned_at, ended_at, pool_op_at, reference_at, is_slot_word, is_pool_word, dotted_line_at, worded_result_at, worded_line_at, numbered_line_at, sound_at, image_at, chunk_at, output_at, config_at, reject_at, event_at, event_line_at, codec_at, caller_at, headed_line_at, only_line_at, line_at}
+use Rattle.report_lines.specs.Reading.{caller_of, codec_of, error_at, answer_at, promise_at, look_at, look_line_at, call_result_at, unit_at, layout_at, two_layouts_at, three_layouts_at, layouts_at, copied_bytes_at, copied_frame_at, copied_at, copied_line_at, outcome_at, turn_at, start_at, done_at, call_at, take_at, by_of, coder_at, refused_at, acquired_at, given_at, op_at, slot_at, made_at, cloned_at, ended_at, pool_op_at, reference_at, is_slot_word, is_pool_word, dotted_line_at, worded_result_at, worded_line_at, numbered_line_at, sound_at, image_at, chunk_at, output_at, config_at, reject_at, event_at, event_line_at, codec_at, caller_at, headed_line_at, only_line_at, line_at}
 use Rattle.report_lines.specs.Fits.{is_no_feed, AreNames, IsCaller, IsCodec, FitsWho, FitsLayout, no_layout, FitsLayouts, FitsResult, FitsOutcome, FitsEntryLine, FitsSound, FitsImage, FitsEventLine, FitsBy, FitsPoolOp, FitsOp, FitsLine}
 use Rattle.report_lines.proofs.WordTables.{error_is_word, error_again, answer_is_word, answer_again, kind_is_word, kind_again, state_is_word, state_again, call_is_word, call_again, sample_format_is_word, sample_format_again, picture_format_is_word, picture_format_again, codec_id_is_word, codec_id_again, role_is_word, role_again, key_is_word, key_again, last_is_word, last_again}
 
@@ -143,9 +144,19 @@ look_again n len promise.Pending rest = refl
 look_again n len promise.Resolved rest = refl
 look_again n len (promise.Rejected e) rest = rw (error_at_again e rest) refl
 
+no_unit_again : (n len : ℕ) (rest : List ℕ) → look_at n len (codes "none" ++ 10 ∷ rest) ≡ Some (result.NoUnit n len)
+unfolding look_at
+no_unit_again n len rest = refl
+
+-- a state's word is not that of a take without an output
+state_alone : (s : CodecState) (x y : Option StepResult) → cond (bytes_eq (state_text s) (codes "none")) x y ≡ y
+state_alone state.Unconfigured x y = refl
+state_alone state.Configured x y = refl
+state_alone state.Closed x y = refl
+
 state_look_again : (n len size : ℕ) (s : CodecState) (rest : List ℕ) → size < 2 ^ 64 → look_at n len (state_text s ++ 32 ∷ (decimal size ++ 10 ∷ rest)) ≡ Some (result.State n len s size)
 unfolding look_at
-state_look_again n len size s rest lt = rw (word_again 32 (state_text s) (decimal size ++ 10 ∷ rest) (state_is_word s) refl, state_again s, number_again 10 size rest lt refl) refl
+state_look_again n len size s rest lt = rw (word_again 32 (state_text s) (decimal size ++ 10 ∷ rest) (state_is_word s) refl) (state_alone s _ _ ∙ rw (state_again s, number_again 10 size rest lt refl) refl)
 
 outcome_again : (o : Outcome) (rest : List ℕ) → FitsOutcome o → outcome_at (outcome_text o ++ 10 ∷ rest) ≡ Some o
 unfolding outcome_at
@@ -311,7 +322,7 @@ unfolding numbered_line_at copied_line_at
 copied_next script n r text lt found = numbered_first script n (codes "copied " ++ text) lt ∙ rw (number_again 32 n (codes "copied " ++ text) lt refl, found) refl
 
 result_again : (script : ScriptData) (step : ℕ) (r : StepResult) (rest : List ℕ) → AreNames script → step < 2 ^ 64 → FitsResult script r → only_line_at script (line_text script (line.Result step r) ++ rest) ≡ Some (line.Result step r)
-unfolding dotted_line_at look_line_at numbered_line_at call_result_at worded_line_at worded_result_at
+unfolding dotted_line_at look_line_at numbered_line_at call_result_at unit_at worded_line_at worded_result_at
 result_again script step (result.Call n place error) rest names lt fits = simp append_assoc (
     dotted_next script step (codec_name script.codecs n) (decimal place ++ 32 ∷ (answer_text error ++ 10 ∷ rest)) lt (names.codecs_are_words n fits.0.0)
     ∙ rw (number_again 32 place _ fits.1 refl, word_again 10 (answer_text error) rest (answer_is_word error) refl, codec_again script n names fits.0, answer_again error) refl)
@@ -324,6 +335,12 @@ result_again script step (result.Look n len end) rest names lt fits = simp appen
 result_again script step (result.State n len state size) rest names lt fits = simp append_assoc (
     looked_next script step (codec_name script.codecs n) (decimal len ++ 32 ∷ (state_text state ++ 32 ∷ (decimal size ++ 10 ∷ rest))) lt (names.codecs_are_words n fits.0.0)
     ∙ rw (codec_again script n names fits.0, number_again 32 len _ fits.1 refl, state_look_again n len size state rest fits.2) refl)
+result_again script step (result.Unit n place m) rest names lt fits = simp append_assoc (
+    dotted_next script step (codec_name script.codecs n) (decimal place ++ 32 ∷ (codes "unit " ++ (decimal m ++ 10 ∷ rest))) lt (names.codecs_are_words n fits.0.0)
+    ∙ rw (number_again 32 place _ fits.1 refl, codec_again script n names fits.0, number_again 10 m rest fits.2 refl) refl)
+result_again script step (result.NoUnit n len) rest names lt fits = simp append_assoc (
+    looked_next script step (codec_name script.codecs n) (decimal len ++ 32 ∷ (codes "none" ++ 10 ∷ rest)) lt (names.codecs_are_words n fits.0.0)
+    ∙ rw (codec_again script n names fits.0, number_again 32 len _ fits.1 refl, no_unit_again n len rest) refl)
 result_again script step (result.Copied n bytes) rest names lt fits =
     let regrouped : line_text script (line.Result step (result.Copied n bytes)) ++ rest ≡ decimal step ++ 32 ∷ (codes "copied " ++ (decimal n ++ 32 ∷ (hex_or_dash bytes ++ 10 ∷ rest))) = simp append_assoc in
     ap (only_line_at script) regrouped ∙ copied_next script step (result.Copied n bytes) _ lt (copied_again n bytes rest fits.0 fits.1)
@@ -335,26 +352,37 @@ result_again script step (result.Size size) rest names lt fits = simp append_ass
 result_again script step result.Absent rest names lt fits = simp append_assoc (
     numbered_first script step (codes "absent" ++ 10 ∷ rest) lt ∙ rw (number_again 32 step _ lt refl) refl)
 
--- a call's word is none of the registry's and none of the pool's
-call_alone : (c : CallWord) (x y z : Option Line) → cond (is_slot_word (call_word c)) x (cond (is_pool_word (call_word c)) y z) ≡ z
-call_alone call.Configure x y z = refl
-call_alone call.Decode x y z = refl
-call_alone call.Flush x y z = refl
-call_alone call.Reset x y z = refl
-call_alone call.Close x y z = refl
+-- a call's word is none of the registry's, none of the pool's and none of a take's
+call_alone : (c : CallWord) (v w x y z : Option Line)
+    → cond (is_slot_word (call_word c)) v (cond (is_pool_word (call_word c)) w (cond (bytes_eq (call_word c) (codes "unit")) x (cond (bytes_eq (call_word c) (codes "take")) y z))) ≡ z
+call_alone call.Configure v w x y z = refl
+call_alone call.Decode v w x y z = refl
+call_alone call.Encode v w x y z = refl
+call_alone call.Flush v w x y z = refl
+call_alone call.Reset v w x y z = refl
+call_alone call.Close v w x y z = refl
 
 called_again : (script : ScriptData) (place : ℕ) (who : Who) (c : CallWord) (error : Option DomError) (rest : List ℕ) → AreNames script → FitsWho script who
     → dotted_line_at script place (caller_name script.callers who.caller) (decimal who.step ++ 32 ∷ (call_word c ++ 32 ∷ 61 ∷ 32 ∷ (answer_text error ++ 10 ∷ rest))) ≡ Some (line.Entry place (entry_line.Call who c error))
 unfolding dotted_line_at call_at
 called_again script place who c error rest names fits =
     rw (number_again 32 who.step _ (omega (arith, fits.1)) refl, word_again 32 (call_word c) _ (call_is_word c) refl)
-    (call_alone c _ _ _ ∙ rw (caller_again script who.caller names fits.0, short_is who.step fits.1, call_again c, answer_at_again error rest) refl)
+    (call_alone c _ _ _ _ _ ∙ rw (caller_again script who.caller names fits.0, short_is who.step fits.1, call_again c, answer_at_again error rest) refl)
+
+taken_again : (script : ScriptData) (place : ℕ) (who : Who) (unit : ℕ) (rest : List ℕ) → AreNames script → FitsWho script who → unit < 2 ^ 64
+    → dotted_line_at script place (caller_name script.callers who.caller) (decimal who.step ++ 32 ∷ (codes "take = " ++ (decimal unit ++ 10 ∷ rest))) ≡ Some (line.Entry place (entry_line.Take who unit))
+unfolding dotted_line_at take_at
+taken_again script place who unit rest names fits small =
+    rw (number_again 32 who.step _ (omega (arith, fits.1)) refl, caller_again script who.caller names fits.0, short_is who.step fits.1, number_again 10 unit rest small refl) refl
 
 entry_again : (script : ScriptData) (place : ℕ) (e : EntryLine) (rest : List ℕ) → AreNames script → place < 2 ^ 64 → FitsEntryLine script e → only_line_at script (numbered_line place (entry_text script.callers e) ++ rest) ≡ Some (line.Entry place e)
 unfolding worded_line_at numbered_line_at start_at done_at
 entry_again script place (entry_line.Call who call error) rest names lt fits = simp append_assoc (
     dotted_next script place (caller_name script.callers who.caller) (decimal who.step ++ 32 ∷ (call_word call ++ 32 ∷ 61 ∷ 32 ∷ (answer_text error ++ 10 ∷ rest))) lt (names.callers_are_words who.caller fits.0.0)
     ∙ called_again script place who call error rest names fits)
+entry_again script place (entry_line.Take who unit) rest names lt fits = simp append_assoc (
+    dotted_next script place (caller_name script.callers who.caller) (decimal who.step ++ 32 ∷ (codes "take = " ++ (decimal unit ++ 10 ∷ rest))) lt (names.callers_are_words who.caller fits.0.0.0)
+    ∙ taken_again script place who unit rest names fits.0 fits.1)
 entry_again script place (entry_line.Start epoch item) rest names lt fits = simp append_assoc (
     numbered_first script place _ lt ∙ rw (number_again 32 place _ lt refl, number_again 46 epoch _ fits.0 refl, number_again 10 item _ fits.1 refl) refl)
 entry_again script place (entry_line.Done epoch item moment outcome) rest names lt fits = simp append_assoc (

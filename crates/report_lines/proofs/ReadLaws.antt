@@ -17,7 +17,7 @@ use Rattle.report_lines.specs.Fields.{short, number_upto, short_upto, signed_upt
 use Rattle.report_lines.specs.FieldLaws.{Lacks, FitsOrAbsent}
 use Rattle.report_lines.proofs.FieldFits.{bind_fits, bind_any, if_fits, upto_fits, number_fits, short_of_fits, short_fits, signed_fits, number_or_dash_fits, bytes_fits}
 use Rattle.report_text.specs.Text.{line_text}
-use Rattle.report_lines.specs.Reading.{caller_of, codec_of, error_at, answer_at, promise_at, look_as, look_at, look_line_at, call_result_at, layout_at, two_layouts_at, three_layouts_at, layouts_at, copied_bytes_at, copied_frame_at, copied_at, copied_line_at, outcome_at, turn_at, start_at, done_at, call_at, by_as, by_of, coder_at, refused_at, acquired_at, given_at, op_at, slot_at, made_at, cloned_at, ended_at, pool_op_at, reference_at, is_slot_word, is_pool_word, dotted_line_at, worded_result_at, worded_line_at, numbered_line_at, sound_at, image_at, chunk_at, output_at, without_feed, config_at, reject_at, event_at, event_line_at, codec_at, caller_at, headed_line_at, only_line_at, line_at}
+use Rattle.report_lines.specs.Reading.{caller_of, codec_of, error_at, answer_at, promise_at, look_as, look_at, look_line_at, call_result_at, unit_at, layout_at, two_layouts_at, three_layouts_at, layouts_at, copied_bytes_at, copied_frame_at, copied_at, copied_line_at, outcome_at, turn_at, start_at, done_at, call_at, take_at, by_as, by_of, coder_at, refused_at, acquired_at, given_at, op_at, slot_at, made_at, cloned_at, ended_at, pool_op_at, reference_at, is_slot_word, is_pool_word, dotted_line_at, worded_result_at, worded_line_at, numbered_line_at, sound_at, image_at, chunk_at, output_at, without_feed, config_at, reject_at, event_at, event_line_at, codec_at, caller_at, headed_line_at, only_line_at, line_at}
 use Rattle.report_lines.specs.Vocabulary.{answer_of, kind_of, state_of, call_of, sample_format_of, picture_format_of, key_of, last_of}
 use Rattle.report_lines.specs.Fits.{is_no_feed, IsCaller, IsCodec, FitsLayout, no_layout, FitsLayouts, FitsResult, FitsOutcome, FitsEntryLine, FitsEventLine, FitsBy, FitsPoolOp, FitsOp, FitsLine}
 
@@ -50,7 +50,9 @@ look_as_fits script (Some s) n len bs rest codec small = bind_fits IsLong (FitsR
 
 look_fits : (script : ScriptData) (n len : ℕ) (bs : List ℕ) → IsCodec script n → len < 2 ^ 64 → IfSome (look_at n len bs) (FitsResult script)
 unfolding look_at
-look_fits script n len bs codec small = bind_any (FitsResult script) (word_at bs) _ (λ w. look_as_fits script (state_of w.0) n len bs w.2 codec small)
+look_fits script n len bs codec small =
+    bind_any (FitsResult script) (word_at bs) _
+    (λ w. if_fits (FitsResult script) (bytes_eq w.0 (codes "none")) _ _ (λ is. (codec, small)) (λ is. look_as_fits script (state_of w.0) n len bs w.2 codec small))
 
 looked_fits : (script : ScriptData) (step : ℕ) (name bs : List ℕ) → step < 2 ^ 64 → IfSome (look_line_at script step name bs) (FitsLine script)
 unfolding look_line_at
@@ -64,6 +66,12 @@ unfolding call_result_at
 call_result_fits script step name place w lt small =
     bind_fits (IsCodec script) (FitsLine script) (codec_of script.codecs name) _ (codec_fits script name)
     (λ n codec. bind_any (FitsLine script) (answer_of w) _ (λ error. (lt, (codec, small))))
+
+unit_fits : (script : ScriptData) (step : ℕ) (name : List ℕ) (place : ℕ) (bs : List ℕ) → step < 2 ^ 64 → place < 2 ^ 64 → IfSome (unit_at script step name place bs) (FitsLine script)
+unfolding unit_at
+unit_fits script step name place bs lt small =
+    bind_fits (IsCodec script) (FitsLine script) (codec_of script.codecs name) _ (codec_fits script name)
+    (λ n codec. bind_fits IsLong (FitsLine script) (number_upto 10 bs) _ (number_fits 10 bs) (λ number few. (lt, (codec, small, few))))
 
 -- ---- copies
 
@@ -158,6 +166,14 @@ call_fits script place name m w bs lt =
     (λ word. bind_any (FitsLine script) (after (codes "= ") bs) _
     (λ rest. bind_any (FitsLine script) (answer_at rest) _ (λ error. (lt, (fits, small)))))))
 
+take_fits : (script : ScriptData) (place : ℕ) (name : List ℕ) (m : ℕ) (bs : List ℕ) → place < 2 ^ 64 → IfSome (take_at script place name m bs) (FitsLine script)
+unfolding take_at
+take_fits script place name m bs lt =
+    bind_fits (IsCaller script) (FitsLine script) (caller_of script.callers name) _ (caller_fits script name)
+    (λ caller fits. bind_fits (λ k. k < 2 ^ 32) (FitsLine script) (short m) _ (short_of_fits m)
+    (λ step small. bind_any (FitsLine script) (after (codes "= ") bs) _
+    (λ rest. bind_fits IsLong (FitsLine script) (number_upto 10 rest) _ (number_fits 10 rest) (λ unit few. (lt, ((fits, small), few))))))
+
 -- ---- entries of the registry
 
 by_as_fits : (script : ScriptData) (o : Option ℕ) (name : List ℕ) (m : ℕ) → m < 2 ^ 64 → IfSome o (IsCaller script) → IfSome (by_as o script name m) (FitsBy script)
@@ -237,7 +253,9 @@ dotted_fits script n name bs lt =
     (λ m small. bind_any (FitsLine script) (word_at m.1) _
     (λ w. if_fits (FitsLine script) (eqb w.1 10) _ _ (λ is. call_result_fits script n name m.0 w.0 lt small)
     (λ is. if_fits (FitsLine script) (is_slot_word w.0) _ _ (λ is. slot_fits script n name m.0 w.0 w.2 lt small)
-    (λ is. if_fits (FitsLine script) (is_pool_word w.0) _ _ (λ is. reference_fits script n name m.0 w.0 w.2 lt small) (λ is. call_fits script n name m.0 w.0 w.2 lt)))))
+    (λ is. if_fits (FitsLine script) (is_pool_word w.0) _ _ (λ is. reference_fits script n name m.0 w.0 w.2 lt small)
+    (λ is. if_fits (FitsLine script) (bytes_eq w.0 (codes "unit")) _ _ (λ is. unit_fits script n name m.0 w.2 lt small)
+    (λ is. if_fits (FitsLine script) (bytes_eq w.0 (codes "take")) _ _ (λ is. take_fits script n name m.0 w.2 lt) (λ is. call_fits script n name m.0 w.0 w.2 lt)))))))
 
 worded_result_fits : (script : ScriptData) (n : ℕ) (w rest : List ℕ) → n < 2 ^ 64 → IfSome (worded_result_at n w rest) (FitsLine script)
 unfolding worded_result_at

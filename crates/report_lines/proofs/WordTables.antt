@@ -70,6 +70,7 @@ state_again state.Closed = refl
 pub call_is_word : (x : CallWord) → list_all is_word_byte (call_word x) ≡ true
 call_is_word call.Configure = refl
 call_is_word call.Decode = refl
+call_is_word call.Encode = refl
 call_is_word call.Flush = refl
 call_is_word call.Reset = refl
 call_is_word call.Close = refl
@@ -77,6 +78,7 @@ call_is_word call.Close = refl
 pub call_again : (x : CallWord) → call_of (call_word x) ≡ Some x
 call_again call.Configure = refl
 call_again call.Decode = refl
+call_again call.Encode = refl
 call_again call.Flush = refl
 call_again call.Reset = refl
 call_again call.Close = refl

@@ -64,6 +64,8 @@ FitsResult script (result.Call n place error) = IsCodec script n × (place < 2 ^
 FitsResult script (result.Local error) = Unit {0}
 FitsResult script (result.Look n len end) = IsCodec script n × (len < 2 ^ 64)
 FitsResult script (result.State n len state size) = IsCodec script n × (len < 2 ^ 64) × (size < 2 ^ 64)
+FitsResult script (result.Unit n place number) = IsCodec script n × (place < 2 ^ 64) × (number < 2 ^ 64)
+FitsResult script (result.NoUnit n len) = IsCodec script n × (len < 2 ^ 64)
 FitsResult script (result.Copied n bytes) = (n < 2 ^ 64) × IsBytes bytes
 FitsResult script (result.CopiedFrame n layouts bytes) = (n < 2 ^ 64) × FitsLayouts layouts × IsBytes bytes
 FitsResult script (result.Size n) = n < 2 ^ 64
@@ -77,6 +79,7 @@ FitsOutcome outcome.NoMemory = Unit {0}
 
 abbrev pub FitsEntryLine : ScriptData → EntryLine → Type 0
 FitsEntryLine script (entry_line.Call who call error) = FitsWho script who
+FitsEntryLine script (entry_line.Take who unit) = FitsWho script who × (unit < 2 ^ 64)
 FitsEntryLine script (entry_line.Start epoch item) = (epoch < 2 ^ 64) × (item < 2 ^ 64)
 FitsEntryLine script (entry_line.Done epoch item moment outcome) = (epoch < 2 ^ 64) × (item < 2 ^ 64) × (moment < 2 ^ 64) × FitsOutcome outcome
 FitsEntryLine script (entry_line.Turn word) = Unit {0}

@@ -71,10 +71,11 @@ abbrev pub look_as : Option CodecState → ℕ → ℕ → List ℕ → List ℕ
 look_as None n len bs rest = promise_at bs >>= λ end. Some (result.Look n len end)
 look_as (Some s) n len bs rest = number_upto 10 rest >>= λ size. Some (result.State n len s size.0)
 
+-- `none` tells a take that found no output
 unfoldable pub look_at : ℕ → ℕ → List ℕ → Option StepResult
 look_at n len bs = do
   w ← word_at bs
-  look_as (state_of w.0) n len bs w.2
+  if bytes_eq w.0 (codes "none") then Some (result.NoUnit n len) else look_as (state_of w.0) n len bs w.2
 
 unfoldable pub look_line_at : ScriptData → ℕ → List ℕ → List ℕ → Option Line
 look_line_at script step name bs = do
@@ -88,6 +89,12 @@ call_result_at script step name place w = do
   n ← codec_of script.codecs name
   error ← answer_of w
   Some (line.Result step (result.Call n place error))
+
+unfoldable pub unit_at : ScriptData → ℕ → List ℕ → ℕ → List ℕ → Option Line
+unit_at script step name place bs = do
+  n ← codec_of script.codecs name
+  number ← number_upto 10 bs
+  Some (line.Result step (result.Unit n place number.0))
 
 -- Copies.
 
@@ -187,6 +194,14 @@ call_at script place name m w bs = do
   error ← answer_at rest
   Some (line.Entry place (entry_line.Call (record { caller = caller; step = step }) word error))
 
+unfoldable pub take_at : ScriptData → ℕ → List ℕ → ℕ → List ℕ → Option Line
+take_at script place name m bs = do
+  caller ← caller_of script.callers name
+  step ← short m
+  rest ← after (codes "= ") bs
+  unit ← number_upto 10 rest
+  Some (line.Entry place (entry_line.Take (record { caller = caller; step = step }) unit.0))
+
 -- Entries of the registry and of the pool of media.
 
 abbrev pub by_as : Option ℕ → ScriptData → List ℕ → ℕ → Option By
@@ -279,6 +294,8 @@ dotted_line_at script n name bs = do
   if w.1 == 10 then call_result_at script n name m.0 w.0
       else if is_slot_word w.0 then slot_at script n name m.0 w.0 w.2
       else if is_pool_word w.0 then reference_at script n name m.0 w.0 w.2
+      else if bytes_eq w.0 (codes "unit") then unit_at script n name m.0 w.2
+      else if bytes_eq w.0 (codes "take") then take_at script n name m.0 w.2
       else call_at script n name m.0 w.0 w.2
 
 unfoldable pub worded_result_at : ℕ → List ℕ → List ℕ → Option Line

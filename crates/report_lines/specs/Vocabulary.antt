@@ -42,7 +42,7 @@ abbrev pub state_of : List ℕ → Option CodecState
 state_of w = first_named state_text (state.Unconfigured ∷ state.Configured ∷ state.Closed ∷ []) w
 
 abbrev pub call_of : List ℕ → Option CallWord
-call_of w = first_named call_word (call.Configure ∷ call.Decode ∷ call.Flush ∷ call.Reset ∷ call.Close ∷ []) w
+call_of w = first_named call_word (call.Configure ∷ call.Decode ∷ call.Encode ∷ call.Flush ∷ call.Reset ∷ call.Close ∷ []) w
 
 abbrev pub sample_format_of : List ℕ → Option SampleFormat
 sample_format_of w =

@@ -126,7 +126,11 @@ fn look_at(codec: u32, length: u64, bytes: &[u8]) -> Option<StepResult>
     ensures { result ≡ spec.look_at codec length bytes.now }
 {
     let (word, _, rest) = word_at(bytes)?;
-    look_as(state_of(word), codec, length, bytes, rest)
+    if is(word, "none") {
+        Some(StepResult::NoUnit { codec, length })
+    } else {
+        look_as(state_of(word), codec, length, bytes, rest)
+    }
 }
 
 #[tactic(auto, unfolding(crate::specs::Reading::look_line_at))]
@@ -155,6 +159,20 @@ fn call_result_at(
         codec,
         place,
         error,
+    };
+    Some(Line::Result { step, answer })
+}
+
+#[tactic(auto, unfolding(crate::specs::Reading::unit_at))]
+fn unit_at(script: &ScriptData, step: u64, name: &[u8], place: u64, bytes: &[u8]) -> Option<Line>
+    ensures { result ≡ spec.unit_at script.now step name.now place bytes.now }
+{
+    let codec = codec_of(script.codecs.as_slice(), name)?;
+    let (number, _) = number_upto(b'\n', bytes)?;
+    let answer = StepResult::Unit {
+        codec,
+        place,
+        number,
     };
     Some(Line::Result { step, answer })
 }
@@ -249,6 +267,19 @@ fn call_at(
     let error = answer_at(rest)?;
     let who = Who { caller, step };
     let entry = EntryLine::Call { who, call, error };
+    Some(Line::Entry { place, entry })
+}
+
+#[tactic(auto, unfolding(crate::specs::Reading::take_at))]
+fn take_at(script: &ScriptData, place: u64, name: &[u8], step: u64, bytes: &[u8]) -> Option<Line>
+    ensures { result ≡ spec.take_at script.now place name.now step bytes.now }
+{
+    let caller = caller_of(script.callers.as_slice(), name)?;
+    let step = short(step)?;
+    let rest = after(b"= ", bytes)?;
+    let (unit, _) = number_upto(b'\n', rest)?;
+    let who = Who { caller, step };
+    let entry = EntryLine::Take { who, unit };
     Some(Line::Entry { place, entry })
 }
 
@@ -446,6 +477,10 @@ fn dotted_line_at(script: &ScriptData, n: u64, name: &[u8], bytes: &[u8]) -> Opt
         slot_at(script, n, name, m, word, rest)
     } else if is_pool_word(word) {
         reference_at(script, n, name, m, word, rest)
+    } else if is(word, "unit") {
+        unit_at(script, n, name, m, rest)
+    } else if is(word, "take") {
+        take_at(script, n, name, m, rest)
     } else {
         call_at(script, n, name, m, word, rest)
     }

@@ -81,21 +81,24 @@ pub fn state_of(word: &[u8]) -> Option<CodecState>
         .find(|state| is(word, state_text(*state)))
 }
 
-const CALLS: [CallWord; 5] = [
-    CallWord::Configure,
-    CallWord::Decode,
-    CallWord::Flush,
-    CallWord::Reset,
-    CallWord::Close,
-];
-
 pub fn call_of(word: &[u8]) -> Option<CallWord>
     ensures { result ≡ spec.call_of word.now }
 {
-    CALLS
-        .iter()
-        .copied()
-        .find(|call| is(word, call_word(*call)))
+    if is(word, call_word(CallWord::Configure)) {
+        Some(CallWord::Configure)
+    } else if is(word, call_word(CallWord::Decode)) {
+        Some(CallWord::Decode)
+    } else if is(word, call_word(CallWord::Encode)) {
+        Some(CallWord::Encode)
+    } else if is(word, call_word(CallWord::Flush)) {
+        Some(CallWord::Flush)
+    } else if is(word, call_word(CallWord::Reset)) {
+        Some(CallWord::Reset)
+    } else if is(word, call_word(CallWord::Close)) {
+        Some(CallWord::Close)
+    } else {
+        None
+    }
 }
 
 pub fn sample_format_of(word: &[u8]) -> Option<SampleFormat>

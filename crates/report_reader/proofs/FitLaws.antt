@@ -47,7 +47,7 @@ use Rattle.report_reader.specs.Fits.{FitsEvent, FitsShown, FitsTrace}
 use Rattle.report_reader.proofs.RunLaws.{all_left, all_right}
 use Rattle.report_reader.proofs.FormLaws.{form_parts}
 use Rattle.report_reader.proofs.TraceLaws.{next_entry_is}
-use Rattle.report_reader.proofs.ToldLaws.{entry_is, step_told, run_told, callers_count, codecs_count}
+use Rattle.report_reader.proofs.ToldLaws.{entry_is, step_told, take_told, run_told, callers_count, codecs_count}
 
 -- ---- lists
 
@@ -254,6 +254,7 @@ entry_fits : (script : ScriptData) (files : List (List Chunk)) (t : EntryLine) (
 entry_fits script files (entry_line.Call who word error) e fits is x =
     let steps = steps_of script who.caller in
     subst (FitsEntryLine script) (sym (step_told files steps who word (slice_get steps who.step) e x is)) fits
+entry_fits script files (entry_line.Take who n) e fits is x = subst (FitsEntryLine script) (sym (take_told who n (slice_get (steps_of script who.caller) who.step) e x is)) fits
 entry_fits script files (entry_line.Start epoch item) e fits is x = subst (λ (z : Entry). FitsEntryLine script (entry_line_of z x)) (entry_is (entry.Start epoch item) e is) fits
 entry_fits script files (entry_line.Done epoch item moment outcome) e fits is x = subst (λ (z : Entry). FitsEntryLine script (entry_line_of z x)) (entry_is (entry.Done epoch item moment outcome) e is) fits
 entry_fits script files (entry_line.Turn word) e fits is x = subst (λ (z : Entry). FitsEntryLine script (entry_line_of z x)) (entry_is entry.Turn e is) tt

@@ -9,6 +9,7 @@ use Rattle.wc_chunk.specs.declared.chunk.Chunk.{Chunk}
 use Rattle.codec_definitions.specs.declared.unit.Unit as media
 use Rattle.codec_model.specs.declared.entry.Entry.{Entry}
 use Rattle.codec_model.specs.declared.entry.Entry.TheVariants as entry
+use Rattle.codec_model.specs.declared.entry.Handed.{Handed}
 use Rattle.codec_model.specs.declared.entry.Event.{Event}
 use Rattle.codec_model.specs.declared.entry.Shown.{Shown}
 use Rattle.codec_model.specs.Replay.{State, opening_state, step as legal_step}
@@ -19,6 +20,7 @@ use Rattle.script_types.specs.declared.script.ScriptData.{ScriptData}
 use Rattle.script_types.specs.declared.script.CodecItem.{CodecItem}
 use Rattle.script_types.specs.declared.steps.Step.{Step}
 use Rattle.script_types.specs.declared.steps.Step.TheVariants as step
+use Rattle.script_types.specs.declared.steps.MediaStep.TheVariants as on_media
 use Rattle.trace_text.specs.declared.run.CodecTrace.{CodecTrace}
 use Rattle.trace_text.specs.declared.run.Run.{Run}
 use Rattle.codec_accounts.specs.Owed.{at}
@@ -27,9 +29,9 @@ use Rattle.trace_text.specs.Follow.{steps_of}
 use Rattle.trace_text.specs.Fits.{HasArguments, Fits, IsLegalTrace, AreLegalTraces, IsLegalRun}
 use Rattle.report_text.specs.declared.line.CallWord.TheVariants as call
 use Rattle.trace_text.specs.Report.{entry_line_of}
-use Rattle.report_reader.specs.Read.{call_of, entry_of}
+use Rattle.report_reader.specs.Read.{call_of, take_of, entry_of}
 use Rattle.report_reader.specs.Told.{HoldsArguments, IsToldTrace, IsTold}
-use Rattle.report_reader.proofs.KindLaws.{legal_plain}
+use Rattle.report_reader.proofs.KindLaws.{media_takes, legal_plain}
 use Rattle.run_ranges.specs.Counts.{traces_count}
 use Rattle.run_ranges.specs.Ranges.{AreWithin, LegalRunsFit}
 use Rattle.script_types.specs.Sound.{is_sound}
@@ -49,7 +51,7 @@ configure_made script files who given (step.Await promise) has = absurd has
 configure_made script files who given (step.Reset on) has = absurd cc
 configure_made script files who given (step.Close on) has = absurd cc
 configure_made script files who given (step.State on) has = absurd has
-configure_made script files who given (step.Media m) has = absurd has
+configure_made script files who given (step.Media m) has = absurd (let wrong = (media_takes script files who (entry.Configure who given) m has).1 in cc)
 
 decode_made : (script : ScriptData) (files : List (List Chunk)) (who : Who) (given : Chunk) (s : Step) → HasArguments script files who (entry.Decode who given) s → call_of files (steps_of script who.caller) who call.Decode s ≡ Some (entry.Decode who given)
 decode_made script files who given (step.Configure on config) has = absurd cc
@@ -61,7 +63,7 @@ decode_made script files who given (step.Await promise) has = absurd has
 decode_made script files who given (step.Reset on) has = absurd cc
 decode_made script files who given (step.Close on) has = absurd cc
 decode_made script files who given (step.State on) has = absurd has
-decode_made script files who given (step.Media m) has = absurd has
+decode_made script files who given (step.Media m) has = absurd (let wrong = (media_takes script files who (entry.Decode who given) m has).1 in cc)
 
 flush_made : (script : ScriptData) (files : List (List Chunk)) (who : Who) (s : Step) → HasArguments script files who (entry.Flush who) s → call_of files (steps_of script who.caller) who call.Flush s ≡ Some (entry.Flush who)
 flush_made script files who (step.Configure on config) has = absurd cc
@@ -73,7 +75,7 @@ flush_made script files who (step.Await promise) has = absurd has
 flush_made script files who (step.Reset on) has = absurd cc
 flush_made script files who (step.Close on) has = absurd cc
 flush_made script files who (step.State on) has = absurd has
-flush_made script files who (step.Media m) has = absurd has
+flush_made script files who (step.Media m) has = absurd (let wrong = (media_takes script files who (entry.Flush who) m has).1 in cc)
 
 reset_made : (script : ScriptData) (files : List (List Chunk)) (who : Who) (s : Step) → HasArguments script files who (entry.Reset who) s → call_of files (steps_of script who.caller) who call.Reset s ≡ Some (entry.Reset who)
 reset_made script files who (step.Configure on config) has = absurd cc
@@ -85,7 +87,7 @@ reset_made script files who (step.Await promise) has = absurd has
 reset_made script files who (step.Reset on) has = ap some (sym has)
 reset_made script files who (step.Close on) has = absurd cc
 reset_made script files who (step.State on) has = absurd has
-reset_made script files who (step.Media m) has = absurd has
+reset_made script files who (step.Media m) has = absurd (let wrong = (media_takes script files who (entry.Reset who) m has).1 in cc)
 
 close_made : (script : ScriptData) (files : List (List Chunk)) (who : Who) (s : Step) → HasArguments script files who (entry.Close who) s → call_of files (steps_of script who.caller) who call.Close s ≡ Some (entry.Close who)
 close_made script files who (step.Configure on config) has = absurd cc
@@ -97,7 +99,40 @@ close_made script files who (step.Await promise) has = absurd has
 close_made script files who (step.Reset on) has = absurd cc
 close_made script files who (step.Close on) has = ap some (sym has)
 close_made script files who (step.State on) has = absurd has
-close_made script files who (step.Media m) has = absurd has
+close_made script files who (step.Media m) has = absurd (let wrong = (media_takes script files who (entry.Close who) m has).1 in cc)
+
+take_made : (script : ScriptData) (files : List (List Chunk)) (who : Who) (n : ℕ) (s : Step) → HasArguments script files who (entry.Take who n) s → take_of who n s ≡ Some (entry.Take who n)
+take_made script files who n (step.Media (on_media.Take on bind kind)) has = refl
+take_made script files who n (step.Media (on_media.Audio bind init)) has = absurd has
+take_made script files who n (step.Media (on_media.Frame bind init)) has = absurd has
+take_made script files who n (step.Media (on_media.Encode on content)) has = absurd has
+take_made script files who n (step.Media (on_media.Clone of bind)) has = absurd has
+take_made script files who n (step.Media (on_media.Transfer of bind)) has = absurd has
+take_made script files who n (step.Media (on_media.CloseData of)) has = absurd has
+take_made script files who n (step.Media (on_media.Copy of options size)) has = absurd has
+take_made script files who n (step.Media (on_media.Size of options)) has = absurd has
+take_made script files who n (step.Configure on config) has = absurd cc
+take_made script files who n (step.Chunk bind source) has = absurd has
+take_made script files who n (step.Decode on chunk) has = absurd (let wrong = has.2 in cc)
+take_made script files who n (step.Flush on bind) has = absurd cc
+take_made script files who n (step.Poll promise) has = absurd has
+take_made script files who n (step.Await promise) has = absurd has
+take_made script files who n (step.Reset on) has = absurd cc
+take_made script files who n (step.Close on) has = absurd cc
+take_made script files who n (step.State on) has = absurd has
+
+-- no step encodes yet
+not_made : (script : ScriptData) (files : List (List Chunk)) (who : Who) (handed : Handed) (s : Step) → HasArguments script files who (entry.Encode who handed) s → ⊥
+not_made script files who handed (step.Media m) has = absurd (let wrong = (media_takes script files who (entry.Encode who handed) m has).1 in cc)
+not_made script files who handed (step.Configure on config) has = absurd cc
+not_made script files who handed (step.Chunk bind source) has = absurd has
+not_made script files who handed (step.Decode on chunk) has = absurd (let wrong = has.2 in cc)
+not_made script files who handed (step.Flush on bind) has = absurd cc
+not_made script files who handed (step.Poll promise) has = absurd has
+not_made script files who handed (step.Await promise) has = absurd has
+not_made script files who handed (step.Reset on) has = absurd cc
+not_made script files who handed (step.Close on) has = absurd cc
+not_made script files who handed (step.State on) has = absurd has
 
 -- the entry of a call has a step, and what that gives
 abbrev GetsArguments : ScriptData → List (List Chunk) → Entry → Type 0
@@ -106,9 +141,11 @@ GetsArguments script files e = (who : Who) → who_of e ≡ Some who → (x : St
 entry_holds : (script : ScriptData) (files : List (List Chunk)) (e : Entry) (x : Shown) → GetsArguments script files e → entry_of script files (entry_line_of e x) ≡ Some e
 entry_holds script files (entry.Configure who given) x h = let found = h who refl in rw found.1 (configure_made script files who given found.0 found.2)
 entry_holds script files (entry.Decode who given) x h = let found = h who refl in rw found.1 (decode_made script files who given found.0 found.2)
+entry_holds script files (entry.Encode who handed) x h = let found = h who refl in absurd (not_made script files who handed found.0 found.2)
 entry_holds script files (entry.Flush who) x h = let found = h who refl in rw found.1 (flush_made script files who found.0 found.2)
 entry_holds script files (entry.Reset who) x h = let found = h who refl in rw found.1 (reset_made script files who found.0 found.2)
 entry_holds script files (entry.Close who) x h = let found = h who refl in rw found.1 (close_made script files who found.0 found.2)
+entry_holds script files (entry.Take who n) x h = let found = h who refl in rw found.1 (take_made script files who n found.0 found.2)
 entry_holds script files (entry.Start epoch item) x h = refl
 entry_holds script files (entry.Done epoch item moment outcome) x h = refl
 entry_holds script files entry.Turn x h = refl

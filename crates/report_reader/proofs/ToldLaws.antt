@@ -18,6 +18,7 @@ use Rattle.codec_follow.specs.Follow.{follow_from, filled, filled_at, each_fille
 use Rattle.script_types.specs.declared.script.ScriptData.{ScriptData}
 use Rattle.script_types.specs.declared.steps.Step.{Step}
 use Rattle.script_types.specs.declared.steps.Step.TheVariants as step
+use Rattle.script_types.specs.declared.steps.MediaStep.TheVariants as on_media
 use Rattle.trace_text.specs.Follow.{steps_of, chunk_at}
 use Rattle.trace_text.specs.Report.{refusal_in, entry_line_of}
 use Rattle.report_text.specs.declared.line.CallWord.{CallWord}
@@ -25,7 +26,7 @@ use Rattle.report_text.specs.declared.line.CallWord.TheVariants as call
 use Rattle.report_text.specs.declared.line.EntryLine.{EntryLine}
 use Rattle.report_text.specs.declared.line.EntryLine.TheVariants as entry_line
 use Rattle.report_text.specs.declared.line.Line.{Line}
-use Rattle.report_reader.specs.Read.{call_of, entry_of, next_of, entry_then, entries_from, trace_of, callers_in, behind_results, codecs_in, behind_entries, run_of}
+use Rattle.report_reader.specs.Read.{call_of, take_of, entry_of, next_of, entry_then, entries_from, trace_of, callers_in, behind_results, codecs_in, behind_entries, run_of}
 use Rattle.report_reader.specs.Told.{HoldsArguments, IsToldTrace, IsToldRun}
 use Rattle.report_reader.proofs.RunLaws.{step_of_followed}
 use Rattle.report_reader.proofs.TraceLaws.{next_entry_is, next_step_is}
@@ -63,6 +64,7 @@ word_told files steps who call.Decode (step.Reset on) e x h = absurd cc
 word_told files steps who call.Decode (step.Close on) e x h = absurd cc
 word_told files steps who call.Decode (step.State on) e x h = absurd cc
 word_told files steps who call.Decode (step.Media m) e x h = absurd cc
+word_told files steps who call.Encode s e x h = absurd cc
 word_told files steps who call.Flush (step.Configure on config) e x h = absurd cc
 word_told files steps who call.Flush (step.Chunk bind source) e x h = absurd cc
 word_told files steps who call.Flush (step.Decode on chunk) e x h = absurd cc
@@ -98,10 +100,35 @@ pub step_told : (files : List (List Chunk)) (steps : List Step) (who : Who) (wor
 step_told files steps who word None e x h = absurd cc
 step_told files steps who word (Some s) e x h = word_told files steps who word s e x h
 
+taken_told : (who : Who) (n : ℕ) (s : Step) (e : Entry) (x : Shown) → take_of who n s ≡ Some e → entry_line_of e x ≡ entry_line.Take who n
+taken_told who n (step.Media (on_media.Take on bind kind)) e x h = sym (ap (λ (z : Entry). entry_line_of z x) (entry_is (entry.Take who n) e h))
+taken_told who n (step.Media (on_media.Audio bind init)) e x h = absurd cc
+taken_told who n (step.Media (on_media.Frame bind init)) e x h = absurd cc
+taken_told who n (step.Media (on_media.Encode on content)) e x h = absurd cc
+taken_told who n (step.Media (on_media.Clone of bind)) e x h = absurd cc
+taken_told who n (step.Media (on_media.Transfer of bind)) e x h = absurd cc
+taken_told who n (step.Media (on_media.CloseData of)) e x h = absurd cc
+taken_told who n (step.Media (on_media.Copy of options size)) e x h = absurd cc
+taken_told who n (step.Media (on_media.Size of options)) e x h = absurd cc
+taken_told who n (step.Configure on config) e x h = absurd cc
+taken_told who n (step.Chunk bind source) e x h = absurd cc
+taken_told who n (step.Decode on chunk) e x h = absurd cc
+taken_told who n (step.Flush on bind) e x h = absurd cc
+taken_told who n (step.Poll promise) e x h = absurd cc
+taken_told who n (step.Await promise) e x h = absurd cc
+taken_told who n (step.Reset on) e x h = absurd cc
+taken_told who n (step.Close on) e x h = absurd cc
+taken_told who n (step.State on) e x h = absurd cc
+
+pub take_told : (who : Who) (n : ℕ) (o : Option Step) (e : Entry) (x : Shown) → option_and_then (take_of who n) o ≡ Some e → entry_line_of e x ≡ entry_line.Take who n
+take_told who n None e x h = absurd cc
+take_told who n (Some s) e x h = taken_told who n s e x h
+
 told_holds : (script : ScriptData) (files : List (List Chunk)) (t : EntryLine) (e : Entry) (x : Shown) → entry_of script files t ≡ Some e → entry_of script files (entry_line_of e x) ≡ Some e
 told_holds script files (entry_line.Call who word error) e x h =
     let steps = steps_of script who.caller in
     ap (entry_of script files) (step_told files steps who word (slice_get steps who.step) e x h) ∙ h
+told_holds script files (entry_line.Take who n) e x h = ap (entry_of script files) (take_told who n (slice_get (steps_of script who.caller) who.step) e x h) ∙ h
 told_holds script files (entry_line.Start epoch item) e x h = subst (λ (z : Entry). entry_of script files (entry_line_of z x) ≡ Some z) (entry_is (entry.Start epoch item) e h) refl
 told_holds script files (entry_line.Done epoch item moment outcome) e x h = subst (λ (z : Entry). entry_of script files (entry_line_of z x) ≡ Some z) (entry_is (entry.Done epoch item moment outcome) e h) refl
 told_holds script files (entry_line.Turn word) e x h = subst (λ (z : Entry). entry_of script files (entry_line_of z x) ≡ Some z) (entry_is entry.Turn e h) refl

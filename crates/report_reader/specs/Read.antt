@@ -18,6 +18,7 @@ use Rattle.codec_follow.specs.Outputs.{is_codec_string}
 use Rattle.script_types.specs.declared.script.ScriptData.{ScriptData}
 use Rattle.script_types.specs.declared.steps.Step.{Step}
 use Rattle.script_types.specs.declared.steps.Step.TheVariants as step
+use Rattle.script_types.specs.declared.steps.MediaStep.TheVariants as on_media
 use Rattle.report_text.specs.declared.result.StepResult.{StepResult}
 use Rattle.trace_text.specs.declared.run.CallerTrace.{CallerTrace}
 use Rattle.trace_text.specs.declared.run.CodecTrace.{CodecTrace}
@@ -67,9 +68,18 @@ call_of media steps who _ _ = None
 abbrev pub call_entry : ScriptData → List (List Chunk) → Who → CallWord → Option Entry
 call_entry script media who word = let steps = steps_of script who.caller in option_and_then (call_of media steps who word) (slice_get steps who.step)
 
+-- the entry of a take of the output with this number, if the step takes one
+abbrev pub take_of : Who → ℕ → Step → Option Entry
+take_of who n (step.Media (on_media.Take on bind kind)) = Some (entry.Take who n)
+take_of who n _ = None
+
+abbrev pub take_entry : ScriptData → Who → ℕ → Option Entry
+take_entry script who n = option_and_then (take_of who n) (slice_get (steps_of script who.caller) who.step)
+
 -- the entry that is told, with the arguments of its step
 abbrev pub entry_of : ScriptData → List (List Chunk) → EntryLine → Option Entry
 entry_of script media (entry_line.Call who word error) = call_entry script media who word
+entry_of script media (entry_line.Take who n) = take_entry script who n
 entry_of script media (entry_line.Start epoch item) = Some (entry.Start epoch item)
 entry_of script media (entry_line.Done epoch item moment outcome) = Some (entry.Done epoch item moment outcome)
 entry_of script media (entry_line.Turn word) = Some entry.Turn

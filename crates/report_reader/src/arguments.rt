@@ -4,7 +4,7 @@ ghost use Rattle.report_reader.specs.Read as spec;
 
 use codec_model::Entry;
 use report_text::{CallWord, EntryLine};
-use script_types::{ScriptData, Step};
+use script_types::{MediaStep, ScriptData, Step};
 use trace_text::{find_chunk, steps_of};
 use wc_base::{List, NoMemory, Who};
 use wc_chunk::Chunk;
@@ -61,8 +61,28 @@ fn call_entry(
     }
 }
 
-/// The entry of a line, with the arguments of its step. `None` where its step makes no such call, or decodes a chunk
-/// that is absent.
+// A take of the output with this number, if the step takes one.
+fn take_of(who: Who, unit: u64, step: &Step) -> Option<Entry>
+    ensures { result ≡ spec.take_of who unit step.now }
+{
+    match step {
+        Step::Media(MediaStep::Take { .. }) => Some(Entry::Take { who, unit }),
+        _ => None,
+    }
+}
+
+// The entry of a take, where its step is one.
+fn take_entry(script: &ScriptData, who: Who, unit: u64) -> Option<Entry>
+    ensures { result ≡ spec.take_entry script.now who unit }
+{
+    match steps_of(script, who.caller).get(who.step as usize) {
+        Some(step) => take_of(who, unit, step),
+        None => None,
+    }
+}
+
+/// The entry of a line, with the arguments of its step. `None` where its step makes no such call and no take, or decodes a
+/// chunk that is absent.
 pub fn entry_of(
     script: &ScriptData,
     media: &[List<Chunk>],
@@ -76,6 +96,7 @@ pub fn entry_of(
             call,
             error: _,
         } => call_entry(script, media, who, call),
+        EntryLine::Take { who, unit } => Ok(take_entry(script, who, unit)),
         EntryLine::Start { epoch, item } => Ok(Some(Entry::Start { epoch, item })),
         EntryLine::Done {
             epoch,

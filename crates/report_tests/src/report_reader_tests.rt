@@ -1,16 +1,19 @@
 // The ordinary run's report, read back, and texts with a fault at a line that was counted by hand.
-ghost use Rattle.std.specs.Prelude.{◌≡◌, ◌∷◌, [], IfOk, IsTrue, None, Some, codes};
+ghost use Rattle.std.specs.Prelude.{◌≡◌, ◌∷◌, ◌++◌, [], IfOk, IsTrue, None, Some, codes};
 ghost use Rattle.codec_model.specs.Rows.{pcm};
+ghost use Rattle.script_types.specs.declared.steps.MediaStep.TheVariants as on_media;
 ghost use Rattle.script_types.specs.declared.steps.Step.TheVariants as step;
+ghost use Rattle.script_types.specs.declared.steps.VariableKind.TheVariants as holds;
 ghost use Rattle.script_types.specs.declared.steps.ChunkSource.TheVariants as source;
 ghost use Rattle.script_types.specs.Sound.{is_sound};
 ghost use Rattle.trace_text.specs.Rows.{init, steps_with};
 
 use bytes::Bytes;
+use codec_model::Entry;
 use report_reader::{ReportFault, read_report};
 use script_types::{
-    CallerItem, ChunkInit, ChunkSource, CodecItem, Kind, Script, ScriptData, Step, Variable,
-    VariableKind,
+    CallerItem, ChunkInit, ChunkSource, CodecItem, Kind, MediaStep, Script, ScriptData, Step,
+    Variable, VariableKind,
 };
 use std::alloc::Global;
 use std::process::Abort;
@@ -68,8 +71,23 @@ fn variable(alloc: Global, name: &str, step: u32, kind: VariableKind) -> Result<
     })
 }
 
+fn take(alloc: Global, name: &str) -> Result<Step, Fail>
+    ensures { IfOk result (λ s. s ≡ step.Media (on_media.Take 0 name.now holds.Audio)) }
+{
+    Ok(Step::Media(MediaStep::Take {
+        on: 0,
+        bind: text(alloc, name)?,
+        kind: VariableKind::Audio,
+    }))
+}
+
+// The ordinary steps, and two takes behind them.
 fn steps(alloc: Global) -> Result<Vec<Step>, Fail>
-    ensures { IfOk result (λ v. v.items ≡ steps_with (source.Init (Some init))) }
+    ensures { IfOk result
+        (λ v. v.items
+        ≡ steps_with (source.Init (Some init))
+        ++ step.Media (on_media.Take 0 (codes "o") holds.Audio)
+        ∷ step.Media (on_media.Take 0 (codes "q") holds.Audio) ∷ []) }
 {
     let decode = Step::Decode {
         on: 0,
@@ -82,10 +100,14 @@ fn steps(alloc: Global) -> Result<Vec<Step>, Fail>
     let wait = Step::Await {
         promise: variable(alloc, "p", 3, VariableKind::Promise)?,
     };
-    Ok(vec![in alloc; configure(alloc)?, chunk(alloc)?, decode, flush, wait]?)
+    let configure = configure(alloc)?;
+    let chunk = chunk(alloc)?;
+    let first = take(alloc, "o")?;
+    let second = take(alloc, "q")?;
+    Ok(vec![in alloc; configure, chunk, decode, flush, wait, first, second]?)
 }
 
-// What the ordinary script holds.
+// What the ordinary script holds, with two takes.
 fn data(alloc: Global) -> Result<ScriptData, Fail>
     ensures { IfOk result (λ s. IsTrue (is_sound s)) }
 {
@@ -241,6 +263,42 @@ fn media_are_read_and_written_again(rt: HostRuntime) -> Result<(), Fail> {
     Ok(())
 }
 
+const RESOLVED: &str = "13 turn flushed\n  resolve 2\n";
+
+// The ordinary report with a take of its output behind it, and one that finds none.
+fn report_of_takes(alloc: Global) -> Result<String, Fail> {
+    let results = "4 d:14 resolved\n5 d.14 unit 0\n6 d:15 none\n";
+    let entries = "13 turn flushed\n  resolve 2\n14 a.5 take = 0\n";
+    let text = REPORT.replace(alloc, LOOK, results)?;
+    let text = text.replace(alloc, RESOLVED, entries)?;
+    let text = text.replace(alloc, "pool\n", "pool\n0 a.5 make 0 0\n")?;
+    Ok(text.replace(alloc, "held 0", "held 1")?)
+}
+
+#[test]
+fn takes_are_read_and_written_again(rt: HostRuntime) -> Result<(), Fail> {
+    let alloc = rt.alloc();
+    let script = script(alloc)?;
+    let text = report_of_takes(alloc)?;
+    let run = read_report(alloc, &script, &[], text.as_bytes()).expect(&rt, "a report");
+    let found = StepResult::Unit {
+        codec: 0,
+        place: 14,
+        number: 0,
+    };
+    let none = StepResult::NoUnit {
+        codec: 0,
+        length: 15,
+    };
+    assert_eq!(rt; later_results(&run), [found, none].as_slice());
+    let codec = run.codecs.as_slice().first().expect(&rt, "a codec");
+    let last = codec.entries.as_slice().last().expect(&rt, "an entry");
+    let who = Who { caller: 0, step: 5 };
+    assert!(rt; *last == Entry::Take { who, unit: 0 });
+    assert_eq!(rt; report(alloc, &script, &run)?.bytes(), text.as_bytes());
+    Ok(())
+}
+
 // In each row a text, another in its place, and the line at fault.
 fn each_is_refused(rt: &impl Abort, alloc: Global, rows: &[(&str, &str, u64)]) -> Result<(), Fail> {
     for (old, new, line) in rows {
@@ -303,6 +361,22 @@ fn lines_that_differ(rt: HostRuntime) -> Result<(), Fail> {
         ("configure = ok", "configure = TypeError", 9),
         // a start of an item that is not the next
         ("7 start 0.1\n", "7 start 0.2\n", 16),
+    ];
+    each_is_refused(&rt, rt.alloc(), &rows)
+}
+
+#[test]
+fn takes_and_encodes_that_no_step_makes(rt: HostRuntime) -> Result<(), Fail> {
+    let rows = [
+        // a step that takes nothing, an output that was not shown, and calls that no step makes
+        (RESOLVED, "13 turn flushed\n  resolve 2\n14 a.4 take = 0\n", 26),
+        (RESOLVED, "13 turn flushed\n  resolve 2\n14 a.5 take = 1\n", 26),
+        (RESOLVED, "13 turn flushed\n  resolve 2\n14 a.5 encode = ok\n", 26),
+        (RESOLVED, "13 turn flushed\n  resolve 2\n14 a.5 flush = ok\n", 26),
+        ("0 a.0 configure = ok", "0 a.0 take = 0", 9),
+        ("1 a.2 decode = ok", "1 a.2 encode = ok", 10),
+        // a take before any output is shown
+        ("10 turn output", "10 a.5 take = 0\n11 turn output", 20),
     ];
     each_is_refused(&rt, rt.alloc(), &rows)
 }

@@ -2,14 +2,14 @@
 use bytes::Bytes;
 use codec_model::{CodecState, Kind, Opening, Outcome};
 use coder_api::{SlotEntry, SlotOp};
-use report_text::{EntryLine, EventLine, Line, StepResult, caller_name, codec_name, line_text};
+use report_text::{CallWord, EntryLine, EventLine, Line, StepResult, caller_name, codec_name, line_text};
 use script_types::{CallerItem, CodecItem, ScriptData};
 use std::alloc::Global;
 use std::process::Abort;
 use std::test::Fail;
 use wc_base::{
     By, DomError, List, Picture, PictureFormat, PictureShape, SampleFormat, Samples, SoundShape,
-    Text,
+    Text, Who,
 };
 use wc_chunk::Chunk;
 use wc_config::{CodecId, CoderId, Role};
@@ -158,13 +158,60 @@ fn lines_of_copies(rt: HostRuntime) -> Result<(), Fail> {
     each_is_written(&rt, rt.alloc(), &rows)
 }
 
+// A take that found an output, and one that found none.
+fn takes() -> (StepResult, StepResult) {
+    let found = StepResult::Unit {
+        codec: 0,
+        place: 7,
+        number: 2,
+    };
+    let none = StepResult::NoUnit {
+        codec: 0,
+        length: 8,
+    };
+    (found, none)
+}
+
+#[test]
+fn lines_of_takes_and_encodes(rt: HostRuntime) -> Result<(), Fail> {
+    let (found, none) = takes();
+    let who = Who { caller: 0, step: 4 };
+    let take = EntryLine::Take { who, unit: 2 };
+    let encode = EntryLine::Call {
+        who,
+        call: CallWord::Encode,
+        error: Some(DomError::Data),
+    };
+    let rows = [
+        (result(4, found), "4 d.7 unit 2\n"),
+        (result(5, none), "5 d:8 none\n"),
+        (
+            Line::Entry {
+                place: 7,
+                entry: take,
+            },
+            "7 a.4 take = 2\n",
+        ),
+        (
+            Line::Entry {
+                place: 8,
+                entry: encode,
+            },
+            "8 a.4 encode = DataError\n",
+        ),
+    ];
+    each_is_written(&rt, rt.alloc(), &rows)
+}
+
 #[test]
 fn results_are_copied(rt: HostRuntime) -> Result<(), Fail> {
     let (two, three) = copies_of_frames();
+    let (found, none) = takes();
     let local = StepResult::Local {
         error: Some(DomError::TypeErr),
     };
-    for answer in [two, three, local, StepResult::Size { size: 640 }].iter() {
+    let size = StepResult::Size { size: 640 };
+    for answer in [two, three, found, none, local, size].iter() {
         let copy = answer.copy()?;
         assert!(rt; copy == *answer);
     }
