@@ -5,23 +5,28 @@ use Rattle.wc_config.specs.declared.codec.CodecId.{CodecId}
 use Rattle.wc_config.specs.declared.codec.CodecId.TheVariants as codec
 use Rattle.wc_config.specs.declared.codec.Role.{Role}
 use Rattle.wc_config.specs.declared.codec.Role.TheVariants as role
+use Rattle.wc_config.specs.declared.config.AudioDecoderConfig.{AudioDecoderConfig}
 use Rattle.wc_config.specs.declared.config.Config.{Config}
+use Rattle.wc_config.specs.declared.config.Config.TheVariants as config_of
 use Rattle.wc_config.specs.Configs.{is_valid, is_within, is_supported, coder_id_of}
 use Rattle.codec_definitions.specs.declared.unit.Unit as media
+use Rattle.codec_definitions.specs.declared.unit.Unit.TheVariants as unit_of
 use Rattle.codec_definitions.specs.declared.command.Command.{Command}
 use Rattle.codec_definitions.specs.declared.command.Command.TheVariants as command
 use Rattle.coder_api.specs.declared.coder.CoderFault.{CoderFault}
 use Rattle.coder_api.specs.declared.coder.CoderFault.TheVariants as fault
 use Rattle.codec_definitions.specs.Answers.{answer_after, answers_from, until_refused, last_answer}
-use Rattle.coder_api.specs.Meaning.{Answers, Goes, Takes, IsAt, serves, asks_for, is_id, is_role, is_codec}
+use Rattle.coder_api.specs.Meaning.{Meaning, CoderState, Configured, Answers, Goes, Takes, IsAt, IsReadyAfter, serves, setup_of, asks_for, is_id, is_role, is_codec}
 use Rattle.coder_api.specs.Lent.{Lent, stopped_lent}
+use Rattle.codec_model.specs.declared.entry.Coded.{Coded}
+use Rattle.codec_model.specs.declared.entry.Work.{Work}
 use Rattle.codec_model.specs.declared.entry.Work.TheVariants as work
 use Rattle.codec_model.specs.declared.entry.WorkKind.{WorkKind}
 use Rattle.codec_model.specs.declared.entry.Ended.{Ended}
 use Rattle.codec_model.specs.declared.entry.Ended.TheVariants as ended
 use Rattle.codec_model.specs.Control.{kind_of}
-use Rattle.codec_model.specs.Replay.{Given, State, given_more, answer_to, answers_to, ended_of}
-use Rattle.codec_core.specs.Job.{JobValue, DoneValue, IsJob, IsJobOf, IsEnd, IsEndOf, none_refused_from, WasGiven, StillAt, StaysAt, EndsBy, EndsCommand, EndsWork, end_by, outcome_of, stopped_box}
+use Rattle.codec_model.specs.Replay.{Given, State, given_more, answer_to, answers_to, ended_of, command_of, decoder_config, labelled, labelled_answer}
+use Rattle.codec_core.specs.Job.{JobValue, DoneValue, IsJob, IsJobOf, IsEnd, IsEndOf, none_refused_from, WasGiven, CoderAt, CoderFor, StillAt, StaysAt, EndsBy, EndsCommand, EndsWork, IsReadyEnd, IsReadyStill, IsOrWants, labelled_end, starts_coded, end_by, outcome_of, stopped_box}
 
 -- the same ids are one id
 role_is : (a b : Role) → is_role a b ≡ true → a ≡ b
@@ -145,19 +150,93 @@ still ended.NoMemory old new before x ends at = tt
 same_box : (old new : Lent) → stopped_lent new ≡ stopped_lent old → stopped_box (Some new) ≡ stopped_box (Some old)
 same_box old new e = ap Some e
 
-pub coded_ends : (old new : Lent) (end : Ended) (chunk : _) → EndsCommand old (command.Chunk chunk) end new → EndsWork (Some old) (work.Coded chunk) end (Some new)
-coded_ends old new end chunk ends = record {
-  answer = λ before at. rw (answer_is old before (command.Chunk chunk) at) (ends.answer before.config before.commands at.asked at.meant);
-  still = λ before at. still end old new before (command.Chunk chunk) ends at;
-  same = same_box old new ends.same;
+-- ---- the config that outputs carry
+
+-- the end that was meant, or want of memory
+by_wants : (P : Ended → Type 0) (end e : Ended) → IsOrWants end e → P end → P ended.NoMemory → P e
+by_wants P end (ended.Ran units) is p wants = subst P (sym is) p
+by_wants P end ended.Refused is p wants = subst P (sym is) p
+by_wants P end (ended.NoSlot n) is p wants = subst P (sym is) p
+by_wants P end ended.NoMemory is p wants = wants
+
+-- what a coder keeps tells nothing of its decoder's config
+setup_is : (c : Config) (state : CoderState) → setup_of (Configured c state) ≡ decoder_config c
+setup_is (config_of.AudioDecoder c) state = refl
+setup_is (config_of.AudioEncoder c) state = refl
+setup_is (config_of.VideoDecoder c) state = refl
+setup_is config_of.Bad state = refl
+
+answers_labelled : (c d : Option AudioDecoderConfig) (answer : Option (List media.Unit)) (end : Ended) → ((units : List media.Unit) → end ≡ ended.Ran units → c ≡ d) → EndsBy answer end → EndsBy (labelled_answer d answer) (labelled_end c end)
+answers_labelled c d answer (ended.Ran units) same by = ap (labelled_answer d) by ∙ ap (λ (x : Option AudioDecoderConfig). Some (labelled x units)) (sym (same units refl))
+answers_labelled c d answer ended.Refused same by = ap (labelled_answer d) by
+answers_labelled c d answer (ended.NoSlot n) same by = absurd by
+answers_labelled c d answer ended.NoMemory same by = tt
+
+still_labelled : (c : Option AudioDecoderConfig) (end : Ended) (coder : Option Lent) (g : Given) → StillAt end coder g → StillAt (labelled_end c end) coder g
+still_labelled c (ended.Ran units) coder g h = h
+still_labelled c ended.Refused coder g h = tt
+still_labelled c (ended.NoSlot n) coder g h = tt
+still_labelled c ended.NoMemory coder g h = tt
+
+-- after a command that ran, the coder's config is the one that was given last
+setup_after : (end : Ended) (old new : Lent) (before : Given) (x : Command) → EndsCommand old x end new → WasGiven old before → (units : List media.Unit) → end ≡ ended.Ran units → setup_of new.meaning ≡ decoder_config before.config
+setup_after end old new before x ends at units ran =
+    let goes = subst (λ (e : Ended). StaysAt e old.id before.config (before.commands ++ x ∷ []) new) ran (ends.goes before.config before.commands at.meant) in
+    ap setup_of goes ∙ setup_is before.config _
+
+-- the items of commands: their kind, and what more is given
+record Commands (w : Work) (x : Command) : Type 0 where
+  more_is : (before : Given) → given_more w before ≡ more x before
+  answer_by : (g : Given) → answer_to (kind_of w) g ≡ labelled_answer (decoder_config g.config) (last_answer (answers_to g))
+  given_is : (coder : Option Lent) (before : Given) → CoderFor w coder before → CoderAt coder before
+
+command_ends : (w : Work) (x : Command) → Commands w x → (old new : Lent) (end e : Ended) → EndsCommand old x end new → IsOrWants (labelled_end (setup_of new.meaning) end) e → EndsWork (Some old) w e (Some new)
+command_ends w x is old new end e ends by =
+    let c = setup_of new.meaning in
+    record {
+      answer = λ before for. (
+          let at : WasGiven old before = is.given_is (Some old) before for in
+          let d = decoder_config before.config in
+          let same = setup_after end old new before x ends at in
+          let given : EndsBy (last_answer (answers_to (more x before))) end = rw (answer_is old before x at) (ends.answer before.config before.commands at.asked at.meant) in
+          let told = answers_labelled c d (last_answer (answers_to (more x before))) end same given in
+          rw (is.more_is before, is.answer_by (more x before)) (by_wants (EndsBy (labelled_answer d (last_answer (answers_to (more x before))))) (labelled_end c end) e by told tt)
+          );
+      still = λ before for. (
+          let at : WasGiven old before = is.given_is (Some old) before for in
+          rw (is.more_is before) (by_wants (λ (y : Ended). StillAt y (Some new) (more x before)) (labelled_end c end) e by (still_labelled c end (Some new) (more x before) (still end old new before x ends at)) tt)
+          );
+      same = same_box old new ends.same;
+    }
+
+pub coded_ends : (old new : Lent) (end e : Ended) (input : Coded) → EndsCommand old (command_of input) end new → IsOrWants (labelled_end (setup_of new.meaning) end) e → EndsWork (Some old) (work.Coded input) e (Some new)
+coded_ends old new end e input ends by = command_ends (work.Coded input) (command_of input) (record { more_is = λ before. refl; answer_by = λ g. refl; given_is = λ coder before at. at }) old new end e ends by
+
+pub flush_ends : (old new : Lent) (end e : Ended) → EndsCommand old command.Drain end new → IsOrWants (labelled_end (setup_of new.meaning) end) e → EndsWork (Some old) work.Flush e (Some new)
+flush_ends old new end e ends by = command_ends work.Flush command.Drain (record { more_is = λ before. refl; answer_by = λ g. refl; given_is = λ coder before at. at }) old new end e ends by
+
+-- where memory is wanted for a copy of the config, the item ends so
+pub ends_or_wants : (old new : Option Lent) (w : Work) (end e : Ended) → EndsWork old w end new → IsOrWants end e → EndsWork old w e new
+ends_or_wants old new w end e ends by = record {
+  answer = λ before at. by_wants (EndsBy (answer_to (kind_of w) (given_more w before))) end e by (ends.answer before at) tt;
+  still = λ before at. by_wants (λ (x : Ended). StillAt x new (given_more w before)) end e by (ends.still before at) tt;
+  same = ends.same;
 }
 
-pub flush_ends : (old new : Lent) (end : Ended) → EndsCommand old command.Drain end new → EndsWork (Some old) work.Flush end (Some new)
-flush_ends old new end ends = record {
-  answer = λ before at. rw (answer_is old before command.Drain at) (ends.answer before.config before.commands at.asked at.meant);
-  still = λ before at. still end old new before command.Drain ends at;
-  same = same_box old new ends.same;
-}
+-- outputs that are no encoder's carry no config
+pub plain_labelled : (c : Option AudioDecoderConfig) (us : List media.Unit) → starts_coded us ≡ false → labelled c us ≡ us
+plain_labelled None us h = refl
+plain_labelled (Some c) [] h = refl
+plain_labelled (Some c) (unit_of.Sound s ∷ us) h = refl
+plain_labelled (Some c) (unit_of.Image p ∷ us) h = refl
+plain_labelled (Some c) (unit_of.Coded chunk config ∷ us) h = absurd cc
+
+-- after a command that ran, its box may be asked for the config
+pub ready_still : (end : Ended) (lent : Lent) → IsReadyEnd end lent.meaning → IsReadyStill end (Some lent)
+ready_still (ended.Ran units) lent h = h
+ready_still ended.Refused lent h = tt
+ready_still (ended.NoSlot n) lent h = tt
+ready_still ended.NoMemory lent h = tt
 
 pub configure_ends : (old new : Lent) (config : Config) (units : List media.Unit) → units ≡ [] → is_supported config ≡ true → serves old.id config ≡ true → IsAt old.id config [] new.meaning → stopped_lent new ≡ stopped_lent old → EndsWork (Some old) (work.Configure config) (ended.Ran units) (Some new)
 configure_ends old new config units none supported serving meant same =
@@ -183,11 +262,17 @@ went id c before x (Ok t) us new h = h
 went id c before x (Err fault.Refused) us new h = tt
 went id c before x (Err fault.NoMemory) us new h = tt
 
+ready_by : (r : Result (Unit {0}) CoderFault) (us : List media.Unit) (m : Meaning) → IsReadyAfter r m → IsReadyEnd (end_by r us) m
+ready_by (Ok t) us m h = h
+ready_by (Err fault.Refused) us m h = tt
+ready_by (Err fault.NoMemory) us m h = tt
+
 -- what a coder takes ends the command so
 pub taken : (old new : Lent) (x : Command) (r : Result (Unit {0}) CoderFault) (us : List media.Unit) → stopped_lent new ≡ stopped_lent old → Takes old.id old.meaning x r [] us new.meaning → EndsCommand old x (end_by r us) new
 taken old new x r us same takes = record {
   answer = λ c before asked meant. answered (answer_after old.id c before x) r us (takes.answer c before meant);
   goes = λ c before meant. went old.id c before x r us new (takes.goes c before meant);
+  ready = ready_by r us new.meaning takes.ready;
   same = same;
 }
 

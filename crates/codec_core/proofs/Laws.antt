@@ -1,31 +1,35 @@
 -- What each entry keeps of the running item, and what the history shows with it.
 use Rattle.std.proofs.Common.{ℕ, ◌≡◌, ◌&&◌, Bool, true, false, eqb, cond, List, [], ◌∷◌, ◌++◌, Option, Some, None, refl, ap, sym, subst, ◌∙◌}
-use Rattle.std.specs.Prelude.{option_and_then, option_map, unwrap_or}
+use Rattle.std.specs.Prelude.{option_and_then, unwrap_or}
 use Rattle.wc_base.specs.declared.error.DomError.{DomError}
-use Rattle.wc_base.specs.declared.error.DomError.TheVariants as dom
 use Rattle.wc_base.specs.declared.who.Who.{Who}
 use Rattle.codec_model.specs.declared.entry.Removal.{Removal}
 use Rattle.codec_model.specs.declared.entry.Removal.TheVariants as removal
 use Rattle.codec_model.specs.declared.entry.Call.{Call}
+use Rattle.codec_model.specs.declared.entry.HeldSound.{HeldSound}
+use Rattle.codec_model.specs.declared.entry.Handed.TheVariants as handed
 use Rattle.codec_model.specs.declared.entry.Opening.{Opening}
 use Rattle.codec_model.specs.declared.entry.Running.{Running}
 use Rattle.codec_model.specs.declared.entry.Ended.{Ended}
 use Rattle.codec_model.specs.declared.entry.Outcome.{Outcome}
-use Rattle.codec_model.specs.declared.entry.Shown.{Shown}
 use Rattle.codec_model.specs.declared.entry.Entry.{Entry}
 use Rattle.codec_model.specs.declared.entry.Entry.TheVariants as entry
 use Rattle.codec_model.specs.declared.entry.Task.{Task}
 use Rattle.codec_model.specs.declared.entry.Task.TheVariants as task
-use Rattle.codec_model.specs.Control.{Control, at_next_place, after_close, after_removal, may_reclaim, run_front, done_running}
-use Rattle.codec_model.specs.Replay.{State, opening_state, step, replay, with_control, removed, remove_or_refuse, removal_entry, removal_error, turn_step, done_step, done_ended, ended_of, entry_of, call_error}
+use Rattle.codec_model.specs.Control.{Control, at_next_place, after_close, after_removal, may_reclaim, run_front, done_running, after_take, may_take}
+use Rattle.codec_model.specs.Replay.{State, opening_state, step, replay, with_control, removed, remove_or_refuse, removal_entry, removal_error, turn_step, done_step, done_ended, ended_of, entry_of, call_error, encode_error}
 use Rattle.codec_model.specs.Shown.{shown_at, each_shown}
 use Rattle.codec_model.specs.ShownLaws.{replay_more, each_more}
 use Rattle.codec_core.specs.Job.{JobValue, DoneValue, IsJobOf, IsEndOf}
-use Rattle.codec_core.specs.Codec.{Codec, state_at, Makes, KeepsRunning}
-use Rattle.codec_core.proofs.Steps.{call_keeps, call_steps, removal_steps, run_keeps, done_leaves}
+use Rattle.codec_core.specs.Codec.{Codec, state_at, Makes, KeepsRunning, refused_as}
+use Rattle.codec_core.proofs.Steps.{call_keeps, call_steps, encode_keeps, encode_steps, refusal_steps, removal_steps, run_keeps, done_leaves}
 
 some_same : {X : Type 0} (a t : X) → Some a ≡ Some t → a ≡ t
 some_same a t h = cc
+
+cond_is : {X : Type 0} (b : Bool) (o : Option X) (t : X) → cond b o None ≡ Some t → o ≡ Some t
+cond_is true o t h = h
+cond_is false o t h = absurd cc
 
 keeps_at : (s a t : State) → a ≡ t → a.control.running ≡ s.control.running → a.running_given ≡ s.running_given → KeepsRunning s t
 keeps_at s a t e running given = record {
@@ -37,6 +41,15 @@ pub call_keeps_running : (who : Who) (x : Call) (s t : State) → step (entry_of
 call_keeps_running who x s t h =
     let c = call_keeps (call_error x s.control) x s.control in
     keeps_at s _ t (some_same _ _ (sym (call_steps who x s) ∙ h)) c.running refl
+
+pub encode_keeps_running : (who : Who) (x : HeldSound) (s t : State) → encode_error false s.control ≡ None → step (entry.Encode who (handed.Cloned x)) s ≡ Some t → KeepsRunning s t
+encode_keeps_running who x s t e h = keeps_at s _ t (some_same _ t (sym (encode_steps who x s e) ∙ h)) (encode_keeps x s.control).running refl
+
+pub refusal_keeps_running : (who : Who) (detached : Bool) (x : DomError) (s t : State) → encode_error detached s.control ≡ Some x → step (entry.Encode who (refused_as detached)) s ≡ Some t → KeepsRunning s t
+refusal_keeps_running who detached x s t e h = keeps_at s _ t (some_same _ t (sym (refusal_steps who detached x s e) ∙ h)) refl refl
+
+pub take_keeps_running : (who : Who) (n : ℕ) (s t : State) → step (entry.Take who n) s ≡ Some t → KeepsRunning s t
+take_keeps_running who n s t h = keeps_at s (with_control (after_take (at_next_place s.control)) s) t (some_same _ t (cond_is (may_take n s.control) _ t h)) refl refl
 
 removal_running : (r : Removal) (c : Control) → (after_removal r (at_next_place c)).running ≡ c.running
 removal_running removal.Reset c = refl
@@ -102,10 +115,6 @@ makes_shows old new e makes =
     let here : state_at old ≡ before.0 = ap (λ (o : Option State). unwrap_or o (opening_state old.opening)) before.1 in
     let whole : each_shown new.opening new.history ≡ each_shown old.opening (old.history ++ e ∷ []) = ap (λ (h : List Entry). each_shown new.opening h) makes.longer ∙ ap (λ (o : Opening). each_shown o (old.history ++ e ∷ [])) makes.same_opening in
     whole ∙ (each_more old.opening old.history e before.0 before.1 ∙ ap (λ (x : State). each_shown old.opening old.history ++ shown_at e x ∷ []) (sym here))
-
-cond_is : {X : Type 0} (b : Bool) (o : Option X) (t : X) → cond b o None ≡ Some t → o ≡ Some t
-cond_is true o t h = h
-cond_is false o t h = absurd cc
 
 ended_idle : (r : Running) (o : Option Ended) (moment : ℕ) (s t : State) → done_ended r o moment s ≡ Some t → t.control.running ≡ None
 ended_idle r None moment s t h = absurd cc

@@ -1,5 +1,6 @@
 pub mod Promises
 pub mod Ends
+pub mod Outputs
 pub mod Steps
 pub mod Recorded
 pub mod Laws

@@ -13,10 +13,8 @@ use Rattle.codec_model.specs.declared.entry.Call.{Call}
 use Rattle.codec_model.specs.declared.entry.Call.TheVariants as call
 use Rattle.codec_model.specs.declared.entry.Removal.{Removal}
 use Rattle.codec_model.specs.declared.entry.Removal.TheVariants as removal
-use Rattle.codec_model.specs.declared.entry.Outcome.{Outcome}
 use Rattle.codec_model.specs.declared.entry.Running.{Running}
 use Rattle.codec_model.specs.declared.entry.Task.{Task}
-use Rattle.codec_model.specs.declared.entry.Task.TheVariants as task
 use Rattle.codec_model.specs.Control.{Control, start_item, turn_closes}
 use Rattle.codec_model.specs.Replay.{State, opening_state, step, replay, entry_of, removal_entry, removal_error}
 use Rattle.codec_model.specs.ShownLaws.{replay_more}

@@ -1,9 +1,9 @@
 -- How promises stand after further ends.
-use Rattle.std.proofs.Common.{ℕ, ◌≡◌, ◌≢◌, ◌+◌, ◌<◌, ◌≤◌, Bool, true, false, eqb, eq-eqb, cond, List, [], ◌∷◌, ◌++◌, length, length-append, map, get_or, set, append_assoc, append-nil, Option, Some, None, refl, ap, sym, ◌∙◌, arith, inl, inr}
+use Rattle.std.proofs.Common.{ℕ, ◌≡◌, ◌≢◌, ◌+◌, ◌<◌, true, false, eqb, eq-eqb, cond, List, [], ◌∷◌, ◌++◌, length, length-append, map, get_or, set, append_assoc, append-nil, Option, Some, None, refl, ap, sym, ◌∙◌, arith, inl, inr}
 use Rattle.std.specs.List.{AllByRecursion, All}
 use Rattle.std.proofs.lemmas.Bool.{cases_eq, cases_lt}
 use Rattle.std.proofs.lemmas.Bool.Decides.{nat_tests}
-use Rattle.std.proofs.lemmas.List.{get_or-set_same, get_or-set_other, get_or_append_left, get_or_push, get_or_past, map-append}
+use Rattle.std.proofs.lemmas.List.{get_or-set_same, get_or-set_other, get_or_append_left, get_or_push, get_or_past}
 use Rattle.std.proofs.lemmas.List.Elements.{All-from_recursion}
 use Rattle.wc_base.specs.declared.error.DomError.{DomError}
 use Rattle.codec_definitions.specs.declared.unit.Unit as media
@@ -16,7 +16,7 @@ use Rattle.codec_model.specs.declared.entry.PromiseEnd.{PromiseEnd}
 use Rattle.codec_model.specs.declared.entry.PromiseState.{PromiseState}
 use Rattle.codec_model.specs.declared.entry.PromiseState.TheVariants as promise
 use Rattle.codec_model.specs.Shown.{promise_state, promise_ended, event_ends, ends_of, ends_shown, rejections, outputs_from, task_shows}
-use Rattle.codec_core.specs.Trace.{AreStates, EndsBelow, rejected, resolved_by}
+use Rattle.codec_core.specs.Trace.{AreStates, rejected, resolved_by}
 
 -- ---- the first end counts
 

@@ -1,6 +1,6 @@
 -- Steps of a history, and where the box is after each.
 use Rattle.std.proofs.Common.{ℕ, ◌≡◌, ◌+◌, ◌≤◌, ◌<◌, ◌&&◌, ◌||◌, not, Bool, true, false, eqb, cond, List, [], ◌∷◌, ◌++◌, length-append, Option, Some, None, is_some, is_none, refl, ap, sym, subst, eq-eqb, ◌∙◌, arith}
-use Rattle.std.specs.Prelude.{option_and_then, unwrap_or, max, IfNone, OnSome}
+use Rattle.std.specs.Prelude.{unwrap_or, max, IfNone, OnSome}
 use Rattle.std.proofs.lemmas.Bool.{eqb-true}
 use Rattle.std.proofs.lemmas.Bool.Decides.{nat_tests}
 use Rattle.wc_base.specs.declared.error.DomError.{DomError}
@@ -16,6 +16,9 @@ use Rattle.codec_model.specs.declared.entry.Call.{Call}
 use Rattle.codec_model.specs.declared.entry.Call.TheVariants as call
 use Rattle.codec_model.specs.declared.entry.Entry.{Entry}
 use Rattle.codec_model.specs.declared.entry.Entry.TheVariants as entry
+use Rattle.codec_model.specs.declared.entry.HeldSound.{HeldSound}
+use Rattle.codec_model.specs.declared.entry.Handed.TheVariants as handed
+use Rattle.codec_model.specs.declared.entry.Coded.TheVariants as coded
 use Rattle.codec_model.specs.declared.entry.Work.{Work}
 use Rattle.codec_model.specs.declared.entry.Work.TheVariants as work
 use Rattle.codec_model.specs.declared.entry.WorkKind.{WorkKind}
@@ -27,11 +30,12 @@ use Rattle.codec_model.specs.declared.entry.Task.{Task}
 use Rattle.codec_model.specs.declared.entry.Task.TheVariants as task
 use Rattle.codec_model.specs.declared.entry.Ended.{Ended}
 use Rattle.codec_model.specs.declared.entry.Ended.TheVariants as ended
-use Rattle.codec_model.specs.Control.{Control, is_decoder, is_taken, after_message, process_queue, at_next_place, is_close, turn_closes, run_task, run_front, kind_of, after_done, done_running, after_end, after_turn, after_close, after_removal, may_reclaim, front, may_start, start_item, after_start}
-use Rattle.codec_model.specs.Replay.{State, Given, given_more, missing_coder, opening_state, step, replay_from, with_control, removed, accepted, after_call, call_error, entry_of, removal_error, removal_entry, remove_or_refuse}
+use Rattle.codec_model.specs.Control.{Control, is_decoder, is_taken, after_message, process_queue, at_next_place, is_close, turn_closes, run_task, run_front, kind_of, after_done, done_running, after_end, after_turn, after_close, after_removal, may_reclaim, front, may_start, start_item, after_start, held_of, after_encode, after_take, may_take}
+use Rattle.codec_model.specs.Replay.{State, Given, given_more, missing_coder, opening_state, step, with_control, removed, accepted, after_call, call_error, entry_of, removal_error, removal_entry, remove_or_refuse, is_configured, encode_error}
+use Rattle.codec_model.specs.Shown.{handed_error}
 use Rattle.codec_model.specs.ShownLaws.{replay_more}
 use Rattle.codec_core.specs.Job.{JobValue, DoneValue, missing_for, CoderAt, CoderFor, IsReady, IsReadyBox, StillAt, IsEndOf, IsJobOf, outcome_of}
-use Rattle.codec_core.specs.Codec.{state_at, Makes, CoderHome, IsKept, kept_box, reclaims}
+use Rattle.codec_core.specs.Codec.{state_at, Makes, CoderHome, IsKept, kept_box, reclaims, refused_as}
 
 -- the item that is out, and all that processing leaves
 pub record SameRun (s t : Control) : Type 0 where
@@ -41,9 +45,10 @@ pub record SameRun (s t : Control) : Type 0 where
   pub place : t.place ≡ s.place
   pub opening : t.opening ≡ s.opening
   pub phase : t.phase ≡ s.phase
+  pub taken : t.taken ≡ s.taken
 
 same_run : (s : Control) → SameRun s s
-same_run s = record { running = refl; halted = refl; epoch = refl; place = refl; opening = refl; phase = refl }
+same_run s = record { running = refl; halted = refl; epoch = refl; place = refl; opening = refl; phase = refl; taken = refl }
 
 then_run : (s t u : Control) → SameRun s t → SameRun t u → SameRun s u
 then_run s t u p q = record {
@@ -53,12 +58,13 @@ then_run s t u p q = record {
   place = q.place ∙ p.place;
   opening = q.opening ∙ p.opening;
   phase = q.phase ∙ p.phase;
+  taken = q.taken ∙ p.taken;
 }
 
 after_keeps : (w : Work) (place : ℕ) (ms : List Message) (s : Control) → SameRun s (record (after_message (record { place = place; work = w }) s) { messages = ms })
-after_keeps (work.Configure config) place ms s = record { running = refl; halted = refl; epoch = refl; place = refl; opening = refl; phase = refl }
-after_keeps (work.Coded chunk) place ms s = record { running = refl; halted = refl; epoch = refl; place = refl; opening = refl; phase = refl }
-after_keeps work.Flush place ms s = record { running = refl; halted = refl; epoch = refl; place = refl; opening = refl; phase = refl }
+after_keeps (work.Configure config) place ms s = record { running = refl; halted = refl; epoch = refl; place = refl; opening = refl; phase = refl; taken = refl }
+after_keeps (work.Coded input) place ms s = record { running = refl; halted = refl; epoch = refl; place = refl; opening = refl; phase = refl; taken = refl }
+after_keeps work.Flush place ms s = record { running = refl; halted = refl; epoch = refl; place = refl; opening = refl; phase = refl; taken = refl }
 
 pub process_keeps : (ms : List Message) (s : Control) → SameRun s (process_queue ms s)
 process_keeps [] s = same_run s
@@ -70,15 +76,20 @@ process_keeps (m ∷ ms) s =
     ]
 
 pub run_keeps : (t : Task) (s : Control) → is_close t ≡ false → SameRun s (run_task t s)
-run_keeps task.Unblock s h = record { running = refl; halted = refl; epoch = refl; place = refl; opening = refl; phase = refl }
+run_keeps task.Unblock s h = record { running = refl; halted = refl; epoch = refl; place = refl; opening = refl; phase = refl; taken = refl }
 run_keeps task.Process s h = process_keeps s.messages s
 run_keeps task.Desaturate s h =
     let k = process_keeps s.messages (record s { saturated = false }) in
-    record { running = k.running; halted = k.halted; epoch = k.epoch; place = k.place; opening = k.opening; phase = k.phase }
-run_keeps (task.Output units) s h = record { running = refl; halted = refl; epoch = refl; place = refl; opening = refl; phase = refl }
-run_keeps (task.Flushed promise units) s h = record { running = refl; halted = refl; epoch = refl; place = refl; opening = refl; phase = refl }
-run_keeps task.Dequeue s h = record { running = refl; halted = refl; epoch = refl; place = refl; opening = refl; phase = refl }
+    record { running = k.running; halted = k.halted; epoch = k.epoch; place = k.place; opening = k.opening; phase = k.phase; taken = k.taken }
+run_keeps (task.Output units) s h = record { running = refl; halted = refl; epoch = refl; place = refl; opening = refl; phase = refl; taken = refl }
+run_keeps (task.Flushed promise units) s h = record { running = refl; halted = refl; epoch = refl; place = refl; opening = refl; phase = refl; taken = refl }
+run_keeps task.Dequeue s h = record { running = refl; halted = refl; epoch = refl; place = refl; opening = refl; phase = refl; taken = refl }
 run_keeps (task.Close x) s h = absurd cc
+
+-- an entry takes an output
+abbrev pub takes : Entry → Bool
+takes (entry.Take who unit) = true
+takes _ = false
 
 -- a legal step to a control state, with the box at home there
 pub record Moved (slot : Option Lent) (e : Entry) (s : State) (k : Control) : Type 0 where
@@ -88,6 +99,7 @@ pub record Moved (slot : Option Lent) (e : Entry) (s : State) (k : Control) : Ty
   pub home : CoderHome slot after
   pub next_place : k.place ≡ s.control.place + 1
   pub same_opening : k.opening ≡ s.control.opening
+  pub taken : takes e ≡ false → k.taken ≡ s.control.taken
 
 home_kept : (slot : Option Lent) (s : State) (k : Control) → k.running ≡ s.control.running → k.halted ≡ s.control.halted → k.epoch ≡ s.control.epoch → CoderHome slot s → CoderHome slot (with_control k s)
 home_kept slot s k running halted epoch home = record {
@@ -98,14 +110,15 @@ home_kept slot s k running halted epoch home = record {
   older = λ r e. rw epoch (home.older r (sym running ∙ e));
 }
 
-moved_by : (slot : Option Lent) (e : Entry) (s : State) (k : Control) → k.running ≡ s.control.running → k.halted ≡ s.control.halted → k.epoch ≡ s.control.epoch → k.place ≡ s.control.place + 1 → k.opening ≡ s.control.opening → step e s ≡ Some (with_control k s) → CoderHome slot s → Moved slot e s k
-moved_by slot e s k running halted epoch place opening steps home = record {
+moved_by : (slot : Option Lent) (e : Entry) (s : State) (k : Control) → k.running ≡ s.control.running → k.halted ≡ s.control.halted → k.epoch ≡ s.control.epoch → k.place ≡ s.control.place + 1 → k.opening ≡ s.control.opening → (takes e ≡ false → k.taken ≡ s.control.taken) → step e s ≡ Some (with_control k s) → CoderHome slot s → Moved slot e s k
+moved_by slot e s k running halted epoch place opening taken steps home = record {
   after = with_control k s;
   steps = steps;
   is_control = refl;
   home = home_kept slot s k running halted epoch home;
   next_place = place;
   same_opening = opening;
+  taken = taken;
 }
 
 -- the history goes on by the step
@@ -140,6 +153,7 @@ record RemovedTo (s k : Control) : Type 0 where
   epoch : k.epoch ≡ s.epoch + 1
   place : k.place ≡ s.place + 1
   opening : k.opening ≡ s.opening
+  taken : k.taken ≡ s.taken
 
 removed_moved : (slot : Option Lent) (e : Entry) (s : State) (k : Control) → RemovedTo s.control k → step e s ≡ Some (removed k s) → CoderHome slot s → Moved None e s k
 removed_moved slot e s k to steps home = record {
@@ -155,11 +169,12 @@ removed_moved slot e s k to steps home = record {
   };
   next_place = to.place;
   same_opening = to.opening;
+  taken = λ none. to.taken;
 }
 
 close_moved : (slot : Option Lent) (s : State) (x : DomError) (ts : List Task) → s.control.tasks ≡ task.Close x ∷ ts → CoderHome slot s → Moved None entry.Turn s (after_turn s.control)
 close_moved slot s x ts e home =
-    let m = removed_moved slot entry.Turn s (run_front (at_next_place s.control)) (rw e (record { running = refl; epoch = refl; place = refl; opening = refl })) (rw e refl) home in
+    let m = removed_moved slot entry.Turn s (run_front (at_next_place s.control)) (rw e (record { running = refl; epoch = refl; place = refl; opening = refl; taken = refl })) (rw e refl) home in
     rw e (rw e at m)
 
 pub turn_moved : (slot : Option Lent) (s : State) (ts : List Task) (b : Bool) → s.control.tasks ≡ ts → turn_closes ts ≡ Some b → CoderHome slot s → Moved (cond b None slot) entry.Turn s (after_turn s.control)
@@ -170,7 +185,7 @@ turn_moved slot s (t ∷ ts) true e h home = absurd cc
 turn_moved slot s (t ∷ ts) false e h home =
     let k = run_keeps t (record (at_next_place s.control) { tasks = ts }) refl in
     moved_by slot entry.Turn s (after_turn s.control)
-    (rw e k.running) (rw e k.halted) (rw e k.epoch) (rw e k.place) (rw e k.opening)
+    (rw e k.running) (rw e k.halted) (rw e k.epoch) (rw e k.place) (rw e k.opening) (λ none. rw e k.taken)
     (rw e refl) home
 
 kept_not : (b : Bool) (slot : Option Lent) → kept_box (not b) slot ≡ cond b None slot
@@ -200,7 +215,7 @@ start_moved_to s i rest may work =
     let after : after_start s.control ≡ k = rw (may, work) refl in
     let is_out : (r : Running) → Some out ≡ Some r → out ≡ r = λ r e. cc in
     record {
-      after = record { control = k; given = given_more i.work s.given; running_given = given_more i.work s.given };
+      after = record { control = k; given = given_more i.work s.given; running_given = given_more i.work s.given; running_held = held_of i.work };
       steps = rw (work, may, eq-eqb s.control.epoch s.control.epoch refl, eq-eqb i.number i.number refl) refl;
       is_control = sym after;
       home = record {
@@ -212,6 +227,7 @@ start_moved_to s i rest may work =
       };
       next_place = ap (λ (c : Control). c.place) after;
       same_opening = ap (λ (c : Control). c.opening) after;
+      taken = λ none. ap (λ (c : Control). c.taken) after;
     }
 
 start_moved : (s : State) (i : Item) → start_item s.control ≡ Some i → Moved None (entry.Start s.control.epoch i.number) s (after_start s.control)
@@ -245,7 +261,7 @@ home_idle s slot may home =
 lacks_at : (w : Work) (slot : Option Lent) (g : Given) → CoderAt slot g → missing_for w slot ≡ missing_coder g w
 lacks_at (work.Configure config) None g at = rw at refl
 lacks_at (work.Configure config) (Some lent) g at = rw at.asked refl
-lacks_at (work.Coded chunk) slot g at = refl
+lacks_at (work.Coded input) slot g at = refl
 lacks_at work.Flush slot g at = refl
 
 pub start_lacks : (h : List Entry) (slot : Option Lent) (k : Control) (i : Item) (kept : IsKept h slot k) → start_item k ≡ Some i → missing_for i.work slot ≡ missing_coder kept.state.given i.work
@@ -256,7 +272,7 @@ start_lacks h slot k i kept item =
 
 coder_for : (w : Work) (slot : Option Lent) (before : Given) → CoderAt slot before → CoderFor w slot before
 coder_for (work.Configure config) slot before at = tt
-coder_for (work.Coded chunk) slot before at = at
+coder_for (work.Coded input) slot before at = at
 coder_for work.Flush slot before at = at
 
 ready_box : (slot : Option Lent) (g : Given) → CoderAt slot g → IsReadyBox slot
@@ -265,7 +281,7 @@ ready_box (Some lent) g at = rw at.meant tt
 
 ready : (w : Work) (slot : Option Lent) (g : Given) → CoderAt slot g → IsReady w slot
 ready (work.Configure config) slot g at = tt
-ready (work.Coded chunk) slot g at = ready_box slot g at
+ready (work.Coded input) slot g at = ready_box slot g at
 ready work.Flush slot g at = ready_box slot g at
 
 pub start_ready : (h : List Entry) (slot : Option Lent) (k : Control) (i : Item) (kept : IsKept h slot k) → start_item k ≡ Some i → IsReady i.work slot
@@ -278,7 +294,7 @@ start_job_at : (s t : State) (i : Item) (rest : List Item) (slot : Option Lent) 
 start_job_at s t i rest slot at may work steps home =
     let out : Running = record { epoch = s.control.epoch; number = i.number; place = i.place; kind = kind_of i.work } in
     let k : Control = record (at_next_place s.control) { work = rest; running = Some out } in
-    let u : State = record { control = k; given = given_more i.work s.given; running_given = given_more i.work s.given } in
+    let u : State = record { control = k; given = given_more i.work s.given; running_given = given_more i.work s.given; running_held = held_of i.work } in
     let same : step (entry.Start s.control.epoch i.number) s ≡ Some u = rw (work, may, eq-eqb s.control.epoch s.control.epoch refl, eq-eqb i.number i.number refl) refl in
     let is : u ≡ t = cc in
     let job : JobValue = record { epoch = s.control.epoch; number = i.number; place = at; work = i.work; coder = slot } in
@@ -311,17 +327,18 @@ pub record Leaves (s t : Control) : Type 0 where
   pub place : t.place ≡ s.place
   pub opening : t.opening ≡ s.opening
   pub phase : t.phase ≡ s.phase
+  pub taken : t.taken ≡ s.taken
 
 ran_leaves : (k : WorkKind) (r : Running) (units : List media.Unit) (s : Control) → r.kind ≡ k → Leaves s (after_end r (ended.Ran units) s)
-ran_leaves kind.Configure r units s e = rw e (record { running = refl; epoch = refl; place = refl; opening = refl; phase = refl })
-ran_leaves kind.Coded r units s e = rw e (record { running = refl; epoch = refl; place = refl; opening = refl; phase = refl })
-ran_leaves kind.Flush r units s e = rw e (record { running = refl; epoch = refl; place = refl; opening = refl; phase = refl })
+ran_leaves kind.Configure r units s e = rw e (record { running = refl; epoch = refl; place = refl; opening = refl; phase = refl; taken = refl })
+ran_leaves kind.Coded r units s e = rw e (record { running = refl; epoch = refl; place = refl; opening = refl; phase = refl; taken = refl })
+ran_leaves kind.Flush r units s e = rw e (record { running = refl; epoch = refl; place = refl; opening = refl; phase = refl; taken = refl })
 
 settled_leaves : (r : Running) (e : Ended) (s : Control) → Leaves s (after_end r e s)
 settled_leaves r (ended.Ran units) s = ran_leaves r.kind r units s refl
-settled_leaves r ended.Refused s = record { running = refl; epoch = refl; place = refl; opening = refl; phase = refl }
-settled_leaves r (ended.NoSlot n) s = record { running = refl; epoch = refl; place = refl; opening = refl; phase = refl }
-settled_leaves r ended.NoMemory s = record { running = refl; epoch = refl; place = refl; opening = refl; phase = refl }
+settled_leaves r ended.Refused s = record { running = refl; epoch = refl; place = refl; opening = refl; phase = refl; taken = refl }
+settled_leaves r (ended.NoSlot n) s = record { running = refl; epoch = refl; place = refl; opening = refl; phase = refl; taken = refl }
+settled_leaves r ended.NoMemory s = record { running = refl; epoch = refl; place = refl; opening = refl; phase = refl; taken = refl }
 
 pub done_leaves : (r : Running) (e : Ended) (moment : ℕ) (s : Control) → Leaves (record s { running = None }) (done_running r e moment s)
 done_leaves r e moment s =
@@ -329,8 +346,8 @@ done_leaves r e moment s =
     let noted : Control = record idle { progress = Some (max moment (unwrap_or s.progress moment)) } in
     let l = settled_leaves r e noted in
     elim (eqb r.epoch s.epoch) as (λ b. Leaves idle (cond b (after_end r e noted) idle)) [
-      | true ↦ record { running = l.running; epoch = l.epoch; place = l.place; opening = l.opening; phase = l.phase }
-      | false ↦ record { running = refl; epoch = refl; place = refl; opening = refl; phase = refl }
+      | true ↦ record { running = l.running; epoch = l.epoch; place = l.place; opening = l.opening; phase = l.phase; taken = l.taken }
+      | false ↦ record { running = refl; epoch = refl; place = refl; opening = refl; phase = refl; taken = refl }
     ]
 
 -- a codec that is not halted by it was told units
@@ -372,6 +389,7 @@ done_moved slot next s d moment end home next_is =
       };
       next_place = rw after l.place;
       same_opening = rw after l.opening;
+      taken = λ none. rw after l.taken;
     }
 
 pub done_moves : (h : List Entry) (slot next : Option Lent) (k k' : Control) (d : DoneValue) (moment spare : ℕ) (kept : IsKept h slot k) → IsEndOf (state_at (record { opening = k.opening; history = h; spare = spare; slot = slot })) d → next ≡ kept_box (eqb d.epoch k.epoch) d.coder → k' ≡ after_done d.ended moment k → Moved next (entry.Done d.epoch d.number moment (outcome_of d.ended)) kept.state k'
@@ -386,24 +404,25 @@ pub record SameCall (s t : Control) : Type 0 where
   pub epoch : t.epoch ≡ s.epoch
   pub place : t.place ≡ s.place + 1
   pub opening : t.opening ≡ s.opening
+  pub taken : t.taken ≡ s.taken
 
 accepted_keeps : (x : Call) (c : Control) → SameCall c (accepted x c)
 accepted_keeps (call.Configure config) c =
     let s : Control = record (at_next_place c) { phase = Configured; key_required = is_decoder c.opening.kind || c.key_required; messages = c.messages ++ record { place = c.place; work = work.Configure config } ∷ [] } in
     let k = process_keeps s.messages s in
-    record { running = k.running; halted = k.halted; epoch = k.epoch; place = k.place; opening = k.opening }
+    record { running = k.running; halted = k.halted; epoch = k.epoch; place = k.place; opening = k.opening; taken = k.taken }
 accepted_keeps (call.Decode chunk) c =
-    let s : Control = record (at_next_place c) { key_required = false; size = c.size + 1; messages = c.messages ++ record { place = c.place; work = work.Coded chunk } ∷ [] } in
+    let s : Control = record (at_next_place c) { key_required = false; size = c.size + 1; messages = c.messages ++ record { place = c.place; work = work.Coded (coded.Chunk chunk) } ∷ [] } in
     let k = process_keeps s.messages s in
-    record { running = k.running; halted = k.halted; epoch = k.epoch; place = k.place; opening = k.opening }
+    record { running = k.running; halted = k.halted; epoch = k.epoch; place = k.place; opening = k.opening; taken = k.taken }
 accepted_keeps call.Flush c =
     let s : Control = record (at_next_place c) { key_required = is_decoder c.opening.kind || c.key_required; pending = c.pending ++ c.place ∷ []; messages = c.messages ++ record { place = c.place; work = work.Flush } ∷ [] } in
     let k = process_keeps s.messages s in
-    record { running = k.running; halted = k.halted; epoch = k.epoch; place = k.place; opening = k.opening }
+    record { running = k.running; halted = k.halted; epoch = k.epoch; place = k.place; opening = k.opening; taken = k.taken }
 
 pub call_keeps : (error : Option DomError) (x : Call) (c : Control) → SameCall c (after_call error x c)
 call_keeps None x c = accepted_keeps x c
-call_keeps (Some error) x c = record { running = refl; halted = refl; epoch = refl; place = refl; opening = refl }
+call_keeps (Some error) x c = record { running = refl; halted = refl; epoch = refl; place = refl; opening = refl; taken = refl }
 
 pub call_steps : (who : Who) (x : Call) (s : State) → step (entry_of who x) s ≡ Some (with_control (after_call (call_error x s.control) x s.control) s)
 call_steps who (call.Configure config) s = refl
@@ -414,7 +433,61 @@ pub call_moves : (h : List Entry) (slot : Option Lent) (k k' : Control) (who : W
 call_moves h slot k k' who x error kept e after =
     let s = kept.state in
     let c = call_keeps (call_error x s.control) x s.control in
-    rw (after, e, ← kept.is_control) (moved_by slot (entry_of who x) s _ c.running c.halted c.epoch c.place c.opening (call_steps who x s) kept.home)
+    rw (after, e, ← kept.is_control) (moved_by slot (entry_of who x) s _ c.running c.halted c.epoch c.place c.opening (λ none. c.taken) (call_steps who x s) kept.home)
+
+-- an encode is queued like a call
+pub encode_keeps : (x : HeldSound) (c : Control) → SameCall c (after_encode c.place x (at_next_place c))
+encode_keeps x c =
+    let s : Control = record (at_next_place c) { size = c.size + 1; messages = c.messages ++ record { place = c.place; work = work.Coded (coded.Sound x) } ∷ [] } in
+    let k = process_keeps s.messages s in
+    record { running = k.running; halted = k.halted; epoch = k.epoch; place = k.place; opening = k.opening; taken = k.taken }
+
+-- an encode of data that is not detached is refused exactly where the codec is not configured
+not_refused : (b : Bool) → cond b None (Some dom.InvalidState) ≡ None → b ≡ true
+not_refused true e = refl
+not_refused false e = absurd cc
+
+is_refused : (b : Bool) (x : DomError) → cond b None (Some dom.InvalidState) ≡ Some x → (b ≡ false) × (x ≡ dom.InvalidState)
+is_refused true x e = absurd cc
+is_refused false x e = (refl, cc)
+
+pub encode_steps : (who : Who) (x : HeldSound) (s : State) → encode_error false s.control ≡ None → step (entry.Encode who (handed.Cloned x)) s ≡ Some (with_control (after_encode s.control.place x (at_next_place s.control)) s)
+encode_steps who x s e = rw (not_refused (is_configured s.control) e) refl
+
+pub encode_moves : (h : List Entry) (slot : Option Lent) (k k' : Control) (who : Who) (x : HeldSound) (kept : IsKept h slot k) → encode_error false k ≡ None → k' ≡ after_encode k.place x (at_next_place k) → Moved slot (entry.Encode who (handed.Cloned x)) kept.state k'
+encode_moves h slot k k' who x kept e after =
+    let s = kept.state in
+    let c = encode_keeps x s.control in
+    let steps = encode_steps who x s (ap (encode_error false) kept.is_control ∙ e) in
+    rw (after, ← kept.is_control) (moved_by slot (entry.Encode who (handed.Cloned x)) s (after_encode s.control.place x (at_next_place s.control)) c.running c.halted c.epoch c.place c.opening (λ none. c.taken) steps kept.home)
+
+pub refusal_steps : (who : Who) (detached : Bool) (x : DomError) (s : State) → encode_error detached s.control ≡ Some x → step (entry.Encode who (refused_as detached)) s ≡ Some (with_control (at_next_place s.control) s)
+refusal_steps who true x s e = refl
+refusal_steps who false x s e = rw (is_refused (is_configured s.control) x e).0 refl
+
+pub refusal_moves : (h : List Entry) (slot : Option Lent) (k k' : Control) (who : Who) (detached : Bool) (x : DomError) (kept : IsKept h slot k) → encode_error detached k ≡ Some x → k' ≡ at_next_place k → Moved slot (entry.Encode who (refused_as detached)) kept.state k'
+refusal_moves h slot k k' who detached x kept e after =
+    let s = kept.state in
+    let steps = refusal_steps who detached x s (ap (encode_error detached) kept.is_control ∙ e) in
+    rw (after, ← kept.is_control) (moved_by slot (entry.Encode who (refused_as detached)) s (at_next_place s.control) refl refl refl refl refl (λ none. refl) steps kept.home)
+
+-- what became of the data tells the error
+pub refusal_told : (detached : Bool) (x : DomError) (c : Control) → encode_error detached c ≡ Some x → handed_error (refused_as detached) ≡ Some x
+refusal_told true x c e = e
+refusal_told false x c e = ap (λ (y : DomError). Some y) (sym (is_refused (is_configured c) x e).1)
+
+pub some_error : (o : Option DomError) → is_some o ≡ true → (x : DomError) × (o ≡ Some x)
+some_error None e = absurd cc
+some_error (Some x) e = (x, refl)
+
+pub take_steps : (who : Who) (n : ℕ) (s : State) → may_take n s.control ≡ true → step (entry.Take who n) s ≡ Some (with_control (after_take (at_next_place s.control)) s)
+take_steps who n s may = rw may refl
+
+pub take_moves : (h : List Entry) (slot : Option Lent) (k k' : Control) (who : Who) (n : ℕ) (kept : IsKept h slot k) → may_take n k ≡ true → k' ≡ after_take (at_next_place k) → Moved slot (entry.Take who n) kept.state k'
+take_moves h slot k k' who n kept may after =
+    let s = kept.state in
+    let steps = take_steps who n s (ap (may_take n) kept.is_control ∙ may) in
+    rw (after, ← kept.is_control) (moved_by slot (entry.Take who n) s (after_take (at_next_place s.control)) refl refl refl refl refl (λ none. absurd cc) steps kept.home)
 
 -- a reset or close: made, or refused with this error
 abbrev pub removal_of : Option DomError → Removal → Control → Control
@@ -422,8 +495,17 @@ removal_of None r s = after_removal r (at_next_place s)
 removal_of (Some error) r s = at_next_place s
 
 removed_to : (r : Removal) (c : Control) → RemovedTo c (after_removal r (at_next_place c))
-removed_to removal.Reset c = record { running = refl; epoch = refl; place = refl; opening = refl }
-removed_to removal.Close c = record { running = refl; epoch = refl; place = refl; opening = refl }
+removed_to removal.Reset c = record { running = refl; epoch = refl; place = refl; opening = refl; taken = refl }
+removed_to removal.Close c = record { running = refl; epoch = refl; place = refl; opening = refl; taken = refl }
+
+pub call_takes : (who : Who) (x : Call) → takes (entry_of who x) ≡ false
+call_takes who (call.Configure config) = refl
+call_takes who (call.Decode chunk) = refl
+call_takes who call.Flush = refl
+
+pub removal_takes : (who : Who) (r : Removal) → takes (removal_entry who r) ≡ false
+removal_takes who removal.Reset = refl
+removal_takes who removal.Close = refl
 
 pub removal_steps : (who : Who) (r : Removal) (s : State) → step (removal_entry who r) s ≡ Some (remove_or_refuse (removal_error s.control) r s)
 removal_steps who removal.Reset s = refl
@@ -434,7 +516,7 @@ removal_moved slot who r s None e home =
     removed_moved slot (removal_entry who r) s (after_removal r (at_next_place s.control)) (removed_to r s.control)
     (removal_steps who r s ∙ ap (λ (o : Option DomError). Some (remove_or_refuse o r s)) e) home
 removal_moved slot who r s (Some error) e home =
-    moved_by slot (removal_entry who r) s (at_next_place s.control) refl refl refl refl refl
+    moved_by slot (removal_entry who r) s (at_next_place s.control) refl refl refl refl refl (λ none. refl)
     (removal_steps who r s ∙ ap (λ (o : Option DomError). Some (remove_or_refuse o r s)) e) home
 
 pub removal_moves : (h : List Entry) (slot next : Option Lent) (k k' : Control) (who : Who) (r : Removal) (error : Option DomError) (kept : IsKept h slot k) → removal_error k ≡ error → next ≡ kept_box (is_some error) slot → k' ≡ removal_of error r k → Moved next (removal_entry who r) kept.state k'
@@ -444,7 +526,7 @@ removal_moves h slot next k k' who r error kept e slot_is after =
 pub reclaim_moves : (h : List Entry) (slot : Option Lent) (k k' : Control) (now : ℕ) (kept : IsKept h slot k) → may_reclaim now k ≡ true → k' ≡ after_close (at_next_place k) → Moved None (entry.Reclaim now) kept.state k'
 reclaim_moves h slot k k' now kept may after =
     let here : may_reclaim now kept.state.control ≡ true = rw kept.is_control may in
-    rw (after, ← kept.is_control) (removed_moved slot (entry.Reclaim now) kept.state (after_close (at_next_place kept.state.control)) (record { running = refl; epoch = refl; place = refl; opening = refl }) (rw here refl) kept.home)
+    rw (after, ← kept.is_control) (removed_moved slot (entry.Reclaim now) kept.state (after_close (at_next_place kept.state.control)) (record { running = refl; epoch = refl; place = refl; opening = refl; taken = refl }) (rw here refl) kept.home)
 
 -- the place that is kept for a reclaim stays until the codec is closed
 same_phase : (s t : Control) → t.phase ≡ s.phase → reclaims t.phase ≤ reclaims s.phase

@@ -1,19 +1,23 @@
 -- A codec as its history.
-use Rattle.std.specs.Prelude.{ℕ, ◌≡◌, ◌≤◌, ◌<◌, ◌+◌, ◌^◌, Bool, false, List, [], ◌∷◌, ◌++◌, length, Option, Some, None, unwrap_or, if◌then◌else◌}
+use Rattle.std.specs.Prelude.{ℕ, ◌≡◌, ◌≤◌, ◌<◌, ◌+◌, ◌^◌, Bool, false, List, [], ◌∷◌, ◌++◌, length, drop, Option, Some, None, unwrap_or, if◌then◌else◌}
 use Rattle.wc_base.specs.declared.error.DomError.{DomError}
 use Rattle.wc_base.specs.declared.who.By.{By}
 use Rattle.wc_base.specs.declared.who.By.TheVariants as by
 use Rattle.wc_base.specs.declared.who.Who.{Who}
+use Rattle.codec_definitions.specs.declared.unit.Unit as media
 use Rattle.coder_api.specs.Lent.{Lent}
 use Rattle.codec_model.specs.declared.entry.Opening.{Opening}
 use Rattle.codec_model.specs.declared.entry.CodecState.{CodecState}
 use Rattle.codec_model.specs.declared.entry.CodecState.TheVariants.{Unconfigured, Configured, Closed}
 use Rattle.codec_model.specs.declared.entry.Call.{Call}
 use Rattle.codec_model.specs.declared.entry.Call.TheVariants as call
+use Rattle.codec_model.specs.declared.entry.Handed.{Handed}
+use Rattle.codec_model.specs.declared.entry.Handed.TheVariants as handed
 use Rattle.codec_model.specs.declared.entry.Entry.{Entry}
 use Rattle.codec_model.specs.declared.entry.Work.{Work}
 use Rattle.codec_model.specs.declared.entry.Item.{Item}
 use Rattle.codec_model.specs.declared.entry.Running.{Running}
+use Rattle.codec_model.specs.declared.entry.Shown.{Shown}
 use Rattle.codec_model.specs.Control.{Control, turn_closes, left}
 use Rattle.codec_model.specs.Replay.{State, opening_state, replay, nothing_given, step, entry_of, call_error}
 use Rattle.codec_model.specs.Shown.{each_shown, exception_of}
@@ -21,7 +25,7 @@ use Rattle.codec_core.specs.declared.reply.CallFault.{CallFault}
 use Rattle.codec_core.specs.declared.reply.CallFault.TheVariants as fault
 use Rattle.codec_core.specs.Job.{CoderAt, stopped_box}
 use Rattle.codec_accounts.specs.Asked.{asked_at}
-use Rattle.codec_core.specs.Trace.{TraceValue}
+use Rattle.codec_core.specs.Trace.{TraceValue, outputs_in}
 
 pub record Codec : Type 0 where
   pub opening : Opening
@@ -80,11 +84,18 @@ reclaims Unconfigured = 1
 reclaims Configured = 1
 reclaims Closed = 0
 
+-- the outputs that wait are those that were shown but for those that were taken
+pub record OutputsWait (shown : List Shown) (waiting : List media.Unit) (k : Control) : Type 0 where
+  pub counted : k.shown ≡ length (outputs_in shown)
+  pub took : k.taken ≤ k.shown
+  pub others : waiting ≡ drop k.taken (outputs_in shown)
+
 -- the entries are the history of the machine's state, each with what it showed, and there is a place for each entry that
 -- is left and for those that are kept
 pub record IsCore (t : TraceValue) (slot : Option Lent) (k : Control) (spare : ℕ) : Type 0 where
   pub kept : IsKept t.entries slot k
   pub shows : t.shown ≡ each_shown k.opening t.entries
+  pub outputs : OutputsWait t.shown t.waiting k
   -- the box at home is the one that the codec asked for last
   pub own : IsAskedAt (asked_at k.opening t.entries) slot
   pub places : left k + spare + reclaims k.phase ≤ t.free
@@ -134,6 +145,10 @@ abbrev pub promise_of : Call → ℕ → Option ℕ
 promise_of (call.Configure config) at = None
 promise_of (call.Decode chunk) at = None
 promise_of call.Flush at = Some at
+
+-- what became of the data of an encode that is refused
+abbrev pub refused_as : Bool → Handed
+refused_as detached = if detached then handed.Gone else handed.Kept
 
 -- the call's entry was made, and this is the exception that it shows
 pub record Replied (old new : Codec) (who : Who) (x : Call) (at : ℕ) (error : Option DomError) : Type 0 where

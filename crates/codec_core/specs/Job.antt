@@ -2,13 +2,15 @@
 use Rattle.std.specs.Prelude.{ℕ, ◌≡◌, Bool, true, false, ◌&&◌, not, List, [], ◌∷◌, ◌++◌, length, Option, Some, None, is_some, option_map, if◌then◌else◌, Result, Ok, Err}
 use Rattle.wc_config.specs.declared.codec.CoderId.{CoderId}
 use Rattle.wc_config.specs.declared.config.Config.{Config}
+use Rattle.wc_config.specs.declared.config.AudioDecoderConfig.{AudioDecoderConfig}
 use Rattle.wc_config.specs.Configs.{is_supported, coder_id_of}
 use Rattle.codec_definitions.specs.declared.unit.Unit as media
+use Rattle.codec_definitions.specs.declared.unit.Unit.TheVariants as unit_of
 use Rattle.codec_definitions.specs.declared.command.Command.{Command}
 use Rattle.coder_api.specs.declared.coder.CoderFault.{CoderFault}
 use Rattle.coder_api.specs.declared.coder.CoderFault.TheVariants as fault
 use Rattle.codec_definitions.specs.Answers.{answer_after}
-use Rattle.coder_api.specs.Meaning.{IsAt, IsConfigured, serves}
+use Rattle.coder_api.specs.Meaning.{Meaning, IsAt, IsConfigured, serves, setup_of}
 use Rattle.coder_api.specs.Lent.{Lent, stopped_lent}
 use Rattle.codec_model.specs.declared.entry.Work.{Work}
 use Rattle.codec_model.specs.declared.entry.Work.TheVariants as work
@@ -19,7 +21,7 @@ use Rattle.codec_model.specs.declared.entry.Outcome.{Outcome}
 use Rattle.codec_model.specs.declared.entry.Outcome.TheVariants as outcome
 use Rattle.codec_model.specs.declared.entry.Running.{Running}
 use Rattle.codec_model.specs.Control.{kind_of}
-use Rattle.codec_model.specs.Replay.{Given, State, nothing_given, given_more, answer_to, ended_of}
+use Rattle.codec_model.specs.Replay.{Given, State, nothing_given, given_more, answer_to, ended_of, labelled}
 
 -- an item that is at work, with the box that its codec held
 pub record JobValue : Type 0 where
@@ -46,7 +48,7 @@ holds (Some lent) config = serves lent.id config
 -- the coder id of which a configure item needs a box that is not there: its config is supported, and no box serves it
 abbrev pub missing_for : Work → Option Lent → Option CoderId
 missing_for (work.Configure config) coder = if is_supported config && not (holds coder config) then coder_id_of config else None
-missing_for (work.Coded chunk) coder = None
+missing_for (work.Coded input) coder = None
 missing_for work.Flush coder = None
 
 abbrev pub missing_id : JobValue → Option CoderId
@@ -63,7 +65,7 @@ IsReadyBox (Some lent) = IsConfigured lent.meaning
 
 abbrev pub IsReady : Work → Option Lent → Type 0
 IsReady (work.Configure config) coder = Unit {0}
-IsReady (work.Coded chunk) coder = IsReadyBox coder
+IsReady (work.Coded input) coder = IsReadyBox coder
 IsReady work.Flush coder = IsReadyBox coder
 
 -- none of the commands was refused after those before it
@@ -86,7 +88,7 @@ CoderAt (Some lent) g = WasGiven lent g
 -- a coded or flush item goes with the box that was given all before; any box may go with a configure item
 abbrev pub CoderFor : Work → Option Lent → Given → Type 0
 CoderFor (work.Configure config) coder before = Unit {0}
-CoderFor (work.Coded chunk) coder before = CoderAt coder before
+CoderFor (work.Coded input) coder before = CoderAt coder before
 CoderFor work.Flush coder before = CoderAt coder before
 
 -- the job's work is the last of what was given
@@ -153,10 +155,16 @@ abbrev pub StaysAt : Ended → CoderId → Config → List Command → Lent → 
 StaysAt (ended.Ran units) id config commands lent = IsAt id config commands lent.meaning
 StaysAt _ id config commands lent = Unit {0}
 
+-- after a command that ran, the coder may be asked for more
+abbrev pub IsReadyEnd : Ended → Meaning → Type 0
+IsReadyEnd (ended.Ran units) m = IsConfigured m
+IsReadyEnd _ m = Unit {0}
+
 -- One command to a lent coder: its end is the definition's answer after all commands before it.
 pub record EndsCommand (old : Lent) (x : Command) (end : Ended) (new : Lent) : Type 0 where
   pub answer : (config : Config) (before : List Command) → coder_id_of config ≡ Some old.id → IsAt old.id config before old.meaning → EndsBy (answer_after old.id config before x) end
   pub goes : (config : Config) (before : List Command) → IsAt old.id config before old.meaning → StaysAt end old.id config (before ++ x ∷ []) new
+  pub ready : IsReadyEnd end new.meaning
   pub same : stopped_lent new ≡ stopped_lent old
 
 -- the end that a coder's answer to one command makes, with the units that it appended
@@ -164,6 +172,33 @@ abbrev pub end_by : Result (Unit {0}) CoderFault → List media.Unit → Ended
 end_by (Ok t) units = ended.Ran units
 end_by (Err fault.Refused) units = ended.Refused
 end_by (Err fault.NoMemory) units = ended.NoMemory
+
+-- after an item that ran, the box may be asked for more
+abbrev pub IsReadyStill : Ended → Option Lent → Type 0
+IsReadyStill (ended.Ran units) coder = IsReadyBox coder
+IsReadyStill _ coder = Unit {0}
+
+-- the config with which the outputs of a box are decoded, if it is an encoder's
+abbrev pub box_setup : Option Lent → Option AudioDecoderConfig
+box_setup None = None
+box_setup (Some lent) = setup_of lent.meaning
+
+-- the first of an end's outputs carries this config, if it is an encoder's
+abbrev pub labelled_end : Option AudioDecoderConfig → Ended → Ended
+labelled_end config (ended.Ran units) = ended.Ran (labelled config units)
+labelled_end config ended.Refused = ended.Refused
+labelled_end config (ended.NoSlot entry) = ended.NoSlot entry
+labelled_end config ended.NoMemory = ended.NoMemory
+
+-- the first of these outputs is an encoder's
+abbrev pub starts_coded : List media.Unit → Bool
+starts_coded (unit_of.Coded chunk config ∷ us) = true
+starts_coded us = false
+
+-- an end, or want of memory in its place
+abbrev pub IsOrWants : Ended → Ended → Type 0
+IsOrWants end ended.NoMemory = Unit {0}
+IsOrWants end e = e ≡ end
 
 -- One item to the box that is there: its end is the definition's after all that was given before it.
 pub record EndsWork (old : Option Lent) (w : Work) (end : Ended) (new : Option Lent) : Type 0 where

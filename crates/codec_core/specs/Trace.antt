@@ -1,6 +1,7 @@
 -- What is kept of a codec's entries.
-use Rattle.std.specs.Prelude.{ℕ, ◌≡◌, ◌≤◌, ◌<◌, ◌+◌, List, [], ◌∷◌, Some, None, get_or, map, vec_len, vec_capacity}
-use Rattle.std.specs.List.{AllByRecursion}
+use Rattle.std.specs.Prelude.{ℕ, ◌≡◌, ◌≤◌, ◌<◌, ◌+◌, List, [], ◌∷◌, Some, None, get_or, map, drop, length, vec_len, vec_capacity}
+use Rattle.std.specs.List.{AllByRecursion, flat_map}
+use Rattle.codec_definitions.specs.declared.unit.Unit as media
 use Rattle.codec_model.specs.declared.entry.Entry.{Entry}
 use Rattle.codec_model.specs.declared.entry.Shown.{Shown}
 use Rattle.codec_model.specs.declared.entry.Event.{Event}
@@ -10,15 +11,25 @@ use Rattle.codec_model.specs.declared.entry.PromiseState.TheVariants.{Pending}
 use Rattle.codec_model.specs.declared.entry.Task.{Task}
 use Rattle.codec_model.specs.declared.entry.Task.TheVariants as task
 use Rattle.wc_base.specs.declared.error.DomError.{DomError}
-use Rattle.codec_model.specs.Shown.{promise_state, ends_of, ends_shown, shown_of}
+use Rattle.codec_model.specs.Shown.{promise_state, units_in, ends_of, ends_shown, shown_of}
 use Rattle.codec_core.specs.declared.trace.Trace.TheInside.{Inside}
 
 pub record TraceValue : Type 0 where
   pub entries : List Entry
   -- what each of them showed
   pub shown : List Shown
+  -- the outputs that were shown and not taken yet, in order
+  pub waiting : List media.Unit
   -- so many more have a place
   pub free : ℕ
+
+-- the outputs that entries showed, in order
+abbrev pub outputs_in : List Shown → List media.Unit
+outputs_in xs = flat_map (λ x. units_in x.events) xs
+
+-- the outputs from an entry on, but for so many
+abbrev pub outputs_behind : ℕ → ℕ → List Shown → List media.Unit
+outputs_behind entry unit xs = drop unit (outputs_in (drop entry xs))
 
 -- the states of the promises with these numbers from 0 on, after these ends; none with a higher number has ended
 pub record AreStates (states : List PromiseState) (ends : List PromiseEnd) : Type 0 where
@@ -36,7 +47,14 @@ abbrev pub resolved_by : Task → List PromiseEnd
 resolved_by (task.Flushed promise units) = record { promise = promise; error = None } ∷ []
 resolved_by _ = []
 
--- Each entry has what it showed and the state of its promise, and there are places for more.
+-- the outputs that a task delivers which does not close the codec
+abbrev pub task_outputs : Task → List media.Unit
+task_outputs (task.Output units) = units
+task_outputs (task.Flushed promise units) = units
+task_outputs _ = []
+
+-- Each entry has what it showed and the state of its promise, there are places for more, and no more outputs were taken than
+-- were shown.
 pub record IsTrace (t : Inside) : Type 0 where
   pub as_many_shown : vec_len t.shown ≡ vec_len t.entries
   pub as_many_promises : vec_len t.promises ≡ vec_len t.entries
@@ -44,3 +62,5 @@ pub record IsTrace (t : Inside) : Type 0 where
   pub shown_fit : vec_len t.shown + t.free ≤ vec_capacity t.shown
   pub promises_fit : vec_len t.promises + t.free ≤ vec_capacity t.promises
   pub states : AreStates t.promises.items (ends_shown (map shown_of t.shown.items))
+  pub next_entry : t.next_entry ≤ vec_len t.shown
+  pub next_unit : t.next_unit ≤ length (outputs_in (drop t.next_entry (map shown_of t.shown.items)))

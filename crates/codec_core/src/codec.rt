@@ -1,21 +1,26 @@
 // One codec, which keeps its history.
-ghost use Rattle.std.specs.Prelude.{◌≡◌, ◌==◌, max, ◌≤◌, ◌+◌, ◌^◌, IfOk, IfErr, IfNone, IfSome, OnSome, OnOk, OnErr, None, Some, [], length, map, option_map, not, is_some, false, true};
+ghost use Rattle.std.specs.Prelude.{◌≡◌, ◌==◌, max, ◌≤◌, ◌+◌, ◌^◌, IfOk, IfErr, IfNone, IfSome, OnSome, OnOk, OnErr, None, Some, [], length, map, option_map, not, is_some, slice_get, false, true};
 ghost use Rattle.codec_model.specs.declared.entry.Entry.TheVariants as entry;
-ghost use Rattle.codec_model.specs.Control.{start_item, may_reclaim};
-ghost use Rattle.codec_model.specs.Replay.{entry_of, removal_entry as the_removal_entry, call_error, missing_coder, removal_error, IsLegal};
+ghost use Rattle.codec_model.specs.declared.entry.Handed.TheVariants as handed;
+ghost use Rattle.codec_model.specs.Control.{start_item, may_take, may_reclaim};
+ghost use Rattle.codec_model.specs.Replay.{entry_of, removal_entry as the_removal_entry, call_error, encode_error, missing_coder, removal_error, IsLegal};
 ghost use Rattle.codec_model.specs.Facts.{IsNeverStuck};
-ghost use Rattle.codec_model.specs.Shown.{shown, shown_of, each_shown, ends_in, promise_state, exception_of};
+ghost use Rattle.codec_model.specs.Shown.{shown, shown_of, outputs_of, each_shown, ends_in, promise_state, exception_of};
 ghost use Rattle.codec_core.specs.Job.{IsJobOf, IsEndOf, outcome_of, missing_id, stopped_box};
 ghost use Rattle.codec_core.specs.Owning.{asked_of, IsOwnJob, GoesBack, KeepsAsked};
-ghost use Rattle.codec_core.specs.Codec.{state_at, Makes, IsAskedAt, KeepsRunning, Replied, FaultIs, promise_of, kept_box, handed_back, removed_if, closes_now, progress_of, item_parts};
+ghost use Rattle.codec_core.specs.Codec.{state_at, Makes, IsAskedAt, KeepsRunning, Replied, FaultIs, promise_of, kept_box, handed_back, removed_if, closes_now, progress_of, item_parts, refused_as};
 
 use crate::job::{DoneJob, Job};
-use crate::parts::{entry_of_call, hand_back, more_places, promise, removal_entry, removed_if};
-use crate::reply::{Back, CallFault, Removed, Reply, Turned};
+use crate::parts::{
+    copy_of_sound, entry_of_call, hand_back, more_places, promise, refused_as, removal_entry,
+    removed_if,
+};
+use crate::reply::{Back, CallFault, Removed, Reply, Taken, Turned};
 use crate::trace::Trace;
 use crate::work::outcome_of_end;
 use codec_model::{
-    Call, CodecState, Entry, Kind, Opening, PromiseState, Removal, Showing, never_stuck,
+    Call, CodecState, Entry, Handed, HeldSound, Kind, Opening, PromiseState, Removal, Showing,
+    never_stuck,
 };
 use codec_queues::Machine;
 use coder_api::{Coder, SlotBox};
@@ -194,6 +199,112 @@ impl<C: Coder> Core<C> {
         Ok((answer.place, answer.exception))
     }
 
+    /// The error with which an encode would be refused now: of detached data first.
+    pub fn encode_refusal(&self, detached: bool) -> Option<DomError>
+        ensures { result ≡ encode_error detached (state_at self.now).control }
+    {
+        self.machine.encode_error(detached)
+    }
+
+    /// An encode of a caller that is not refused, with the reference that the codec holds from then on (W3C WebCodecs,
+    /// AudioEncoder: `encode`). All places that its later steps need are taken here. The answer is its entry's place. After
+    /// want of memory nothing has changed.
+    pub fn encode(&mut self, who: Who, sound: HeldSound) -> Result<u64, NoMemory>
+        requires { encode_error false (state_at self.old).control ≡ None }
+        ensures made { OnOk result
+            (Makes self.old self.new (entry.Encode who (handed.Cloned sound))) }
+        ensures place { IfOk result (λ place. place ≡ length self.old.history) }
+        ensures err { OnErr result (self.new ≡ self.old) }
+        ensures running { KeepsRunning (state_at self.old) (state_at self.new) }
+        ensures asked { KeepsAsked self.old self.new }
+        ensures slot { self.new.slot ≡ self.old.slot }
+        ensures spare { self.new.spare ≡ self.old.spare }
+    {
+        let again = copy_of_sound(&sound)?;
+        let places = more_places(self.machine.room(), self.spare)?;
+        self.trace.reserve(places)?;
+        let answer = self.machine.encode(again)?;
+        let handed = Handed::Cloned(sound);
+        self.trace
+            .push(Entry::Encode { who, handed }, answer.showing);
+        Ok(answer.place)
+    }
+
+    /// An encode of a caller that is refused, of data that is detached or is not, and has an entry then too. The answer is
+    /// its exception, and its entry's place. After want of memory nothing has changed.
+    pub fn refuse_encode(&mut self, who: Who, detached: bool) -> Result<(DomError, u64), NoMemory>
+        requires { is_some (encode_error detached (state_at self.old).control) ≡ true }
+        ensures made { OnOk result
+            (Makes self.old self.new (entry.Encode who (refused_as detached))) }
+        ensures error { IfOk result
+            (λ a. encode_error detached (state_at self.old).control ≡ Some a.0) }
+        ensures place { IfOk result (λ a. a.1 ≡ length self.old.history) }
+        ensures err { OnErr result (self.new ≡ self.old) }
+        ensures running { KeepsRunning (state_at self.old) (state_at self.new) }
+        ensures asked { KeepsAsked self.old self.new }
+        ensures slot { self.new.slot ≡ self.old.slot }
+        ensures spare { self.new.spare ≡ self.old.spare }
+    {
+        let places = more_places(self.machine.room(), self.spare)?;
+        self.trace.reserve(places)?;
+        let handed = refused_as(detached);
+        let answer = match self.machine.refuse_encode(detached) {
+            Some(answer) => answer,
+            None => unreachable!(),
+        };
+        let error = match answer.exception {
+            Some(error) => error,
+            None => unreachable!(),
+        };
+        self.trace
+            .push(Entry::Encode { who, handed }, answer.showing);
+        Ok((error, answer.place))
+    }
+
+    /// A caller takes the first output that was shown and not taken yet. None exactly where there is none; then nothing has
+    /// changed, as after want of memory.
+    pub fn take(&mut self, who: Who) -> Result<Option<Taken>, NoMemory>
+        ensures may { IfOk result
+            (λ taken. is_some taken
+            ≡ may_take (state_at self.old).control.taken (state_at self.old).control) }
+        ensures made { IfOk result
+            (λ taken. IfSome taken (λ t. Makes self.old self.new (entry.Take who t.number))) }
+        ensures place { IfOk result
+            (λ taken. IfSome taken (λ t. t.place ≡ length self.old.history)) }
+        ensures number { IfOk result
+            (λ taken. IfSome taken (λ t. t.number ≡ (state_at self.old).control.taken)) }
+        ensures unit { IfOk result
+            (λ taken. IfSome taken
+            (λ t. slice_get (outputs_of (shown self.old.opening self.old.history)) t.number
+            ≡ Some t.unit)) }
+        ensures none { IfOk result (λ taken. IfNone taken (self.new ≡ self.old)) }
+        ensures err { OnErr result (self.new ≡ self.old) }
+        ensures running { KeepsRunning (state_at self.old) (state_at self.new) }
+        ensures asked { KeepsAsked self.old self.new }
+        ensures slot { self.new.slot ≡ self.old.slot }
+        ensures spare { self.new.spare ≡ self.old.spare }
+    {
+        let unit = match self.trace.next_output()? {
+            Some(unit) => unit,
+            None => return Ok(None),
+        };
+        let places = more_places(self.machine.room(), self.spare)?;
+        self.trace.reserve(places)?;
+        let place = self.machine.place();
+        let number = match self.machine.take() {
+            Some(number) => number,
+            None => unreachable!(),
+        };
+        self.trace.pass_output();
+        let entry = Entry::Take { who, unit: number };
+        self.trace.push(entry, Showing::Nothing);
+        Ok(Some(Taken {
+            place,
+            number,
+            unit,
+        }))
+    }
+
     /// The front item of the work queue becomes running, and its job leaves with the box that the codec holds. Where the
     /// job lacks a box of another id, that box goes back by this Start. None exactly where an item is running, the codec is halted, or no item is queued; then nothing has changed.
     pub fn start(&mut self) -> Option<Job<C>>
@@ -260,9 +371,10 @@ impl<C: Coder> Core<C> {
             number: item,
             kind: _,
             ended,
+            label,
             mut coder,
         } = d;
-        self.machine.done(ended, moment);
+        self.machine.done(ended, moment, label);
         let back = hand_back(&mut coder, current);
         self.slot = coder;
         let entry = Entry::Done {

@@ -5,14 +5,16 @@ ghost use Rattle.codec_core.specs.Codec.{IsBy, IsAskedAt};
 ghost use Rattle.codec_core.specs.Owning.{IsOwnJob};
 ghost use Rattle.codec_model.specs.Control.{kind_of};
 ghost use Rattle.codec_model.specs.Replay.{State, Given, answer_to};
+ghost use Rattle.codec_queues.specs.Labels.{label_of};
 ghost use Rattle.codec_model.specs.declared.entry.Ended.TheVariants as ended;
 
+use crate::labels::with_label;
 use crate::work::{kind_of_work, missing_id, work_end};
 use codec_model::{Ended, Work, WorkKind};
 use coder_api::{Coder, SlotBox};
 use std::alloc::Global;
 use std::marker::Model;
-use wc_config::CoderId;
+use wc_config::{AudioDecoderConfig, CoderId};
 
 /// An item that is at work, with the box that its codec held.
 #[derive(Drop)]
@@ -41,15 +43,21 @@ pub struct DoneJob<C: Coder> {
     pub(crate) number: u64,
     pub(crate) kind: WorkKind,
     pub(crate) ended: Ended,
+    // A copy of the config that its outputs carry.
+    pub(crate) label: Option<AudioDecoderConfig>,
     pub(crate) coder: Option<SlotBox<C>>,
 }
 
 impl<C: Coder> Model for DoneJob<C> {
+    ghost use Rattle.std.specs.Prelude.{◌≡◌};
+    ghost use Rattle.codec_queues.specs.Labels.{label_of};
     ghost use Rattle.codec_core.specs.Job.{DoneValue};
 
     ghost Value = { DoneValue };
 
     ghost view = { λ d. record { epoch = d.epoch; number = d.number; kind = d.kind; ended = d.ended; coder = d.coder } };
+
+    ghost invariant = { λ d. d.label ≡ label_of d.ended };
 }
 
 impl<C: Coder> Job<C> {
@@ -124,6 +132,7 @@ impl<C: Coder> Job<C> {
     }
 
     fn ended(self, ended: Ended) -> DoneJob<C>
+        requires { label_of ended ≡ None }
         ensures { result ≡ done_with ended self }
     {
         let kind = kind_of_work(&self.work);
@@ -132,6 +141,7 @@ impl<C: Coder> Job<C> {
             number: self.number,
             kind,
             ended,
+            label: None,
             coder: self.coder,
         }
     }
@@ -157,12 +167,14 @@ impl<C: Coder> Job<C> {
             mut coder,
         } = self;
         let kind = kind_of_work(&work);
-        let ended = work_end(alloc, &work, &mut coder);
+        let end = work_end(alloc, &work, &mut coder);
+        let (ended, label) = with_label(end);
         DoneJob {
             epoch,
             number,
             kind,
             ended,
+            label,
             coder,
         }
     }

@@ -3,6 +3,7 @@
 
 mod codec;
 mod job;
+mod labels;
 mod parts;
 mod reply;
 mod trace;
@@ -10,4 +11,4 @@ mod work;
 
 pub use codec::Core;
 pub use job::{DoneJob, Job};
-pub use reply::{Back, CallFault, Removed, Reply, Turned};
+pub use reply::{Back, CallFault, Removed, Reply, Taken, Turned};

@@ -1,12 +1,12 @@
 // Parts of a codec's steps.
 ghost use Rattle.std.specs.Prelude.{◌≡◌, ◌+◌, IfOk};
 ghost use Rattle.codec_model.specs.Replay.{entry_of, removal_entry};
-ghost use Rattle.codec_core.specs.Codec.{kept_box, handed_back, removed_if, promise_of};
+ghost use Rattle.codec_core.specs.Codec.{kept_box, handed_back, removed_if, promise_of, refused_as};
 
 use crate::reply::Removed;
-use codec_model::{Call, Entry, Removal};
+use codec_model::{Call, Entry, Handed, HeldSound, Removal};
 use coder_api::{Coder, SlotBox};
-use wc_base::{NoMemory, Who};
+use wc_base::{NoMemory, Samples, Who};
 
 /// Leaves a box where it stays, and else takes it out, stopped.
 pub(crate) fn hand_back<C: Coder>(slot: &mut Option<SlotBox<C>>, stays: bool) -> Option<SlotBox<C>>
@@ -70,6 +70,27 @@ pub(crate) fn entry_of_call(who: Who, call: &Call) -> Result<Entry, NoMemory>
         }),
         Call::Flush => Ok(Entry::Flush { who }),
     }
+}
+
+/// The same samples again, over the same shared bytes, with the numbers of their reference.
+pub(crate) fn copy_of_sound(sound: &HeldSound) -> Result<HeldSound, NoMemory>
+    ensures { IfOk result (λ s. s ≡ sound.now) }
+{
+    let bytes = sound.samples.bytes.clone()?;
+    Ok(HeldSound {
+        samples: Samples {
+            shape: sound.samples.shape,
+            bytes,
+        },
+        pair: sound.pair,
+    })
+}
+
+/// What became of the data of an encode that is refused.
+pub(crate) fn refused_as(detached: bool) -> Handed
+    ensures { result ≡ refused_as detached }
+{
+    if detached { Handed::Gone } else { Handed::Kept }
 }
 
 /// The entry of a reset or close.

@@ -1,5 +1,5 @@
 // What a codec answers.
-use coder_api::{Coder, SlotBox};
+use coder_api::{Coder, SlotBox, Unit};
 use std::marker::Model;
 use wc_base::DomError;
 
@@ -17,6 +17,14 @@ pub enum CallFault {
     Dom { error: DomError, place: u64 },
     /// Memory was wanted: nothing has changed.
     NoMemory,
+}
+
+/// What a take gives: its entry's place, the output's number, and the output again.
+#[derive(Drop)]
+pub struct Taken {
+    pub place: u64,
+    pub number: u64,
+    pub unit: Unit,
 }
 
 /// What a removal leaves: its entry's place, and the box that was at home, stopped. Who gets it gives the box back.

@@ -1,11 +1,13 @@
 // The entries of a codec, with what each showed.
-ghost use Rattle.std.specs.Prelude.{ℕ, ◌≡◌, ◌≤◌, ◌<◌, ◌+◌, ◌-◌, ◌^◌, ◌++◌, ◌∷◌, [], List, max, length, map, IfOk, OnOk, OnErr, Option, vec_len, vec_capacity};
+ghost use Rattle.std.specs.Prelude.{ℕ, ◌≡◌, ◌≤◌, ◌<◌, ◌+◌, ◌-◌, ◌^◌, ◌++◌, ◌∷◌, [], List, max, length, drop, slice_get, map, IfOk, IfSome, OnOk, OnErr, Option, vec_len, vec_capacity};
 ghost use Rattle.std.specs.List.{All, AllByRecursion};
 ghost use Rattle.codec_model.specs.declared.entry.PromiseEnd.{PromiseEnd};
-ghost use Rattle.codec_model.specs.Shown.{shown_of, ends_of, ends_shown, promise_ended, promise_state};
-ghost use Rattle.codec_core.specs.Trace.{AreStates, EndsBelow, rejected, resolved_by};
+ghost use Rattle.codec_model.specs.Control.{front};
+ghost use Rattle.codec_model.specs.Shown.{shown_of, units_in, ends_of, ends_shown, promise_ended, promise_state};
+ghost use Rattle.codec_core.specs.Trace.{AreStates, EndsBelow, outputs_in, outputs_behind, rejected, resolved_by, task_outputs};
 
 use codec_model::{Entry, PromiseState, Showing, Task};
+use coder_api::Unit;
 use std::alloc::Global;
 use std::marker::Model;
 use wc_base::{DomError, NoMemory};
@@ -17,6 +19,9 @@ pub(crate) struct Trace {
     shown: Vec<Showing>,
     // By the place of the flush; pending at each entry that is none.
     promises: Vec<PromiseState>,
+    // From here on no output was taken: from this entry on, but for so many outputs.
+    next_entry: usize,
+    next_unit: usize,
     // So many more entries have a place.
     free: usize,
 }
@@ -24,11 +29,11 @@ pub(crate) struct Trace {
 impl Model for Trace {
     ghost use Rattle.std.specs.Prelude.{map};
     ghost use Rattle.codec_model.specs.Shown.{shown_of};
-    ghost use Rattle.codec_core.specs.Trace.{TraceValue, IsTrace};
+    ghost use Rattle.codec_core.specs.Trace.{TraceValue, IsTrace, outputs_behind};
 
     ghost Value = { TraceValue };
 
-    ghost view = { λ t. record { entries = t.entries.items; shown = map shown_of t.shown.items; free = t.free } };
+    ghost view = { λ t. record { entries = t.entries.items; shown = map shown_of t.shown.items; waiting = outputs_behind t.next_entry t.next_unit (map shown_of t.shown.items); free = t.free } };
 
     ghost invariant = { IsTrace };
 }
@@ -36,13 +41,16 @@ impl Model for Trace {
 impl Trace {
     /// A history with no entry, and so many places.
     pub(crate) fn open(alloc: Global, places: usize) -> Result<Trace, NoMemory>
-        ensures empty { IfOk result (λ t. t ≡ record { entries = []; shown = []; free = places }) }
+        ensures empty { IfOk result
+            (λ t. t ≡ record { entries = []; shown = []; waiting = []; free = places }) }
         ensures fits { IfOk result (λ t. length t.entries + t.free < 2 ^ 63) }
     {
         Ok(Trace {
             entries: Vec::with_capacity(alloc, places)?,
             shown: Vec::with_capacity(alloc, places)?,
             promises: Vec::with_capacity(alloc, places)?,
+            next_entry: 0,
+            next_unit: 0,
             free: places,
         })
     }
@@ -69,6 +77,7 @@ impl Trace {
             ≡ record {
               entries = self.old.entries ++ entry ∷ [];
               shown = self.old.shown ++ shown_of showing ∷ [];
+              waiting = self.old.waiting ++ units_in (shown_of showing).events;
               free = self.old.free - 1;
             } }
     {
@@ -77,6 +86,27 @@ impl Trace {
         end_promises(&mut self.promises, &showing);
         self.shown.push_reserved(showing);
         self.entries.push_reserved(entry);
+    }
+
+    /// The first output that was not taken, again. Entries without outputs that come before it are passed for good.
+    pub(crate) fn next_output(&mut self) -> Result<Option<Unit>, NoMemory>
+        ensures same { self.new ≡ self.old }
+        ensures next { IfOk result (λ unit. unit ≡ front self.old.waiting) }
+    {
+        let (entry, unit) = seek(self.shown.as_slice(), self.next_entry, self.next_unit);
+        self.next_entry = entry;
+        self.next_unit = unit;
+        output_at(self.shown.as_slice(), entry, unit)
+    }
+
+    /// The first output that was not taken is taken.
+    pub(crate) fn pass_output(&mut self)
+        requires { 1 ≤ length self.old.waiting }
+        ensures { self.new ≡ record self.old { waiting = drop 1 self.old.waiting } }
+    {
+        let (entry, unit) = seek(self.shown.as_slice(), self.next_entry, self.next_unit);
+        self.next_entry = entry;
+        self.next_unit = unit + 1;
     }
 
     /// The entries.
@@ -110,6 +140,82 @@ impl Trace {
             None => PromiseState::Pending,
         }
     }
+}
+
+/// The outputs that an entry showed.
+fn outputs_of(showing: &Showing) -> &[Unit]
+    ensures { result.now ≡ units_in (shown_of showing.now).events }
+{
+    match showing {
+        Showing::Turn { task, outputs: _ } => outputs_of_task(task),
+        Showing::Nothing => &[],
+        Showing::Refusal(_) => &[],
+        Showing::Rejection { .. } => &[],
+        Showing::Removal(_) => &[],
+        Showing::Reclaim(_) => &[],
+        Showing::Close { .. } => &[],
+    }
+}
+
+fn outputs_of_task(task: &Task) -> &[Unit]
+    ensures { result.now ≡ task_outputs task.now }
+{
+    match task {
+        Task::Output(units) => units.as_slice(),
+        Task::Flushed { promise: _, units } => units.as_slice(),
+        Task::Unblock => &[],
+        Task::Process => &[],
+        Task::Desaturate => &[],
+        Task::Dequeue => &[],
+        Task::Close(_) => &[],
+    }
+}
+
+/// The output at a place, again.
+fn copy_at(units: &[Unit], place: usize) -> Result<Option<Unit>, NoMemory>
+    ensures { IfOk result (λ unit. unit ≡ slice_get units.now place) }
+{
+    match units.get(place) {
+        Some(unit) => Ok(Some(unit.copy()?)),
+        None => Ok(None),
+    }
+}
+
+/// An output that an entry showed, again; none behind the last entry.
+fn output_at(shown: &[Showing], entry: usize, unit: usize) -> Result<Option<Unit>, NoMemory>
+    requires { IfSome (slice_get shown.now entry)
+        (λ showing. unit < length (units_in (shown_of showing).events)) }
+    ensures { IfOk result
+        (λ u. u ≡ front (outputs_behind entry unit (map shown_of shown.now))) }
+{
+    match shown.get(entry) {
+        Some(showing) => copy_at(outputs_of(showing), unit),
+        None => Ok(None),
+    }
+}
+
+/// Passes entries without outputs: from the place of an entry on, but for so many outputs, the place of the entry that showed
+/// the next output, or the end, and how many of its outputs come before that.
+fn seek(shown: &[Showing], mut entry: usize, mut unit: usize) -> (usize, usize)
+    requires entry { entry ≤ length shown.now }
+    requires unit { unit ≤ length (outputs_in (drop entry (map shown_of shown.now))) }
+    ensures entry { result.0 ≤ length shown.now }
+    ensures unit { result.1 ≤ length (outputs_in (drop result.0 (map shown_of shown.now))) }
+    ensures same { outputs_behind result.0 result.1 (map shown_of shown.now)
+        ≡ outputs_behind entry unit (map shown_of shown.now) }
+    ensures own { IfSome (slice_get shown.now result.0)
+        (λ showing. result.1 < length (units_in (shown_of showing).events)) }
+    ensures small { result.1 + 1 < 2 ^ 64 }
+{
+    while entry < shown.len() {
+        let count = outputs_of(&shown[entry]).len();
+        if unit < count {
+            break;
+        }
+        unit -= count;
+        entry += 1;
+    }
+    (entry, unit)
 }
 
 fn state_of(error: Option<DomError>) -> PromiseState

@@ -5,11 +5,13 @@ ghost use Rattle.codec_definitions.specs.declared.command.Command.TheVariants as
 ghost use Rattle.codec_core.specs.Job.{EndsCommand, EndsWork, IsReady, IsReadyBox, end_by, holds, missing_for, outcome_of};
 ghost use Rattle.codec_model.specs.declared.entry.Work.TheVariants as work;
 ghost use Rattle.codec_model.specs.Control.{kind_of};
+ghost use Rattle.codec_model.specs.Replay.{command_of};
 
-use codec_model::{Ended, Outcome, Work, WorkKind};
+use crate::labels::label_end;
+use codec_model::{Coded, Ended, Outcome, Work, WorkKind};
 use coder_api::{Coder, CoderFault, Input, SlotBox, Unit};
 use std::alloc::Global;
-use wc_base::List;
+use wc_base::{List, Samples};
 use wc_chunk::Chunk;
 use wc_config::{CoderId, Config, Role};
 
@@ -88,6 +90,32 @@ fn push_end<C: Coder>(alloc: Global, chunk: &Chunk, coder: &mut SlotBox<C>) -> E
     end_of(answer, units)
 }
 
+/// Gives samples to a configured coder.
+fn sound_end<C: Coder>(alloc: Global, samples: &Samples, coder: &mut SlotBox<C>) -> Ended
+    requires { IsConfigured coder.old.meaning }
+    ensures { EndsCommand coder.old (command.Sound samples.now) result coder.new }
+{
+    // A decoder takes no samples.
+    if coder.id().role != Role::Encode {
+        return Ended::Refused;
+    }
+    let mut units = Vec::new(alloc);
+    let input = Input::Sound(&samples.shape, samples.bytes.as_slice());
+    let answer = coder.push(alloc, &input, &mut units);
+    end_of(answer, units)
+}
+
+/// Gives an input to a configured coder.
+fn input_end<C: Coder>(alloc: Global, input: &Coded, coder: &mut SlotBox<C>) -> Ended
+    requires { IsConfigured coder.old.meaning }
+    ensures { EndsCommand coder.old (command_of input.now) result coder.new }
+{
+    match input {
+        Coded::Chunk(chunk) => push_end(alloc, chunk, coder),
+        Coded::Sound(sound) => sound_end(alloc, &sound.samples, coder),
+    }
+}
+
 /// Drains a configured coder.
 fn drain_end<C: Coder>(alloc: Global, coder: &mut SlotBox<C>) -> Ended
     requires { IsConfigured coder.old.meaning }
@@ -116,12 +144,15 @@ fn configure_end<C: Coder>(alloc: Global, config: &Config, coder: &mut Option<Sl
     }
 }
 
-fn coded_end<C: Coder>(alloc: Global, chunk: &Chunk, coder: &mut Option<SlotBox<C>>) -> Ended
+fn coded_end<C: Coder>(alloc: Global, input: &Coded, coder: &mut Option<SlotBox<C>>) -> Ended
     requires { IsReadyBox coder.old }
-    ensures { EndsWork coder.old (work.Coded chunk.now) result coder.new }
+    ensures { EndsWork coder.old (work.Coded input.now) result coder.new }
 {
     match coder {
-        Some(b) => push_end(alloc, chunk, b),
+        Some(b) => {
+            let end = input_end(alloc, input, b);
+            label_end(alloc, end, coder)
+        }
         None => Ended::Refused,
     }
 }
@@ -131,7 +162,10 @@ fn flush_end<C: Coder>(alloc: Global, coder: &mut Option<SlotBox<C>>) -> Ended
     ensures { EndsWork coder.old work.Flush result coder.new }
 {
     match coder {
-        Some(b) => drain_end(alloc, b),
+        Some(b) => {
+            let end = drain_end(alloc, b);
+            label_end(alloc, end, coder)
+        }
         None => Ended::Refused,
     }
 }
@@ -148,7 +182,7 @@ pub(crate) fn work_end<C: Coder>(
 {
     match work {
         Work::Configure(config) => configure_end(alloc, config, coder),
-        Work::Coded(chunk) => coded_end(alloc, chunk, coder),
+        Work::Coded(input) => coded_end(alloc, input, coder),
         Work::Flush => flush_end(alloc, coder),
     }
 }

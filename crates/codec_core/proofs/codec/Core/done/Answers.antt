@@ -54,7 +54,7 @@ pub invariant_of-self : goal.invariant_of-self
 unfolding job old new
 invariant_of-self g c =
     rw (c.push.ensures, c.outcome_of_end-outcome.ensures)
-    (core_more c.self.inside.trace c.self.inside.slot c.hand_back-back.new.slot c.self.inside.machine c.done.new.self c.self.inside.spare (entry.Done c.d.inside.epoch c.d.inside.number c.args.moment (outcome_of c.d.inside.ended)) _ c.self.invariant.kept c.self.invariant.shows (moved g c)
+    (core_more c.self.inside.trace c.self.inside.slot c.hand_back-back.new.slot c.self.inside.machine c.done.new.self c.self.inside.spare (entry.Done c.d.inside.epoch c.d.inside.number c.args.moment (outcome_of c.d.inside.ended)) _ c.self.invariant.kept c.self.invariant.shows c.self.invariant.outputs refl (moved g c)
     refl
     (omega (arith, c.done.ensures.left, c.self.invariant.places, done_reclaims c.self.inside.machine c.done.new.self c.d.inside.ended c.args.moment c.done.ensures.after))
     c.self.invariant.fits

@@ -1,5 +1,4 @@
 use Rattle.std.proofs.Common.{◌∙◌, ap, sym}
-use Rattle.codec_model.specs.declared.entry.Shown.{Shown}
 use Rattle.codec_model.specs.Shown.{promise_state, ends_shown}
 use Rattle.codec_model.specs.ShownLaws.{ends_each}
 use Rattle.codec_core.proofs.codec.Core.end_of.Goals as goal

@@ -1,8 +1,7 @@
-use Rattle.std.proofs.Common.{arith, refl, false, ap, sym, ◌∙◌}
+use Rattle.std.proofs.Common.{arith, refl, false}
 use Rattle.codec_model.specs.Replay.{entry_of, call_error}
 use Rattle.codec_core.specs.Trace.{TraceValue}
-use Rattle.codec_core.specs.Codec.{IsKept, IsCore}
-use Rattle.codec_core.proofs.Steps.{Moved, call_moves, makes_more, most_reclaims}
+use Rattle.codec_core.proofs.Steps.{Moved, call_moves, call_takes, makes_more, most_reclaims}
 use Rattle.codec_core.proofs.Recorded.{core_more, call_shows_it, call_ends}
 use Rattle.codec_core.proofs.Laws.{call_keeps_running}
 use Rattle.codec_core.proofs.Owning.{own_more, call_act, asked_stays}
@@ -24,7 +23,7 @@ pub invariant_of-self-2 : goal.invariant_of-self-2
 invariant_of-self-2 g c =
     let t : TraceValue = c.self.inside.trace in
     rw (c.push.ensures, c.in_ok-reserve.ensures.ok, c.in_ok-entry.ensures)
-    (core_more (record t { free = _ }) c.self.inside.slot c.self.inside.slot c.self.inside.machine c.call-2.new.self c.self.inside.spare (entry_of c.args.who c.args.call) _ c.self.invariant.kept c.self.invariant.shows (moved g c)
+    (core_more (record t { free = _ }) c.self.inside.slot c.self.inside.slot c.self.inside.machine c.call-2.new.self c.self.inside.spare (entry_of c.args.who c.args.call) _ c.self.invariant.kept c.self.invariant.shows c.self.invariant.outputs (call_takes c.args.who c.args.call) (moved g c)
     (call_shows_it c.self.inside.trace.entries c.self.inside.slot c.self.inside.machine c.args.who c.args.call _ c.self.invariant.kept c.in_ok-answer.ensures.answer.is_shown)
     (omega (arith, c.in_ok-answer.ensures.left, c.in_ok-places.ensures, most_reclaims c.call-2.new.self.phase))
     (rw c.in_ok-reserve.ensures.ok at c.in_ok-reserve.ensures.fits)

@@ -3,7 +3,7 @@ use Rattle.codec_model.specs.Control.{Control}
 use Rattle.codec_model.specs.Replay.{removal_error, removal_entry}
 use Rattle.codec_core.specs.Codec.{Codec, state_at, kept_box, handed_back}
 use Rattle.std.specs.Prelude.{is_some}
-use Rattle.codec_core.proofs.Steps.{Moved, removal_of, removal_after, removal_moves, makes_more, removal_reclaims}
+use Rattle.codec_core.proofs.Steps.{Moved, removal_of, removal_after, removal_moves, makes_more, removal_reclaims, removal_takes}
 use Rattle.codec_core.proofs.Recorded.{core_more, next_fits, removal_shows_it, removal_ends}
 use Rattle.codec_core.proofs.Laws.{removal_keeps_running}
 use Rattle.codec_core.proofs.Owning.{AtHome, at_home, control_is, removal_is, asked_stays, own_removed, back_removed}
@@ -30,7 +30,7 @@ moved g c =
 pub invariant_of-self : goal.invariant_of-self
 invariant_of-self g c =
     rw (c.push.ensures, c.removal_entry-entry.ensures)
-    (core_more c.self.inside.trace c.self.inside.slot c.hand_back-coder.new.slot c.self.inside.machine c.remove-answer.new.self (c.self.inside.spare - 1) (removal_entry c.args.who c.args.removal) _ c.self.invariant.kept c.self.invariant.shows (moved g c)
+    (core_more c.self.inside.trace c.self.inside.slot c.hand_back-coder.new.slot c.self.inside.machine c.remove-answer.new.self (c.self.inside.spare - 1) (removal_entry c.args.who c.args.removal) _ c.self.invariant.kept c.self.invariant.shows c.self.invariant.outputs (removal_takes c.args.who c.args.removal) (moved g c)
     (removal_shows_it c.self.inside.trace.entries c.self.inside.slot c.self.inside.machine c.args.who c.args.removal _ c.self.invariant.kept c.remove-answer.ensures.answer.is_shown)
     (omega (arith, c.remove-answer.ensures.left, c.requires, ap (λ (v : Codec). v.spare) c.self.view_is, c.self.invariant.places, removal_reclaims c.self.inside.machine c.remove-answer.new.self c.args.removal (removal_error c.self.inside.machine) refl (after_is g c)))
     c.self.invariant.fits

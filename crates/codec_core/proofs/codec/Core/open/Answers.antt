@@ -13,6 +13,7 @@ invariant_of-result g c = rw (c.in_ok-trace.ensures.empty, c.in_ok-machine.ensur
     some_saturate = c.requires.low;
   };
   shows = refl;
+  outputs = record { counted = refl; took = omega arith; others = refl };
   own = tt;
   places = omega (arith, c.in_ok-places.ensures);
   fits = rw c.in_ok-trace.ensures.empty at c.in_ok-trace.ensures.fits;

@@ -21,7 +21,7 @@ moved g c = reclaim_moves c.self.inside.trace.entries c.self.inside.slot c.self.
 pub invariant_of-self-2 : goal.invariant_of-self-2
 invariant_of-self-2 g c =
     rw (c.push.ensures, c.hand_back-coder.ensures.left)
-    (core_more c.self.inside.trace c.self.inside.slot None c.self.inside.machine c.reclaim.new.self c.self.inside.spare (entry.Reclaim c.args.now) _ c.self.invariant.kept c.self.invariant.shows (moved g c)
+    (core_more c.self.inside.trace c.self.inside.slot None c.self.inside.machine c.reclaim.new.self c.self.inside.spare (entry.Reclaim c.args.now) _ c.self.invariant.kept c.self.invariant.shows c.self.invariant.outputs refl (moved g c)
     (reclaim_shows_it c.self.inside.trace.entries c.self.inside.slot c.self.inside.machine c.args.now _ c.self.invariant.kept c.in_ok-answer.ensures.answer.is_shown)
     (omega (arith, c.in_ok-answer.ensures.left, c.self.invariant.places, reclaim_reclaims c.self.inside.machine c.reclaim.new.self c.args.now c.in_ok-answer.ensures.may c.in_ok-answer.ensures.made))
     c.self.invariant.fits

@@ -8,6 +8,7 @@ invariant_of-self-2 g c =
     rw c.in_ok-reserve.ensures.ok (record {
       kept = is.kept;
       shows = is.shows;
+      outputs = is.outputs;
       own = is.own;
       places = omega (arith, c.in_ok-places.ensures, most_reclaims c.self.inside.machine.phase);
       fits = rw c.in_ok-reserve.ensures.ok at c.in_ok-reserve.ensures.fits;

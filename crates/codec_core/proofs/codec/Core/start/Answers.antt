@@ -22,7 +22,7 @@ moved g c = start_moves c.self.inside.trace.entries c.self.inside.slot c.self.in
 pub invariant_of-self-2 : goal.invariant_of-self-2
 invariant_of-self-2 g c =
     rw (c.push.ensures, c.replace-coder.ensures.after, c.epoch-epoch.ensures)
-    (core_more c.self.inside.trace c.self.inside.slot None c.self.inside.machine c.start.new.self c.self.inside.spare (entry.Start c.self.inside.machine.epoch c.in_ok-item.item.number) _ c.self.invariant.kept c.self.invariant.shows (moved g c)
+    (core_more c.self.inside.trace c.self.inside.slot None c.self.inside.machine c.start.new.self c.self.inside.spare (entry.Start c.self.inside.machine.epoch c.in_ok-item.item.number) _ c.self.invariant.kept c.self.invariant.shows c.self.invariant.outputs refl (moved g c)
     refl
     (omega (arith, c.in_ok-item.ensures.left, c.self.invariant.places, start_reclaims c.self.inside.machine c.start.new.self c.in_ok-item.item (item_is g c) c.start.ensures.after))
     c.self.invariant.fits

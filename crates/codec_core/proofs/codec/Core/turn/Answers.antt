@@ -1,10 +1,7 @@
 use Rattle.std.proofs.Common.{◌≡◌, ◌∙◌, Some, refl, ap, sym, subst, rules, arith, Bool, not}
-use Rattle.std.specs.Prelude.{Option, option_map}
-use Rattle.codec_model.specs.declared.entry.Answer.{Answer}
 use Rattle.codec_model.specs.declared.entry.Entry.TheVariants as entry
 use Rattle.codec_model.specs.Control.{Control, turn_closes}
-use Rattle.codec_model.specs.Shown.{closes}
-use Rattle.codec_core.specs.Codec.{Codec, state_at, kept_box, handed_back}
+use Rattle.codec_core.specs.Codec.{Codec, state_at, handed_back}
 use Rattle.codec_core.proofs.Steps.{Moved, turn_moves, makes_more, turn_reclaims}
 use Rattle.codec_core.proofs.Recorded.{core_more, next_fits, turn_shows_it, turn_ends}
 use Rattle.codec_core.proofs.Laws.{turn_keeps_running}
@@ -29,7 +26,7 @@ moved g c =
 pub invariant_of-self-2 : goal.invariant_of-self-2
 invariant_of-self-2 g c =
     rw c.push.ensures
-    (core_more c.self.inside.trace c.self.inside.slot c.hand_back-coder.new.slot c.self.inside.machine c.turn.new.self c.self.inside.spare entry.Turn _ c.self.invariant.kept c.self.invariant.shows (moved g c)
+    (core_more c.self.inside.trace c.self.inside.slot c.hand_back-coder.new.slot c.self.inside.machine c.turn.new.self c.self.inside.spare entry.Turn _ c.self.invariant.kept c.self.invariant.shows c.self.invariant.outputs refl (moved g c)
     (turn_shows_it c.self.inside.trace.entries c.self.inside.slot c.self.inside.machine _ c.self.invariant.kept c.in_ok-answer.ensures.answer.is_shown)
     (omega (arith, c.in_ok-answer.ensures.left, c.self.invariant.places, turn_reclaims c.self.inside.machine c.turn.new.self c.turn.ensures.after))
     c.self.invariant.fits
