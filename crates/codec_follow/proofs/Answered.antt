@@ -29,6 +29,9 @@ use Rattle.codec_model.specs.declared.entry.Call.{Call}
 use Rattle.codec_model.specs.declared.entry.Call.TheVariants as call
 use Rattle.codec_model.specs.declared.entry.Entry.{Entry}
 use Rattle.codec_model.specs.declared.entry.Entry.TheVariants as entry
+use Rattle.codec_model.specs.declared.entry.HeldSound.{HeldSound}
+use Rattle.codec_model.specs.declared.entry.Handed.TheVariants as handed
+use Rattle.codec_model.specs.declared.entry.Coded.TheVariants as coded
 use Rattle.codec_model.specs.declared.entry.Work.{Work}
 use Rattle.codec_model.specs.declared.entry.Work.TheVariants as work
 use Rattle.codec_model.specs.declared.entry.WorkKind.{WorkKind}
@@ -41,10 +44,10 @@ use Rattle.codec_model.specs.declared.entry.Task.TheVariants as task
 use Rattle.codec_model.specs.declared.entry.Ended.{Ended}
 use Rattle.codec_model.specs.declared.entry.Ended.TheVariants as ended
 use Rattle.codec_model.specs.declared.entry.Outcome.{Outcome}
-use Rattle.codec_model.specs.Control.{Control, kind_of, is_taken, after_message, process_queue, at_next_place, run_task, done_running, after_end, after_reset, after_close, may_reclaim, may_start, is_key_chunk}
-use Rattle.codec_model.specs.Replay.{State, Given, given_more, answer_to, answers_to, opening_state, step, done_ended, ended_of, removal_error, after_call, call_error, accepted, remove_or_refuse, removed, start_step, done_step, with_control, turn_step}
+use Rattle.codec_model.specs.Control.{Control, kind_of, is_taken, after_message, process_queue, at_next_place, run_task, done_running, after_end, after_reset, after_close, after_encode, after_take, may_take, may_reclaim, may_start, is_key_chunk}
+use Rattle.codec_model.specs.Replay.{State, Given, command_of, decoder_config, labelled_answer, is_configured, given_more, answer_to, answers_to, opening_state, step, done_ended, ended_of, removal_error, after_call, call_error, accepted, remove_or_refuse, removed, start_step, done_step, with_control, turn_step}
 use Rattle.wc_base.specs.Options.{cond_is, some_same}
-use Rattle.history_laws.specs.Answers.{ran_answer}
+use Rattle.history_laws.specs.Answers.{kept_is, ran_answer}
 
 -- the answers of a coder that refused nothing so far
 both : (a b : Bool) → (a && b) ≡ true → (a ≡ true) × (b ≡ true)
@@ -108,6 +111,18 @@ open_more g x k us h = record {
   asked = k.asked;
   accepted_all = none_refused_more k.id g.config [] g.commands x k.accepted_all (ap (λ (o : Option (List media.Unit)). is_some o) (sym (last_is g x k) ∙ h));
 }
+
+-- an answer is there with a config exactly where it is without
+unlabelled : (d : Option AudioDecoderConfig) (a : Option (List media.Unit)) (us : List media.Unit) → labelled_answer d a ≡ Some us → (vs : List media.Unit) × (a ≡ Some vs)
+unlabelled d None us h = absurd cc
+unlabelled d (Some vs) us h = (vs, refl)
+
+label_kept : (d : Option AudioDecoderConfig) (a : Option (List media.Unit)) → is_some a ≡ true → is_some (labelled_answer d a) ≡ true
+label_kept d None h = absurd cc
+label_kept d (Some vs) h = refl
+
+open_labelled : (g : Given) (x : Command) → IsOpen g → (us : List media.Unit) → labelled_answer (decoder_config g.config) (last_answer (answers_to (more x g))) ≡ Some us → IsOpen (more x g)
+open_labelled g x k us h = let found = unlabelled (decoder_config g.config) (last_answer (answers_to (more x g))) us h in open_more g x k found.0 found.1
 
 supported_asks : (config : Config) → is_supported config ≡ true → is_some (coder_id_of config) ≡ true
 supported_asks config s = (both (is_valid config) (is_some (coder_id_of config)) (both (is_valid config && is_some (coder_id_of config)) (is_within config) s).0).1
@@ -194,7 +209,7 @@ works_more is ms m =
 
 -- What keeps each flush item from being refused.
 pub record Parts (phase : CodecState) (epoch : ℕ) (halted : Bool) (ws : List Work) (running : Option Running) (given busy : Given) : Type 0 where
-  -- an item was start_front in this epoch
+  -- an item was started in this epoch
   begun : Bool
   first : begun ≡ false → starts ws ≡ true
   calls : phase ≡ Configured → begun ≡ false → leads ws ≡ true
@@ -289,8 +304,16 @@ flushes_configured Closed h = absurd cc
 
 accepted_at : (x : Call) (c : Control) (given busy : Given) → call_error x c ≡ None → At c given busy → At (accepted x c) given busy
 accepted_at (call.Configure config) c given busy e h = processed _ given busy (pushed_configure c c.place config given busy h)
-accepted_at (call.Decode chunk) c given busy e h = processed _ given busy (pushed_other c (record { place = c.place; work = work.Coded chunk }) given busy (decodes_configured c.phase (c.key_required && not (is_key_chunk c.opening.kind chunk)) e) h)
+accepted_at (call.Decode chunk) c given busy e h = processed _ given busy (pushed_other c (record { place = c.place; work = work.Coded (coded.Chunk chunk) }) given busy (decodes_configured c.phase (c.key_required && not (is_key_chunk c.opening.kind chunk)) e) h)
 accepted_at call.Flush c given busy e h = processed _ given busy (pushed_other c (record { place = c.place; work = work.Flush }) given busy (flushes_configured c.phase e) h)
+
+encodes_configured : (p : CodecState) → ◌≡◌ {A = Bool} (elim p [ Unconfigured ↦ false | Configured ↦ true | Closed ↦ false ]) true → p ≡ Configured
+encodes_configured Unconfigured h = absurd cc
+encodes_configured Configured h = refl
+encodes_configured Closed h = absurd cc
+
+encoded_at : (sound : HeldSound) (c : Control) (given busy : Given) → is_configured c ≡ true → At c given busy → At (after_encode c.place sound (at_next_place c)) given busy
+encoded_at sound c given busy e h = processed _ given busy (pushed_other c (record { place = c.place; work = work.Coded (coded.Sound sound) }) given busy (encodes_configured c.phase e) h)
 
 called_at : (o : Option DomError) (x : Call) (c : Control) (given busy : Given) → call_error x c ≡ o → At c given busy → At (after_call o x c) given busy
 called_at None x c given busy e h = accepted_at x c given busy e h
@@ -337,14 +360,14 @@ starts_one phase epoch number place (work.Configure config) ws given busy h =
       flushed = λ r is f. absurd cc;
       before = λ r is. rw (← ap (λ (x : Running). x.epoch) (some_same _ r is)) (omega arith);
     }
-starts_one phase epoch number place (work.Coded chunk) ws given busy h =
+starts_one phase epoch number place (work.Coded input) ws given busy h =
     let k = begins h.begun refl in
     record {
       begun = true;
       first = λ b. absurd cc;
       calls = λ p b. absurd cc;
       open_now = λ b fine free. absurd (free _ refl refl);
-      open_then = λ r is e us answer. open_more given (command.Chunk chunk) k us (subst (λ (x : Running). answer_to x.kind (more (command.Chunk chunk) given) ≡ Some us) (sym (some_same _ r is)) answer);
+      open_then = λ r is e us answer. open_labelled given (command_of input) k us (subst (λ (x : Running). answer_to x.kind (more (command_of input) given) ≡ Some us) (sym (some_same _ r is)) answer);
       same = λ r is e. refl;
       flushed = λ r is f. absurd cc;
       before = λ r is. rw (← ap (λ (x : Running). x.epoch) (some_same _ r is)) (omega arith);
@@ -360,9 +383,9 @@ starts_one phase epoch number place work.Flush ws given busy h =
       first = λ b. absurd cc;
       calls = λ p b. absurd cc;
       open_now = λ b fine free. absurd (free _ refl refl);
-      open_then = λ r is e us answer. open_more given command.Drain k us (subst (λ (x : Running). answer_to x.kind (more command.Drain given) ≡ Some us) (sym (some_same _ r is)) answer);
+      open_then = λ r is e us answer. open_labelled given command.Drain k us (subst (λ (x : Running). answer_to x.kind (more command.Drain given) ≡ Some us) (sym (some_same _ r is)) answer);
       same = λ r is e. refl;
-      flushed = λ r is f. open_drains given k;
+      flushed = λ r is f. label_kept (decoder_config given.config) _ (open_drains given k);
       before = λ r is. rw (← ap (λ (x : Running). x.epoch) (some_same _ r is)) (omega arith);
     }
   where
@@ -459,9 +482,14 @@ turned_sound (x ∷ ts) s t e step h = task_sound x ts s t e step h
 pub step_sound : (e : Entry) (s t : State) → step e s ≡ Some t → Sound s → Sound t
 step_sound (entry.Configure who config) s t is h = subst (λ (u : State). Sound u) (some_same _ t is) (called_at (call_error (call.Configure config) s.control) (call.Configure config) s.control s.given s.running_given refl h)
 step_sound (entry.Decode who chunk) s t is h = subst (λ (u : State). Sound u) (some_same _ t is) (called_at (call_error (call.Decode chunk) s.control) (call.Decode chunk) s.control s.given s.running_given refl h)
+step_sound (entry.Encode who handed.Gone) s t is h = subst (λ (u : State). Sound u) (some_same _ t is) h
+step_sound (entry.Encode who handed.Kept) s t is h = subst (λ (u : State). Sound u) (kept_is (is_configured s.control) _ t is) h
+step_sound (entry.Encode who (handed.Cloned sound)) s t is h =
+    let k = cond_is (is_configured s.control) _ t is in subst (λ (u : State). Sound u) (some_same _ t k.1) (encoded_at sound s.control s.given s.running_given k.0 h)
 step_sound (entry.Flush who) s t is h = subst (λ (u : State). Sound u) (some_same _ t is) (called_at (call_error call.Flush s.control) call.Flush s.control s.given s.running_given refl h)
 step_sound (entry.Reset who) s t is h = subst (λ (u : State). Sound u) (some_same _ t is) (removal_sound (removal_error s.control) removal.Reset s h)
 step_sound (entry.Close who) s t is h = subst (λ (u : State). Sound u) (some_same _ t is) (removal_sound (removal_error s.control) removal.Close s h)
+step_sound (entry.Take who unit) s t is h = subst (λ (u : State). Sound u) (some_same _ t (cond_is (may_take unit s.control) _ t is).1) h
 step_sound (entry.Start epoch item) s t is h = started_sound s.control.work epoch item s t refl is h
 step_sound (entry.Done epoch item moment x) s t is h = done_sound s.control.running epoch item moment x s t refl is h
 step_sound entry.Turn s t is h = turned_sound s.control.tasks s t refl is h

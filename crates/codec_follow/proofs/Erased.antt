@@ -1,5 +1,5 @@
 -- A codec with blanks for its outputs takes the same steps.
-use Rattle.std.proofs.Common.{ℕ, ◌≡◌, ◌+◌, ◌&&◌, ◌||◌, not, Bool, true, false, eqb, cond, List, [], ◌∷◌, ◌++◌, length, map, filter, count_by, Option, Some, None, is_some, refl, ap, sym, subst, ◌∙◌, arith}
+use Rattle.std.proofs.Common.{ℕ, zero, suc, ◌≡◌, ◌+◌, ◌&&◌, ◌||◌, not, Bool, true, false, eqb, cond, List, [], ◌∷◌, ◌++◌, length, map, filter, count_by, Option, Some, None, is_some, refl, ap, sym, subst, ◌∙◌, arith}
 use Rattle.std.specs.Prelude.{option_map, max, unwrap_or}
 use Rattle.std.proofs.lemmas.Bool.{eqb-true}
 use Rattle.std.proofs.lemmas.List.Sums.{sum_by-cons}
@@ -15,6 +15,10 @@ use Rattle.codec_model.specs.declared.entry.Call.{Call}
 use Rattle.codec_model.specs.declared.entry.Call.TheVariants as call
 use Rattle.codec_model.specs.declared.entry.Entry.{Entry}
 use Rattle.codec_model.specs.declared.entry.Entry.TheVariants as entry
+use Rattle.codec_model.specs.declared.entry.Pair.{Pair}
+use Rattle.codec_model.specs.declared.entry.HeldSound.{HeldSound}
+use Rattle.codec_model.specs.declared.entry.Handed.TheVariants as handed
+use Rattle.codec_model.specs.declared.entry.Coded.TheVariants as coded
 use Rattle.codec_model.specs.declared.entry.Work.{Work}
 use Rattle.codec_model.specs.declared.entry.Work.TheVariants as work
 use Rattle.codec_model.specs.declared.entry.WorkKind.{WorkKind}
@@ -28,8 +32,8 @@ use Rattle.codec_model.specs.declared.entry.Ended.{Ended}
 use Rattle.codec_model.specs.declared.entry.Ended.TheVariants as ended
 use Rattle.codec_model.specs.declared.entry.Outcome.{Outcome}
 use Rattle.codec_model.specs.declared.entry.Outcome.TheVariants as outcome
-use Rattle.codec_model.specs.Control.{Control, is_decoder, is_dequeue, is_desaturate, is_taken, after_message, process_queue, at_next_place, run_task, done_running, after_end, after_reset, after_close, after_removal, may_reclaim, may_start}
-use Rattle.codec_model.specs.Replay.{State, Given, step, done_ended, ended_of, ended_run, ended_refused, answer_to, start_step, done_step, turn_step, removed, accepted, after_call, call_error, call_step, removal_error, remove_or_refuse, with_control}
+use Rattle.codec_model.specs.Control.{Control, is_decoder, is_dequeue, is_desaturate, is_taken, after_message, process_queue, at_next_place, run_task, done_running, after_end, after_reset, after_close, after_removal, after_encode, after_take, may_take, with_flushed, carried, active_after, may_reclaim, may_start}
+use Rattle.codec_model.specs.Replay.{State, Given, is_configured, step, done_ended, ended_of, ended_run, ended_refused, answer_to, start_step, done_step, turn_step, removed, accepted, after_call, call_error, call_step, removal_error, remove_or_refuse, with_control}
 use Rattle.wc_base.specs.Options.{cond_is, some_same}
 use Rattle.codec_model.specs.Facts.{with_event}
 use Rattle.codec_follow.specs.Follow.{blank, blanks, ran_as, refused_as, ended_as, follow_done, follow_step}
@@ -44,8 +48,9 @@ erased_task (task.Flushed promise units) = task.Flushed promise (blanks (length 
 erased_task task.Dequeue = task.Dequeue
 erased_task (task.Close x) = task.Close x
 
+-- blanks carry no config, so none is active
 abbrev pub erased : Control → Control
-erased c = record c { tasks = map erased_task c.tasks }
+erased c = record c { tasks = map erased_task c.tasks; active = None }
 
 abbrev pub erased_state : State → State
 erased_state s = record s { control = erased s.control }
@@ -55,6 +60,14 @@ erased_end (ended.Ran units) = ended.Ran (blanks (length units))
 erased_end ended.Refused = ended.Refused
 erased_end (ended.NoSlot n) = ended.NoSlot n
 erased_end ended.NoMemory = ended.NoMemory
+
+pub carried_blanks : (n : ℕ) → carried None (blanks n) ≡ blanks n
+carried_blanks zero = refl
+carried_blanks (suc n) = refl
+
+none_active : (n : ℕ) → active_after None (blanks n) ≡ None
+none_active zero = refl
+none_active (suc n) = refl
 
 pushed : (ts : List Task) (t : Task) → map erased_task (ts ++ t ∷ []) ≡ map erased_task ts ++ erased_task t ∷ []
 pushed ts t = map-append erased_task ts (t ∷ [])
@@ -81,8 +94,11 @@ process_erased (m ∷ ms) c =
 
 accepted_erased : (x : Call) (c : Control) → accepted x (erased c) ≡ erased (accepted x c)
 accepted_erased (call.Configure config) c = process_erased _ (record (at_next_place c) { phase = Configured; key_required = is_decoder c.opening.kind || c.key_required; messages = c.messages ++ record { place = c.place; work = work.Configure config } ∷ [] })
-accepted_erased (call.Decode chunk) c = process_erased _ (record (at_next_place c) { key_required = false; size = c.size + 1; messages = c.messages ++ record { place = c.place; work = work.Coded chunk } ∷ [] })
+accepted_erased (call.Decode chunk) c = process_erased _ (record (at_next_place c) { key_required = false; size = c.size + 1; messages = c.messages ++ record { place = c.place; work = work.Coded (coded.Chunk chunk) } ∷ [] })
 accepted_erased call.Flush c = process_erased _ (record (at_next_place c) { key_required = is_decoder c.opening.kind || c.key_required; pending = c.pending ++ c.place ∷ []; messages = c.messages ++ record { place = c.place; work = work.Flush } ∷ [] })
+
+encoded_erased : (sound : HeldSound) (c : Control) → after_encode c.place sound (at_next_place (erased c)) ≡ erased (after_encode c.place sound (at_next_place c))
+encoded_erased sound c = process_erased _ (record (at_next_place c) { size = c.size + 1; messages = c.messages ++ record { place = c.place; work = work.Coded (coded.Sound sound) } ∷ [] })
 
 call_erased : (e : Option DomError) (x : Call) (c : Control) → after_call e x (erased c) ≡ erased (after_call e x c)
 call_erased None x c = accepted_erased x c
@@ -118,28 +134,29 @@ task_erased : (t : Task) (c : Control) → run_task (erased_task t) (erased c) �
 task_erased task.Unblock c = ap (λ (ts : List Task). record (erased c) { blocked = false; tasks = ts }) (sym (pushed c.tasks task.Process))
 task_erased task.Process c = process_erased c.messages c
 task_erased task.Desaturate c = process_erased c.messages (record c { saturated = false })
-task_erased (task.Output units) c = ap (λ (n : ℕ). record (erased c) { shown = c.shown + n }) (length-replicate (length units) blank)
-task_erased (task.Flushed promise units) c = ap (λ (n : ℕ). record (run_task (task.Flushed promise units) (erased c)) { shown = c.shown + n }) (length-replicate (length units) blank)
+task_erased (task.Output units) c = rw (none_active (length units)) (ap (λ (n : ℕ). record (erased c) { shown = c.shown + n }) (length-replicate (length units) blank))
+task_erased (task.Flushed promise units) c =
+    rw (none_active (length units)) (ap (λ (n : ℕ). record (erased (with_flushed promise units c)) { shown = c.shown + n }) (length-replicate (length units) blank))
 task_erased task.Dequeue c = refl
 task_erased (task.Close x) c = close_erased c
 
-turn_erased : (ts : List Task) (c : Control) (given running : Given) → turn_step (map erased_task ts) (erased_state (record { control = record c { tasks = ts }; given = given; running_given = running })) ≡ option_map erased_state (turn_step ts (record { control = record c { tasks = ts }; given = given; running_given = running }))
-turn_erased [] c given running = refl
-turn_erased (task.Unblock ∷ ts) c given running = ap (λ (d : Control). Some (with_control d (record { control = c; given = given; running_given = running }))) (task_erased task.Unblock (record (at_next_place c) { tasks = ts }))
-turn_erased (task.Process ∷ ts) c given running = ap (λ (d : Control). Some (with_control d (record { control = c; given = given; running_given = running }))) (task_erased task.Process (record (at_next_place c) { tasks = ts }))
-turn_erased (task.Desaturate ∷ ts) c given running = ap (λ (d : Control). Some (with_control d (record { control = c; given = given; running_given = running }))) (task_erased task.Desaturate (record (at_next_place c) { tasks = ts }))
-turn_erased (task.Output units ∷ ts) c given running = ap (λ (d : Control). Some (with_control d (record { control = c; given = given; running_given = running }))) (task_erased (task.Output units) (record (at_next_place c) { tasks = ts }))
-turn_erased (task.Flushed promise units ∷ ts) c given running = ap (λ (d : Control). Some (with_control d (record { control = c; given = given; running_given = running }))) (task_erased (task.Flushed promise units) (record (at_next_place c) { tasks = ts }))
-turn_erased (task.Dequeue ∷ ts) c given running = refl
-turn_erased (task.Close x ∷ ts) c given running = ap (λ (d : Control). Some (removed d (record { control = c; given = given; running_given = running }))) (task_erased (task.Close x) (record (at_next_place c) { tasks = ts }))
+turn_erased : (ts : List Task) (c : Control) (given running : Given) (held : Option Pair) → turn_step (map erased_task ts) (erased_state (record { control = record c { tasks = ts }; given = given; running_given = running; running_held = held })) ≡ option_map erased_state (turn_step ts (record { control = record c { tasks = ts }; given = given; running_given = running; running_held = held }))
+turn_erased [] c given running held = refl
+turn_erased (task.Unblock ∷ ts) c given running held = ap (λ (d : Control). Some (with_control d (record { control = c; given = given; running_given = running; running_held = held }))) (task_erased task.Unblock (record (at_next_place c) { tasks = ts }))
+turn_erased (task.Process ∷ ts) c given running held = ap (λ (d : Control). Some (with_control d (record { control = c; given = given; running_given = running; running_held = held }))) (task_erased task.Process (record (at_next_place c) { tasks = ts }))
+turn_erased (task.Desaturate ∷ ts) c given running held = ap (λ (d : Control). Some (with_control d (record { control = c; given = given; running_given = running; running_held = held }))) (task_erased task.Desaturate (record (at_next_place c) { tasks = ts }))
+turn_erased (task.Output units ∷ ts) c given running held = ap (λ (d : Control). Some (with_control d (record { control = c; given = given; running_given = running; running_held = held }))) (task_erased (task.Output units) (record (at_next_place c) { tasks = ts }))
+turn_erased (task.Flushed promise units ∷ ts) c given running held = ap (λ (d : Control). Some (with_control d (record { control = c; given = given; running_given = running; running_held = held }))) (task_erased (task.Flushed promise units) (record (at_next_place c) { tasks = ts }))
+turn_erased (task.Dequeue ∷ ts) c given running held = refl
+turn_erased (task.Close x ∷ ts) c given running held = ap (λ (d : Control). Some (removed d (record { control = c; given = given; running_given = running; running_held = held }))) (task_erased (task.Close x) (record (at_next_place c) { tasks = ts }))
 
 start_by : (b : Bool) (s t : State) → cond b (Some (erased_state t)) None ≡ option_map erased_state (cond b (Some t) None)
 start_by true s t = refl
 start_by false s t = refl
 
-start_erased : (is : List Item) (epoch item : ℕ) (c : Control) (given running : Given) → start_step is epoch item (erased_state (record { control = record c { work = is }; given = given; running_given = running })) ≡ option_map erased_state (start_step is epoch item (record { control = record c { work = is }; given = given; running_given = running }))
-start_erased [] epoch item c given running = refl
-start_erased (i ∷ is) epoch item c given running = start_by (may_start c && eqb epoch c.epoch && eqb item i.number) (record { control = c; given = given; running_given = running }) _
+start_erased : (is : List Item) (epoch item : ℕ) (c : Control) (given running : Given) (held : Option Pair) → start_step is epoch item (erased_state (record { control = record c { work = is }; given = given; running_given = running; running_held = held })) ≡ option_map erased_state (start_step is epoch item (record { control = record c { work = is }; given = given; running_given = running; running_held = held }))
+start_erased [] epoch item c given running held = refl
+start_erased (i ∷ is) epoch item c given running held = start_by (may_start c && eqb epoch c.epoch && eqb item i.number) (record { control = c; given = given; running_given = running; running_held = held }) _
 
 -- the ends of items
 desaturates_erased : (ts : List Task) → count_by is_desaturate (map erased_task ts) ≡ count_by is_desaturate ts
@@ -260,21 +277,31 @@ done_step_erased (Some r) epoch item moment x s t out fine h =
 call_step_erased : (x : Call) (s : State) → call_error x (erased s.control) ≡ call_error x s.control → call_step x (erased_state s) ≡ erased_state (call_step x s)
 call_step_erased x s same = rw same (ap (λ (d : Control). with_control d s) (call_erased (call_error x s.control) x s.control))
 
-reclaim_by : (b : Bool) (x y : State) → x ≡ erased_state y → cond b (Some x) None ≡ option_map erased_state (cond b (Some y) None)
-reclaim_by true x y h = ap (λ (u : State). Some u) h
-reclaim_by false x y h = refl
+-- where a test fails, and where it passes
+failed_by : (b : Bool) (x y : State) → x ≡ erased_state y → cond b None (Some x) ≡ option_map erased_state (cond b None (Some y))
+failed_by true x y h = refl
+failed_by false x y h = ap (λ (u : State). Some u) h
+
+passed_by : (b : Bool) (x y : State) → x ≡ erased_state y → cond b (Some x) None ≡ option_map erased_state (cond b (Some y) None)
+passed_by true x y h = ap (λ (u : State). Some u) h
+passed_by false x y h = refl
 
 -- One step of a legal history, from blanks.
 pub step_erased : (e : Entry) (s t : State) → Sound s → step e s ≡ Some t → follow_step e (erased_state s) ≡ Some (erased_state t)
 step_erased (entry.Configure who config) s t fine h = ap (λ (u : State). Some u) (call_step_erased (call.Configure config) s refl) ∙ ap (option_map erased_state) h
 step_erased (entry.Decode who chunk) s t fine h = ap (λ (u : State). Some u) (call_step_erased (call.Decode chunk) s refl) ∙ ap (option_map erased_state) h
+step_erased (entry.Encode who handed.Gone) s t fine h = ap (option_map erased_state) h
+step_erased (entry.Encode who handed.Kept) s t fine h = failed_by (is_configured s.control) _ (with_control (at_next_place s.control) s) refl ∙ ap (option_map erased_state) h
+step_erased (entry.Encode who (handed.Cloned sound)) s t fine h =
+    passed_by (is_configured s.control) _ (with_control (after_encode s.control.place sound (at_next_place s.control)) s) (ap (λ (d : Control). with_control d s) (encoded_erased sound s.control)) ∙ ap (option_map erased_state) h
 step_erased (entry.Flush who) s t fine h = ap (λ (u : State). Some u) (call_step_erased call.Flush s refl) ∙ ap (option_map erased_state) h
 step_erased (entry.Reset who) s t fine h =
     ap (λ (u : State). Some u) (removal_erased (removal_error s.control) removal.Reset s) ∙ ap (option_map erased_state) h
 step_erased (entry.Close who) s t fine h =
     ap (λ (u : State). Some u) (removal_erased (removal_error s.control) removal.Close s) ∙ ap (option_map erased_state) h
-step_erased (entry.Start epoch item) s t fine h = start_erased s.control.work epoch item s.control s.given s.running_given ∙ ap (option_map erased_state) h
+step_erased (entry.Take who unit) s t fine h = passed_by (may_take unit s.control) _ (with_control (after_take (at_next_place s.control)) s) refl ∙ ap (option_map erased_state) h
+step_erased (entry.Start epoch item) s t fine h = start_erased s.control.work epoch item s.control s.given s.running_given s.running_held ∙ ap (option_map erased_state) h
 step_erased (entry.Done epoch item moment x) s t fine h = done_step_erased s.control.running epoch item moment x s t refl fine h
-step_erased entry.Turn s t fine h = turn_erased s.control.tasks s.control s.given s.running_given ∙ ap (option_map erased_state) h
+step_erased entry.Turn s t fine h = turn_erased s.control.tasks s.control s.given s.running_given s.running_held ∙ ap (option_map erased_state) h
 step_erased (entry.Reclaim moment) s t fine h =
-    reclaim_by (may_reclaim moment s.control) _ (removed (after_close (at_next_place s.control)) s) (ap (λ (d : Control). removed d s) (close_erased (at_next_place s.control))) ∙ ap (option_map erased_state) h
+    passed_by (may_reclaim moment s.control) _ (removed (after_close (at_next_place s.control)) s) (ap (λ (d : Control). removed d s) (close_erased (at_next_place s.control))) ∙ ap (option_map erased_state) h

@@ -15,6 +15,9 @@ use Rattle.codec_model.specs.declared.entry.Entry.{Entry}
 use Rattle.codec_model.specs.declared.entry.Entry.TheVariants as entry
 use Rattle.codec_model.specs.declared.entry.Event.{Event}
 use Rattle.codec_model.specs.declared.entry.Event.TheVariants as event
+use Rattle.codec_model.specs.declared.entry.HeldSound.{HeldSound}
+use Rattle.codec_model.specs.declared.entry.Handed.TheVariants as handed
+use Rattle.codec_model.specs.declared.entry.Coded.TheVariants as coded
 use Rattle.codec_model.specs.declared.entry.Work.{Work}
 use Rattle.codec_model.specs.declared.entry.Work.TheVariants as work
 use Rattle.codec_model.specs.declared.entry.WorkKind.{WorkKind}
@@ -28,10 +31,13 @@ use Rattle.codec_model.specs.declared.entry.Ended.{Ended}
 use Rattle.codec_model.specs.declared.entry.Ended.TheVariants as ended
 use Rattle.codec_model.specs.declared.entry.Outcome.{Outcome}
 use Rattle.codec_model.specs.declared.entry.Outcome.TheVariants as outcome
-use Rattle.codec_model.specs.Control.{Control, is_taken, is_dequeue, with_dequeue_if, with_message, is_decoder, after_message, process_queue, at_next_place, start_first, with_desaturate, with_output, with_ran, with_end, after_end, done_running, after_reset, may_start, run_task}
-use Rattle.codec_model.specs.Replay.{State, Given, answer_to, opening_state, step, IsLegal, ended_of, ended_run, ended_refused, call_error, configure_error, decode_error, flush_error, after_call, removal_error, remove_or_refuse, start_step, done_step, done_ended, turn_step}
-use Rattle.codec_model.specs.Shown.{shows, shown_from, shown, refusal, rejection, rejections, removal_shows, outputs_from, task_shows, turn_shows}
+use Rattle.codec_model.specs.Control.{Control, is_taken, is_dequeue, with_dequeue_if, with_message, is_decoder, after_message, process_queue, at_next_place, start_first, with_desaturate, with_output, with_ran, with_end, after_end, done_running, after_reset, after_encode, may_take, may_start, run_task}
+use Rattle.codec_model.specs.Replay.{State, Given, answer_to, is_configured, opening_state, step, IsLegal, ended_of, ended_run, ended_refused, call_error, configure_error, decode_error, flush_error, after_call, removal_error, remove_or_refuse, start_step, done_step, done_ended, turn_step}
+use Rattle.codec_model.specs.Shown.{shows, handed_error, task_carried, shown_from, shown, refusal, rejection, rejections, removal_shows, outputs_from, task_shows, turn_shows}
 use Rattle.wc_base.specs.Options.{cond_is, some_same}
+use Rattle.wc_config.specs.declared.config.AudioDecoderConfig.{AudioDecoderConfig}
+use Rattle.history_laws.specs.Answers.{kept_is}
+use Rattle.history_laws.specs.OutputLaws.{all_append}
 use Rattle.codec_follow.specs.Errors.{IsServedEnd, IsServed, AreServedFrom, AreServed, IsForMemory}
 
 -- a queued task closes the codec only for want of memory
@@ -41,10 +47,6 @@ Fine _ = Unit {0}
 
 abbrev AllFine : List Task → Type 0
 AllFine ts = AllByRecursion Fine ts
-
-all_append : {X : Type 0} (P : X → Type 0) (xs ys : List X) → AllByRecursion P xs → AllByRecursion P ys → AllByRecursion P (xs ++ ys)
-all_append P [] ys p q = q
-all_append P (x ∷ xs) ys p q = (p.0, all_append P xs ys p.1 q)
 
 with_one : (ts : List Task) (t : Task) → AllFine ts → Fine t → AllFine (ts ++ t ∷ [])
 with_one ts t fine one = all_append Fine ts (t ∷ []) fine (one, tt)
@@ -85,8 +87,11 @@ sent_fine place w c fine = process_fine (c.messages ++ record { place = place; w
 call_fine : (o : Option DomError) (x : Call) (c : Control) → AllFine c.tasks → AllFine (after_call o x c).tasks
 call_fine (Some e) x c fine = fine
 call_fine None (call.Configure config) c fine = sent_fine c.place (work.Configure config) (record (at_next_place c) { phase = Configured; key_required = is_decoder c.opening.kind || c.key_required }) fine
-call_fine None (call.Decode chunk) c fine = sent_fine c.place (work.Coded chunk) (record (at_next_place c) { key_required = false; size = c.size + 1 }) fine
+call_fine None (call.Decode chunk) c fine = sent_fine c.place (work.Coded (coded.Chunk chunk)) (record (at_next_place c) { key_required = false; size = c.size + 1 }) fine
 call_fine None call.Flush c fine = sent_fine c.place work.Flush (record (at_next_place c) { key_required = is_decoder c.opening.kind || c.key_required; pending = c.pending ++ c.place ∷ [] }) fine
+
+encode_fine : (sound : HeldSound) (c : Control) → AllFine c.tasks → AllFine (after_encode c.place sound (at_next_place c)).tasks
+encode_fine sound c fine = sent_fine c.place (work.Coded (coded.Sound sound)) (record (at_next_place c) { size = c.size + 1 }) fine
 
 abbrev cleared : Control → Control
 cleared s = record s { phase = Unconfigured; epoch = s.epoch + 1; blocked = false; saturated = false; halted = false; active = None; progress = None; messages = []; work = []; next_item = 0; size = 0; pending = []; tasks = filter is_dequeue s.tasks }
@@ -192,9 +197,14 @@ started_fine (i ∷ is) epoch item s t h fine =
 step_fine : (e : Entry) (s t : State) → IsServed e s → step e s ≡ Some t → AllFine s.control.tasks → AllFine t.control.tasks
 step_fine (entry.Configure who config) s t served h fine = subst (λ (u : State). AllFine u.control.tasks) (some_same _ t h) (call_fine (call_error (call.Configure config) s.control) (call.Configure config) s.control fine)
 step_fine (entry.Decode who chunk) s t served h fine = subst (λ (u : State). AllFine u.control.tasks) (some_same _ t h) (call_fine (call_error (call.Decode chunk) s.control) (call.Decode chunk) s.control fine)
+step_fine (entry.Encode who handed.Gone) s t served h fine = subst (λ (u : State). AllFine u.control.tasks) (some_same _ t h) fine
+step_fine (entry.Encode who handed.Kept) s t served h fine = subst (λ (u : State). AllFine u.control.tasks) (kept_is (is_configured s.control) _ t h) fine
+step_fine (entry.Encode who (handed.Cloned sound)) s t served h fine =
+    subst (λ (u : State). AllFine u.control.tasks) (some_same _ t (cond_is (is_configured s.control) _ t h).1) (encode_fine sound s.control fine)
 step_fine (entry.Flush who) s t served h fine = subst (λ (u : State). AllFine u.control.tasks) (some_same _ t h) (call_fine (call_error call.Flush s.control) call.Flush s.control fine)
 step_fine (entry.Reset who) s t served h fine = subst (λ (u : State). AllFine u.control.tasks) (some_same _ t h) (removal_fine (removal_error s.control) removal.Reset s fine)
 step_fine (entry.Close who) s t served h fine = subst (λ (u : State). AllFine u.control.tasks) (some_same _ t h) (removal_fine (removal_error s.control) removal.Close s fine)
+step_fine (entry.Take who unit) s t served h fine = subst (λ (u : State). AllFine u.control.tasks) (some_same _ t (cond_is (may_take unit s.control) _ t h).1) fine
 step_fine (entry.Start epoch item) s t served h fine = started_fine s.control.work epoch item s t h fine
 step_fine (entry.Done epoch item moment o) s t served h fine = done_fine s.control.running epoch item moment o s t served h fine
 step_fine entry.Turn s t served h fine = turn_fine s.control.tasks s t refl h fine
@@ -234,16 +244,28 @@ task_for (task.Flushed promise units) n ps fine = all_append IsForMemory (output
 task_for task.Dequeue n ps fine = (tt, tt)
 task_for (task.Close x) n ps fine = all_append IsForMemory (rejections x ps) (event.ErrorCall x ∷ []) (rejections_for x ps) (fine, tt)
 
+-- a task closes the codec as it did, whatever config its outputs carry
+carried_fine : (active : Option AudioDecoderConfig) (x : Task) → Fine x → Fine (task_carried active x)
+carried_fine active task.Unblock fine = tt
+carried_fine active task.Process fine = tt
+carried_fine active task.Desaturate fine = tt
+carried_fine active (task.Output units) fine = tt
+carried_fine active (task.Flushed promise units) fine = tt
+carried_fine active task.Dequeue fine = tt
+carried_fine active (task.Close error) fine = fine
+
 turn_for : (ts : List Task) (c : Control) → AllFine ts → AllFor (turn_shows ts c)
 turn_for [] c fine = tt
-turn_for (x ∷ ts) c fine = task_for x c.shown c.pending fine.0
+turn_for (x ∷ ts) c fine = task_for (task_carried c.active x) c.shown c.pending (carried_fine c.active x fine.0)
 
 shows_for : (e : Entry) (s : State) → IsServed e s → AllFine s.control.tasks → AllFor (shows e s)
 shows_for (entry.Configure who config) s served fine = refusal_for (configure_error config s.control)
 shows_for (entry.Decode who chunk) s served fine = refusal_for (decode_error chunk s.control)
+shows_for (entry.Encode who x) s served fine = refusal_for (handed_error x)
 shows_for (entry.Flush who) s served fine = rejection_for s.control.place (flush_error s.control)
 shows_for (entry.Reset who) s served fine = removal_for (removal_error s.control) s.control.pending
 shows_for (entry.Close who) s served fine = removal_for (removal_error s.control) s.control.pending
+shows_for (entry.Take who unit) s served fine = tt
 shows_for (entry.Start epoch item) s served fine = tt
 shows_for (entry.Done epoch item moment o) s served fine = tt
 shows_for entry.Turn s served fine = turn_for s.control.tasks s.control fine

@@ -6,6 +6,7 @@ use Rattle.std.proofs.Math.Seq.{take-append_seam}
 use Rattle.wc_base.specs.declared.error.DomError.{DomError}
 use Rattle.wc_base.specs.declared.error.DomError.TheVariants as dom
 use Rattle.codec_definitions.specs.declared.unit.Unit as media
+use Rattle.wc_config.specs.declared.config.AudioDecoderConfig.{AudioDecoderConfig}
 use Rattle.wc_config.specs.declared.kind.Kind.{Kind}
 use Rattle.codec_model.specs.declared.entry.Entry.{Entry}
 use Rattle.codec_model.specs.declared.entry.Entry.TheVariants as entry
@@ -14,13 +15,14 @@ use Rattle.codec_model.specs.declared.entry.Event.TheVariants as event
 use Rattle.codec_model.specs.declared.entry.Shown.{Shown}
 use Rattle.codec_model.specs.declared.entry.Task.{Task}
 use Rattle.codec_model.specs.declared.entry.Task.TheVariants as task
-use Rattle.codec_model.specs.Control.{Control}
+use Rattle.codec_model.specs.Control.{Control, carried}
 use Rattle.codec_model.specs.Replay.{State, opening_state, step, replay_from, removal_error, configure_error, decode_error, flush_error}
-use Rattle.codec_model.specs.Shown.{shows, refusal, rejection, rejections, outputs_from, turn_shows, removal_shows, shown_from, shown_at, each_shown_from, turn_word, word_at, event_units, units_in, outputs_of}
+use Rattle.codec_model.specs.Shown.{shows, refusal, rejection, rejections, outputs_from, turn_shows, removal_shows, handed_error, shown_from, shown_at, each_shown_from, turn_word, word_at, units_in, outputs_of}
 use Rattle.codec_follow.specs.Follow.{blank, blanks, follow_step, follow_from, filled, filled_at, each_filled_from, units_shown}
 use Rattle.codec_follow.specs.Laws.{LegalFollows, LegalFills, UnitsInOrder}
 use Rattle.codec_follow.proofs.Answered.{Sound, step_sound, opened}
-use Rattle.codec_follow.proofs.Erased.{erased_task, erased, erased_state, step_erased}
+use Rattle.codec_follow.proofs.Erased.{carried_blanks, erased_task, erased, erased_state, step_erased}
+use Rattle.history_laws.specs.CountLaws.{length-carried, outputs_tagged}
 
 abbrev erased_event : Event → Event
 erased_event (event.Refusal x) = event.Refusal x
@@ -53,23 +55,31 @@ outputs_erased : (n : ℕ) (us : List media.Unit) → outputs_from n (blanks (le
 outputs_erased n [] = refl
 outputs_erased n (u ∷ us) = ap (λ (xs : List Event). event.Output n blank ∷ xs) (outputs_erased (n + 1) us)
 
+-- outputs as they are shown, and blanks
+carried_erased : (n : ℕ) (active : Option AudioDecoderConfig) (us : List media.Unit) → outputs_from n (carried None (blanks (length us))) ≡ map erased_event (outputs_from n (carried active us))
+carried_erased n active us =
+    ap (λ (vs : List media.Unit). outputs_from n vs) (carried_blanks (length us))
+    ∙ (ap (λ (m : ℕ). outputs_from n (blanks m)) (sym (length-carried active us)) ∙ outputs_erased n (carried active us))
+
 task_shown : (ts : List Task) (c : Control) → turn_shows (map erased_task ts) (erased c) ≡ map erased_event (turn_shows ts c)
 task_shown [] c = refl
 task_shown (task.Unblock ∷ ts) c = refl
 task_shown (task.Process ∷ ts) c = refl
 task_shown (task.Desaturate ∷ ts) c = refl
-task_shown (task.Output units ∷ ts) c = outputs_erased c.shown units
+task_shown (task.Output units ∷ ts) c = carried_erased c.shown c.active units
 task_shown (task.Flushed promise units ∷ ts) c =
-    ap (λ (xs : List Event). xs ++ event.Resolve promise ∷ []) (outputs_erased c.shown units) ∙ sym (map-append erased_event (outputs_from c.shown units) (event.Resolve promise ∷ []))
+    ap (λ (xs : List Event). xs ++ event.Resolve promise ∷ []) (carried_erased c.shown c.active units) ∙ sym (map-append erased_event (outputs_from c.shown (carried c.active units)) (event.Resolve promise ∷ []))
 task_shown (task.Dequeue ∷ ts) c = refl
 task_shown (task.Close x ∷ ts) c = closes_erased x c.pending
 
 shows_erased : (e : Entry) (s : State) → shows e (erased_state s) ≡ map erased_event (shows e s)
 shows_erased (entry.Configure who config) s = refusal_erased (configure_error config s.control)
 shows_erased (entry.Decode who chunk) s = refusal_erased (decode_error chunk s.control)
+shows_erased (entry.Encode who x) s = refusal_erased (handed_error x)
 shows_erased (entry.Flush who) s = rejection_erased s.control.place (flush_error s.control)
 shows_erased (entry.Reset who) s = removal_erased (removal_error s.control) s.control.pending
 shows_erased (entry.Close who) s = removal_erased (removal_error s.control) s.control.pending
+shows_erased (entry.Take who unit) s = refl
 shows_erased (entry.Start epoch item) s = refl
 shows_erased (entry.Done epoch item moment o) s = refl
 shows_erased entry.Turn s = task_shown s.control.tasks s.control
@@ -89,9 +99,11 @@ word_erased : (e : Entry) (s : State) → word_at e (erased_state s) ≡ word_at
 word_erased entry.Turn s = word_erased_on s.control.tasks
 word_erased (entry.Configure who config) s = refl
 word_erased (entry.Decode who chunk) s = refl
+word_erased (entry.Encode who x) s = refl
 word_erased (entry.Flush who) s = refl
 word_erased (entry.Reset who) s = refl
 word_erased (entry.Close who) s = refl
+word_erased (entry.Take who unit) s = refl
 word_erased (entry.Start epoch item) s = refl
 word_erased (entry.Done epoch item moment o) s = refl
 word_erased (entry.Reclaim moment) s = refl
@@ -105,10 +117,6 @@ fill_erased k (event.Resolve promise ∷ xs) us = ap (λ (p : List Event × List
 fill_erased k (event.Reject promise x ∷ xs) us = ap (λ (p : List Event × List media.Unit). (event.Reject promise x ∷ p.0, p.1)) (fill_erased k xs us)
 fill_erased k (event.Dequeue ∷ xs) us = ap (λ (p : List Event × List media.Unit). (event.Dequeue ∷ p.0, p.1)) (fill_erased k xs us)
 fill_erased k (event.ErrorCall x ∷ xs) us = ap (λ (p : List Event × List media.Unit). (event.ErrorCall x ∷ p.0, p.1)) (fill_erased k xs us)
-
-outputs_tagged : (place : ℕ) (xs : List Event) (ys : List (ℕ × Event)) → outputs_of (map (λ x. (place, x)) xs ++ ys) ≡ units_in xs ++ outputs_of ys
-outputs_tagged place [] ys = refl
-outputs_tagged place (x ∷ xs) ys = ap (λ (us : List media.Unit). event_units x ++ us) (outputs_tagged place xs ys) ∙ sym (append_assoc (event_units x) (units_in xs) (outputs_of ys))
 
 -- what an entry shows, from blanks and what it shows
 filled_shown : (k : Kind) → (e : Entry) (s : State) (us : List media.Unit) → filled k (shows e (erased_state s)) (units_in (shows e s) ++ us) ≡ (shows e s, us)

@@ -9,7 +9,7 @@ use Rattle.codec_model.specs.declared.entry.Item.{Item}
 use Rattle.codec_model.specs.declared.entry.Shown.{Shown}
 use Rattle.codec_model.specs.declared.entry.Work.{Work}
 use Rattle.codec_model.specs.declared.entry.Work.TheVariants as work
-use Rattle.codec_model.specs.Control.{Control, may_start, front, start_item, after_start, start_front, at_next_place}
+use Rattle.codec_model.specs.Control.{Control, may_start, front, start_item, after_start, start_front, at_next_place, held_of}
 use Rattle.codec_model.specs.Replay.{State, Given, given_more, after_call, call_error, entry_of, start_step}
 use Rattle.wc_base.specs.Options.{cond_is, some_same}
 use Rattle.codec_follow.specs.declared.known.Known.{Known}
@@ -41,7 +41,7 @@ known_more (work.Configure config) g = refl
 known_more (work.Coded chunk) g = refl
 known_more work.Flush g = refl
 
-start_here : (is : List Item) (s : State) (epoch item : ℕ) (i : Item) → cond (may_start s.control) (front is) None ≡ Some i → epoch ≡ s.control.epoch → item ≡ i.number → start_step is epoch item s ≡ Some (record { control = start_front (at_next_place s.control); given = given_more i.work s.given; running_given = given_more i.work s.given })
+start_here : (is : List Item) (s : State) (epoch item : ℕ) (i : Item) → cond (may_start s.control) (front is) None ≡ Some i → epoch ≡ s.control.epoch → item ≡ i.number → start_step is epoch item s ≡ Some (record { control = start_front (at_next_place s.control); given = given_more i.work s.given; running_given = given_more i.work s.given; running_held = held_of i.work })
 start_here [] s epoch item i h e n = absurd (none (may_start s.control) h)
   where
     none : (b : Bool) → cond b None None ≡ Some i → ⊥
@@ -51,7 +51,7 @@ start_here (j ∷ js) s epoch item i h e n =
     let k = cond_is (may_start s.control) (Some j) i h in
     let same : j ≡ i = some_same j i k.1 in
     rw (k.0, eq-eqb epoch s.control.epoch e, eq-eqb item j.number (n ∙ ap (λ (x : Item). x.number) (sym same)))
-    (ap (λ (x : Item). Some (record { control = start_front (at_next_place s.control); given = given_more x.work s.given; running_given = given_more x.work s.given })) same)
+    (ap (λ (x : Item). Some (record { control = start_front (at_next_place s.control); given = given_more x.work s.given; running_given = given_more x.work s.given; running_held = held_of x.work })) same)
 
 started_here : (c : Control) (i : Item) → start_item c ≡ Some i → after_start c ≡ start_front (at_next_place c)
 started_here c i h = ap (λ (o : Option Item). cond (is_some o) (start_front (at_next_place c)) c) h
@@ -62,13 +62,13 @@ start_follows epoch item i v shown new known there e n told moved support = reco
   after = λ s is. ap (λ (o : Option State). follower_of (unwrap_or o s)) (steps s is) ∙ (same_given s ∙ (ap (λ (w : FollowerValue). at_start w) is ∙ rest));
 }
   where
-    steps : (s : State) → follower_of s ≡ v → start_step s.control.work epoch item s ≡ Some (record { control = start_front (at_next_place s.control); given = given_more i.work s.given; running_given = given_more i.work s.given })
+    steps : (s : State) → follower_of s ≡ v → start_step s.control.work epoch item s ≡ Some (record { control = start_front (at_next_place s.control); given = given_more i.work s.given; running_given = given_more i.work s.given; running_held = held_of i.work })
     steps s is = start_here s.control.work s epoch item i (ap (λ (w : FollowerValue). start_item w.control) is ∙ there) (e ∙ ap (λ (w : FollowerValue). w.control.epoch) (sym is)) n
 
     at_start : FollowerValue → FollowerValue
     at_start w = record { control = start_front (at_next_place w.control); known = known_with i.work w.known; running_known = known_with i.work w.known }
 
-    same_given : (s : State) → follower_of (record { control = start_front (at_next_place s.control); given = given_more i.work s.given; running_given = given_more i.work s.given }) ≡ at_start (follower_of s)
+    same_given : (s : State) → follower_of (record { control = start_front (at_next_place s.control); given = given_more i.work s.given; running_given = given_more i.work s.given; running_held = held_of i.work }) ≡ at_start (follower_of s)
     same_given s = ap (λ (b : Known). record { control = start_front (at_next_place s.control); known = b; running_known = b }) (known_more i.work s.given)
 
     rest : at_start v ≡ record { control = new; known = known; running_known = known }

@@ -1,5 +1,5 @@
 -- The outputs of a history are of its codec's kind, where its configs are.
-use Rattle.std.proofs.Common.{ℕ, zero, suc, ◌≡◌, ◌<◌, ◌&&◌, not, Bool, true, false, cond, List, [], ◌∷◌, ◌++◌, length, Option, Some, None, refl, subst, arith, ◌%◌, ◌^◌, take, drop, bytes_eq, codes}
+use Rattle.std.proofs.Common.{ℕ, zero, suc, ◌≡◌, ◌<◌, ◌&&◌, ◌||◌, not, Bool, true, false, cond, List, [], ◌∷◌, ◌++◌, length, Option, Some, None, is_some, refl, subst, arith, ◌%◌, ◌^◌, take, drop, bytes_eq, codes}
 use Rattle.std.proofs.lemmas.Bool.{leb-true}
 use Rattle.std.specs.Prelude.{◌==◌, nat_le, ℤ}
 use Rattle.std.specs.List.{AllByRecursion}
@@ -7,13 +7,14 @@ use Rattle.wc_base.specs.declared.media.Samples.{Samples}
 use Rattle.wc_config.specs.declared.codec.CoderId.{CoderId}
 use Rattle.wc_config.specs.declared.codec.CodecId.{CodecId}
 use Rattle.wc_config.specs.declared.codec.CodecId.TheVariants as codec
+use Rattle.wc_config.specs.declared.codec.Role.TheVariants as role
 use Rattle.wc_config.specs.declared.config.AudioDecoderConfig.{AudioDecoderConfig}
 use Rattle.wc_config.specs.declared.config.AudioEncoderConfig.{AudioEncoderConfig}
 use Rattle.wc_config.specs.declared.config.Config.{Config}
 use Rattle.wc_config.specs.declared.config.Config.TheVariants as config
 use Rattle.wc_config.specs.declared.stream_info.StreamInfo.{StreamInfo}
 use Rattle.wc_config.specs.Streams.{big_endian, stream_info_of, is_usable, streaminfo_of}
-use Rattle.wc_config.specs.Configs.{is_valid, is_blank}
+use Rattle.wc_config.specs.Configs.{is_valid, is_blank, audio_codec, video_codec, id_with, coder_id_of}
 use Rattle.codec_definitions.specs.SampleCodecs.{SampleCodec, sample_codec, sample_decoder, sample_encoder}
 use Rattle.wc_chunk.specs.declared.chunk.Chunk.{Chunk}
 use Rattle.codec_definitions.specs.declared.unit.Unit as media
@@ -29,15 +30,17 @@ use Rattle.codec_definitions.specs.RawVideo.{raw_shape, chunks_since_drain, last
 use Rattle.codec_definitions.specs.Answers.{undefined_answer, sample_decoder_by, sample_encoder_by, audio_decoder_answer, audio_encoder_answer, answer_after}
 use Rattle.wc_config.specs.declared.kind.Kind.{Kind}
 use Rattle.wc_config.specs.declared.kind.Kind.TheVariants as kind
+use Rattle.codec_model.specs.declared.entry.Handed.TheVariants as handed
 use Rattle.codec_model.specs.declared.entry.Entry.{Entry}
 use Rattle.codec_model.specs.declared.entry.Entry.TheVariants as entry
 use Rattle.codec_model.specs.declared.entry.Shown.{Shown}
+use Rattle.codec_model.specs.Replay.{decoder_config}
 use Rattle.codec_model.specs.Shown.{units_in, each_shown}
 use Rattle.wc_base.specs.Options.{cond_is, some_same}
-use Rattle.history_laws.specs.Outputs.{Judge, HoldsOwn}
+use Rattle.history_laws.specs.Outputs.{MayCarry, Judge, HoldsOwn}
 use Rattle.history_laws.specs.OutputLaws.{all_append, outputs_are}
 use Rattle.codec_follow.specs.Follow.{units_shown}
-use Rattle.codec_follow.specs.Outputs.{IsOutputOf, IsConfigOf, ConfiguresAs}
+use Rattle.codec_follow.specs.Outputs.{is_codec_string, IsPlainConfig, IsOutputOf, IsConfigOf, ConfiguresAs}
 use Rattle.codec_follow.specs.Laws.{OutputsAreOfKind}
 
 -- ---- what a codec's definition answers
@@ -184,9 +187,41 @@ own_config kind.VideoDecoder (config.AudioDecoder c) own h = absurd own
 own_config kind.VideoDecoder (config.AudioEncoder c) own h = absurd own
 own_config k config.Bad own h = absurd cc
 
+-- ---- the config that an encoded output carries
+
+known_text : (text : List ℕ) → is_some (id_with role.Encode (audio_codec text)) ≡ true → is_codec_string text ≡ true
+known_text text h = by (audio_codec text) h
+  where
+    by : (o : Option CodecId) → is_some (id_with role.Encode o) ≡ true → (is_some o || is_some (video_codec text)) ≡ true
+    by None e = absurd cc
+    by (Some id) e = refl
+
+plain_label : (c : Config) (d : AudioDecoderConfig) → is_some (coder_id_of c) ≡ true → decoder_config c ≡ Some d → IsPlainConfig (Some d)
+plain_label (config.AudioEncoder c) d coder is = subst (λ (x : AudioDecoderConfig). IsPlainConfig (Some x)) (some_same _ d is) (known_text c.codec coder, tt)
+plain_label (config.AudioDecoder c) d coder is = absurd cc
+plain_label (config.VideoDecoder c) d coder is = absurd cc
+plain_label config.Bad d coder is = absurd cc
+
+plain_carried : (k : Kind) (new : Option AudioDecoderConfig) → MayCarry (IsOwn k) new → IsPlainConfig new
+plain_carried k None may = tt
+plain_carried k (Some d) may = plain_label may.config d may.has_coder may.decodes
+
+relabelled : (k : Kind) (c : Chunk) (old new : Option AudioDecoderConfig) → MayCarry (IsOwn k) new → IsOutputOf k (unit.Coded c old) → IsOutputOf k (unit.Coded c new)
+relabelled kind.AudioDecoder c old new may h = h
+relabelled kind.AudioEncoder c old new may h = plain_carried kind.AudioEncoder new may
+relabelled kind.VideoDecoder c old new may h = h
+
 -- the outputs of a codec of this kind
 abbrev judge_of : Kind → Judge
-judge_of k = record { config = IsOwn k; chunk = λ chunk. Unit {0}; output = IsOutputOf k; nothing = bad_own k; gives = λ id c before x us own chunk h. answered k id c before x us own h }
+judge_of k = record {
+  config = IsOwn k;
+  chunk = λ chunk. Unit {0};
+  sound = λ samples. Unit {0};
+  output = IsOutputOf k;
+  nothing = bad_own k;
+  gives = λ id c before x us own input h. answered k id c before x us own h;
+  relabel = relabelled k;
+}
 
 entries_own : (k : Kind) (es : List Entry) → AllByRecursion (ConfiguresAs k) es → AllByRecursion (HoldsOwn (judge_of k)) es
 entries_own k [] own = tt
@@ -195,9 +230,13 @@ entries_own k (e ∷ es) own = (by e own.0, entries_own k es own.1)
     by : (x : Entry) → ConfiguresAs k x → HoldsOwn (judge_of k) x
     by (entry.Configure who c) is = own_config k c is
     by (entry.Decode who chunk) is = tt
+    by (entry.Encode who handed.Gone) is = tt
+    by (entry.Encode who handed.Kept) is = tt
+    by (entry.Encode who (handed.Cloned sound)) is = tt
     by (entry.Flush who) is = tt
     by (entry.Reset who) is = tt
     by (entry.Close who) is = tt
+    by (entry.Take who unit) is = tt
     by (entry.Start epoch number) is = tt
     by (entry.Done epoch number moment x) is = tt
     by entry.Turn is = tt

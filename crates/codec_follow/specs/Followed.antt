@@ -1,6 +1,8 @@
 -- What a follower keeps of a state, and what an entry does to it.
-use Rattle.std.specs.Prelude.{◌≡◌, Option, Some, None, option_map, unwrap_or}
+use Rattle.std.specs.Prelude.{◌≡◌, Bool, true, false, Option, Some, None, option_map, unwrap_or}
 use Rattle.wc_base.specs.declared.error.DomError.{DomError}
+use Rattle.codec_model.specs.declared.entry.Handed.{Handed}
+use Rattle.codec_model.specs.declared.entry.Handed.TheVariants as handed
 use Rattle.codec_model.specs.declared.entry.Work.{Work}
 use Rattle.codec_model.specs.declared.entry.Work.TheVariants as work
 use Rattle.codec_model.specs.declared.entry.Entry.{Entry}
@@ -49,3 +51,8 @@ nothing_known = known_of nothing_given.config
 abbrev pub known_after : Option DomError → Known → Known
 known_after None before = nothing_known
 known_after (Some error) before = before
+
+-- what became of the data of an encode that was refused, detached or not
+abbrev pub refused_of : Bool → Handed
+refused_of true = handed.Gone
+refused_of false = handed.Kept

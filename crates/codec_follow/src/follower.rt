@@ -2,17 +2,33 @@
 ghost use Rattle.std.specs.Prelude.{◌≡◌, ◌<◌, ◌+◌, ◌^◌, IfOk, IfNone, Some};
 ghost use Rattle.wc_base.specs.declared.who.Who.{Who};
 ghost use Rattle.codec_model.specs.declared.entry.Entry.TheVariants as entry;
+ghost use Rattle.codec_model.specs.declared.entry.Handed.TheVariants as handed;
 ghost use Rattle.codec_model.specs.Replay.{entry_of, removal_entry, opening_state};
 ghost use Rattle.codec_model.specs.Shown.{shown_of};
-ghost use Rattle.codec_follow.specs.Followed.{follower_of, Follows};
+ghost use Rattle.codec_follow.specs.Followed.{follower_of, Follows, refused_of};
 
 use crate::ends::{ended_as, known_after_item, known_after_removal, nothing_known};
 use crate::known::Known;
-use codec_model::{Answer, Call, Entry, Opening, Outcome, Removal, Showing, Shown};
+use codec_model::{
+    Answer, Call, Entry, Handed, HeldSound, Opening, Outcome, Removal, Showing, Shown,
+};
 use codec_queues::Machine;
 use std::alloc::Global;
 use std::marker::Model;
-use wc_base::NoMemory;
+use wc_base::{NoMemory, Samples};
+
+// The same samples again, over the same shared bytes.
+fn copy_sound(sound: &HeldSound) -> Result<HeldSound, NoMemory>
+    ensures { IfOk result (λ s. s ≡ sound.now) }
+{
+    Ok(HeldSound {
+        samples: Samples {
+            shape: sound.samples.shape,
+            bytes: sound.samples.bytes.clone()?,
+        },
+        pair: sound.pair,
+    })
+}
 
 /// A codec whose history is told entry by entry, and is followed: each end of an item is taken as it stands, and each
 /// output is blank. A contract sees it as what it keeps of the state of the codec's definition.
@@ -61,9 +77,11 @@ impl Follower {
         match entry {
             Entry::Configure { who: _, config } => self.call(Call::Configure(config.copy()?)),
             Entry::Decode { who: _, chunk } => self.call(Call::Decode(chunk.copy()?)),
+            Entry::Encode { who: _, handed } => self.encode(handed),
             Entry::Flush { who: _ } => self.call(Call::Flush),
             Entry::Reset { who: _ } => self.remove(Removal::Reset),
             Entry::Close { who: _ } => self.remove(Removal::Close),
+            Entry::Take { who: _, unit } => self.take(*unit),
             Entry::Start { epoch, item } => self.start(*epoch, *item),
             Entry::Done {
                 epoch,
@@ -86,6 +104,63 @@ impl Follower {
         let answer = self.machine.call(call)?;
         let shown = answer.showing.into_shown(self.alloc)?;
         Ok(Some(shown))
+    }
+
+    // An encode. What became of its data tells whether it was refused.
+    fn encode(&mut self, handed: &Handed) -> Result<Option<Shown>, NoMemory>
+        requires { self.old.control.place + 1 < 2 ^ 64 }
+        ensures follows { IfOk result
+            (λ shown. (who : Who) → Follows (entry.Encode who handed.now) self.old shown self.new) }
+        ensures same { IfOk result (λ shown. IfNone shown (self.new ≡ self.old)) }
+    {
+        match handed {
+            Handed::Gone => self.refuse_encode(true),
+            Handed::Kept => self.refuse_encode(false),
+            Handed::Cloned(sound) => self.encode_clone(copy_sound(sound)?),
+        }
+    }
+
+    // An encode that was refused, of detached data or not.
+    fn refuse_encode(&mut self, detached: bool) -> Result<Option<Shown>, NoMemory>
+        requires { self.old.control.place + 1 < 2 ^ 64 }
+        ensures follows { IfOk result (λ shown. (who : Who)
+            → Follows (entry.Encode who (refused_of detached)) self.old shown self.new) }
+        ensures same { IfOk result (λ shown. IfNone shown (self.new ≡ self.old)) }
+    {
+        let Some(answer) = self.machine.refuse_encode(detached) else {
+            return Ok(None);
+        };
+        self.show(answer)
+    }
+
+    // An encode of which the codec made a clone.
+    fn encode_clone(&mut self, sound: HeldSound) -> Result<Option<Shown>, NoMemory>
+        requires { self.old.control.place + 1 < 2 ^ 64 }
+        ensures follows { IfOk result (λ shown. (who : Who)
+            → Follows (entry.Encode who (handed.Cloned sound)) self.old shown self.new) }
+        ensures same { IfOk result (λ shown. IfNone shown (self.new ≡ self.old)) }
+    {
+        if self.machine.encode_error(false).is_some() {
+            return Ok(None);
+        }
+        let answer = self.machine.encode(sound)?;
+        self.show(answer)
+    }
+
+    // A take of the output with this number.
+    fn take(&mut self, unit: u64) -> Result<Option<Shown>, NoMemory>
+        requires { self.old.control.place + 1 < 2 ^ 64 }
+        ensures follows { IfOk result
+            (λ shown. (who : Who) → Follows (entry.Take who unit) self.old shown self.new) }
+        ensures same { IfOk result (λ shown. IfNone shown (self.new ≡ self.old)) }
+    {
+        if unit != self.machine.taken() {
+            return Ok(None);
+        }
+        let Some(_) = self.machine.take() else {
+            return Ok(None);
+        };
+        Ok(Some(Showing::Nothing.into_shown(self.alloc)?))
     }
 
     // A reset or close, refused or made.
@@ -143,7 +218,8 @@ impl Follower {
         let Some(ended) = ended_as(self.alloc, running.kind, known, outcome)? else {
             return Ok(None);
         };
-        self.machine.done(ended, moment);
+        // Blanks carry no config.
+        self.machine.done(ended, moment, None);
         Ok(Some(Showing::Nothing.into_shown(self.alloc)?))
     }
 

@@ -1,6 +1,5 @@
 -- Numbers in rising order, as some come and go.
-use Rattle.std.proofs.Common.{ℕ, ◌≡◌, ◌+◌, ◌≤◌, ◌<◌, not, Bool, true, false, eqb, eq-eqb, cond, List, [], ◌∷◌, ◌++◌, filter, drop, Option, Some, None, refl, ap, sym, ◌∙◌, arith}
-use Rattle.std.proofs.lemmas.Bool.{eqb-true}
+use Rattle.std.proofs.Common.{ℕ, ◌≡◌, ◌+◌, ◌≤◌, ◌<◌, not, Bool, true, false, eqb, eq-eqb, cond, List, [], ◌∷◌, ◌++◌, filter, refl, ap, arith}
 use Rattle.std.proofs.lemmas.Bool.Decides.{nat_tests}
 use Rattle.codec_queues.specs.Rising.{RisesFrom, IsRising}
 

@@ -1,5 +1,5 @@
 -- The places that a control state needs.
-use Rattle.std.proofs.Common.{ℕ, ◌+◌, ◌*◌, ◌≤◌, List, [], ◌∷◌, length, sum_by, filter, ◌≡◌, ◌++◌, append_assoc, append-nil, length-append, count_by, sym, ap, refl, ◌∙◌, arith}
+use Rattle.std.proofs.Common.{ℕ, ◌+◌, ◌*◌, ◌≤◌, List, [], ◌∷◌, length, sum_by, filter, ◌≡◌, ◌++◌, length-append, count_by, refl, arith}
 use Rattle.std.proofs.lemmas.List.Sums.{sum_by-cons, sum_by-append, count_by-le-length}
 use Rattle.std.specs.Prelude.{Option, Some, None, IfSome, true, false, Bool, not, ◌==◌, ◌&&◌, if◌then◌else◌, cond}
 use Rattle.codec_model.specs.declared.entry.Work.{Work}
@@ -14,7 +14,7 @@ use Rattle.codec_model.specs.declared.entry.Ended.{Ended}
 use Rattle.codec_model.specs.declared.entry.Ended.TheVariants as ended
 use Rattle.codec_definitions.specs.declared.unit.Unit as media
 use Rattle.wc_base.specs.declared.error.DomError.TheVariants as dom
-use Rattle.codec_model.specs.Control.{is_coded, task_weight, running_weight, coded_running, is_dequeue, is_desaturate, refusal_of, with_desaturate, with_output, with_ran, with_end}
+use Rattle.codec_model.specs.Control.{Control, is_coded, coded_out, task_weight, running_weight, coded_running, is_dequeue, is_desaturate, refusal_of, with_desaturate, with_output, with_ran, with_end}
 
 weighs : (t : Task) → 1 ≤ task_weight t
 weighs task.Unblock = omega arith
@@ -136,3 +136,48 @@ end_weighs r (ended.Ran units) saturated ts = ran_weighs r.kind r units saturate
 end_weighs r ended.Refused saturated ts = omega (arith, heavier ts (task.Close (refusal_of r.kind)))
 end_weighs r (ended.NoSlot entry) saturated ts = omega (arith, heavier ts (task.Close dom.QuotaExceeded))
 end_weighs r ended.NoMemory saturated ts = omega (arith, heavier ts (task.Close dom.OutOfMemory))
+
+-- no more coded items are queued or running than items
+coded_ran : (e : ℕ) (r : Option Running) → coded_running e r ≤ 1
+coded_ran e None = omega arith
+coded_ran e (Some r) = by_kind r.kind refl
+  where
+    at_most : (b : Bool) → cond b 1 0 ≤ 1
+    at_most true = omega arith
+    at_most false = omega arith
+
+    by_kind : (k : WorkKind) → r.kind ≡ k → coded_running e (Some r) ≤ 1
+    by_kind kind.Configure is = rw is (omega arith)
+    by_kind kind.Coded is = rw is (at_most (r.epoch == e))
+    by_kind kind.Flush is = rw is (omega arith)
+
+pub coded_fits : (s : Control) → coded_out s ≤ length s.work + 1
+coded_fits s = omega (arith, count_by-le-length (λ i. is_coded i.work) s.work, coded_ran s.epoch s.running)
+
+-- an item of an earlier epoch is not among them
+pub late_runs : (e : ℕ) (r : Running) (o : Option Running) → o ≡ Some r → (r.epoch == e) ≡ false → coded_running e o ≡ 0
+late_runs e r o is late = rw is (by_kind r.kind refl)
+  where
+    by_kind : (k : WorkKind) → r.kind ≡ k → coded_running e (Some r) ≡ 0
+    by_kind kind.Configure at = rw at refl
+    by_kind kind.Coded at = rw (at, late) refl
+    by_kind kind.Flush at = rw at refl
+
+-- a message that is processed becomes an item, and queues a task of weight 1 at most
+pub taken_left : (ms rest : List Message) (m : Message) (is more : List Item) (i : Item) (r : Option Running) (ts later : List Task) → ms ≡ m ∷ rest → more ≡ is ++ i ∷ [] → sum_by task_weight later ≤ sum_by task_weight ts + 1 → 7 * length rest + 4 * length more + running_weight r + sum_by task_weight later ≤ 7 * length ms + 4 * length is + running_weight r + sum_by task_weight ts
+taken_left ms rest m is more i r ts later front back few = rw (front, back) (omega (arith, few, length-append is (i ∷ [])))
+
+pub dequeue_weighs : (scheduled : Bool) (ts later : List Task) → later ≡ (if true && not scheduled then ts ++ task.Dequeue ∷ [] else ts) → sum_by task_weight later ≤ sum_by task_weight ts + 1
+dequeue_weighs true ts later is = rw is (omega arith)
+dequeue_weighs false ts later is = rw is (omega (arith, heavier ts task.Dequeue))
+
+-- the counts of coded messages and items as one is processed
+pub sizes_down : (size : ℕ) (ms rest : List Message) (m : Message) → ms ≡ m ∷ rest → size ≡ count_by (λ x. is_coded x.work) ms → size ≡ count_by (λ x. is_coded x.work) rest + cond (is_coded m.work) 1 0
+sizes_down size ms rest m front h =
+    let coded : Message → ℕ = λ x. cond (is_coded x.work) 1 0 in
+    omega (arith, rw front at h, sum_by-cons coded m rest)
+
+pub coded_more : (is more : List Item) (i : Item) → more ≡ is ++ i ∷ [] → count_by (λ x. is_coded x.work) more ≡ count_by (λ x. is_coded x.work) is + cond (is_coded i.work) 1 0
+coded_more is more i back =
+    let coded : Item → ℕ = λ x. cond (is_coded x.work) 1 0 in
+    rw back (omega (arith, sum_by-append coded is (i ∷ []), sum_by-cons coded i []))

@@ -1,5 +1,5 @@
 -- What the kept queues mean, and the places that they have.
-use Rattle.std.specs.Prelude.{◌≡◌, count_by, ◌+◌, ◌*◌, ◌≤◌, ◌<◌, ◌^◌, length, None, IfSome}
+use Rattle.std.specs.Prelude.{◌≡◌, count_by, ◌+◌, ◌*◌, ◌≤◌, ◌<◌, ◌^◌, length, IfSome}
 use Rattle.std.specs.VecDeque.{deque_capacity}
 use Rattle.codec_model.specs.Control.{Control, is_coded, coded_out, left}
 use Rattle.codec_queues.specs.Rising.{IsRising}
@@ -24,8 +24,8 @@ control_of m = record {
   tasks = m.tasks.items;
   scheduled = m.scheduled;
   shown = m.shown;
-  taken = 0;
-  active = None;
+  taken = m.taken;
+  active = m.active;
   progress = m.progress;
 }
 
@@ -43,3 +43,4 @@ pub record IsRoomy (m : Inside) : Type 0 where
   pub coded : m.coded ≡ coded_out (control_of m)
   pub promises : IsRising m.pending.items m.place
   pub outputs : m.shown ≤ 2 ^ 64 * m.place
+  pub takes : m.taken ≤ m.place

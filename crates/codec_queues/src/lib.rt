@@ -2,6 +2,7 @@
 //! items, event tasks, promises and outputs, with no coder.
 #![tactic(auto)]
 
+mod labels;
 mod machine;
 mod queues;
 

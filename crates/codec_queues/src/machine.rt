@@ -1,16 +1,18 @@
 // The queues of a codec.
-ghost use Rattle.std.specs.Prelude.{◌≡◌, ◌<◌, ◌≤◌, ◌^◌, ◌+◌, true, false, IsTrue, IsSome, OnOk, OnErr, OnSome, IfOk, IfNone, IfSome, None, option_map};
-ghost use Rattle.codec_model.specs.Replay.{call_error, after_call, removal_error, accepted};
-ghost use Rattle.codec_model.specs.Control.{at_next_place, after_configure, after_decode, after_flush, takes_front, process_front, process, start_item, after_start, after_done, after_turn, turn_closes, after_reset, after_close, after_removal, may_reclaim, opening_control, left};
-ghost use Rattle.codec_model.specs.Shown.{IsAnswer, exception_of as the_exception, call_shows, removal_shows, reclaim_shows, turn_shows, turn_word, closes};
+ghost use Rattle.std.specs.Prelude.{◌≡◌, ◌<◌, ◌≤◌, ◌^◌, ◌+◌, [], true, false, IsTrue, IsSome, is_some, OnOk, OnErr, OnSome, IfOk, IfNone, IfSome, None, option_map};
+ghost use Rattle.codec_model.specs.Replay.{call_error, after_call, removal_error, accepted, encode_error};
+ghost use Rattle.codec_model.specs.Control.{at_next_place, after_configure, after_decode, after_flush, after_encode, after_take, may_take, takes_front, process_front, process, start_item, after_start, after_done, after_turn, turn_closes, after_reset, after_close, after_removal, may_reclaim, opening_control, left};
+ghost use Rattle.codec_model.specs.Shown.{IsAnswer, exception_of as the_exception, refusal, call_shows, removal_shows, reclaim_shows, turn_shows, turn_word, closes};
+ghost use Rattle.codec_queues.specs.Labels.{label_of};
 
+use crate::labels::{Queued, carry};
 use crate::queues::{
     close_answer, codes_work, decodes, halts, is_key_chunk, keep_dequeues, kind_of_work, later,
     queue_end, remove_promise, reserve_places, room_for, schedule_dequeue, turn_answer,
 };
 use codec_model::{
-    Answer, Call, CodecState, Ended, Item, Message, Opening, Removal, Running, Showing, Task, Work,
-    WorkKind, exception_of,
+    Answer, Call, CodecState, Coded, Ended, HeldSound, Item, Message, Opening, Removal, Running,
+    Showing, Task, Work, WorkKind, exception_of,
 };
 use std::alloc::Global;
 use std::collections::VecDeque;
@@ -18,7 +20,7 @@ use std::marker::Model;
 use std::mem;
 use wc_base::{DomError, List, NoMemory};
 use wc_chunk::Chunk;
-use wc_config::Config;
+use wc_config::{AudioDecoderConfig, Config};
 
 // How long a codec counts as active after its last item ended, in microseconds.
 const ACTIVITY: u64 = 10_000_000;
@@ -44,10 +46,13 @@ pub struct Machine {
     running: Option<Running>,
     // The coded items of this epoch that are queued or running.
     coded: usize,
-    tasks: VecDeque<Task>,
+    tasks: VecDeque<Queued>,
     scheduled: bool,
     // A task shows fewer outputs than 2^64, and there are fewer entries than that.
     shown: u128,
+    taken: u64,
+    // The decoder config of the last encoded output that was shown.
+    active: Option<AudioDecoderConfig>,
     progress: Option<u64>,
     // At most so many starts, ends and turns are left.
     room: usize,
@@ -90,6 +95,8 @@ impl Machine {
             tasks,
             scheduled: false,
             shown: 0,
+            taken: 0,
+            active: None,
             progress: None,
             room: 0,
         })
@@ -151,6 +158,13 @@ impl Machine {
         self.progress
     }
 
+    /// How many outputs were taken, which is the number of the next one.
+    pub fn taken(&self) -> u64
+        ensures { result ≡ self.now.taken }
+    {
+        self.taken
+    }
+
     /// The item that a start would take: the front one, where none is at work and the codec is not halted.
     pub fn start_item(&self) -> Option<&Item>
         ensures { option_map (λ i. i.now) result ≡ start_item self.now }
@@ -201,6 +215,21 @@ impl Machine {
                 CodecState::Unconfigured => Some(DomError::InvalidState),
                 CodecState::Closed => Some(DomError::InvalidState),
             },
+        }
+    }
+
+    /// The error with which an encode is refused: `TypeErr` of detached data, and else `InvalidState` where the codec is not
+    /// configured.
+    pub fn encode_error(&self, detached: bool) -> Option<DomError>
+        ensures { result ≡ encode_error detached self.now }
+    {
+        if detached {
+            return Some(DomError::TypeErr);
+        }
+        match self.phase {
+            CodecState::Configured => None,
+            CodecState::Unconfigured => Some(DomError::InvalidState),
+            CodecState::Closed => Some(DomError::InvalidState),
         }
     }
 
@@ -325,7 +354,7 @@ impl Machine {
         self.size += 1;
         self.messages.push_back_reserved(Message {
             place,
-            work: Work::Coded(chunk),
+            work: Work::Coded(Coded::Chunk(chunk)),
         });
         self.process();
         Ok(())
@@ -358,6 +387,34 @@ impl Machine {
         self.process();
         Ok(())
     }
+
+    /// Queues a message of samples that are encoded, and processes.
+    fn queue_sound(&mut self, sound: HeldSound) -> Result<(), NoMemory>
+        requires { self.old.place + 1 < 2 ^ 64 }
+        ensures ok { OnOk result
+            (self.new ≡ after_encode self.old.place sound (at_next_place self.old)) }
+        ensures left { left self.new ≤ left self.old + 7 }
+        ensures err { OnErr result (self.new ≡ self.old) }
+    {
+        let room = room_for(self.messages.len(), self.work.len(), self.tasks.len())?;
+        reserve_places(
+            &mut self.messages,
+            &mut self.pending,
+            &mut self.work,
+            &mut self.tasks,
+            room,
+        )?;
+        self.room = room;
+        let place = self.place;
+        self.place += 1;
+        self.size += 1;
+        self.messages.push_back_reserved(Message {
+            place,
+            work: Work::Coded(Coded::Sound(sound)),
+        });
+        self.process();
+        Ok(())
+    }
 }
 
 #[tactic(auto, using(crate::proofs::Rising::rising_next))]
@@ -383,6 +440,69 @@ impl Machine {
         ensures left { left self.new ≡ left self.old }
     {
         self.place += 1;
+    }
+
+    /// An encode that is not refused: its message is queued, and messages are processed, with a place for each later step
+    /// that comes of it. Want of memory leaves all as it was.
+    pub fn encode(&mut self, sound: HeldSound) -> Result<Answer, NoMemory>
+        requires place { self.old.place + 1 < 2 ^ 64 }
+        requires configured { encode_error false self.old ≡ None }
+        ensures ok { OnOk result
+            (self.new ≡ after_encode self.old.place sound (at_next_place self.old)) }
+        ensures answer { IfOk result
+            (IsAnswer self.old.place None (record { turn = None; events = [] })) }
+        ensures left { left self.new ≤ left self.old + 7 }
+        ensures err { OnErr result (self.new ≡ self.old) }
+    {
+        let place = self.place;
+        self.queue_sound(sound)?;
+        Ok(Answer {
+            place,
+            exception: None,
+            showing: Showing::Nothing,
+        })
+    }
+
+    /// A refused encode, of data that is detached or is not: it has its entry, and does nothing else. None exactly where it
+    /// is not refused; then nothing has changed.
+    pub fn refuse_encode(&mut self, detached: bool) -> Option<Answer>
+        requires { self.old.place + 1 < 2 ^ 64 }
+        ensures none { IfNone result (encode_error detached self.old ≡ None) }
+        ensures kept { IfNone result (self.new ≡ self.old) }
+        ensures some { OnSome result (IsSome (encode_error detached self.old)) }
+        ensures after { OnSome result (self.new ≡ at_next_place self.old) }
+        ensures answer { IfSome result (IsAnswer self.old.place (encode_error detached self.old)
+            (record { turn = None; events = refusal (encode_error detached self.old) })) }
+        ensures left { left self.new ≡ left self.old }
+    {
+        let error = self.encode_error(detached)?;
+        let place = self.place;
+        self.refuse();
+        Some(Answer {
+            place,
+            exception: Some(error),
+            showing: Showing::Refusal(error),
+        })
+    }
+
+    /// The first output that was shown and not taken yet is taken. The answer is its number; None exactly where there is no
+    /// such output, and then nothing has changed.
+    pub fn take(&mut self) -> Option<u64>
+        requires { self.old.place + 1 < 2 ^ 64 }
+        ensures may { is_some result ≡ may_take self.old.taken self.old }
+        ensures none { IfNone result (self.new ≡ self.old) }
+        ensures unit { IfSome result (λ n. n ≡ self.old.taken) }
+        ensures after { OnSome result (self.new ≡ after_take (at_next_place self.old)) }
+        ensures left { left self.new ≡ left self.old }
+    {
+        let unit = self.taken;
+        if (unit as u128) < self.shown {
+            self.taken += 1;
+            self.place += 1;
+            Some(unit)
+        } else {
+            None
+        }
     }
 
     /// A call, refused or else queued, with a place for each later step that comes of it. Want of memory leaves all as it
@@ -434,10 +554,11 @@ impl Machine {
         Some(item)
     }
 
-    /// The running item ends at a moment in microseconds.
-    pub fn done(&mut self, ended: Ended, moment: u64)
+    /// The running item ends at a moment in microseconds. With it comes a copy of the config that its outputs carry.
+    pub fn done(&mut self, ended: Ended, moment: u64, label: Option<AudioDecoderConfig>)
         requires place { self.old.place + 1 < 2 ^ 64 }
         requires running { IsSome self.old.running }
+        requires label { label ≡ label_of ended }
         ensures after { self.new ≡ after_done ended moment self.old }
         ensures left { left self.new + 1 ≤ left self.old }
     {
@@ -450,7 +571,7 @@ impl Machine {
                 }
                 self.progress = Some(later(self.progress, moment));
                 self.halted = halts(&ended) || self.halted;
-                queue_end(&mut self.tasks, self.saturated, r, ended);
+                queue_end(&mut self.tasks, self.saturated, r, ended, label);
             }
         }
     }
@@ -467,6 +588,7 @@ impl Machine {
         self.blocked = false;
         self.saturated = false;
         self.halted = false;
+        self.active = None;
         self.progress = None;
         self.messages.clear();
         self.work.clear();
@@ -567,13 +689,14 @@ impl Machine {
             })) }
         ensures left { OnSome result (left self.new + 1 ≤ left self.old) }
     {
-        let task = self.tasks.pop_front()?;
+        let (task, label) = self.tasks.pop_front()?.into_parts();
         let (place, outputs) = (self.place, self.shown);
         self.place += 1;
         match task {
             Task::Unblock => {
                 self.blocked = false;
-                self.tasks.push_back_reserved(Task::Process);
+                self.tasks
+                    .push_back_reserved(Queued::new(Task::Process, None));
                 Some(turn_answer(place, Task::Unblock, outputs))
             }
             Task::Process => {
@@ -587,11 +710,13 @@ impl Machine {
             }
             Task::Output(units) => {
                 self.shown += units.len() as u128;
+                let units = carry(&mut self.active, label, units);
                 Some(turn_answer(place, Task::Output(units), outputs))
             }
             Task::Flushed { promise, units } => {
                 remove_promise(&mut self.pending, promise);
                 self.shown += units.len() as u128;
+                let units = carry(&mut self.active, label, units);
                 Some(turn_answer(place, Task::Flushed { promise, units }, outputs))
             }
             Task::Dequeue => {

@@ -5,7 +5,9 @@ ghost use Rattle.codec_model.specs.Control.{is_coded, kind_of, is_decoder, is_de
 ghost use Rattle.codec_model.specs.Control as spec;
 ghost use Rattle.codec_model.specs.Shown.{IsAnswer, word_of_task, task_shows, close_shows, closes};
 ghost use Rattle.codec_queues.specs.Rising.{IsRising};
+ghost use Rattle.codec_queues.specs.Labels.{first_config, label_of};
 
+use crate::labels::Queued;
 use codec_model::{
     Answer, Ended, Item, Kind, Message, Running, Showing, Task, TurnWord, Work, WorkKind,
 };
@@ -13,6 +15,7 @@ use coder_api::Unit;
 use std::collections::VecDeque;
 use wc_base::{DomError, List, NoMemory};
 use wc_chunk::Chunk;
+use wc_config::AudioDecoderConfig;
 
 pub fn codes_work(work: &Work) -> bool
     ensures { result ≡ is_coded work.now }
@@ -70,14 +73,14 @@ pub fn refusal_error(kind: WorkKind) -> DomError
     }
 }
 
-fn is_desaturate_task(task: &Task) -> bool
-    ensures { result ≡ is_desaturate task.now }
+fn is_desaturate_task(queued: &Queued) -> bool
+    ensures { result ≡ is_desaturate queued.now }
 {
-    matches!(task, Task::Desaturate)
+    matches!(queued.task(), Task::Desaturate)
 }
 
 /// How many of the tasks desaturate the codec.
-pub fn desaturates(tasks: &VecDeque<Task>) -> usize
+pub fn desaturates(tasks: &VecDeque<Queued>) -> usize
     ensures { result ≡ count_by is_desaturate tasks.now.items }
 {
     let mut n = 0;
@@ -90,7 +93,7 @@ pub fn desaturates(tasks: &VecDeque<Task>) -> usize
 }
 
 /// Queues a dequeue event where it is wanted and none is scheduled.
-pub fn schedule_dequeue(tasks: &mut VecDeque<Task>, scheduled: &mut bool, wanted: bool)
+pub fn schedule_dequeue(tasks: &mut VecDeque<Queued>, scheduled: &mut bool, wanted: bool)
     requires { deque_len tasks.old < deque_capacity tasks.old }
     ensures items { tasks.new.items
         ≡
@@ -101,17 +104,17 @@ pub fn schedule_dequeue(tasks: &mut VecDeque<Task>, scheduled: &mut bool, wanted
 {
     if wanted && !*scheduled {
         *scheduled = true;
-        tasks.push_back_reserved(Task::Dequeue);
+        tasks.push_back_reserved(Queued::new(Task::Dequeue, None));
     }
 }
 
-fn is_dequeue_task(task: &Task) -> bool
-    ensures { result ≡ is_dequeue task.now }
+fn is_dequeue_task(queued: &Queued) -> bool
+    ensures { result ≡ is_dequeue queued.now }
 {
-    matches!(task, Task::Dequeue)
+    matches!(queued.task(), Task::Dequeue)
 }
 
-pub fn keep_dequeues(tasks: &mut VecDeque<Task>)
+pub fn keep_dequeues(tasks: &mut VecDeque<Queued>)
     ensures items { tasks.new.items ≡ filter is_dequeue tasks.old.items }
     ensures capacity { deque_capacity tasks.new ≡ deque_capacity tasks.old }
 {
@@ -132,58 +135,81 @@ pub fn remove_promise(pending: &mut VecDeque<u64>, promise: u64)
 }
 
 /// The end of an item that ran is queued.
-fn queue_ran(tasks: &mut VecDeque<Task>, saturated: bool, running: Running, units: List<Unit>)
-    requires { deque_len tasks.old + 2 ≤ deque_capacity tasks.old }
+fn queue_ran(
+    tasks: &mut VecDeque<Queued>,
+    saturated: bool,
+    running: Running,
+    units: List<Unit>,
+    label: Option<AudioDecoderConfig>,
+)
+    requires room { deque_len tasks.old + 2 ≤ deque_capacity tasks.old }
+    requires label { label ≡ first_config units }
     ensures items { tasks.new.items ≡ with_ran running units saturated tasks.old.items }
     ensures capacity { deque_capacity tasks.new ≡ deque_capacity tasks.old }
 {
     match running.kind {
         WorkKind::Configure => {
-            tasks.push_back_reserved(Task::Unblock);
+            tasks.push_back_reserved(Queued::new(Task::Unblock, None));
         }
         WorkKind::Coded => {
             queue_desaturate(tasks, saturated);
-            queue_output(tasks, units);
+            queue_output(tasks, units, label);
         }
         WorkKind::Flush => {
             let promise = running.place;
-            tasks.push_back_reserved(Task::Flushed { promise, units });
+            tasks.push_back_reserved(Queued::new(Task::Flushed { promise, units }, label));
         }
     }
 }
 
-fn queue_desaturate(tasks: &mut VecDeque<Task>, saturated: bool)
+fn queue_desaturate(tasks: &mut VecDeque<Queued>, saturated: bool)
     requires { deque_len tasks.old < deque_capacity tasks.old }
     ensures items { tasks.new.items ≡ with_desaturate saturated tasks.old.items }
     ensures len { deque_len tasks.new ≤ deque_len tasks.old + 1 }
     ensures capacity { deque_capacity tasks.new ≡ deque_capacity tasks.old }
 {
     if saturated && desaturates(tasks) == 0 {
-        tasks.push_back_reserved(Task::Desaturate);
+        tasks.push_back_reserved(Queued::new(Task::Desaturate, None));
     }
 }
 
-fn queue_output(tasks: &mut VecDeque<Task>, units: List<Unit>)
-    requires { deque_len tasks.old < deque_capacity tasks.old }
+fn queue_output(tasks: &mut VecDeque<Queued>, units: List<Unit>, label: Option<AudioDecoderConfig>)
+    requires room { deque_len tasks.old < deque_capacity tasks.old }
+    requires label { label ≡ first_config units }
     ensures items { tasks.new.items ≡ with_output units tasks.old.items }
     ensures capacity { deque_capacity tasks.new ≡ deque_capacity tasks.old }
 {
     if !units.is_empty() {
-        tasks.push_back_reserved(Task::Output(units));
+        tasks.push_back_reserved(Queued::new(Task::Output(units), label));
     }
 }
 
-/// The end of an item of this epoch is queued.
-pub fn queue_end(tasks: &mut VecDeque<Task>, saturated: bool, running: Running, ended: Ended)
-    requires { deque_len tasks.old + 2 ≤ deque_capacity tasks.old }
+fn queue_close(tasks: &mut VecDeque<Queued>, error: DomError)
+    requires { deque_len tasks.old < deque_capacity tasks.old }
+    ensures items { tasks.new.items ≡ tasks.old.items ++ Task.Close error ∷ [] }
+    ensures capacity { deque_capacity tasks.new ≡ deque_capacity tasks.old }
+{
+    tasks.push_back_reserved(Queued::new(Task::Close(error), None));
+}
+
+/// The end of an item of this epoch is queued, with a copy of the config that its outputs carry.
+pub fn queue_end(
+    tasks: &mut VecDeque<Queued>,
+    saturated: bool,
+    running: Running,
+    ended: Ended,
+    label: Option<AudioDecoderConfig>,
+)
+    requires room { deque_len tasks.old + 2 ≤ deque_capacity tasks.old }
+    requires label { label ≡ label_of ended }
     ensures items { tasks.new.items ≡ with_end running ended saturated tasks.old.items }
     ensures capacity { deque_capacity tasks.new ≡ deque_capacity tasks.old }
 {
     match ended {
-        Ended::Ran(units) => queue_ran(tasks, saturated, running, units),
-        Ended::Refused => tasks.push_back_reserved(Task::Close(refusal_error(running.kind))),
-        Ended::NoSlot(_) => tasks.push_back_reserved(Task::Close(DomError::QuotaExceeded)),
-        Ended::NoMemory => tasks.push_back_reserved(Task::Close(DomError::OutOfMemory)),
+        Ended::Ran(units) => queue_ran(tasks, saturated, running, units, label),
+        Ended::Refused => queue_close(tasks, refusal_error(running.kind)),
+        Ended::NoSlot(_) => queue_close(tasks, DomError::QuotaExceeded),
+        Ended::NoMemory => queue_close(tasks, DomError::OutOfMemory),
     }
 }
 
@@ -258,7 +284,7 @@ pub fn reserve_places(
     messages: &mut VecDeque<Message>,
     pending: &mut VecDeque<u64>,
     work: &mut VecDeque<Item>,
-    tasks: &mut VecDeque<Task>,
+    tasks: &mut VecDeque<Queued>,
     room: usize,
 ) -> Result<(), NoMemory>
     requires { room + 1 < 2 ^ 62 }

@@ -6,6 +6,8 @@ mod codec_core_tests;
 #[cfg(test)]
 mod codec_drive_tests;
 #[cfg(test)]
+mod codec_encode_tests;
+#[cfg(test)]
 mod codec_follow_tests;
 #[cfg(test)]
 mod codec_queues_tests;

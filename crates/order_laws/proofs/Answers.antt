@@ -1,12 +1,12 @@
--- What steps on media answer is neither a call of a codec nor a look at one.
-use Rattle.std.proofs.Common.{ℕ, ◌≡◌, Bool, true, false, cond, List, [], ◌∷◌, length, Option, Some, None, Result, Ok, Err, refl, subst}
+-- What steps on media answer, to which no output is brought, is neither a call of a codec, nor a look at one, nor a take.
+use Rattle.std.proofs.Common.{ℕ, ◌≡◌, Bool, true, false, cond, List, [], length, Option, Some, None, Result, Ok, Err, refl, subst}
 use Rattle.std.specs.Prelude.{unwrap_or, option_map}
 use Rattle.wc_base.specs.declared.error.DomError.{DomError}
 use Rattle.wc_base.specs.declared.who.Who.{Who}
 use Rattle.wc_chunk.specs.declared.chunk.Chunk.{Chunk}
 use Rattle.wc_chunk.specs.Copied.{copied_count, copied_to}
 use Rattle.wc_pool.specs.declared.entry.PoolEntry.{PoolEntry}
-use Rattle.wc_audio.specs.Sound.{Sound, is_invalid}
+use Rattle.wc_audio.specs.Sound.{is_invalid}
 use Rattle.wc_audio.specs.Copies.{copied_audio, allocation_size}
 use Rattle.wc_video.specs.Frames.{Frame, content_of}
 use Rattle.wc_video.specs.Frames as frames
@@ -25,31 +25,38 @@ use Rattle.script_types.specs.declared.steps.MediaStep.TheVariants as media
 use Rattle.script_types.specs.declared.steps.Step.TheVariants as step
 use Rattle.report_text.specs.declared.result.StepResult.{StepResult}
 use Rattle.report_text.specs.declared.result.StepResult.TheVariants as result
-use Rattle.media_variables.specs.Variables.{Reference, Shape, SoundOf, PictureOf, Medium, Came, medium_at, refused, only_answers, makes, audio_came, frame_came, clone_held, transfer_held, close_held, if_there, zeros, sound_of, frame_of, copy_options, rect_of, layouts_in, audio_copied, frame_copied, planes_copied, chunk_copied, size_found, copy_chunk, copy_sound, copy_frame, size_of_sound, size_of_frame, copy_medium, size_of_medium, copy_came, media_came}
+use Rattle.media_variables.specs.Variables.{Reference, Shape, SoundOf, PictureOf, Medium, Came, medium_at, audio_came, frame_came, clone_held, transfer_held, close_held, if_there, zeros, sound_of, frame_of, copy_options, rect_of, layouts_in, audio_copied, frame_copied, planes_copied, chunk_copied, size_found, copy_chunk, copy_medium, size_of_medium, copy_came, media_came}
 use Rattle.trace_text.specs.Follow.{Recorded}
-use Rattle.trace_text.specs.Fits.{mark_of, IsResultOf, LookShows}
+use Rattle.order_laws.proofs.Grown.{IsFound, brought}
+use Rattle.trace_text.specs.Fits.{mark_of, taken_from, taken_by, IsAnswerOf, LookShows, IsMediaAnswer, IsLocalAnswer}
 
--- neither a call of a codec nor a look at one
+-- neither a call of a codec, nor a look at one, nor a take
 abbrev pub IsOwn : StepResult → Type 0
 IsOwn (result.Call k place error) = ⊥
 IsOwn (result.Look k n end) = ⊥
 IsOwn (result.State k n state size) = ⊥
+IsOwn (result.Unit k place n) = ⊥
+IsOwn (result.NoUnit k n) = ⊥
 IsOwn r = Unit {0}
 
 pub own_mark : (r : StepResult) → IsOwn r → mark_of r ≡ mark.Local
 own_mark (result.Call k place error) own = absurd own
 own_mark (result.Look k n end) own = absurd own
 own_mark (result.State k n state size) own = absurd own
+own_mark (result.Unit k place n) own = absurd own
+own_mark (result.NoUnit k n) own = absurd own
 own_mark (result.Local error) own = refl
 own_mark (result.Copied n bytes) own = refl
 own_mark (result.CopiedFrame n layouts bytes) own = refl
 own_mark (result.Size n) own = refl
 own_mark result.Absent own = refl
 
-pub own_result : (s : ScriptData) (w : Recorded) (r : StepResult) → IsOwn r → IsResultOf s w None r
+pub own_result : (s : ScriptData) (w : Recorded) (r : StepResult) → IsOwn r → IsAnswerOf s w None r
 own_result s w (result.Call k place error) own = absurd own
 own_result s w (result.Look k n end) own = absurd own
 own_result s w (result.State k n state size) own = absurd own
+own_result s w (result.Unit k place n) own = absurd own
+own_result s w (result.NoUnit k n) own = absurd own
 own_result s w (result.Local error) own = tt
 own_result s w (result.Copied n bytes) own = tt
 own_result s w (result.CopiedFrame n layouts bytes) own = tt
@@ -60,11 +67,19 @@ pub own_shows : (s : ScriptData) (w : Recorded) (c : ℕ) (x : MediaStep) (r : S
 own_shows s w c x (result.Call k place error) own = absurd own
 own_shows s w c x (result.Look k n end) own = absurd own
 own_shows s w c x (result.State k n state size) own = absurd own
-own_shows s w c x (result.Local error) own = tt
-own_shows s w c x (result.Copied n bytes) own = tt
-own_shows s w c x (result.CopiedFrame n layouts bytes) own = tt
-own_shows s w c x (result.Size n) own = tt
-own_shows s w c x result.Absent own = tt
+own_shows s w c x (result.Unit k place n) own = absurd own
+own_shows s w c x (result.NoUnit k n) own = absurd own
+own_shows s w c (media.Take on bind kind) r own = tt
+own_shows s w c x r own = tt
+
+-- it names no output, and took none
+pub own_found : (s : ScriptData) (w : Recorded) (r : StepResult) → IsOwn r → IsFound s w r
+own_found s w (result.Unit k place n) own = absurd own
+own_found s w r own = tt
+
+pub own_taken : (s : ScriptData) (w : Recorded) (r : StepResult) → IsOwn r → taken_by s w (Some r) ≡ None
+own_taken s w (result.Unit k place n) own = absurd own
+own_taken s w r own = refl
 
 -- ---- each kind of step
 
@@ -156,7 +171,8 @@ copies_own chunk of (options.Frame o) size vs = there_own (medium_at vs of) vs _
 came_own : (c y : Came) → AnswersOwn c → Some c ≡ Some y → AnswersOwn y
 came_own c y own same = let it : c ≡ y = cc in subst AnswersOwn it own
 
-pub media_own : (pool : List PoolEntry) (who : Who) (chunk : Option Chunk) (x : MediaStep) (vs : List (Option Medium)) (y : Came) → media_came pool who chunk x vs ≡ Some y → IsOwn y.answer
+-- where no output is brought to it
+pub media_own : (pool : List PoolEntry) (who : Who) (chunk : Option Chunk) (x : MediaStep) (vs : List (Option Medium)) (y : Came) → media_came pool who (brought chunk None) x vs ≡ Some y → IsOwn y.answer
 media_own pool who chunk (media.Audio bind init) vs y comes = came_own _ y (audio_own pool who.step init vs) comes
 media_own pool who chunk (media.Frame bind init) vs y comes = came_own _ y (frame_own pool who.step init vs) comes
 media_own pool who chunk (media.Encode on content) vs y comes = absurd cc
@@ -166,3 +182,13 @@ media_own pool who chunk (media.Transfer of bind) vs y comes = came_own _ y (the
 media_own pool who chunk (media.CloseData of) vs y comes = came_own _ y (there_own (medium_at vs of.step) vs _ (λ m. close_own pool who of.step m m.held vs)) comes
 media_own pool who chunk (media.Copy of o size) vs y comes = came_own _ y (copies_own chunk of.step o size vs) comes
 media_own pool who chunk (media.Size of o) vs y comes = came_own _ y (there_own (medium_at vs of.step) vs _ (λ m. medium_size m.shape m.held o)) comes
+
+-- such a step takes no output
+pub takes_none : (pool : List PoolEntry) (who : Who) (chunk : Option Chunk) (x : MediaStep) (vs : List (Option Medium)) (y : Came) → media_came pool who (brought chunk None) x vs ≡ Some y → taken_from (step.Media x) ≡ None
+takes_none pool who chunk (media.Take on bind kind) vs y comes = absurd cc
+takes_none pool who chunk x vs y comes = refl
+
+-- a step on media answers what it comes to
+pub media_answers : (s : ScriptData) (files : List (List Chunk)) (came : Option Came) (c : ℕ) (x : MediaStep) (r : StepResult) → IsMediaAnswer came r → IsLocalAnswer s files came c (step.Media x) r
+media_answers s files came c (media.Take on bind kind) r h = tt
+media_answers s files came c x r h = h

@@ -1,25 +1,32 @@
 -- What is recorded grows: what was there stays, and what it says of the script too.
 use Rattle.std.proofs.Common.{ℕ, ◌≡◌, ◌≤◌, ◌<◌, ◌++◌, List, take, length, Option, Some, None, refl, ap, sym, ◌∙◌, subst, arith}
-use Rattle.std.specs.Prelude.{option_and_then}
+use Rattle.std.specs.Prelude.{slice_get, option_map, option_and_then}
 use Rattle.std.proofs.lemmas.List.{take-append-le}
 use Rattle.std.proofs.lemmas.Option.{slice_get_within}
 use Rattle.wc_base.specs.declared.error.DomError.{DomError}
+use Rattle.wc_base.specs.declared.who.Who.{Who}
 use Rattle.wc_chunk.specs.declared.chunk.Chunk.{Chunk}
+use Rattle.codec_definitions.specs.declared.unit.Unit as media
 use Rattle.codec_model.specs.declared.entry.Entry.{Entry}
+use Rattle.codec_model.specs.declared.entry.Entry.TheVariants as entry
 use Rattle.codec_model.specs.declared.entry.Shown.{Shown}
 use Rattle.codec_model.specs.Replay.{IsLegal}
+use Rattle.history_laws.specs.CountLaws.{outputs_stay}
 use Rattle.codec_accounts.specs.Owed.{at}
 use Rattle.codec_accounts.specs.Codec.{state_after}
+use Rattle.codec_accounts.specs.ListLaws.{get_some, get_kept}
 use Rattle.script_types.specs.declared.script.ScriptData.{ScriptData}
 use Rattle.script_types.specs.declared.steps.Step.{Step}
 use Rattle.script_types.specs.declared.steps.Step.TheVariants as step
+use Rattle.script_types.specs.declared.steps.MediaStep.TheVariants as on_media
 use Rattle.report_text.specs.declared.result.StepResult.{StepResult}
 use Rattle.report_text.specs.declared.result.StepResult.TheVariants as result
 use Rattle.trace_text.specs.Report.{refusal_in}
-use Rattle.trace_text.specs.Follow.{Recorded, opening_at, promise_after}
-use Rattle.trace_text.specs.Fits.{result_in, step_in, called, exception_at, made_steps, came_at, IsResultOf, LookShows, IsLocalAnswer, MarksClimb}
-use Rattle.media_variables.specs.Variables.{Came}
-use Rattle.trace_text.specs.FitsLaws.{look_of, order_by_places}
+use Rattle.trace_text.specs.Follow.{Recorded, opening_at, steps_of, copied_chunk, promise_after, output_at}
+use Rattle.trace_text.specs.Fits.{result_in, entry_in, step_in, called, taken_from, exception_at, made_steps, taken_by, brought_to, came_at, IsAnswerOf, IsResultBy, IsResultOf, LookShows, IsLocalAnswer, MarksClimb}
+use Rattle.media_variables.specs.Variables.{Came, Taken, Brought}
+use Rattle.media_accounts.specs.Accounts.{IsBroughtToo}
+use Rattle.trace_text.specs.FitsLaws.{made_at, look_of, order_by_places}
 use Rattle.order_laws.proofs.Legal.{shown_kept}
 
 -- each codec's history is legal
@@ -35,22 +42,73 @@ pub record Grows (w v : Recorded) : Type 0 where
 abbrev pub SameMedia : ScriptData → List (List Chunk) → Recorded → Recorded → Type 0
 SameMedia s media w v = (c j : ℕ) → j < made_steps w c → came_at s media v c j ≡ came_at s media w c j
 
+-- the output that a result names was shown
+abbrev pub IsFound : ScriptData → Recorded → StepResult → Type 0
+IsFound s w (result.Unit k p n) = (u : media.Unit) × (output_at (opening_at s k) (at k w.codecs) n ≡ Some u)
+IsFound s w _ = Unit {0}
+
 -- A result fits: the script's step that it answers, and what it shows.
 pub record ResultFits (s : ScriptData) (media : List (List Chunk)) (w : Recorded) (c j : ℕ) (r : StepResult) : Type 0 where
   pub step : Step
   pub is_step : step_in s c j ≡ Some step
-  pub made : IsResultOf s w (called step) r
+  pub made : IsResultOf s w (record { caller = c; step = j }) step r
+  pub found : IsFound s w r
   pub shows : LookShows s w c step r
   pub answers : IsLocalAnswer s media (came_at s media w c j) c step r
 
-made_stays : (s : ScriptData) (w v : Recorded) → Legals s w → Grows w v → (o : Option ℕ) (r : StepResult) → ((k p : ℕ) (e : Option DomError) → r ≡ result.Call k p e → p < length (at k w.codecs)) → IsResultOf s w o r → IsResultOf s v o r
-made_stays s w v legal g (Some k) (result.Call other p error) within h =
+answer_stays : (s : ScriptData) (w v : Recorded) → Legals s w → Grows w v → (o : Option ℕ) (r : StepResult) → ((k p : ℕ) (e : Option DomError) → r ≡ result.Call k p e → p < length (at k w.codecs)) → IsAnswerOf s w o r → IsAnswerOf s v o r
+answer_stays s w v legal g (Some k) (result.Call other p error) within h =
     let more = g.more k in
     let here : p < length (at k w.codecs) = (let lt = within other p error refl in let same = ap (λ n. length (at n w.codecs)) h.0 in omega (arith, lt, same)) in
     (h.0, h.1 ∙ sym (ap (λ (l : List Entry). exception_at (opening_at s k) l p) more.1 ∙ ap (λ (o : Option Shown). option_and_then (λ (x : Shown). refusal_in x.events) o) (shown_kept (opening_at s k) (at k w.codecs) more.0 p (legal k) here)))
-made_stays s w v legal g (Some k) result.Absent within h = h
-made_stays s w v legal g None (result.Call other p error) within h = absurd h
-made_stays s w v legal g o r within h = h
+answer_stays s w v legal g (Some k) result.Absent within h = h
+answer_stays s w v legal g None (result.Call other p error) within h = absurd h
+answer_stays s w v legal g None (result.Unit other p n) within h = absurd h
+answer_stays s w v legal g None (result.NoUnit other n) within h = absurd h
+answer_stays s w v legal g o r within h = h
+
+entry_stays : (w v : Recorded) → Grows w v → (k p : ℕ) (e : Entry) → entry_in w k p ≡ Some e → entry_in v k p ≡ Some e
+entry_stays w v g k p e is = let m = g.more k in ap (λ (l : List Entry). slice_get l p) m.1 ∙ get_kept (at k w.codecs) m.0 p e is
+
+made_stays : (s : ScriptData) (w v : Recorded) → Legals s w → Grows w v → (who : Who) (t o : Option ℕ) (r : StepResult) → ((k p : ℕ) (e : Option DomError) → r ≡ result.Call k p e → p < length (at k w.codecs)) → IsResultBy s w who t o r → IsResultBy s v who t o r
+made_stays s w v legal g who None o r within h = answer_stays s w v legal g o r within h
+made_stays s w v legal g who (Some k) o (result.Unit other p n) within h = (h.0, entry_stays w v g k p (entry.Take who n) h.1)
+made_stays s w v legal g who (Some k) o (result.NoUnit other n) within h = h
+made_stays s w v legal g who (Some k) o r within h = absurd h
+
+-- ---- outputs
+
+pub output_stays : (s : ScriptData) (w v : Recorded) → Grows w v → (k n : ℕ) (u : media.Unit) → output_at (opening_at s k) (at k w.codecs) n ≡ Some u → output_at (opening_at s k) (at k v.codecs) n ≡ Some u
+output_stays s w v g k n u is =
+    let m = g.more k in
+    ap (λ (l : List Entry). output_at (opening_at s k) l n) m.1 ∙ outputs_stay (opening_at s k) (at k w.codecs) m.0 n u is
+
+found_stays : (s : ScriptData) (w v : Recorded) → Grows w v → (r : StepResult) → IsFound s w r → IsFound s v r
+found_stays s w v g (result.Unit k p n) found = (found.0, output_stays s w v g k n found.0 found.1)
+found_stays s w v g r found = found
+
+-- this output is taken, by a step that answers so
+abbrev pub taken_as : StepResult → media.Unit → Taken
+taken_as answer u = record { unit = u; answer = answer }
+
+taken_stays : (s : ScriptData) (w v : Recorded) → Grows w v → (r : StepResult) → IsFound s w r → taken_by s v (Some r) ≡ taken_by s w (Some r)
+taken_stays s w v g (result.Unit k p n) found =
+    ap (option_map (taken_as (result.Unit k p n))) (output_stays s w v g k n found.0 found.1 ∙ sym found.1)
+taken_stays s w v g r found = refl
+
+-- this chunk and this output are brought to a step
+abbrev pub brought : Option Chunk → Option Taken → Brought
+brought chunk taken = record { chunk = chunk; taken = taken }
+
+-- what is brought to a step that was made is the same when what is recorded grows
+pub brought_stays : (s : ScriptData) (media : List (List Chunk)) (w v : Recorded) → Grows w v → ((c j : ℕ) (r : StepResult) → result_in w c j ≡ Some r → IsFound s w r) → IsBroughtToo (made_steps w) (brought_to s media w) (brought_to s media v)
+brought_stays s media w v g found c j x lt =
+    let there = get_some (at c w.callers) j lt in
+    let now : taken_by s v (result_in v c j) ≡ taken_by s v (Some there.0) = ap (taken_by s v) (g.stays c j there.0 there.1) in
+    let was : taken_by s w (result_in w c j) ≡ taken_by s w (Some there.0) = ap (taken_by s w) there.1 in
+    ap (brought (copied_chunk media (steps_of s c) x)) (now ∙ (taken_stays s w v g there.0 (found c j there.0 there.1) ∙ sym was))
+
+-- ---- looks
 
 front_stays : (w v : Recorded) (k n : ℕ) → Grows w v → n ≤ length (at k w.codecs) → take n (at k w.codecs) ≡ take n (at k v.codecs)
 front_stays w v k n g within = let m = g.more k in sym (ap (take n) m.1 ∙ take-append-le n (at k w.codecs) m.0 within)
@@ -63,6 +121,10 @@ shows_stays s w v g c (step.Poll promise) (result.Look k n end) within h =
 shows_stays s w v g c (step.State on) (result.State k n state size) within h =
     let t = front_stays w v k n g (within k n refl) in
     (h.0, h.1 ∙ ap (λ (t : List Entry). (state_after (opening_at s k) t).control.phase) t, h.2 ∙ ap (λ (t : List Entry). (state_after (opening_at s k) t).control.size) t)
+shows_stays s w v g c (step.Media (on_media.Take on bind kind)) (result.NoUnit k n) within h =
+    let t = front_stays w v k n g (within k n refl) in
+    let o = opening_at s k in
+    (h.0, ap (λ (l : List Entry). output_at o l (state_after o l).control.taken) (sym t) ∙ h.1)
 shows_stays s w v g c (step.Configure on config) result.Absent within h = h
 shows_stays s w v g c (step.Chunk bind source) result.Absent within h = h
 shows_stays s w v g c (step.Decode on chunk) result.Absent within h = h
@@ -79,7 +141,8 @@ result_stays s media w v legal climbs g same c j r is fits =
     record {
       step = fits.step;
       is_step = fits.is_step;
-      made = made_stays s w v legal g (called fits.step) r (λ k p e call. order.stands c j k p e (is ∙ ap (λ x. Some x) call)) fits.made;
+      made = made_stays s w v legal g (record { caller = c; step = j }) (taken_from fits.step) (called fits.step) r (λ k p e call. order.stands c j k p r is (ap made_at call)) fits.made;
+      found = found_stays s w v g r fits.found;
       shows = shows_stays s w v g c fits.step r (λ k n l. order.within c j k n r is l) fits.shows;
       answers = subst (λ (o : Option Came). IsLocalAnswer s media o c fits.step r) (sym (same c j (slice_get_within (at c w.callers) j r is))) fits.answers;
     }

@@ -2,13 +2,13 @@
 use Rattle.std.proofs.Common.{ℕ, zero, suc, ◌≡◌, ◌≤◌, ◌<◌, ◌⊎◌, inl, inr, Bool, true, false, cond, List, [], ◌∷◌, take, length, Option, Some, None, is_some, refl, ap, sym, subst, ◌∙◌, arith}
 use Rattle.std.proofs.Math.Seq.{take-length}
 use Rattle.std.specs.Prelude.{slice_get, option_map, option_and_then, unwrap_or, ◌==◌}
-use Rattle.std.proofs.lemmas.Option.{slice_get_past}
+use Rattle.std.proofs.lemmas.Option.{slice_get_past, slice_get_within}
 use Rattle.wc_base.specs.declared.error.DomError.{DomError}
 use Rattle.wc_base.specs.declared.error.DomError.TheVariants as dom
 use Rattle.wc_base.specs.declared.who.Who.{Who}
 use Rattle.wc_config.specs.declared.codec.CoderId.{CoderId}
 use Rattle.wc_chunk.specs.declared.chunk.Chunk.{Chunk}
-use Rattle.codec_definitions.specs.declared.unit.Unit as media
+use Rattle.codec_definitions.specs.declared.unit.Unit as output
 use Rattle.wc_config.specs.declared.kind.Kind.TheVariants as kind
 use Rattle.codec_model.specs.declared.entry.Opening.{Opening}
 use Rattle.codec_model.specs.declared.entry.Call.{Call}
@@ -19,10 +19,11 @@ use Rattle.codec_model.specs.declared.entry.Item.{Item}
 use Rattle.codec_model.specs.declared.entry.Running.{Running}
 use Rattle.codec_model.specs.declared.entry.Task.{Task}
 use Rattle.codec_model.specs.Control.{start_item, may_reclaim}
+use Rattle.history_laws.specs.CountLaws.{shown_counted}
 use Rattle.codec_model.specs.Replay.{State, step as entry_step, entry_of, call_error, removal_error, answer_to}
-use Rattle.codec_model.specs.Shown.{refusal, rejection, rejections, removal_shows, shows, exception_of}
+use Rattle.codec_model.specs.Shown.{refusal, rejection, rejections, removal_shows, shows, shown, outputs_of, exception_of}
 use Rattle.codec_accounts.specs.Owed.{at}
-use Rattle.codec_accounts.specs.ListLaws.{get_some, result_kept}
+use Rattle.codec_accounts.specs.ListLaws.{get_some, result_kept, result_new}
 use Rattle.codec_accounts.specs.Calls.{who_of, reach, call_in}
 use Rattle.codec_accounts.specs.Calls as mark
 use Rattle.codec_accounts.specs.CallsLaws.{MayClimb}
@@ -40,14 +41,17 @@ use Rattle.script_types.specs.declared.steps.Variable.{Variable}
 use Rattle.report_text.specs.declared.result.StepResult.{StepResult}
 use Rattle.report_text.specs.declared.result.StepResult.TheVariants as result
 use Rattle.trace_text.specs.Report.{refusal_in}
-use Rattle.trace_text.specs.Follow.{Recorded, Course, record_of, opening_in, opening_at, promise_after, steps_in, steps_of, chunk_at, source_error, with_result, Answer, media_move, copied_chunk, outcome_for, end_of, turn_on, item_entry, advance, decode_move, look_of_flush, look_of_state, step_move, next_move, item_move}
+use Rattle.trace_text.specs.Follow.{Recorded, Course, record_of, opening_in, opening_at, promise_after, steps_in, steps_of, chunk_at, source_error, output_at, with_result, Answer, handle_move, take_move, media_move, copied_chunk, outcome_for, end_of, turn_on, item_entry, advance, decode_move, look_of_flush, look_of_state, step_move, next_move, item_move}
 use Rattle.script_types.specs.declared.steps.MediaStep.{MediaStep}
-use Rattle.media_variables.specs.Variables.{Came, media_came, variables_of}
-use Rattle.media_accounts.specs.Accounts.{media_of}
-use Rattle.trace_text.specs.Fits.{chunks_of, came_at, result_in, step_in, called, mark_of, IsResultOf, LookShows, IsLocalAnswer, HasArguments}
+use Rattle.script_types.specs.declared.steps.MediaStep.TheVariants as on_media
+use Rattle.script_types.specs.declared.steps.VariableKind.{VariableKind}
+use Rattle.media_variables.specs.Variables.{Came, Taken, media_came, taken_came, variables_of}
+use Rattle.media_accounts.specs.Accounts.{media_of, IsQuiet}
+use Rattle.trace_text.specs.Fits.{taken_by, brought_to, came_at, result_in, step_in, called, mark_of, IsResultOf, LookShows, IsLocalAnswer, HasArguments}
 use Rattle.order_laws.specs.Sound.{IsSound, promise_of, IsFlush}
-use Rattle.order_laws.proofs.Legal.{Steps, MayBeRefused, call_legal, start_legal, done_legal, turn_legal, reclaim_legal}
-use Rattle.order_laws.proofs.Moves.{Stands, next_who, AnswerFits, AskFits, MoveFits}
+use Rattle.order_laws.proofs.Grown.{IsFound, taken_as, brought}
+use Rattle.order_laws.proofs.Legal.{Steps, MayBeRefused, call_legal, take_legal, start_legal, done_legal, turn_legal, reclaim_legal}
+use Rattle.order_laws.proofs.Moves.{Stands, next_who, next_place, take_result, AnswerFits, AskFits, MoveFits, none_quiet}
 
 steps_within : (cs : List CallerItem) (c j : ℕ) (x : Step) → slice_get (steps_in cs c) j ≡ Some x → c < length cs
 steps_within [] c j x h = absurd cc
@@ -118,15 +122,22 @@ record Apart (v : Course) (r : StepResult) : Type 0 where
   climbs : (k : ℕ) → MayClimb (reach k (mark_of r)) (length (at k (histories v.codecs))) (length (at k (histories v.codecs)))
   no_call : (k : ℕ) (who : Who) → call_in k who (mark_of r) ≡ []
 
-answer_fits : (s : ScriptData) (media : List (List Chunk)) (made : List CoderId) (v : Course) (c : ℕ) (x : Step) (r : StepResult) → Stands s media made v → IsNext s v c x → Apart v r → IsResultOf s (record_of (with_result c r v)) (called x) r
-    → LookShows s (record_of (with_result c r v)) c x r → ((o : Option Came) → IsLocalAnswer s media o c x r) → media_of x ≡ None → AnswerFits s media v c r
-answer_fits s media made v c x r st is apart made_of looks answers other = record {
+answer_fits : (s : ScriptData) (media : List (List Chunk)) (made : List CoderId) (v : Course) (c : ℕ) (x : Step) (r : StepResult) → Stands s media made v → IsNext s v c x → Apart v r → IsResultOf s (record_of (with_result c r v)) (next_who v c) x r → IsFound s (record_of (with_result c r v)) r
+    → LookShows s (record_of (with_result c r v)) c x r → ((o : Option Came) → IsLocalAnswer s media o c x r) → IsQuiet (steps_of s) (brought_to s media (record_of (with_result c r v))) c (length (at c v.callers)) → AnswerFits s media v c r
+answer_fits s media made v c x r st is apart made_of found looks answers quiet = record {
   caller = caller_there s media made v c x st is;
-  fits = record { step = x; is_step = is; made = made_of; shows = looks; answers = answers (came_at s media (record_of (with_result c r v)) c (length (at c v.callers))) };
+  fits = record { step = x; is_step = is; made = made_of; found = found; shows = looks; answers = answers (came_at s media (record_of (with_result c r v)) c (length (at c v.callers))) };
   climbs = apart.climbs;
   no_call = apart.no_call;
-  other = ap (option_and_then media_of) is ∙ other;
+  quiet = quiet;
 }
+
+-- a step that is none on media
+still_fits : (s : ScriptData) (media : List (List Chunk)) (made : List CoderId) (v : Course) (c : ℕ) (x : Step) (r : StepResult) → Stands s media made v → IsNext s v c x → Apart v r → IsResultOf s (record_of (with_result c r v)) (next_who v c) x r → IsFound s (record_of (with_result c r v)) r
+    → LookShows s (record_of (with_result c r v)) c x r → ((o : Option Came) → IsLocalAnswer s media o c x r) → media_of x ≡ None → AnswerFits s media v c r
+still_fits s media made v c x r st is apart made_of found looks answers other =
+    answer_fits s media made v c x r st is apart made_of found looks answers
+    (none_quiet s (brought_to s media (record_of (with_result c r v))) c (length (at c v.callers)) (ap (option_and_then media_of) is ∙ other))
 
 local_apart : (v : Course) (error : Option DomError) → Apart v (result.Local error)
 local_apart v error = record { climbs = λ k. omega arith; no_call = λ k who. refl }
@@ -147,29 +158,31 @@ same_codec a b h = grind arith
 
 decode_fits : (s : ScriptData) (media : List (List Chunk)) (made : List CoderId) (v : Course) (c k : ℕ) (chunk : Variable) (o : Option Chunk) → IsSound s → Stands s media made v → IsNext s v c (step.Decode k chunk) → chunk_at media (steps_of s c) chunk.step ≡ o
     → MoveFits s media v (decode_move (next_who v c) k o (codec_at k v.codecs))
-decode_fits s media made v c k chunk None sound st is none = answer_fits s media made v c (step.Decode k chunk) result.Absent st is (absent_apart v) tt tt (λ o. none) refl
+decode_fits s media made v c k chunk None sound st is none = still_fits s media made v c (step.Decode k chunk) result.Absent st is (absent_apart v) tt tt tt (λ o. none) refl
 decode_fits s media made v c k chunk (Some value) sound st is some =
     ask_fits s media made v c k (step.Decode k chunk) (entry.Decode (next_who v c) value) _ sound st is refl (call_legal (next_who v c) (call.Decode value) (state_of (codec_at k v.codecs))) refl (value, some, refl) (call_shows (next_who v c) (call.Decode value) (state_of (codec_at k v.codecs)))
 
 -- the earlier flush came to a call
-flush_came : (s : ScriptData) (media : List (List Chunk)) (w : Recorded) (o : Option Came) (c : ℕ) (y : Step) (r : StepResult) → IsFlush y → IsResultOf s w (called y) r → IsLocalAnswer s media o c y r → (k : ℕ) × (p : ℕ) × (error : Option DomError) × (r ≡ result.Call k p error)
-flush_came s media w o c (step.Flush on bind) (result.Call k p error) flush made answers = (k, p, error, refl)
-flush_came s media w o c (step.Flush on bind) result.Absent flush made answers = absurd answers
-flush_came s media w o c (step.Flush on bind) (result.Local error) flush made answers = absurd made
-flush_came s media w o c (step.Flush on bind) (result.Look k n end) flush made answers = absurd made
-flush_came s media w o c (step.Flush on bind) (result.Copied n bytes) flush made answers = absurd made
-flush_came s media w o c (step.Flush on bind) (result.CopiedFrame n layouts bytes) flush made answers = absurd made
-flush_came s media w o c (step.Flush on bind) (result.Size n) flush made answers = absurd made
-flush_came s media w o c (step.Flush on bind) (result.State k n state size) flush made answers = absurd made
-flush_came s media w o c (step.Configure on config) r flush made answers = absurd flush
-flush_came s media w o c (step.Chunk bind source) r flush made answers = absurd flush
-flush_came s media w o c (step.Decode on chunk) r flush made answers = absurd flush
-flush_came s media w o c (step.Poll promise) r flush made answers = absurd flush
-flush_came s media w o c (step.Await promise) r flush made answers = absurd flush
-flush_came s media w o c (step.Reset on) r flush made answers = absurd flush
-flush_came s media w o c (step.Close on) r flush made answers = absurd flush
-flush_came s media w o c (step.State on) r flush made answers = absurd flush
-flush_came s media w o c (step.Media x) r flush made answers = absurd flush
+flush_came : (s : ScriptData) (media : List (List Chunk)) (w : Recorded) (who : Who) (o : Option Came) (c : ℕ) (y : Step) (r : StepResult) → IsFlush y → IsResultOf s w who y r → IsLocalAnswer s media o c y r → (k : ℕ) × (p : ℕ) × (error : Option DomError) × (r ≡ result.Call k p error)
+flush_came s media w who o c (step.Flush on bind) (result.Call k p error) flush made answers = (k, p, error, refl)
+flush_came s media w who o c (step.Flush on bind) result.Absent flush made answers = absurd answers
+flush_came s media w who o c (step.Flush on bind) (result.Local error) flush made answers = absurd made
+flush_came s media w who o c (step.Flush on bind) (result.Look k n end) flush made answers = absurd made
+flush_came s media w who o c (step.Flush on bind) (result.Copied n bytes) flush made answers = absurd made
+flush_came s media w who o c (step.Flush on bind) (result.CopiedFrame n layouts bytes) flush made answers = absurd made
+flush_came s media w who o c (step.Flush on bind) (result.Size n) flush made answers = absurd made
+flush_came s media w who o c (step.Flush on bind) (result.State k n state size) flush made answers = absurd made
+flush_came s media w who o c (step.Flush on bind) (result.Unit k p n) flush made answers = absurd made
+flush_came s media w who o c (step.Flush on bind) (result.NoUnit k n) flush made answers = absurd made
+flush_came s media w who o c (step.Configure on config) r flush made answers = absurd flush
+flush_came s media w who o c (step.Chunk bind source) r flush made answers = absurd flush
+flush_came s media w who o c (step.Decode on chunk) r flush made answers = absurd flush
+flush_came s media w who o c (step.Poll promise) r flush made answers = absurd flush
+flush_came s media w who o c (step.Await promise) r flush made answers = absurd flush
+flush_came s media w who o c (step.Reset on) r flush made answers = absurd flush
+flush_came s media w who o c (step.Close on) r flush made answers = absurd flush
+flush_came s media w who o c (step.State on) r flush made answers = absurd flush
+flush_came s media w who o c (step.Media x) r flush made answers = absurd flush
 
 one_step : (a b : Step) → Some a ≡ Some b → a ≡ b
 one_step a b h = cc
@@ -183,7 +196,7 @@ promise_call s media made v c x promise sound st is looks =
     let flush = sound.promised c (length (at c v.callers)) x promise is looks in
     let fits = st.results c promise.step there.0 there.1 in
     let same : fits.step ≡ flush.0 = one_step fits.step flush.0 (sym fits.is_step ∙ flush.1) in
-    let came = flush_came s media (record_of v) (came_at s media (record_of v) c promise.step) c flush.0 there.0 flush.2 (subst (λ (y : Step). IsResultOf s (record_of v) (called y) there.0) same fits.made) (subst (λ (y : Step). IsLocalAnswer s media (came_at s media (record_of v) c promise.step) c y there.0) same fits.answers) in
+    let came = flush_came s media (record_of v) (record { caller = c; step = promise.step }) (came_at s media (record_of v) c promise.step) c flush.0 there.0 flush.2 (subst (λ (y : Step). IsResultOf s (record_of v) (record { caller = c; step = promise.step }) y there.0) same fits.made) (subst (λ (y : Step). IsLocalAnswer s media (came_at s media (record_of v) c promise.step) c y there.0) same fits.answers) in
     (came.0, came.1, came.2, there.1 ∙ ap (λ (q : StepResult). Some q) came.3)
 
 -- a codec that is not there is a new one, in the course and in the script
@@ -236,7 +249,7 @@ poll_fits s media made v c promise sound st is =
     let d = codec_at found.0 v.codecs in
     let r = result.Look found.0 (length d.history) (promise_after d.opening d.history found.1) in
     subst (λ (o : Option StepResult). MoveFits s media v (Answer c (look_of_flush v.codecs o))) (sym found.3)
-    (answer_fits s media made v c (step.Poll promise) r st is (look_apart v found.0 r refl) tt
+    (still_fits s media made v c (step.Poll promise) r st is (look_apart v found.0 r refl) tt tt
     (found.1, found.2, result_kept c c promise.step r (result.Call found.0 found.1 found.2) v.callers found.3, promise_shows s media made v found.0 found.1 st) (λ o. tt) refl)
 
 await_fits : (s : ScriptData) (media : List (List Chunk)) (made : List CoderId) (v : Course) (c : ℕ) (promise : Variable) → IsSound s → Stands s media made v → IsNext s v c (step.Await promise) → MoveFits s media v (Answer c (look_of_flush v.codecs (slice_get (at c v.callers) promise.step)))
@@ -245,25 +258,83 @@ await_fits s media made v c promise sound st is =
     let d = codec_at found.0 v.codecs in
     let r = result.Look found.0 (length d.history) (promise_after d.opening d.history found.1) in
     subst (λ (o : Option StepResult). MoveFits s media v (Answer c (look_of_flush v.codecs o))) (sym found.3)
-    (answer_fits s media made v c (step.Await promise) r st is (look_apart v found.0 r refl) tt
+    (still_fits s media made v c (step.Await promise) r st is (look_apart v found.0 r refl) tt tt
     (found.1, found.2, result_kept c c promise.step r (result.Call found.0 found.1 found.2) v.callers found.3, promise_shows s media made v found.0 found.1 st) (λ o. tt) refl)
 
 state_fits : (s : ScriptData) (media : List (List Chunk)) (made : List CoderId) (v : Course) (c k : ℕ) → Stands s media made v → IsNext s v c (step.State k) → MoveFits s media v (Answer c (look_of_state k (codec_at k v.codecs)))
 state_fits s media made v c k st is =
     let t = state_shows s media made v k st in
-    answer_fits s media made v c (step.State k) (look_of_state k (codec_at k v.codecs)) st is (look_apart v k (look_of_state k (codec_at k v.codecs)) refl) tt
+    still_fits s media made v c (step.State k) (look_of_state k (codec_at k v.codecs)) st is (look_apart v k (look_of_state k (codec_at k v.codecs)) refl) tt tt
     (refl, ap (λ (x : State). x.control.phase) t, ap (λ (x : State). x.control.size) t) (λ o. tt) refl
 
+-- a step on media, to which no output is brought
+handle_fits : (s : ScriptData) (media : List (List Chunk)) (made : List CoderId) (v : Course) (c : ℕ) (x : MediaStep) (o : Option Came) → Stands s media made v → IsNext s v c (step.Media x)
+    → media_came v.media.pool (next_who v c) (brought (copied_chunk media (steps_of s c) x) None) x (variables_of c v.media.variables) ≡ o → MoveFits s media v (handle_move (next_who v c) o)
+handle_fits s media made v c x None st is comes = tt
+handle_fits s media made v c x (Some y) st is comes = record { next = refl; caller = caller_there s media made v c (step.Media x) st is; handled = x; is_step = is; comes = comes }
+
+one_medium : (x y : MediaStep) → Some x ≡ Some y → x ≡ y
+one_medium x y h = cc
+
+-- a take that found nothing comes to nothing of media
+take_quiet : (s : ScriptData) (media : List (List Chunk)) (v : Course) (c k n : ℕ) (bind : List ℕ) (holds : VariableKind) → c < length v.callers → IsNext s v c (step.Media (on_media.Take k bind holds))
+    → IsQuiet (steps_of s) (brought_to s media (record_of (with_result c (result.NoUnit k n) v))) c (length (at c v.callers))
+take_quiet s media v c k n bind holds lt is x pool vs named =
+    let w = record_of (with_result c (result.NoUnit k n) v) in
+    let j = length (at c v.callers) in
+    let same : on_media.Take k bind holds ≡ x = one_medium (on_media.Take k bind holds) x (sym (ap (option_and_then media_of) is) ∙ named) in
+    let none : taken_by s w (result_in w c j) ≡ None = ap (taken_by s w) (result_new c (result.NoUnit k n) v.callers lt) in
+    subst (λ (y : MediaStep). media_came pool (next_who v c) (brought_to s media w c j y) y vs ≡ None) same (ap (λ (o : Option Taken). taken_came pool j o vs) none)
+
+-- what is not taken yet of a codec's outputs, as a look at its whole history sees it
+untaken : (s : ScriptData) (media : List (List Chunk)) (made : List CoderId) (v : Course) (k : ℕ) → Stands s media made v
+    → let d = codec_at k v.codecs in let h = take (length d.history) (at k (histories v.codecs)) in
+    output_at (opening_at s k) h (state_after (opening_at s k) h).control.taken ≡ output_at d.opening d.history (state_of d).control.taken
+untaken s media made v k st =
+    let d = codec_at k v.codecs in
+    ap (λ (l : List Entry). output_at (opening_at s k) l (state_after (opening_at s k) l).control.taken) (all_there v k)
+    ∙ sym (ap (λ (o : Opening). output_at o d.history (state_after o d.history).control.taken) (opens s media made v k st))
+
+take_fits : (s : ScriptData) (media : List (List Chunk)) (made : List CoderId) (v : Course) (c k : ℕ) (bind : List ℕ) (holds : VariableKind) (o : Option output.Unit) → IsSound s → Stands s media made v → IsNext s v c (step.Media (on_media.Take k bind holds))
+    → output_at (codec_at k v.codecs).opening (codec_at k v.codecs).history (state_of (codec_at k v.codecs)).control.taken ≡ o
+    → MoveFits s media v (take_move (next_who v c) k (codec_at k v.codecs) (taken_came v.media.pool (length (at c v.callers)) (option_map (taken_as (take_result v k (state_of (codec_at k v.codecs)).control.taken)) o) (variables_of c v.media.variables)))
+take_fits s media made v c k bind holds None sound st is none =
+    let n = next_place v k in
+    answer_fits s media made v c (step.Media (on_media.Take k bind holds)) (result.NoUnit k n) st is (look_apart v k (result.NoUnit k n) refl) refl tt
+    (refl, untaken s media made v k st ∙ none) (λ o. tt) (take_quiet s media v c k n bind holds (caller_there s media made v c (step.Media (on_media.Take k bind holds)) st is) is)
+take_fits s media made v c k bind holds (Some u) sound st is some =
+    let d = codec_at k v.codecs in
+    let n = (state_of d).control.taken in
+    let counted : (state_of d).control.shown ≡ length (outputs_of (shown d.opening d.history)) = shown_counted d.opening d.history (state_of d) (st.boxes.each k).replays in
+    let below : n < length (outputs_of (shown d.opening d.history)) = slice_get_within (outputs_of (shown d.opening d.history)) n u some in
+    let after = legal_after (entry.Take (next_who v c) n) (state_of d) (take_legal (next_who v c) (state_of d) (omega (arith, counted, below))) in
+    record {
+      next = refl;
+      caller = caller_there s media made v c (step.Media (on_media.Take k bind holds)) st is;
+      codec = (let lt = sound.taken c (length (at c v.callers)) k (step.Media (on_media.Take k bind holds)) is refl in let m = st.count in omega (arith, lt, m));
+      bind = bind;
+      holds = holds;
+      is_step = is;
+      number = n;
+      takes = refl;
+      after = after.0;
+      steps = after.1;
+      unit = u;
+      there = ap (λ (l : List Entry). output_at (opening_at s k) l n) (history_at k v.codecs) ∙ (sym (ap (λ (o : Opening). output_at o d.history n) (opens s media made v k st)) ∙ some);
+      comes = refl;
+    }
+
 -- a step on media
-media_fits : (s : ScriptData) (media : List (List Chunk)) (made : List CoderId) (v : Course) (c : ℕ) (x : MediaStep) (o : Option Came) → Stands s media made v → IsNext s v c (step.Media x)
-    → media_came v.media.pool (next_who v c) (chunks_of s media c x) x (variables_of c v.media.variables) ≡ o → MoveFits s media v (media_move (next_who v c) o)
-media_fits s media made v c x None st is comes = tt
-media_fits s media made v c x (Some y) st is comes = record { next = refl; caller = caller_there s media made v c (step.Media x) st is; handled = x; is_step = is; comes = comes }
+media_fits : (s : ScriptData) (media : List (List Chunk)) (made : List CoderId) (v : Course) (c : ℕ) (x : MediaStep) → IsSound s → Stands s media made v → IsNext s v c (step.Media x) → MoveFits s media v (media_move s media (next_who v c) x v)
+media_fits s media made v c (on_media.Take on bind kind) sound st is =
+    take_fits s media made v c on bind kind (output_at (codec_at on v.codecs).opening (codec_at on v.codecs).history (state_of (codec_at on v.codecs)).control.taken) sound st is refl
+media_fits s media made v c x sound st is =
+    handle_fits s media made v c x (media_came v.media.pool (next_who v c) (brought (copied_chunk media (steps_of s c) x) None) x (variables_of c v.media.variables)) st is refl
 
 step_fits : (s : ScriptData) (media : List (List Chunk)) (made : List CoderId) (v : Course) (c : ℕ) (x : Step) → IsSound s → Stands s media made v → IsNext s v c x → MoveFits s media v (step_move s media (next_who v c) x v)
 step_fits s media made v c (step.Configure on config) sound st is =
     ask_fits s media made v c on (step.Configure on config) (entry.Configure (next_who v c) config) _ sound st is refl (call_legal (next_who v c) (call.Configure config) (state_of (codec_at on v.codecs))) refl refl (call_shows (next_who v c) (call.Configure config) (state_of (codec_at on v.codecs)))
-step_fits s media made v c (step.Chunk bind source) sound st is = answer_fits s media made v c (step.Chunk bind source) (result.Local (source_error source)) st is (local_apart v (source_error source)) tt tt (λ o. refl) refl
+step_fits s media made v c (step.Chunk bind source) sound st is = still_fits s media made v c (step.Chunk bind source) (result.Local (source_error source)) st is (local_apart v (source_error source)) tt tt tt (λ o. refl) refl
 step_fits s media made v c (step.Decode on chunk) sound st is = decode_fits s media made v c on chunk (chunk_at media (steps_of s c) chunk.step) sound st is refl
 step_fits s media made v c (step.Flush on bind) sound st is =
     ask_fits s media made v c on (step.Flush on bind) (entry.Flush (next_who v c)) _ sound st is refl (call_legal (next_who v c) call.Flush (state_of (codec_at on v.codecs))) refl refl (call_shows (next_who v c) call.Flush (state_of (codec_at on v.codecs)))
@@ -276,7 +347,7 @@ step_fits s media made v c (step.Close on) sound st is =
     let t = state_of (codec_at on v.codecs) in
     ask_fits s media made v c on (step.Close on) (entry.Close (next_who v c)) _ sound st is refl refl refl refl (removal_is_shown (removal_error t.control) t.control.pending)
 step_fits s media made v c (step.State on) sound st is = state_fits s media made v c on st is
-step_fits s media made v c (step.Media x) sound st is = media_fits s media made v c x (media_came v.media.pool (next_who v c) (chunks_of s media c x) x (variables_of c v.media.variables)) st is refl
+step_fits s media made v c (step.Media x) sound st is = media_fits s media made v c x sound st is
 
 next_fits : (s : ScriptData) (media : List (List Chunk)) (made : List CoderId) (v : Course) (c : ℕ) (o : Option Step) → IsSound s → Stands s media made v → step_in s c (length (at c v.callers)) ≡ o → MoveFits s media v (next_move s media (next_who v c) o v)
 next_fits s media made v c None sound st is = tt
@@ -290,7 +361,7 @@ record Own (t : State) (refusal : Option ℕ) (e : Entry) : Type 0 where
   nobody : who_of e ≡ None
   fits : EntryFits e refusal
 
-end_says : (wants : Bool) (refusal : Option ℕ) (answer : Option (List media.Unit)) → EndFits refusal (outcome_for wants refusal answer)
+end_says : (wants : Bool) (refusal : Option ℕ) (answer : Option (List output.Unit)) → EndFits refusal (outcome_for wants refusal answer)
 end_says true refusal answer = tt
 end_says false (Some n) answer = refl
 end_says false None None = refl

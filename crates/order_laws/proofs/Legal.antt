@@ -14,6 +14,7 @@ use Rattle.codec_model.specs.declared.entry.Task.{Task}
 use Rattle.codec_model.specs.declared.entry.Task.TheVariants as task
 use Rattle.codec_model.specs.declared.entry.Entry.{Entry}
 use Rattle.codec_model.specs.declared.entry.Entry.TheVariants as entry
+use Rattle.std.proofs.lemmas.Bool.{lt-ltb}
 use Rattle.codec_model.specs.Control.{may_start, front, start_item, may_reclaim}
 use Rattle.codec_model.specs.Replay.{State, step, opening_state, replay, answer_to, entry_of, start_step, done_step, done_ended, ended_of, IsLegal}
 use Rattle.codec_model.specs.Shown.{shown_at, each_shown, each_shown_from}
@@ -52,6 +53,10 @@ pub call_legal : (who : Who) (x : Call) (s : State) → Steps (entry_of who x) s
 call_legal who (call.Configure config) s = refl
 call_legal who (call.Decode chunk) s = refl
 call_legal who call.Flush s = refl
+
+-- a take of the first output that was shown and not taken yet
+pub take_legal : (who : Who) (s : State) → s.control.taken < s.control.shown → Steps (entry.Take who s.control.taken) s
+take_legal who s lt = rw (eq-eqb s.control.taken s.control.taken refl, lt-ltb s.control.taken s.control.shown lt) refl
 
 pub cond_some : {X : Type 0} (b : Bool) (o : Option X) (x : X) → cond b o None ≡ Some x → (b ≡ true) × (o ≡ Some x)
 cond_some true o x h = (refl, h)

@@ -1,12 +1,15 @@
 -- What stands of a course stands after each kind of move.
 use Rattle.std.proofs.Common.{ℕ, zero, suc, ◌≡◌, ◌≢◌, ◌≤◌, ◌<◌, ◌++◌, ◌⊎◌, inl, inr, Bool, true, false, cond, eq-eqb, List, [], ◌∷◌, length, length-append, map, Option, Some, None, refl, ap, sym, subst, ◌∙◌, arith, append-nil}
-use Rattle.std.specs.Prelude.{slice_get, option_and_then, ◌==◌}
+use Rattle.std.specs.Prelude.{slice_get, option_map, option_and_then, ◌==◌}
 use Rattle.std.specs.List.{sum_by}
 use Rattle.std.proofs.lemmas.Bool.{cases_eq}
 use Rattle.wc_base.specs.declared.error.DomError.{DomError}
 use Rattle.wc_base.specs.declared.who.Who.{Who}
 use Rattle.wc_config.specs.declared.codec.CoderId.{CoderId}
 use Rattle.wc_chunk.specs.declared.chunk.Chunk.{Chunk}
+use Rattle.wc_pool.specs.declared.entry.PoolEntry.{PoolEntry}
+use Rattle.codec_definitions.specs.declared.unit.Unit as output
+use Rattle.codec_definitions.specs.declared.unit.Unit.TheVariants as unit
 use Rattle.codec_model.specs.declared.entry.Entry.{Entry}
 use Rattle.codec_model.specs.declared.entry.Entry.TheVariants as entry
 use Rattle.codec_model.specs.declared.entry.Opening.{Opening}
@@ -14,7 +17,7 @@ use Rattle.codec_model.specs.declared.entry.Shown.{Shown}
 use Rattle.codec_model.specs.Replay.{State, step as entry_step, IsLegal}
 use Rattle.codec_model.specs.Shown.{shows}
 use Rattle.codec_accounts.specs.Owed.{at, append_at}
-use Rattle.codec_accounts.specs.ListLaws.{IsNew, append_at_length, at_same, at_other, at_grows, result_kept, result_more, there}
+use Rattle.codec_accounts.specs.ListLaws.{IsNew, append_at_length, at_same, at_other, at_grows, get_end, result_kept, result_new, result_more, there}
 use Rattle.codec_accounts.specs.Calls.{who_of, Mark, reach, named_at, named, call_in, all_calls, Climbs}
 use Rattle.codec_accounts.specs.Calls as mark
 use Rattle.codec_accounts.specs.CallsLaws.{named_more, calls_in_more, climbs_on, climbs_add, MayClimb}
@@ -26,20 +29,23 @@ use Rattle.script_types.specs.declared.steps.Step.TheVariants as step
 use Rattle.report_text.specs.declared.result.StepResult.{StepResult}
 use Rattle.report_text.specs.declared.result.StepResult.TheVariants as result
 use Rattle.trace_text.specs.Report.{refusal_in}
-use Rattle.media_variables.specs.Variables.{Came, media_came, variables_of}
-use Rattle.media_accounts.specs.Accounts.{media_of, OneMore, MediaStand, StepStands, NothingStands, StepsStand, OthersStand}
+use Rattle.media_variables.specs.Variables.{Medium, Media, Came, Taken, Brought, media_came, variables_of}
+use Rattle.media_accounts.specs.Accounts.{media_of, came_in, OneMore, IsQuiet, MediaStand, StepStands, NothingStands, StepsStand, OthersStand, LaterStand, LaterStands}
 use Rattle.script_types.specs.declared.steps.MediaStep.{MediaStep}
-use Rattle.trace_text.specs.Follow.{Recorded, Course, record_of, opening_at, steps_of, with_result, with_entry, Move, Idle, Answer, Advance, Ask, Handle, after_move}
-use Rattle.trace_text.specs.Fits.{result_in, step_in, called, exception_at, mark_of, marks_of, chunks_of, made_steps, came_at, IsResultOf, LookShows, IsLocalAnswer, IsMediaAnswer, HasArguments, ArgumentsAreIn, MarksClimb}
+use Rattle.script_types.specs.declared.steps.MediaStep.TheVariants as on_media
+use Rattle.script_types.specs.declared.steps.VariableKind.{VariableKind}
+use Rattle.trace_text.specs.Follow.{Recorded, Course, record_of, opening_at, steps_of, copied_chunk, output_at, with_result, with_entry, Move, Idle, Answer, Advance, Ask, Handle, Receive, after_move}
+use Rattle.trace_text.specs.Fits.{result_in, entry_in, step_in, called, taken_from, exception_at, mark_of, marks_of, taken_by, brought_to, made_steps, came_at, IsAnswerOf, IsResultBy, LookShows, IsLocalAnswer, IsMediaAnswer, HasArguments, ArgumentsAreIn, MarksClimb}
 use Rattle.order_laws.proofs.Legal.{shown_last}
-use Rattle.order_laws.proofs.Grown.{Legals, Grows, SameMedia, ResultFits, result_stays}
-use Rattle.order_laws.proofs.Answers.{IsOwn, own_mark, own_result, own_shows, media_own}
+use Rattle.order_laws.proofs.Grown.{Legals, Grows, SameMedia, ResultFits, taken_as, brought, output_stays, brought_stays, result_stays}
+use Rattle.order_laws.proofs.Answers.{IsOwn, own_mark, own_result, own_shows, own_found, own_taken, media_own, takes_none, media_answers}
 
 -- the laws of callers' media
 pub record MediaLaws : Type 0 where
   pub nothing : NothingStands
   pub media : StepsStand
   pub others : OthersStand
+  pub later : LaterStand
 
 -- What stands of a course that followed a script's order so far.
 pub record Stands (s : ScriptData) (media : List (List Chunk)) (made : List CoderId) (v : Course) : Type 0 where
@@ -52,7 +58,7 @@ pub record Stands (s : ScriptData) (media : List (List Chunk)) (made : List Code
   pub arguments : ArgumentsAreIn s media (record_of v)
   pub once : (k : ℕ) → mark.CallsAreIn k (at k (histories v.codecs)) (marks_of (record_of v))
   pub climbs : MarksClimb (record_of v)
-  pub stand : MediaStand (steps_of s) (chunks_of s media) (made_steps (record_of v)) (length s.callers) v.media
+  pub stand : MediaStand (steps_of s) (brought_to s media (record_of v)) (made_steps (record_of v)) (length s.callers) v.media
 
 -- a codec's history, as the script opened it
 pub legals : (s : ScriptData) (media : List (List Chunk)) (made : List CoderId) (v : Course) → Stands s media made v → Legals s (record_of v)
@@ -108,7 +114,7 @@ pub record AnswerFits (s : ScriptData) (media : List (List Chunk)) (v : Course) 
   pub fits : ResultFits s media (record_of (with_result c r v)) c (length (at c v.callers)) r
   pub climbs : (k : ℕ) → MayClimb (reach k (mark_of r)) (length (at k (histories v.codecs))) (length (at k (histories v.codecs)))
   pub no_call : (k : ℕ) (who : Who) → call_in k who (mark_of r) ≡ []
-  pub other : option_and_then media_of (step_in s c (length (at c v.callers))) ≡ None
+  pub quiet : IsQuiet (steps_of s) (brought_to s media (record_of (with_result c r v))) c (length (at c v.callers))
 
 -- an entry of no caller
 pub record AdvanceFits (v : Course) (k : ℕ) (e : Entry) : Type 0 where
@@ -137,7 +143,30 @@ pub record HandleFits (s : ScriptData) (media : List (List Chunk)) (v : Course) 
   pub caller : who.caller < length v.callers
   pub handled : MediaStep
   pub is_step : step_in s who.caller (length (at who.caller v.callers)) ≡ Some (step.Media handled)
-  pub comes : media_came v.media.pool (next_who v who.caller) (chunks_of s media who.caller handled) handled (variables_of who.caller v.media.variables) ≡ Some y
+  pub comes : media_came v.media.pool (next_who v who.caller) (brought (copied_chunk media (steps_of s who.caller) handled) None) handled (variables_of who.caller v.media.variables) ≡ Some y
+
+-- the place at which a caller's entry stands, and the result of a take of this output
+abbrev pub next_place : Course → ℕ → ℕ
+next_place v k = length (codec_at k v.codecs).history
+
+abbrev pub take_result : Course → ℕ → ℕ → StepResult
+take_result v k n = result.Unit k (next_place v k) n
+
+-- a take of an output that was shown: the caller's next step, its entry, and what it comes to
+pub record ReceiveFits (s : ScriptData) (media : List (List Chunk)) (v : Course) (who : Who) (k : ℕ) (e : Entry) (y : Came) : Type 0 where
+  pub next : who ≡ next_who v who.caller
+  pub caller : who.caller < length v.callers
+  pub codec : k < length v.codecs
+  pub bind : List ℕ
+  pub holds : VariableKind
+  pub is_step : step_in s who.caller (length (at who.caller v.callers)) ≡ Some (step.Media (on_media.Take k bind holds))
+  pub number : ℕ
+  pub takes : e ≡ entry.Take who number
+  pub after : State
+  pub steps : entry_step e (state_of (codec_at k v.codecs)) ≡ Some after
+  pub unit : output.Unit
+  pub there : output_at (opening_at s k) (at k (histories v.codecs)) number ≡ Some unit
+  pub comes : media_came v.media.pool who (brought None (Some (taken_as (take_result v k number) unit))) (on_media.Take k bind holds) (variables_of who.caller v.media.variables) ≡ Some y
 
 abbrev pub MoveFits : ScriptData → List (List Chunk) → Course → Move → Type 0
 MoveFits s media v Idle = Unit {0}
@@ -145,6 +174,7 @@ MoveFits s media v (Answer c r) = AnswerFits s media v c r
 MoveFits s media v (Advance k e) = AdvanceFits v k e
 MoveFits s media v (Ask c k e error) = AskFits s media v c k e error
 MoveFits s media v (Handle who y) = HandleFits s media v who y
+MoveFits s media v (Receive who k e y) = ReceiveFits s media v who k e y
 
 -- ---- an entry
 
@@ -164,9 +194,11 @@ opened_still s v k e opened j lt = elim (cases_eq j k) [
 call_fits : (e : Entry) (who : Who) (refusal : Option ℕ) → who_of e ≡ Some who → EntryFits e refusal
 call_fits (entry.Configure w config) who refusal names = tt
 call_fits (entry.Decode w chunk) who refusal names = tt
+call_fits (entry.Encode w handed) who refusal names = tt
 call_fits (entry.Flush w) who refusal names = tt
 call_fits (entry.Reset w) who refusal names = tt
 call_fits (entry.Close w) who refusal names = tt
+call_fits (entry.Take w n) who refusal names = tt
 call_fits (entry.Start epoch item) who refusal names = absurd cc
 call_fits (entry.Done epoch item moment o) who refusal names = absurd cc
 call_fits entry.Turn who refusal names = absurd cc
@@ -209,12 +241,12 @@ answer_grows v c r = record {
 advance_grows : (v : Course) (k : ℕ) (e : Entry) → Grows (record_of v) (record_of (with_entry k e v))
 advance_grows v k e = record { stays = λ b j q h. h; more = λ n. longer_history v k n e }
 
--- the place at which a call's entry stands
 abbrev call_result : Course → ℕ → Option DomError → StepResult
-call_result v k error = result.Call k (length (codec_at k v.codecs).history) error
+call_result v k error = result.Call k (next_place v k) error
 
-ask_grows : (v : Course) (c k : ℕ) (e : Entry) (error : Option DomError) → Grows (record_of v) (record_of (after_move (Ask c k e error) v))
-ask_grows v c k e error = record { stays = λ b j q h. result_kept b c j (call_result v k error) q v.callers h; more = λ n. longer_history v k n e }
+-- one entry more, and the result of its caller
+both_grow : (v : Course) (c k : ℕ) (e : Entry) (r : StepResult) → Grows (record_of v) (record_of (with_result c r (with_entry k e v)))
+both_grow v c k e r = record { stays = λ b j q h. result_kept b c j r q v.callers h; more = λ n. longer_history v k n e }
 
 -- the results of a course that goes on by one result
 results_more : (s : ScriptData) (media : List (List Chunk)) (made : List CoderId) (v u : Course) (c : ℕ) (r : StepResult) → Stands s media made v → Grows (record_of v) (record_of u) → SameMedia s media (record_of v) (record_of u) → u.callers ≡ append_at c r v.callers → ResultFits s media (record_of u) c (length (at c v.callers)) r
@@ -266,6 +298,17 @@ one_more v u c r callers lt = record {
     one : (l : List StepResult) → length (l ++ r ∷ []) ≡ suc (length l)
     one l = let n = length-append l (r ∷ []) in omega (arith, n)
 
+-- what is brought to each step that was made is so still
+later_stands : MediaLaws → (s : ScriptData) (media : List (List Chunk)) (made : List CoderId) (v u : Course) → Stands s media made v → Grows (record_of v) (record_of u)
+    → LaterStands (steps_of s) (brought_to s media (record_of v)) (brought_to s media (record_of u)) (made_steps (record_of v)) (length s.callers) v.media
+later_stands laws s media made v u st g =
+    laws.later (steps_of s) (brought_to s media (record_of v)) (brought_to s media (record_of u)) (made_steps (record_of v)) (length s.callers) v.media st.stand
+    (brought_stays s media (record_of v) (record_of u) g (λ c j r is. (st.results c j r is).found))
+
+-- a step that is none on media is quiet
+pub none_quiet : (s : ScriptData) (brought : ℕ → ℕ → MediaStep → Brought) (c j : ℕ) → option_and_then media_of (step_in s c j) ≡ None → IsQuiet (steps_of s) brought c j
+none_quiet s brought c j none x pool vs is = absurd (let bad : None ≡ Some x = sym none ∙ is in cc)
+
 -- a step that calls a codec is none on media
 no_media : (x : Step) (k : ℕ) → called x ≡ Some k → media_of x ≡ None
 no_media (step.Configure on config) k h = refl
@@ -279,53 +322,131 @@ no_media (step.Await promise) k h = refl
 no_media (step.State on) k h = refl
 no_media (step.Media x) k h = absurd cc
 
--- all media stand after a step of a caller that is none on media
-other_stands : MediaLaws → (s : ScriptData) (media : List (List Chunk)) (made : List CoderId) (v u : Course) (c : ℕ) (r : StepResult) → Stands s media made v → u.callers ≡ append_at c r v.callers → c < length v.callers
-    → option_and_then media_of (step_in s c (length (at c v.callers))) ≡ None → MediaStand (steps_of s) (chunks_of s media) (made_steps (record_of u)) (length s.callers) v.media
-other_stands laws s media made v u c r st callers lt other =
-    laws.others (steps_of s) (chunks_of s media) (made_steps (record_of v)) (made_steps (record_of u)) (length s.callers) v.media c st.stand (one_more v u c r callers lt) other
+-- all media stand after a step of a caller that came to nothing of media
+other_stands : MediaLaws → (s : ScriptData) (media : List (List Chunk)) (made : List CoderId) (v u : Course) (c : ℕ) (r : StepResult)
+    → LaterStands (steps_of s) (brought_to s media (record_of v)) (brought_to s media (record_of u)) (made_steps (record_of v)) (length s.callers) v.media → u.callers ≡ append_at c r v.callers → c < length v.callers
+    → IsQuiet (steps_of s) (brought_to s media (record_of u)) c (length (at c v.callers)) → MediaStand (steps_of s) (brought_to s media (record_of u)) (made_steps (record_of u)) (length s.callers) v.media
+other_stands laws s media made v u c r later callers lt quiet =
+    laws.others (steps_of s) (brought_to s media (record_of u)) (made_steps (record_of v)) (made_steps (record_of u)) (length s.callers) v.media c later.stands (one_more v u c r callers lt) quiet
 
 -- ---- each kind of move
 
 answer_stands : MediaLaws → (s : ScriptData) (media : List (List Chunk)) (made : List CoderId) (v : Course) (c : ℕ) (r : StepResult) → Stands s media made v → AnswerFits s media v c r → Stands s media made (with_result c r v)
-answer_stands laws s media made v c r st a = record {
-  callers = append_at_length c r v.callers ∙ st.callers;
-  count = st.count;
-  opened = st.opened;
-  same_made = st.same_made;
-  boxes = st.boxes;
-  results = results_more s media made v (with_result c r v) c r st (answer_grows v c r) (λ b j lt. refl) refl a.fits;
-  arguments = st.arguments;
-  once = λ k. calls_once v (with_result c r v) c k r [] (st.once k) refl a.caller (sym (append-nil (at k (histories v.codecs))))
-      (ap named (append-nil (at k (histories v.codecs))) ∙ sym (ap (λ l. named (at k (histories v.codecs)) ++ l) (a.no_call k (next_who v c)) ∙ append-nil (named (at k (histories v.codecs)))));
-  climbs = marks_climb v (with_result c r v) c r st.climbs refl a.caller (λ k. omega arith) a.climbs;
-  stand = other_stands laws s media made v (with_result c r v) c r st refl a.caller a.other;
-}
+answer_stands laws s media made v c r st a =
+    let later = later_stands laws s media made v (with_result c r v) st (answer_grows v c r) in
+    record {
+      callers = append_at_length c r v.callers ∙ st.callers;
+      count = st.count;
+      opened = st.opened;
+      same_made = st.same_made;
+      boxes = st.boxes;
+      results = results_more s media made v (with_result c r v) c r st (answer_grows v c r) later.same refl a.fits;
+      arguments = st.arguments;
+      once = λ k. calls_once v (with_result c r v) c k r [] (st.once k) refl a.caller (sym (append-nil (at k (histories v.codecs))))
+          (ap named (append-nil (at k (histories v.codecs))) ∙ sym (ap (λ l. named (at k (histories v.codecs)) ++ l) (a.no_call k (next_who v c)) ∙ append-nil (named (at k (histories v.codecs)))));
+      climbs = marks_climb v (with_result c r v) c r st.climbs refl a.caller (λ k. omega arith) a.climbs;
+      stand = other_stands laws s media made v (with_result c r v) c r later refl a.caller a.quiet;
+    }
 
 up_to : (v : Course) (k n : ℕ) (e : Entry) → length (at n (histories v.codecs)) ≤ length (at n (histories (with_entry k e v).codecs))
 up_to v k n e = let m = longer_history v k n e in let l = ap length m.1 in let a = length-append (at n (histories v.codecs)) m.0 in omega (arith, l, a)
 
-advance_stands : (s : ScriptData) (media : List (List Chunk)) (made : List CoderId) (v : Course) (k : ℕ) (e : Entry) → Stands s media made v → AdvanceFits v k e → Stands s media made (with_entry k e v)
-advance_stands s media made v k e st a = record {
-  callers = st.callers;
-  count = codec_count v k e ∙ st.count;
-  opened = λ j lt. opened_still s v k e st.opened j (let c = codec_count v k e in omega (arith, lt, c));
-  same_made = made_stays v k e ∙ st.same_made;
-  boxes = accounted_more v.codecs v.slots k e a.after st.boxes a.codec a.steps a.fits;
-  results = λ b j q is. result_stays s media (record_of v) (record_of (with_entry k e v)) (legals s media made v st) st.climbs (advance_grows v k e) (λ c i lt. refl) b j q is (st.results b j q is);
-  arguments = λ n p f who is names. elim (entries_new v k p n e f is) [
-    | inl was ↦ st.arguments n p f who was names
-    | inr new ↦ absurd (let bad = sym a.nobody ∙ (ap who_of (sym new.value) ∙ names) in cc)
-  ];
-  once = λ n. elim (cases_eq n k) [
-    | inr other ↦ subst (λ (h : List Entry). mark.CallsAreIn n h (marks_of (record_of v))) (sym (same_history v k n e other)) (st.once n)
-    | inl same ↦ subst (λ (i : ℕ). mark.CallsAreIn i (at i (histories (with_entry k e v).codecs)) (marks_of (record_of v))) (sym same)
-        (subst (λ (h : List Entry). mark.CallsAreIn k h (marks_of (record_of v))) (sym (this_history v k e a.codec))
-        (λ t. ap (sum_by t) (named_more (at k (histories v.codecs)) e ∙ (ap (λ (o : Option Who). named (at k (histories v.codecs)) ++ named_at (length (at k (histories v.codecs))) o) a.nobody ∙ append-nil (named (at k (histories v.codecs))))) ∙ st.once k t))
-  ];
-  climbs = λ c n. climbs_on n 0 (map mark_of (at c v.callers)) (length (at n (histories v.codecs))) (length (at n (histories (with_entry k e v).codecs))) (up_to v k n e) (st.climbs c n);
-  stand = st.stand;
-}
+advance_stands : MediaLaws → (s : ScriptData) (media : List (List Chunk)) (made : List CoderId) (v : Course) (k : ℕ) (e : Entry) → Stands s media made v → AdvanceFits v k e → Stands s media made (with_entry k e v)
+advance_stands laws s media made v k e st a =
+    let later = later_stands laws s media made v (with_entry k e v) st (advance_grows v k e) in
+    record {
+      callers = st.callers;
+      count = codec_count v k e ∙ st.count;
+      opened = λ j lt. opened_still s v k e st.opened j (let c = codec_count v k e in omega (arith, lt, c));
+      same_made = made_stays v k e ∙ st.same_made;
+      boxes = accounted_more v.codecs v.slots k e a.after st.boxes a.codec a.steps a.fits;
+      results = λ b j q is. result_stays s media (record_of v) (record_of (with_entry k e v)) (legals s media made v st) st.climbs (advance_grows v k e) later.same b j q is (st.results b j q is);
+      arguments = λ n p f who is names. elim (entries_new v k p n e f is) [
+        | inl was ↦ st.arguments n p f who was names
+        | inr new ↦ absurd (let bad = sym a.nobody ∙ (ap who_of (sym new.value) ∙ names) in cc)
+      ];
+      once = λ n. elim (cases_eq n k) [
+        | inr other ↦ subst (λ (h : List Entry). mark.CallsAreIn n h (marks_of (record_of v))) (sym (same_history v k n e other)) (st.once n)
+        | inl same ↦ subst (λ (i : ℕ). mark.CallsAreIn i (at i (histories (with_entry k e v).codecs)) (marks_of (record_of v))) (sym same)
+            (subst (λ (h : List Entry). mark.CallsAreIn k h (marks_of (record_of v))) (sym (this_history v k e a.codec))
+            (λ t. ap (sum_by t) (named_more (at k (histories v.codecs)) e ∙ (ap (λ (o : Option Who). named (at k (histories v.codecs)) ++ named_at (length (at k (histories v.codecs))) o) a.nobody ∙ append-nil (named (at k (histories v.codecs))))) ∙ st.once k t))
+      ];
+      climbs = λ c n. climbs_on n 0 (map mark_of (at c v.callers)) (length (at n (histories v.codecs))) (length (at n (histories (with_entry k e v).codecs))) (up_to v k n e) (st.climbs c n);
+      stand = later.stands;
+    }
+
+-- ---- a caller's entry, and its result
+
+reach_itself : (k p : ℕ) → reach k (mark.Call k p) ≡ Some (p, suc p)
+reach_itself k p = ap (λ (b : Bool). cond b (Some (p, suc p)) None) (eq-eqb k k refl)
+
+not_same : (x y : ℕ) → x ≢ y → (x == y) ≡ false
+not_same x y other = grind arith
+
+some_who : {x y : Who} → Some x ≡ Some y → x ≡ y
+some_who h = cc
+
+-- a result whose entry is the codec's next, and names the caller's next step
+record IsNextEntry (v : Course) (c k : ℕ) (e : Entry) (r : StepResult) : Type 0 where
+  caller : c < length v.callers
+  codec : k < length v.codecs
+  names : who_of e ≡ Some (next_who v c)
+  marks : mark_of r ≡ mark.Call k (next_place v k)
+
+entry_arguments : (s : ScriptData) (media : List (List Chunk)) (v : Course) (c k : ℕ) (e : Entry) (r : StepResult) (x : Step) → ArgumentsAreIn s media (record_of v) → IsNextEntry v c k e r → step_in s c (length (at c v.callers)) ≡ Some x → HasArguments s media (next_who v c) e x
+    → ArgumentsAreIn s media (record_of (with_result c r (with_entry k e v)))
+entry_arguments s media v c k e r x before a is_step has n q f who is names = elim (entries_new v k q n e f is) [
+  | inl was ↦ before n q f who was names
+  | inr new ↦ (
+      let same : next_who v c ≡ who = some_who (sym a.names ∙ (ap who_of (sym new.value) ∙ names)) in (
+        x,
+        subst (λ (w : Who). step_in s w.caller w.step ≡ Some x) same is_step,
+        subst (λ (g : Entry). HasArguments s media who g x) (sym new.value) (subst (λ (w : Who). HasArguments s media w e x) same has),
+      )
+      )
+]
+
+entry_once : (v : Course) (c k : ℕ) (e : Entry) (r : StepResult) → ((n : ℕ) → mark.CallsAreIn n (at n (histories v.codecs)) (marks_of (record_of v))) → IsNextEntry v c k e r
+    → (n : ℕ) → mark.CallsAreIn n (at n (histories (with_entry k e v).codecs)) (marks_of (record_of (with_result c r (with_entry k e v))))
+entry_once v c k e r once a n =
+    let u = with_result c r (with_entry k e v) in
+    let p = next_place v k in
+    let h = at n (histories v.codecs) in
+    let here = at k (histories v.codecs) in
+    let long : length here ≡ p = history_there v k in
+    elim (cases_eq n k) [
+      | inr other ↦ calls_once v u c n r [] (once n) refl a.caller (same_history v k n e other ∙ sym (append-nil h))
+          (ap named (append-nil h)
+          ∙ sym (ap (λ (m : Mark). named h ++ call_in n (next_who v c) m) a.marks
+          ∙ (ap (λ (b : Bool). named h ++ cond b ((p, next_who v c) ∷ []) []) (not_same k n (λ z. other (sym z))) ∙ append-nil (named h))))
+      | inl same ↦ subst (λ (i : ℕ). mark.CallsAreIn i (at i (histories u.codecs)) (marks_of (record_of u))) (sym same)
+          (calls_once v u c k r (e ∷ []) (once k) refl a.caller (this_history v k e a.codec)
+          (named_more here e
+          ∙ (ap (λ (o : Option Who). named here ++ named_at (length here) o) a.names
+          ∙ (ap (λ (i : ℕ). named here ++ ((i, next_who v c) ∷ [])) long
+          ∙ (ap (λ (b : Bool). named here ++ cond b ((p, next_who v c) ∷ []) []) (sym (eq-eqb k k refl))
+          ∙ ap (λ (m : Mark). named here ++ call_in k (next_who v c) m) (sym a.marks))))))
+    ]
+
+entry_climbs : (v : Course) (c k : ℕ) (e : Entry) (r : StepResult) → MarksClimb (record_of v) → IsNextEntry v c k e r → MarksClimb (record_of (with_result c r (with_entry k e v)))
+entry_climbs v c k e r climbs a =
+    marks_climb v u c r climbs refl a.caller (λ n. up_to v k n e) (λ n. subst (λ (m : Mark). MayClimb (reach n m) (length (at n (histories v.codecs))) (length (at n (histories u.codecs)))) (sym a.marks) (may n))
+  where
+    u : Course
+    u = with_result c r (with_entry k e v)
+
+    may : (n : ℕ) → MayClimb (reach n (mark.Call k (next_place v k))) (length (at n (histories v.codecs))) (length (at n (histories (with_entry k e v).codecs)))
+    may n =
+        let p = next_place v k in
+        let long : length (at k (histories v.codecs)) ≡ p = history_there v k in
+        elim (cases_eq n k) [
+          | inr other ↦ subst (λ (o : Option (ℕ × ℕ)). MayClimb o (length (at n (histories v.codecs))) (length (at n (histories (with_entry k e v).codecs)))) (sym (ap (λ (b : Bool). cond b (Some (p, suc p)) None) (not_same k n (λ h. other (sym h))))) (up_to v k n e)
+          | inl same ↦ subst (λ (i : ℕ). MayClimb (reach i (mark.Call k p)) (length (at i (histories v.codecs))) (length (at i (histories (with_entry k e v).codecs)))) (sym same)
+              (subst (λ (o : Option (ℕ × ℕ)). MayClimb o (length (at k (histories v.codecs))) (length (at k (histories (with_entry k e v).codecs)))) (sym (reach_itself k p))
+              (omega (arith, long), (let l = ap length (this_history v k e a.codec) in let q = length-append (at k (histories v.codecs)) (e ∷ []) in omega (arith, long, l, q))))
+        ]
+
+-- ---- calls
 
 -- the result of a call fits
 call_there : (s : ScriptData) (media : List (List Chunk)) (made : List CoderId) (v : Course) (c k : ℕ) (e : Entry) (error : Option DomError) → Stands s media made v → AskFits s media v c k e error
@@ -333,7 +454,7 @@ call_there : (s : ScriptData) (media : List (List Chunk)) (made : List CoderId) 
 call_there s media made v c k e error st a =
     let u = after_move (Ask c k e error) v in
     let h = at k (histories v.codecs) in
-    let p = length (codec_at k v.codecs).history in
+    let p = next_place v k in
     let legal = legals s media made v st k in
     let state : state_after (opening_at s k) h ≡ state_of (codec_at k v.codecs) = ap (state_after (opening_at s k)) (history_at k v.codecs) ∙ ap (λ (o : Opening). state_after o (codec_at k v.codecs).history) (sym (st.opened k a.codec)) in
     let shown : error ≡ exception_at (opening_at s k) (at k (histories u.codecs)) p =
@@ -346,91 +467,78 @@ call_there s media made v c k e error st a =
     record {
       step = a.step;
       is_step = a.is_step;
-      made = subst (λ (o : Option ℕ). IsResultOf s (record_of u) o (call_result v k error)) (sym a.calls) (refl, shown);
-      shows = none.0;
-      answers = none.1 (came_at s media (record_of u) c (length (at c v.callers)));
+      made = subst (λ (t : Option ℕ). IsResultBy s (record_of u) (next_who v c) t (called a.step) (call_result v k error)) (sym none.0)
+          (subst (λ (o : Option ℕ). IsAnswerOf s (record_of u) o (call_result v k error)) (sym a.calls) (refl, shown));
+      found = tt;
+      shows = none.1;
+      answers = none.2 (came_at s media (record_of u) c (length (at c v.callers)));
     }
   where
-    no_look : (s : ScriptData) (media : List (List Chunk)) (w : Recorded) (c k p : ℕ) (x : Step) (error : Option DomError) → called x ≡ Some k → LookShows s w c x (result.Call k p error) × ((o : Option Came) → IsLocalAnswer s media o c x (result.Call k p error))
-    no_look s media w c k p (step.Configure on config) error h = (tt, λ o. tt)
-    no_look s media w c k p (step.Decode on chunk) error h = (tt, λ o. tt)
-    no_look s media w c k p (step.Flush on bind) error h = (tt, λ o. tt)
-    no_look s media w c k p (step.Reset on) error h = (tt, λ o. tt)
-    no_look s media w c k p (step.Close on) error h = (tt, λ o. tt)
+    no_look : (s : ScriptData) (media : List (List Chunk)) (w : Recorded) (c k p : ℕ) (x : Step) (error : Option DomError) → called x ≡ Some k
+        → (taken_from x ≡ None) × LookShows s w c x (result.Call k p error) × ((o : Option Came) → IsLocalAnswer s media o c x (result.Call k p error))
+    no_look s media w c k p (step.Configure on config) error h = (refl, tt, λ o. tt)
+    no_look s media w c k p (step.Decode on chunk) error h = (refl, tt, λ o. tt)
+    no_look s media w c k p (step.Flush on bind) error h = (refl, tt, λ o. tt)
+    no_look s media w c k p (step.Reset on) error h = (refl, tt, λ o. tt)
+    no_look s media w c k p (step.Close on) error h = (refl, tt, λ o. tt)
     no_look s media w c k p (step.Chunk bind source) error h = absurd cc
     no_look s media w c k p (step.Poll promise) error h = absurd cc
     no_look s media w c k p (step.Await promise) error h = absurd cc
     no_look s media w c k p (step.State on) error h = absurd cc
     no_look s media w c k p (step.Media x) error h = absurd cc
 
-reach_itself : (k p : ℕ) → reach k (mark.Call k p) ≡ Some (p, suc p)
-reach_itself k p = ap (λ (b : Bool). cond b (Some (p, suc p)) None) (eq-eqb k k refl)
-
-not_same : (x y : ℕ) → x ≢ y → (x == y) ≡ false
-not_same x y other = grind arith
-
 ask_stands : MediaLaws → (s : ScriptData) (media : List (List Chunk)) (made : List CoderId) (v : Course) (c k : ℕ) (e : Entry) (error : Option DomError) → Stands s media made v → AskFits s media v c k e error → Stands s media made (after_move (Ask c k e error) v)
 ask_stands laws s media made v c k e error st a =
     let u = after_move (Ask c k e error) v in
     let r = call_result v k error in
-    let p = length (codec_at k v.codecs).history in
-    let long : length (at k (histories v.codecs)) ≡ p = history_there v k in
+    let next : IsNextEntry v c k e r = record { caller = a.caller; codec = a.codec; names = a.names; marks = refl } in
+    let later = later_stands laws s media made v u st (both_grow v c k e r) in
     record {
       callers = append_at_length c r v.callers ∙ st.callers;
       count = codec_count v k e ∙ st.count;
       opened = λ j lt. opened_still s v k e st.opened j (let n = codec_count v k e in omega (arith, lt, n));
       same_made = made_stays v k e ∙ st.same_made;
       boxes = accounted_more v.codecs v.slots k e a.after st.boxes a.codec a.steps (call_fits e (next_who v c) (codec_at k v.codecs).holding.refusal a.names);
-      results = results_more s media made v u c r st (ask_grows v c k e error) (λ b j lt. refl) refl (call_there s media made v c k e error st a);
-      arguments = λ n q f who is names. elim (entries_new v k q n e f is) [
-        | inl was ↦ st.arguments n q f who was names
-        | inr new ↦ (
-            let same : next_who v c ≡ who = some_who (sym a.names ∙ (ap who_of (sym new.value) ∙ names)) in (
-              a.step,
-              subst (λ (w : Who). step_in s w.caller w.step ≡ Some a.step) same a.is_step,
-              subst (λ (x : Entry). HasArguments s media who x a.step) (sym new.value) (subst (λ (w : Who). HasArguments s media w e a.step) same a.arguments),
-            )
-            )
-      ];
-      once = λ n. elim (cases_eq n k) [
-        | inr other ↦ calls_once v u c n r [] (st.once n) refl a.caller (same_history v k n e other ∙ sym (append-nil (at n (histories v.codecs))))
-            (ap named (append-nil (at n (histories v.codecs)))
-            ∙ sym (ap (λ (b : Bool). named (at n (histories v.codecs)) ++ cond b ((p, next_who v c) ∷ []) []) (not_same k n (λ h. other (sym h))) ∙ append-nil (named (at n (histories v.codecs)))))
-        | inl same ↦ subst (λ (i : ℕ). mark.CallsAreIn i (at i (histories u.codecs)) (marks_of (record_of u))) (sym same)
-            (calls_once v u c k r (e ∷ []) (st.once k) refl a.caller (this_history v k e a.codec)
-            (named_more (at k (histories v.codecs)) e
-            ∙ (ap (λ (o : Option Who). named (at k (histories v.codecs)) ++ named_at (length (at k (histories v.codecs))) o) a.names
-            ∙ (ap (λ (i : ℕ). named (at k (histories v.codecs)) ++ ((i, next_who v c) ∷ [])) long
-            ∙ ap (λ (b : Bool). named (at k (histories v.codecs)) ++ cond b ((p, next_who v c) ∷ []) []) (sym (eq-eqb k k refl))))))
-      ];
-      climbs = marks_climb v u c r st.climbs refl a.caller (λ n. up_to v k n e) (λ n. elim (cases_eq n k) [
-        | inr other ↦ subst (λ (o : Option (ℕ × ℕ)). MayClimb o (length (at n (histories v.codecs))) (length (at n (histories u.codecs)))) (sym (ap (λ (b : Bool). cond b (Some (p, suc p)) None) (not_same k n (λ h. other (sym h))))) (up_to v k n e)
-        | inl same ↦ subst (λ (i : ℕ). MayClimb (reach i (mark.Call k p)) (length (at i (histories v.codecs))) (length (at i (histories u.codecs)))) (sym same)
-            (subst (λ (o : Option (ℕ × ℕ)). MayClimb o (length (at k (histories v.codecs))) (length (at k (histories u.codecs)))) (sym (reach_itself k p))
-            (omega (arith, long), (let l = ap length (this_history v k e a.codec) in let q = length-append (at k (histories v.codecs)) (e ∷ []) in omega (arith, long, l, q))))
-      ]);
-      stand = other_stands laws s media made v u c r st refl a.caller (ap (option_and_then media_of) a.is_step ∙ no_media a.step k a.calls);
+      results = results_more s media made v u c r st (both_grow v c k e r) later.same refl (call_there s media made v c k e error st a);
+      arguments = entry_arguments s media v c k e r a.step st.arguments next a.is_step a.arguments;
+      once = entry_once v c k e r st.once next;
+      climbs = entry_climbs v c k e r st.climbs next;
+      stand = other_stands laws s media made v u c r later refl a.caller (none_quiet s (brought_to s media (record_of u)) c (length (at c v.callers)) (ap (option_and_then media_of) a.is_step ∙ no_media a.step k a.calls));
     }
-  where
-    some_who : {x y : Who} → Some x ≡ Some y → x ≡ y
-    some_who h = cc
 
--- a step on media of this caller
+-- ---- steps on media
+
+-- what all earlier steps came to is told as before
+still_told : (s : ScriptData) (media : List (List Chunk)) (v u : Course) (c : ℕ) (y : Came)
+    → LaterStands (steps_of s) (brought_to s media (record_of v)) (brought_to s media (record_of u)) (made_steps (record_of v)) (length s.callers) v.media
+    → StepStands (steps_of s) (brought_to s media (record_of u)) (made_steps (record_of v)) (made_steps (record_of u)) (length s.callers) v.media c y
+    → u.media ≡ (after_move (Handle (next_who v c) y) v).media → SameMedia s media (record_of v) (record_of u)
+still_told s media v u c y later told same d j lt =
+    ap (λ (m : Media). came_in (steps_of s) (brought_to s media (record_of u)) m.pool d j) same ∙ (told.earlier d j lt ∙ later.same d j lt)
+
+-- a step on media of this caller, to which no output is brought
 handled_stands : MediaLaws → (s : ScriptData) (media : List (List Chunk)) (made : List CoderId) (v : Course) (who : Who) (y : Came) → Stands s media made v → HandleFits s media v who y → Stands s media made (after_move (Handle (next_who v who.caller) y) v)
 handled_stands laws s media made v who y st a =
     let c = who.caller in
     let u = after_move (Handle (next_who v c) y) v in
     let r = y.answer in
+    let chunk = copied_chunk media (steps_of s c) a.handled in
     let below : c < length s.callers = (let n = st.callers in let lt = a.caller in omega (arith, lt, n)) in
-    let told : StepStands (steps_of s) (chunks_of s media) (made_steps (record_of v)) (made_steps (record_of u)) (length s.callers) v.media c y =
-    laws.media (steps_of s) (chunks_of s media) (made_steps (record_of v)) (made_steps (record_of u)) (length s.callers) v.media c a.handled y st.stand below (one_more v u c r refl a.caller) a.is_step a.comes in
-    let own : IsOwn r = media_own v.media.pool (next_who v c) (chunks_of s media c a.handled) a.handled (variables_of c v.media.variables) y a.comes in
+    let grows : Grows (record_of v) (record_of u) = record { stays = (answer_grows v c r).stays; more = (answer_grows v c r).more } in
+    let later = later_stands laws s media made v u st grows in
+    let own : IsOwn r = media_own v.media.pool (next_who v c) chunk a.handled (variables_of c v.media.variables) y a.comes in
+    let none : taken_by s (record_of u) (result_in (record_of u) c (length (at c v.callers))) ≡ None = ap (taken_by s (record_of u)) (result_new c r v.callers a.caller) ∙ own_taken s (record_of u) r own in
+    let comes : media_came v.media.pool (next_who v c) (brought_to s media (record_of u) c (length (at c v.callers)) a.handled) a.handled (variables_of c v.media.variables) ≡ Some y =
+    ap (λ (o : Option Taken). media_came v.media.pool (next_who v c) (brought chunk o) a.handled (variables_of c v.media.variables)) none ∙ a.comes in
+    let told : StepStands (steps_of s) (brought_to s media (record_of u)) (made_steps (record_of v)) (made_steps (record_of u)) (length s.callers) v.media c y =
+    laws.media (steps_of s) (brought_to s media (record_of u)) (made_steps (record_of v)) (made_steps (record_of u)) (length s.callers) v.media c a.handled y later.stands below (one_more v u c r refl a.caller) a.is_step comes in
     let fits : ResultFits s media (record_of u) c (length (at c v.callers)) r = record {
       step = step.Media a.handled;
       is_step = a.is_step;
-      made = own_result s (record_of u) r own;
+      made = subst (λ (t : Option ℕ). IsResultBy s (record_of u) (next_who v c) t None r) (sym (takes_none v.media.pool (next_who v c) chunk a.handled (variables_of c v.media.variables) y a.comes)) (own_result s (record_of u) r own);
+      found = own_found s (record_of u) r own;
       shows = own_shows s (record_of u) c a.handled r own;
-      answers = subst (λ (o : Option Came). IsMediaAnswer o r) (sym told.here) refl;
+      answers = media_answers s media (came_at s media (record_of u) c (length (at c v.callers))) c a.handled r (subst (λ (o : Option Came). IsMediaAnswer o r) (sym told.here) refl);
     } in
     record {
       callers = append_at_length c r v.callers ∙ st.callers;
@@ -438,7 +546,7 @@ handled_stands laws s media made v who y st a =
       opened = st.opened;
       same_made = st.same_made;
       boxes = st.boxes;
-      results = results_more s media made v u c r st (record { stays = λ b j q h. result_kept b c j r q v.callers h; more = λ k. ([], sym (append-nil (at k (histories v.codecs)))) }) told.earlier refl fits;
+      results = results_more s media made v u c r st grows (still_told s media v u c y later told refl) refl fits;
       arguments = st.arguments;
       once = λ k. calls_once v u c k r [] (st.once k) refl a.caller (sym (append-nil (at k (histories v.codecs))))
           (ap named (append-nil (at k (histories v.codecs))) ∙ sym (ap (λ m. named (at k (histories v.codecs)) ++ call_in k (next_who v c) m) (own_mark r own) ∙ append-nil (named (at k (histories v.codecs)))));
@@ -450,10 +558,85 @@ handled_stands laws s media made v who y st a =
 handle_stands : MediaLaws → (s : ScriptData) (media : List (List Chunk)) (made : List CoderId) (v : Course) (who : Who) (y : Came) → Stands s media made v → HandleFits s media v who y → Stands s media made (after_move (Handle who y) v)
 handle_stands laws s media made v who y st a = subst (λ (w : Who). Stands s media made (after_move (Handle w y) v)) (sym a.next) (handled_stands laws s media made v who y st a)
 
+-- ---- takes
+
+abbrev answer_of : StepResult → Option Came → StepResult
+answer_of r None = r
+answer_of r (Some y) = y.answer
+
+-- what a take of an output comes to answers as the take does
+taken_answer : (pool : List PoolEntry) (who : Who) (k : ℕ) (bind : List ℕ) (holds : VariableKind) (r : StepResult) (u : output.Unit) (vs : List (Option Medium)) (y : Came)
+    → media_came pool who (brought None (Some (taken_as r u))) (on_media.Take k bind holds) vs ≡ Some y → y.answer ≡ r
+taken_answer pool who k bind holds r (unit.Sound samples) vs y comes = sym (ap (answer_of r) comes)
+taken_answer pool who k bind holds r (unit.Image picture) vs y comes = sym (ap (answer_of r) comes)
+taken_answer pool who k bind holds r (unit.Coded chunk config) vs y comes = sym (ap (answer_of r) comes)
+
+-- the result of a take fits
+take_there : (s : ScriptData) (media : List (List Chunk)) (v u : Course) (c k n : ℕ) (bind : List ℕ) (holds : VariableKind) (shown : output.Unit) → step_in s c (length (at c v.callers)) ≡ Some (step.Media (on_media.Take k bind holds))
+    → at k (histories u.codecs) ≡ at k (histories v.codecs) ++ entry.Take (next_who v c) n ∷ []
+    → output_at (opening_at s k) (at k (histories u.codecs)) n ≡ Some shown
+    → ResultFits s media (record_of u) c (length (at c v.callers)) (take_result v k n)
+take_there s media v u c k n bind holds shown is grown found = record {
+  step = step.Media (on_media.Take k bind holds);
+  is_step = is;
+  made = (refl, stands);
+  found = (shown, found);
+  shows = tt;
+  answers = tt;
+}
+  where
+    stands : entry_in (record_of u) k (next_place v k) ≡ Some (entry.Take (next_who v c) n)
+    stands =
+        ap (λ (l : List Entry). slice_get l (next_place v k)) grown
+        ∙ (ap (λ (i : ℕ). slice_get (at k (histories v.codecs) ++ entry.Take (next_who v c) n ∷ []) i) (sym (history_there v k))
+        ∙ get_end (at k (histories v.codecs)) (entry.Take (next_who v c) n))
+
+-- a take of this caller: all but its media are as after a call
+received_stands : MediaLaws → (s : ScriptData) (media : List (List Chunk)) (made : List CoderId) (v : Course) (c k : ℕ) (e : Entry) (y : Came) → Stands s media made v → ReceiveFits s media v (next_who v c) k e y → Stands s media made (after_move (Receive (next_who v c) k e y) v)
+received_stands laws s media made v c k e y st a =
+    let u = after_move (Receive (next_who v c) k e y) v in
+    let r = y.answer in
+    let n = a.number in
+    let step_taken = on_media.Take k a.bind a.holds in
+    let below : c < length s.callers = (let m = st.callers in let lt = a.caller in omega (arith, lt, m)) in
+    let answers : r ≡ take_result v k n = taken_answer v.media.pool (next_who v c) k a.bind a.holds (take_result v k n) a.unit (variables_of c v.media.variables) y a.comes in
+    let names : who_of e ≡ Some (next_who v c) = ap who_of a.takes in
+    let next : IsNextEntry v c k e r = record { caller = a.caller; codec = a.codec; names = names; marks = ap mark_of answers } in
+    let grows : Grows (record_of v) (record_of u) = record { stays = (both_grow v c k e r).stays; more = (both_grow v c k e r).more } in
+    let later = later_stands laws s media made v u st grows in
+    let shown : output_at (opening_at s k) (at k (histories u.codecs)) n ≡ Some a.unit = output_stays s (record_of v) (record_of u) grows k n a.unit a.there in
+    let took : taken_by s (record_of u) (result_in (record_of u) c (length (at c v.callers))) ≡ Some (taken_as (take_result v k n) a.unit) =
+    ap (taken_by s (record_of u)) (result_new c r v.callers a.caller ∙ ap (λ (q : StepResult). Some q) answers) ∙ ap (option_map (taken_as (take_result v k n))) shown in
+    let comes : media_came v.media.pool (next_who v c) (brought_to s media (record_of u) c (length (at c v.callers)) step_taken) step_taken (variables_of c v.media.variables) ≡ Some y =
+    ap (λ (o : Option Taken). media_came v.media.pool (next_who v c) (brought None o) step_taken (variables_of c v.media.variables)) took ∙ a.comes in
+    let told : StepStands (steps_of s) (brought_to s media (record_of u)) (made_steps (record_of v)) (made_steps (record_of u)) (length s.callers) v.media c y =
+    laws.media (steps_of s) (brought_to s media (record_of u)) (made_steps (record_of v)) (made_steps (record_of u)) (length s.callers) v.media c step_taken y later.stands below (one_more v u c r refl a.caller) a.is_step comes in
+    let grown : at k (histories u.codecs) ≡ at k (histories v.codecs) ++ entry.Take (next_who v c) n ∷ [] = this_history v k e a.codec ∙ ap (λ (x : Entry). at k (histories v.codecs) ++ x ∷ []) a.takes in
+    let fits : ResultFits s media (record_of u) c (length (at c v.callers)) r =
+    subst (ResultFits s media (record_of u) c (length (at c v.callers))) (sym answers) (take_there s media v u c k n a.bind a.holds a.unit a.is_step grown shown) in
+    record {
+      callers = append_at_length c r v.callers ∙ st.callers;
+      count = codec_count v k e ∙ st.count;
+      opened = λ j lt. opened_still s v k e st.opened j (let m = codec_count v k e in omega (arith, lt, m));
+      same_made = made_stays v k e ∙ st.same_made;
+      boxes = accounted_more v.codecs v.slots k e a.after st.boxes a.codec a.steps (call_fits e (next_who v c) (codec_at k v.codecs).holding.refusal names);
+      results = results_more s media made v u c r st grows (still_told s media v u c y later told refl) refl fits;
+      arguments = entry_arguments s media v c k e r (step.Media step_taken) st.arguments next a.is_step (n, a.takes);
+      once = entry_once v c k e r st.once next;
+      climbs = entry_climbs v c k e r st.climbs next;
+      stand = told.stands;
+    }
+
+receive_stands : MediaLaws → (s : ScriptData) (media : List (List Chunk)) (made : List CoderId) (v : Course) (who : Who) (k : ℕ) (e : Entry) (y : Came) → Stands s media made v → ReceiveFits s media v who k e y → Stands s media made (after_move (Receive who k e y) v)
+receive_stands laws s media made v who k e y st a =
+    subst (λ (w : Who). Stands s media made (after_move (Receive w k e y) v)) (sym a.next)
+    (received_stands laws s media made v who.caller k e y st (subst (λ (w : Who). ReceiveFits s media v w k e y) a.next a))
+
 -- What stands of a course stands after a move that fits.
 pub move_stands : MediaLaws → (s : ScriptData) (media : List (List Chunk)) (made : List CoderId) (v : Course) (m : Move) → Stands s media made v → MoveFits s media v m → Stands s media made (after_move m v)
 move_stands laws s media made v Idle st fits = st
 move_stands laws s media made v (Answer c r) st fits = answer_stands laws s media made v c r st fits
-move_stands laws s media made v (Advance k e) st fits = advance_stands s media made v k e st fits
+move_stands laws s media made v (Advance k e) st fits = advance_stands laws s media made v k e st fits
 move_stands laws s media made v (Ask c k e error) st fits = ask_stands laws s media made v c k e error st fits
 move_stands laws s media made v (Handle who y) st fits = handle_stands laws s media made v who y st fits
+move_stands laws s media made v (Receive who k e y) st fits = receive_stands laws s media made v who k e y st fits

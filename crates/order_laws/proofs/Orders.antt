@@ -22,9 +22,8 @@ use Rattle.script_types.specs.declared.script.ScriptData.{ScriptData}
 use Rattle.report_text.specs.declared.result.StepResult.{StepResult}
 use Rattle.trace_text.specs.declared.run.Run.{Run}
 use Rattle.trace_text.specs.Follow.{Recorded, Course, record_of, opening_of, opening_in, opening_at, steps_of, order_items, follow_item, item_move, Follows, nothing_yet}
-use Rattle.trace_text.specs.Fits.{recorded_of, mark_of, marks_of, CallsAreIn, LooksAreIn, ArgumentsAreIn, LocalsAreIn, LookShows, IsLocalAnswer, chunks_of, made_steps, came_at, FollowsTheOrder, Fits}
+use Rattle.trace_text.specs.Fits.{recorded_of, mark_of, marks_of, CallsAreIn, LooksAreIn, ArgumentsAreIn, LocalsAreIn, LookShows, IsLocalAnswer, brought_to, made_steps, came_at, FollowsTheOrder, Fits}
 use Rattle.media_accounts.specs.Accounts.{MediaAreIn, MediaStand}
-use Rattle.media_variables.specs.Variables.{Came}
 use Rattle.order_laws.specs.Sound.{IsSound}
 use Rattle.order_laws.specs.Course.{IsCourse}
 use Rattle.order_laws.proofs.Moves.{MediaLaws, Stands, legals, move_stands}
@@ -65,7 +64,7 @@ nothing_stands laws s media made = record {
   arguments = λ k p e who is names. absurd (let none : None ≡ Some e = sym (ap (λ (xs : List Entry). slice_get xs p) (no_history s.codecs k)) ∙ is in cc);
   once = λ k. subst (λ (h : List Entry). mark.CallsAreIn k h (marks_of (record_of (nothing_yet s made)))) (sym (no_history s.codecs k)) (λ t. ap (sum_by t) (sym (no_calls k 0 s.callers)));
   climbs = λ c k. subst (λ (l : List StepResult). Climbs k 0 (map mark_of l) (length (at k (histories (nothing_yet s made).codecs)))) (sym (at_empty c s.callers)) (omega arith);
-  stand = subst (λ (steps : ℕ → ℕ). MediaStand (steps_of s) (chunks_of s media) steps (length s.callers) (nothing_yet s made).media) (none_made s made) (laws.nothing (steps_of s) (chunks_of s media) s.callers);
+  stand = subst (λ (steps : ℕ → ℕ). MediaStand (steps_of s) (brought_to s media (record_of (nothing_yet s made))) steps (length s.callers) (nothing_yet s made).media) (none_made s made) (laws.nothing (steps_of s) (brought_to s media (record_of (nothing_yet s made))) s.callers);
 }
 
 -- ---- item after item
@@ -99,7 +98,7 @@ record Fitting (s : ScriptData) (media : List (List Chunk)) (made : List CoderId
   looks : LooksAreIn s w
   arguments : ArgumentsAreIn s media w
   locals : LocalsAreIn s media w
-  accounted : MediaAreIn (steps_of s) (chunks_of s media) (made_steps w) w.pool
+  accounted : MediaAreIn (steps_of s) (brought_to s media w) (made_steps w) w.pool
   boxes : BoxesAccounted made (opening_at s) w.codecs w.slots
   legal : (k : ℕ) → IsLegal (opening_at s k) (at k w.codecs)
 

@@ -1,8 +1,7 @@
 -- Following an order makes one run, where the same ends want memory and as many boxes of each id are there.
-use Rattle.std.proofs.Common.{ℕ, zero, suc, ◌≡◌, ◌<◌, ◌+◌, not, Bool, true, false, cond, List, [], ◌∷◌, ◌++◌, length, map, Option, Some, None, refl, ap, sym, subst, ◌∙◌, arith, append_assoc, append-nil}
-use Rattle.std.specs.Prelude.{slice_get, slice_set, option_map, unwrap_or, find}
+use Rattle.std.proofs.Common.{ℕ, zero, suc, ◌≡◌, ◌<◌, not, Bool, true, false, List, [], ◌∷◌, ◌++◌, length, map, Option, Some, None, refl, ap, sym, subst, ◌∙◌, arith, append_assoc, append-nil}
+use Rattle.std.specs.Prelude.{slice_get, slice_set, option_map, find}
 use Rattle.std.specs.List.{range_with_len, count_by}
-use Rattle.wc_base.specs.declared.error.DomError.{DomError}
 use Rattle.wc_base.specs.declared.who.By.{By}
 use Rattle.wc_base.specs.declared.who.Who.{Who}
 use Rattle.wc_config.specs.declared.codec.CoderId.{CoderId}
@@ -15,16 +14,14 @@ use Rattle.slot_registry.specs.Boxes.{is_out, made_of, out_of, least_free}
 use Rattle.slot_registry.specs.Slots.{SlotsValue, acquire_op, acquire_entry, acquired}
 use Rattle.codec_definitions.specs.declared.unit.Unit as media
 use Rattle.codec_model.specs.declared.entry.Entry.{Entry}
-use Rattle.codec_model.specs.declared.entry.Entry.TheVariants as entry
 use Rattle.codec_model.specs.declared.entry.Opening.{Opening}
-use Rattle.codec_model.specs.declared.entry.Outcome.{Outcome}
 use Rattle.codec_model.specs.declared.entry.Running.{Running}
 use Rattle.codec_model.specs.declared.entry.Shown.{Shown}
 use Rattle.codec_model.specs.Replay.{answer_to}
 use Rattle.codec_model.specs.Shown.{each_shown}
-use Rattle.codec_accounts.specs.Owed.{at, append_at}
+use Rattle.codec_accounts.specs.Owed.{at}
 use Rattle.codec_accounts.specs.ListLaws.{get_kept, get_end}
-use Rattle.codec_accounts.specs.Codec.{Holding, CodecValue, state_of, codec_at, histories, BoxStep, Keep, Give, Renew, give_of, after_give, holding_by, after_ask, slots_after, holding_after, next_by, step_by, after_entry}
+use Rattle.codec_accounts.specs.Codec.{Holding, CodecValue, state_of, codec_at, histories, BoxStep, Keep, Give, Renew, give_of, after_give, holding_by, after_ask, slots_after, holding_after, next_by, step_by}
 use Rattle.codec_accounts.specs.Registry.{BoxOut}
 use Rattle.script_types.specs.declared.script.CodecItem.{CodecItem}
 use Rattle.script_types.specs.declared.script.OrderItem.{OrderItem}
@@ -32,11 +29,13 @@ use Rattle.script_types.specs.declared.script.OrderItem.TheVariants as item
 use Rattle.script_types.specs.declared.script.ScriptData.{ScriptData}
 use Rattle.script_types.specs.declared.steps.Step.{Step}
 use Rattle.script_types.specs.declared.steps.Step.TheVariants as step
+use Rattle.script_types.specs.declared.steps.MediaStep.{MediaStep}
+use Rattle.script_types.specs.declared.steps.MediaStep.TheVariants as on_media
 use Rattle.report_text.specs.declared.result.StepResult.{StepResult}
 use Rattle.trace_text.specs.declared.run.CallerTrace.{CallerTrace}
 use Rattle.trace_text.specs.declared.run.CodecTrace.{CodecTrace}
 use Rattle.trace_text.specs.declared.run.Run.{Run}
-use Rattle.trace_text.specs.Follow.{Recorded, Course, record_of, opening_of, Move, Idle, Answer, Advance, Ask, Handle, after_move, with_entry, with_result, steps_of, order_items, item_move, next_move, step_move, done_entry, end_of, outcome_for, outcome_by, advance, follow_item, Follows, nothing_yet}
+use Rattle.trace_text.specs.Follow.{Recorded, Course, record_of, Move, Idle, Answer, Advance, Ask, Handle, Receive, after_move, with_entry, steps_of, order_items, item_move, next_move, step_move, media_move, done_entry, end_of, outcome_for, advance, follow_item, Follows, nothing_yet}
 use Rattle.trace_text.specs.Fits.{recorded_of, IsLegalTrace, AreLegalTraces, IsLegalRun, FollowsTheOrder}
 use Rattle.order_laws.specs.Same.{is_want, wants_memory, SameWants, SameBoxes}
 use Rattle.order_laws.proofs.Moves.{longer_history, this_history}
@@ -121,6 +120,9 @@ moves_alike (Ask c k e error) cs ds l a b s =
     let one = entry_moves k e cs ds l a b s in
     record { callers = refl; codecs = one.codecs; media = refl; slots = one.slots }
 moves_alike (Handle who y) cs ds l a b s = record { callers = refl; codecs = refl; media = refl; slots = s }
+moves_alike (Receive who k e y) cs ds l a b s =
+    let one = entry_moves k e cs ds l a b s in
+    record { callers = refl; codecs = one.codecs; media = refl; slots = one.slots }
 
 same_course : (u : Course) (cs : List (List StepResult)) (ds : List CodecValue) (l : Media) → cs ≡ u.callers → ds ≡ u.codecs → l ≡ u.media → course cs ds l u.slots ≡ u
 unfolding course
@@ -136,6 +138,11 @@ move_alike m v u al =
 
 -- ---- what is made
 
+media_same : (s : ScriptData) (media : List (List Chunk)) (who : Who) (x : MediaStep) (cs : List (List StepResult)) (ds : List CodecValue) (l : Media) (a b : SlotsValue) → media_move s media who x (course cs ds l a) ≡ media_move s media who x (course cs ds l b)
+unfolding course
+media_same s media who (on_media.Take on bind kind) cs ds l a b = refl
+media_same s media who x cs ds l a b = refl
+
 step_same : (s : ScriptData) (media : List (List Chunk)) (who : Who) (x : Step) (cs : List (List StepResult)) (ds : List CodecValue) (l : Media) (a b : SlotsValue) → step_move s media who x (course cs ds l a) ≡ step_move s media who x (course cs ds l b)
 unfolding course
 step_same s media who (step.Configure on config) cs ds l a b = refl
@@ -147,7 +154,7 @@ step_same s media who (step.Await promise) cs ds l a b = refl
 step_same s media who (step.Reset on) cs ds l a b = refl
 step_same s media who (step.Close on) cs ds l a b = refl
 step_same s media who (step.State on) cs ds l a b = refl
-step_same s media who (step.Media x) cs ds l a b = refl
+step_same s media who (step.Media x) cs ds l a b = media_same s media who x cs ds l a b
 
 next_same : (s : ScriptData) (media : List (List Chunk)) (who : Who) (o : Option Step) (cs : List (List StepResult)) (ds : List CodecValue) (l : Media) (a b : SlotsValue) → next_move s media who o (course cs ds l a) ≡ next_move s media who o (course cs ds l b)
 next_same s media who None cs ds l a b = refl
@@ -180,6 +187,7 @@ move_grows (Answer c r) v k = ([], sym (append-nil (at k (histories v.codecs))))
 move_grows (Advance j e) v k = longer_history v j k e
 move_grows (Ask c j e error) v k = longer_history v j k e
 move_grows (Handle who y) v k = ([], sym (append-nil (at k (histories v.codecs))))
+move_grows (Receive who j e y) v k = longer_history v j k e
 
 grows : (s : ScriptData) (media : List (List Chunk)) (xs : List OrderItem) (v w : Course) → Follows s media xs v w → (k : ℕ) → (more : List Entry) × (at k (histories w.codecs) ≡ at k (histories v.codecs) ++ more)
 grows s media [] v w f k = ([], ap (λ (c : Course). at k (histories c.codecs)) f ∙ sym (append-nil (at k (histories v.codecs))))

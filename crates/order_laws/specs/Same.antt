@@ -1,5 +1,5 @@
 -- Runs by order that agree in all that an order leaves open.
-use Rattle.std.specs.Prelude.{ℕ, ◌≡◌, Bool, true, false, List, slice_get, Option, Some, None}
+use Rattle.std.specs.Prelude.{ℕ, ◌≡◌, Bool, true, false, List, slice_get, Option, Some}
 use Rattle.wc_config.specs.declared.codec.CoderId.{CoderId}
 use Rattle.slot_registry.specs.Boxes.{made_of}
 use Rattle.codec_model.specs.declared.entry.Entry.{Entry}

@@ -1,5 +1,5 @@
 -- A script in which nothing is at fault has what each of its steps needs.
-use Rattle.std.proofs.Common.{ℕ, zero, suc, ◌≡◌, ◌<◌, true, List, [], ◌∷◌, take, Option, Some, ap, sym, subst, ◌∙◌, refl}
+use Rattle.std.proofs.Common.{ℕ, zero, suc, ◌≡◌, ◌<◌, true, List, [], ◌∷◌, take, Some, ap, sym, subst, ◌∙◌, refl}
 use Rattle.std.specs.Prelude.{length, slice_get}
 use Rattle.std.proofs.lemmas.Bool.{and_parts}
 use Rattle.script_types.specs.declared.script.CallerItem.{CallerItem}
@@ -7,13 +7,14 @@ use Rattle.script_types.specs.declared.script.CodecItem.{CodecItem}
 use Rattle.script_types.specs.declared.script.ScriptData.{ScriptData}
 use Rattle.script_types.specs.declared.steps.Step.{Step}
 use Rattle.script_types.specs.declared.steps.Step.TheVariants as step
+use Rattle.script_types.specs.declared.steps.MediaStep.TheVariants as on_media
 use Rattle.script_types.specs.declared.steps.Variable.{Variable}
 use Rattle.script_types.specs.declared.steps.VariableKind.TheVariants as holds
 use Rattle.script_types.specs.Names.{decodes, is_promise}
-use Rattle.script_types.specs.Sound.{is_sound, is_sound_step, is_variable, suits, any_kind}
+use Rattle.script_types.specs.Sound.{is_sound, is_sound_step, is_variable, suits, gives, any_kind}
 use Rattle.script_types.specs.SoundLaws.{Defines, codec_within, step_at, variable_is, promise_kind, promise_of_flush}
 use Rattle.trace_text.specs.Follow.{steps_in, steps_of}
-use Rattle.trace_text.specs.Fits.{step_in, called}
+use Rattle.trace_text.specs.Fits.{step_in, called, taken_from}
 use Rattle.codec_accounts.specs.ListLaws.{taken_before, get_from_front}
 use Rattle.order_laws.specs.Sound.{IsSound, promise_of, IsFlush}
 
@@ -52,6 +53,11 @@ called_within codecs before (step.Await promise) k h is = absurd cc
 called_within codecs before (step.State on) k h is = absurd cc
 called_within codecs before (step.Media y) k h is = absurd cc
 
+taken_within : (codecs : List CodecItem) (before : List Step) (x : Step) (k : ℕ) → is_sound_step codecs before x ≡ true → taken_from x ≡ Some k → k < length codecs
+taken_within codecs before (step.Media (on_media.Take on bind kind)) k h is =
+    let same : on ≡ k = cc in subst (λ (i : ℕ). i < length codecs) same (codec_within codecs (gives kind) on (and_parts _ _ h).0)
+taken_within codecs before x k h is = absurd cc
+
 -- ---- promises
 
 looked_at : (codecs : List CodecItem) (before : List Step) (x : Step) (v : Variable) → is_sound_step codecs before x ≡ true → promise_of x ≡ Some v → is_variable before is_promise v ≡ true
@@ -82,6 +88,7 @@ promise_made s c j x v h is looks =
 pub sound_of : (s : ScriptData) → is_sound s ≡ true → IsSound s
 sound_of s h = record {
   called = λ c j k x is calls. called_within s.codecs (take j (steps_of s c)) x k (sound_step s c j x h is) calls;
+  taken = λ c j k x is takes. taken_within s.codecs (take j (steps_of s c)) x k (sound_step s c j x h is) takes;
   earlier = λ c j x v is looks. (let made = promise_defined s c j x v h is looks in taken_before (steps_of s c) j v.step made.definer made.stands);
   promised = λ c j x v is looks. promise_made s c j x v h is looks;
 }

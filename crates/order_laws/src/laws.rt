@@ -13,7 +13,7 @@ ghost use Rattle.order_laws.specs.Same.{SameBoxes, SameWants};
 ghost use Rattle.script_types.specs.declared.script.OrderItem.{OrderItem};
 ghost use Rattle.script_types.specs.declared.script.ScriptData.{ScriptData};
 
-use media_accounts::media_stand;
+use media_accounts::{media_stand, what_is_brought_may_grow};
 
 /// A law: a run that follows the order of a script in which nothing is at fault, with these chunks of its chunk files, fits the script, and each
 /// codec's history in such a run is legal.
@@ -28,6 +28,7 @@ pub fn following_fits()
         → IsLegal (opening_at script k) (at k (recorded_of run).codecs) }
 {
     media_stand();
+    what_is_brought_may_grow();
 }
 
 /// A law: a course that follows some items from the beginning of a script on in which nothing is at fault has the script's codecs, with legal
@@ -39,6 +40,7 @@ pub fn following_stands()
         → IsCourse script made course }
 {
     media_stand();
+    what_is_brought_may_grow();
 }
 
 /// A law: a run by order is a function of the script, the chunks of its chunk files, how many boxes of each id there are,

@@ -34,12 +34,14 @@ use Rattle.script_types.specs.declared.script.CodecItem.{CodecItem}
 use Rattle.script_types.specs.declared.script.OrderItem.{OrderItem}
 use Rattle.script_types.specs.declared.script.OrderItem.TheVariants as item
 use Rattle.script_types.specs.declared.script.ScriptData.{ScriptData}
+use Rattle.script_types.specs.declared.steps.MediaStep.{MediaStep}
+use Rattle.script_types.specs.declared.steps.MediaStep.TheVariants as on_media
 use Rattle.script_types.specs.declared.steps.Step.{Step}
 use Rattle.script_types.specs.declared.steps.Step.TheVariants as step
 use Rattle.report_text.specs.declared.result.StepResult.{StepResult}
 use Rattle.wc_pool.specs.declared.entry.PoolOp.{PoolOp}
-use Rattle.media_variables.specs.Variables.{Came, entries_of, media_came, variables_of}
-use Rattle.trace_text.specs.Follow.{Course, opening_of, steps_of, chunk_at, Move, Idle, Answer, Advance, Ask, Handle, with_result, with_entry, with_media, after_move, turn_on, advance, decode_move, media_move, copied_chunk, step_move, next_move, item_move, follow_item, Follows, nothing_yet}
+use Rattle.media_variables.specs.Variables.{Came, Brought, entries_of, media_came, variables_of}
+use Rattle.trace_text.specs.Follow.{Course, opening_of, steps_of, chunk_at, Move, Idle, Answer, Advance, Ask, Handle, Receive, with_result, with_entry, with_media, after_move, turn_on, advance, decode_move, found_at, handle_move, take_move, media_move, copied_chunk, step_move, next_move, item_move, follow_item, Follows, nothing_yet}
 use Rattle.run_ranges.specs.Ranges.{IsMoment}
 
 -- ---- what stands of a course
@@ -244,6 +246,7 @@ MoveHolds (Answer c r) = Unit {0}
 MoveHolds (Advance k e) = IsMomentOf e
 MoveHolds (Ask c k e error) = IsMomentOf e
 MoveHolds (Handle who y) = Unit {0}
+MoveHolds (Receive who k e y) = IsMomentOf e
 
 move_up : (n most : ℕ) (m : Move) (v : Course) → MoveHolds m → IsCourseUpTo n most v → IsCourseUpTo (n + 1) most (after_move m v)
 move_up n most Idle v own h = up n most v h
@@ -263,6 +266,19 @@ move_up n most (Ask c k e error) v own h = both (entry_up n most k e v own h)
       boxes = more.boxes;
     }
 move_up n most (Handle who y) v own h = media_up n most who y v h
+move_up n most (Receive who k e y) v own h = both (entry_up n most k e v own h)
+  where
+    both : IsCourseUpTo (n + 1) most (with_entry k e v) → IsCourseUpTo (n + 1) most (after_move (Receive who k e y) v)
+    both more = record {
+      callers = λ j. longer j who.caller n y.answer v.callers h.callers;
+      codecs = more.codecs;
+      pool = omega (arith, length-append v.media.pool (entries_of who y.does), entries_few who y.does, h.pool);
+      slots = more.slots;
+      moments = more.moments;
+      made = more.made;
+      ops = more.ops;
+      boxes = more.boxes;
+    }
 
 call_holds : (who : Who) (x : Call) → IsMomentOf (entry_of who x)
 call_holds who (call.Configure config) = tt
@@ -277,9 +293,21 @@ decode_holds : (who : Who) (k : ℕ) (o : Option Chunk) (d : CodecValue) → Mov
 decode_holds who k None d = tt
 decode_holds who k (Some chunk) d = tt
 
-media_holds : (who : Who) (o : Option Came) → MoveHolds (media_move who o)
-media_holds who None = tt
-media_holds who (Some y) = tt
+handle_holds : (who : Who) (o : Option Came) → MoveHolds (handle_move who o)
+handle_holds who None = tt
+handle_holds who (Some y) = tt
+
+take_holds : (who : Who) (k : ℕ) (d : CodecValue) (o : Option Came) → MoveHolds (take_move who k d o)
+take_holds who k d None = tt
+take_holds who k d (Some y) = tt
+
+media_holds : (s : ScriptData) (media : List (List Chunk)) (who : Who) (x : MediaStep) (v : Course) → MoveHolds (media_move s media who x v)
+media_holds s media who (on_media.Take on bind kind) v =
+    let b : Brought = record { chunk = None; taken = found_at on (codec_at on v.codecs) } in
+    take_holds who on (codec_at on v.codecs) (media_came v.media.pool who b (on_media.Take on bind kind) (variables_of who.caller v.media.variables))
+media_holds s media who x v =
+    let b : Brought = record { chunk = copied_chunk media (steps_of s who.caller) x; taken = None } in
+    handle_holds who (media_came v.media.pool who b x (variables_of who.caller v.media.variables))
 
 step_holds : (s : ScriptData) (media : List (List Chunk)) (who : Who) (x : Step) (v : Course) → MoveHolds (step_move s media who x v)
 step_holds s media who (step.Configure on config) v = tt
@@ -291,7 +319,7 @@ step_holds s media who (step.Await promise) v = tt
 step_holds s media who (step.Reset on) v = tt
 step_holds s media who (step.Close on) v = tt
 step_holds s media who (step.State on) v = tt
-step_holds s media who (step.Media x) v = media_holds who (media_came v.media.pool who (copied_chunk media (steps_of s who.caller) x) x (variables_of who.caller v.media.variables))
+step_holds s media who (step.Media x) v = media_holds s media who x v
 
 next_holds : (s : ScriptData) (media : List (List Chunk)) (who : Who) (o : Option Step) (v : Course) → MoveHolds (next_move s media who o v)
 next_holds s media who None v = tt

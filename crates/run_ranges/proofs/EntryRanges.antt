@@ -8,6 +8,7 @@ use Rattle.wc_base.specs.declared.error.DomError.{DomError}
 use Rattle.wc_base.specs.declared.error.DomError.TheVariants as dom
 use Rattle.codec_definitions.specs.declared.unit.Unit as media
 use Rattle.codec_definitions.specs.declared.unit.Unit.TheVariants as unit
+use Rattle.wc_config.specs.declared.config.AudioDecoderConfig.{AudioDecoderConfig}
 use Rattle.codec_definitions.specs.declared.command.Command.{Command}
 use Rattle.codec_model.specs.declared.entry.Opening.{Opening}
 use Rattle.codec_model.specs.declared.entry.Entry.{Entry}
@@ -24,9 +25,9 @@ use Rattle.codec_model.specs.declared.entry.Ended.{Ended}
 use Rattle.codec_model.specs.declared.entry.Ended.TheVariants as ended
 use Rattle.codec_model.specs.declared.entry.Outcome.{Outcome}
 use Rattle.codec_model.specs.declared.entry.Outcome.TheVariants as outcome
-use Rattle.codec_model.specs.Control.{Control, may_start}
-use Rattle.codec_model.specs.Replay.{State, Given, step, replay, replay_from, start_step, done_step, done_ended, ended_of, ended_run, answer_to, configure_error, decode_error, flush_error, removal_error}
-use Rattle.codec_model.specs.Shown.{refusal, rejection, rejections, outputs_from, turn_shows, removal_shows, shows, units_in, shown_at, each_shown_from}
+use Rattle.codec_model.specs.Control.{Control, may_start, carried}
+use Rattle.codec_model.specs.Replay.{State, Given, step, replay, replay_from, start_step, done_step, done_ended, ended_of, ended_run, answer_to, decoder_config, labelled, configure_error, decode_error, flush_error, removal_error}
+use Rattle.codec_model.specs.Shown.{refusal, rejection, rejections, outputs_from, turn_shows, removal_shows, handed_error, shows, units_in, shown_at, each_shown_from}
 use Rattle.codec_model.specs.ShownLaws.{replay_append}
 use Rattle.codec_model.specs.Facts.{NamesEarlier, IsNeverStuck, Always}
 use Rattle.codec_model.specs.Earlier.{pending_below, resolved_below}
@@ -45,13 +46,15 @@ abbrev pub IsOutcomeWithin : Outcome → Type 0
 IsOutcomeWithin (outcome.NoSlot n) = n < 2 ^ 64
 IsOutcomeWithin o = Unit {0}
 
--- the caller, moment and refusal of an entry are within their types, where it has one
+-- the caller, unit, moment and refusal of an entry are within their types, where it has one
 abbrev pub IsEntryWithin : ScriptData → Entry → Type 0
 IsEntryWithin s (entry.Configure who config) = FitsWho s who
 IsEntryWithin s (entry.Decode who chunk) = FitsWho s who
+IsEntryWithin s (entry.Encode who handed) = FitsWho s who
 IsEntryWithin s (entry.Flush who) = FitsWho s who
 IsEntryWithin s (entry.Reset who) = FitsWho s who
 IsEntryWithin s (entry.Close who) = FitsWho s who
+IsEntryWithin s (entry.Take who unit) = FitsWho s who × (unit < 2 ^ 64)
 IsEntryWithin s (entry.Start epoch item) = Unit {0}
 IsEntryWithin s (entry.Done epoch item moment o) = (moment < 2 ^ 64) × IsOutcomeWithin o
 IsEntryWithin s entry.Turn = Unit {0}
@@ -72,6 +75,14 @@ all_any : (xs : List Command) → AllByRecursion (λ x. Unit {0}) xs
 all_any [] = tt
 all_any (x ∷ xs) = (tt, all_any xs)
 
+-- a unit is no other one where it carries a config
+labelled_few : (o : Option AudioDecoderConfig) (us : List media.Unit) → length us ≤ 1 → length (labelled o us) ≤ 1
+labelled_few None us few = few
+labelled_few (Some c) [] few = few
+labelled_few (Some c) (unit.Sound samples ∷ us) few = few
+labelled_few (Some c) (unit.Image picture ∷ us) few = few
+labelled_few (Some c) (unit.Coded chunk config ∷ us) few = few
+
 -- an item that ran gave one unit at most
 outcome_small : (k : WorkKind) (g : Given) (x : Outcome) (e : Ended) → ended_of k g x ≡ Some e → IsOutcomeWithin x → FitsOutcome x
 outcome_small k g (outcome.Ran units) e is own = by (answer_to k g) refl is
@@ -79,7 +90,7 @@ outcome_small k g (outcome.Ran units) e is own = by (answer_to k g) refl is
     by : (a : Option (List media.Unit)) → answer_to k g ≡ a → ended_run units a ≡ Some e → units < 2 ^ 64
     by None same made = absurd cc
     by (Some us) same made =
-        let few : length us ≤ 1 = answer_where (λ x. Unit {0}) (λ vs. length vs ≤ 1) k g us (omega arith) (λ id before x vs any h. (are_given id g.config before x vs h).few) (all_any g.commands) same in
+        let few : length us ≤ 1 = answer_where (λ x. Unit {0}) (λ vs. length vs ≤ 1) k g us (omega arith) (λ id before x vs any h. (are_given id g.config before x vs h).few) (λ vs some few. labelled_few (decoder_config g.config) vs few) (all_any g.commands) same in
         omega (arith, eqb-true units (length us) (cond_is (eqb units (length us)) (Some (ended.Ran us)) e made).0, few)
 outcome_small k g outcome.Refused e is own = tt
 outcome_small k g (outcome.NoSlot n) e is own = own
@@ -100,9 +111,11 @@ ended_small n (Some r) epoch number moment x s t busy made h own =
 entry_fits : (script : ScriptData) (n : ℕ) (e : Entry) (s t : State) → step e s ≡ Some t → IsUpTo n s.control → n < 2 ^ 64 → IsEntryWithin script e → FitsEntryLine script (entry_line_of e (shown_at e s))
 entry_fits script n (entry.Configure who config) s t is h few own = own
 entry_fits script n (entry.Decode who chunk) s t is h few own = own
+entry_fits script n (entry.Encode who handed) s t is h few own = own
 entry_fits script n (entry.Flush who) s t is h few own = own
 entry_fits script n (entry.Reset who) s t is h few own = own
 entry_fits script n (entry.Close who) s t is h few own = own
+entry_fits script n (entry.Take who unit) s t is h few own = own
 entry_fits script n (entry.Start epoch number) s t is h few own =
     let small = started_small n s.control.work epoch number s t refl is h in (omega (arith, small.0, few), omega (arith, small.1, few))
 entry_fits script n (entry.Done epoch number moment x) s t is h few own =
@@ -148,18 +161,20 @@ turned_within [] c is few h = tt
 turned_within (task.Unblock ∷ ts) c is few h = tt
 turned_within (task.Process ∷ ts) c is few h = tt
 turned_within (task.Desaturate ∷ ts) c is few h = tt
-turned_within (task.Output units ∷ ts) c is few h = outputs_within c.shown units
+turned_within (task.Output units ∷ ts) c is few h = outputs_within c.shown (carried c.active units)
 turned_within (task.Flushed promise units ∷ ts) c is few h =
-    all_append IsPromiseWithin (outputs_from c.shown units) (event.Resolve promise ∷ []) (outputs_within c.shown units) (omega (arith, resolved_below c promise units ts h is, few), tt)
+    all_append IsPromiseWithin (outputs_from c.shown (carried c.active units)) (event.Resolve promise ∷ []) (outputs_within c.shown (carried c.active units)) (omega (arith, resolved_below c promise units ts h is, few), tt)
 turned_within (task.Dequeue ∷ ts) c is few h = (tt, tt)
 turned_within (task.Close error ∷ ts) c is few h = closed_within c.place error error c.pending few (pending_below c h)
 
 shown_promises : (n : ℕ) (e : Entry) (s : State) → IsUpTo n s.control → n < 2 ^ 64 → NamesEarlier s.control → ArePromises (shows e s)
 shown_promises n (entry.Configure who config) s h few names = refused_within (configure_error config s.control)
 shown_promises n (entry.Decode who chunk) s h few names = refused_within (decode_error chunk s.control)
+shown_promises n (entry.Encode who handed) s h few names = refused_within (handed_error handed)
 shown_promises n (entry.Flush who) s h few names = rejection_within s.control.place (flush_error s.control) (omega (arith, h.place, few))
 shown_promises n (entry.Reset who) s h few names = removal_within s.control.place (removal_error s.control) s.control.pending (omega (arith, h.place, few)) (pending_below s.control names)
 shown_promises n (entry.Close who) s h few names = removal_within s.control.place (removal_error s.control) s.control.pending (omega (arith, h.place, few)) (pending_below s.control names)
+shown_promises n (entry.Take who unit) s h few names = tt
 shown_promises n (entry.Start epoch number) s h few names = tt
 shown_promises n (entry.Done epoch number moment x) s h few names = tt
 shown_promises n entry.Turn s h few names = turned_within s.control.tasks s.control refl (omega (arith, h.place, few)) names

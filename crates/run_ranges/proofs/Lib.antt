@@ -2,6 +2,7 @@ mod ByteRanges
 mod FlacRanges
 mod UnitRanges
 mod EntryRanges
+mod TakenRanges
 mod CourseRanges
 mod PoolRanges
 mod CopyRanges

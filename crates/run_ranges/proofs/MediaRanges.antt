@@ -9,6 +9,8 @@ use Rattle.wc_base.specs.declared.media.PictureShape.{PictureShape}
 use Rattle.wc_base.specs.declared.media.SoundShape.{SoundShape}
 use Rattle.wc_base.specs.declared.who.Who.{Who}
 use Rattle.wc_chunk.specs.declared.chunk.Chunk.{Chunk}
+use Rattle.codec_definitions.specs.declared.unit.Unit as output
+use Rattle.codec_definitions.specs.declared.unit.Unit.TheVariants as unit
 use Rattle.picture_planes.specs.Planes.{picture_size}
 use Rattle.wc_pool.specs.declared.entry.PoolEntry.{PoolEntry}
 use Rattle.wc_pool.specs.Bag.{references_made}
@@ -29,11 +31,12 @@ use Rattle.script_types.specs.declared.steps.Step.TheVariants as step
 use Rattle.script_types.specs.Names.{is_copied}
 use Rattle.script_types.specs.Sound.{is_variable, are_options_of, is_sound_media, most_chunk}
 use Rattle.report_text.specs.declared.result.StepResult.{StepResult}
-use Rattle.media_variables.specs.Variables.{Reference, Shape, SoundOf, PictureOf, Medium, Came, medium_at, with_medium, detached, only_answers, refused, makes, audio_came, frame_came, clone_held, transfer_held, close_held, if_there, zeros, sound_of, frame_of, copy_options, rect_of, layouts_in, copy_chunk, copy_sound, copy_frame, size_of_sound, size_of_frame, copy_medium, size_of_medium, copy_came, media_came}
+use Rattle.media_variables.specs.Variables.{Reference, Shape, SoundOf, PictureOf, Medium, Came, Taken, Brought, medium_at, with_medium, detached, only_answers, refused, makes, audio_came, frame_came, clone_held, transfer_held, close_held, if_there, zeros, sound_of, frame_of, copy_options, rect_of, layouts_in, copy_chunk, copy_sound, copy_frame, size_of_sound, size_of_frame, copy_medium, size_of_medium, copy_came, unit_came, taken_came, media_came}
 use Rattle.media_accounts.specs.Accounts.{step_by, before_step, media_of, variables_by, came_on, variables_in, came_in}
 use Rattle.trace_text.specs.Fits.{IsMediaAnswer}
 use Rattle.report_lines.specs.Fits.{FitsResult}
 use Rattle.run_ranges.proofs.ByteRanges.{nothing_small, take_small, zeros_small}
+use Rattle.run_ranges.proofs.UnitRanges.{IsUnitWithin}
 use Rattle.run_ranges.proofs.CopyRanges.{sound_copy_fits, sound_size_fits, chunk_copy_fits, plan_within, frame_copy_fits, frame_size_fits}
 
 -- ---- what a variable holds
@@ -114,17 +117,31 @@ copy_within chunk of options.Nothing size vs h = h
 copy_within chunk of (options.Audio o) size vs h = there_within (medium_at vs of) vs _ (medium_within vs of h) h (λ m own. h)
 copy_within chunk of (options.Frame o) size vs h = there_within (medium_at vs of) vs _ (medium_within vs of h) h (λ m own. h)
 
-came_within : (pool : List PoolEntry) (who : Who) (chunk : Option Chunk) (x : MediaStep) (vs : List (Option Medium)) → IsContentWithin x → AreVariables vs → IsCameWithin (media_came pool who chunk x vs)
-came_within pool who chunk (media.Audio bind init) vs small h = audio_within pool who.step init vs h
-came_within pool who chunk (media.Frame bind None) vs small h = h
-came_within pool who chunk (media.Frame bind (Some init)) vs small h = frame_within pool who.step init vs small h
-came_within pool who chunk (media.Encode on content) vs small h = tt
-came_within pool who chunk (media.Take on bind kind) vs small h = tt
-came_within pool who chunk (media.Clone of bind) vs small h = there_within (medium_at vs of.step) vs _ (medium_within vs of.step h) h (λ m own. clone_within pool who.step m.shape m.held vs own h)
-came_within pool who chunk (media.Transfer of bind) vs small h = there_within (medium_at vs of.step) vs _ (medium_within vs of.step h) h (λ m own. transfer_within who.step of.step m m.held vs own h)
-came_within pool who chunk (media.CloseData of) vs small h = there_within (medium_at vs of.step) vs _ (medium_within vs of.step h) h (λ m own. close_within pool who of.step m m.held vs h)
-came_within pool who chunk (media.Copy of o size) vs small h = copy_within chunk of.step o size vs h
-came_within pool who chunk (media.Size of o) vs small h = there_within (medium_at vs of.step) vs _ (medium_within vs of.step h) h (λ m own. h)
+-- an output that is taken is within its type
+abbrev pub IsOutputWithin : Option Taken → Type 0
+IsOutputWithin None = Unit {0}
+IsOutputWithin (Some t) = IsUnitWithin t.unit
+
+unit_within : (pool : List PoolEntry) (j : ℕ) (answer : StepResult) (u : output.Unit) (vs : List (Option Medium)) → IsUnitWithin u → AreVariables vs → AreVariables (unit_came pool j answer u vs).variables
+unit_within pool j answer (unit.Sound samples) vs own h = with_within j _ vs tt h
+unit_within pool j answer (unit.Image picture) vs own h = with_within j _ vs own.are_bytes h
+unit_within pool j answer (unit.Coded chunk config) vs own h = h
+
+output_within : (pool : List PoolEntry) (j : ℕ) (o : Option Taken) (vs : List (Option Medium)) → IsOutputWithin o → AreVariables vs → IsCameWithin (taken_came pool j o vs)
+output_within pool j None vs own h = tt
+output_within pool j (Some t) vs own h = unit_within pool j t.answer t.unit vs own h
+
+came_within : (pool : List PoolEntry) (who : Who) (b : Brought) (x : MediaStep) (vs : List (Option Medium)) → IsContentWithin x → IsOutputWithin b.taken → AreVariables vs → IsCameWithin (media_came pool who b x vs)
+came_within pool who b (media.Audio bind init) vs small own h = audio_within pool who.step init vs h
+came_within pool who b (media.Frame bind None) vs small own h = h
+came_within pool who b (media.Frame bind (Some init)) vs small own h = frame_within pool who.step init vs small h
+came_within pool who b (media.Encode on content) vs small own h = tt
+came_within pool who b (media.Take on bind kind) vs small own h = output_within pool who.step b.taken vs own h
+came_within pool who b (media.Clone of bind) vs small own h = there_within (medium_at vs of.step) vs _ (medium_within vs of.step h) h (λ m its. clone_within pool who.step m.shape m.held vs its h)
+came_within pool who b (media.Transfer of bind) vs small own h = there_within (medium_at vs of.step) vs _ (medium_within vs of.step h) h (λ m its. transfer_within who.step of.step m m.held vs its h)
+came_within pool who b (media.CloseData of) vs small own h = there_within (medium_at vs of.step) vs _ (medium_within vs of.step h) h (λ m its. close_within pool who of.step m m.held vs h)
+came_within pool who b (media.Copy of o size) vs small own h = copy_within b.chunk of.step o size vs h
+came_within pool who b (media.Size of o) vs small own h = there_within (medium_at vs of.step) vs _ (medium_within vs of.step h) h (λ m its. h)
 
 -- ---- what steps answer
 
@@ -228,23 +245,40 @@ copy_answers s chunk of options.Nothing size vs small few h = chunk_answers s ch
 copy_answers s chunk of (options.Audio o) size vs small few h = there_answers s (medium_at vs of) vs _ (medium_within vs of h) (λ m own. copies_fit s m.shape m.held (options.Audio o) size few own)
 copy_answers s chunk of (options.Frame o) size vs small few h = there_answers s (medium_at vs of) vs _ (medium_within vs of h) (λ m own. copies_fit s m.shape m.held (options.Frame o) size few own)
 
-media_answers : (s : ScriptData) (pool : List PoolEntry) (who : Who) (chunk : Option Chunk) (x : MediaStep) (vs : List (Option Medium)) → IsChunkOfBytes chunk → IsSizeSmall x → AreVariables vs → IsAnswerWithin s (media_came pool who chunk x vs)
-media_answers s pool who chunk (media.Audio bind init) vs small few h = audio_answers s pool who.step init vs
-media_answers s pool who chunk (media.Frame bind init) vs small few h = picture_answers s pool who.step init vs
-media_answers s pool who chunk (media.Encode on content) vs small few h = tt
-media_answers s pool who chunk (media.Take on bind kind) vs small few h = tt
-media_answers s pool who chunk (media.Clone of bind) vs small few h = there_answers s (medium_at vs of.step) vs _ (medium_within vs of.step h) (λ m own. clone_answers s pool who.step m.shape m.held vs)
-media_answers s pool who chunk (media.Transfer of bind) vs small few h = there_answers s (medium_at vs of.step) vs _ (medium_within vs of.step h) (λ m own. transfer_answers s who.step of.step m m.held vs)
-media_answers s pool who chunk (media.CloseData of) vs small few h = there_answers s (medium_at vs of.step) vs _ (medium_within vs of.step h) (λ m own. close_answers s pool who of.step m m.held vs)
-media_answers s pool who chunk (media.Copy of o size) vs small few h = copy_answers s chunk of.step o size vs small few h
-media_answers s pool who chunk (media.Size of o) vs small few h = there_answers s (medium_at vs of.step) vs _ (medium_within vs of.step h) (λ m own. sizes_fit s m.shape m.held o)
+-- what a take that found an output answers
+abbrev pub FitsTaken : ScriptData → Option Taken → Type 0
+FitsTaken s None = Unit {0}
+FitsTaken s (Some t) = FitsResult s t.answer
+
+unit_answers : (s : ScriptData) (pool : List PoolEntry) (j : ℕ) (answer : StepResult) (u : output.Unit) (vs : List (Option Medium)) → FitsResult s answer → FitsResult s (unit_came pool j answer u vs).answer
+unit_answers s pool j answer (unit.Sound samples) vs told = told
+unit_answers s pool j answer (unit.Image picture) vs told = told
+unit_answers s pool j answer (unit.Coded chunk config) vs told = told
+
+taken_answers : (s : ScriptData) (pool : List PoolEntry) (j : ℕ) (o : Option Taken) (vs : List (Option Medium)) → FitsTaken s o → IsAnswerWithin s (taken_came pool j o vs)
+taken_answers s pool j None vs told = tt
+taken_answers s pool j (Some t) vs told = unit_answers s pool j t.answer t.unit vs told
+
+media_answers : (s : ScriptData) (pool : List PoolEntry) (who : Who) (b : Brought) (x : MediaStep) (vs : List (Option Medium)) → IsChunkOfBytes b.chunk → FitsTaken s b.taken → IsSizeSmall x → AreVariables vs → IsAnswerWithin s (media_came pool who b x vs)
+media_answers s pool who b (media.Audio bind init) vs small told few h = audio_answers s pool who.step init vs
+media_answers s pool who b (media.Frame bind init) vs small told few h = picture_answers s pool who.step init vs
+media_answers s pool who b (media.Encode on content) vs small told few h = tt
+media_answers s pool who b (media.Take on bind kind) vs small told few h = taken_answers s pool who.step b.taken vs told
+media_answers s pool who b (media.Clone of bind) vs small told few h = there_answers s (medium_at vs of.step) vs _ (medium_within vs of.step h) (λ m own. clone_answers s pool who.step m.shape m.held vs)
+media_answers s pool who b (media.Transfer of bind) vs small told few h = there_answers s (medium_at vs of.step) vs _ (medium_within vs of.step h) (λ m own. transfer_answers s who.step of.step m m.held vs)
+media_answers s pool who b (media.CloseData of) vs small told few h = there_answers s (medium_at vs of.step) vs _ (medium_within vs of.step h) (λ m own. close_answers s pool who of.step m m.held vs)
+media_answers s pool who b (media.Copy of o size) vs small told few h = copy_answers s b.chunk of.step o size vs small few h
+media_answers s pool who b (media.Size of o) vs small told few h = there_answers s (medium_at vs of.step) vs _ (medium_within vs of.step h) (λ m own. sizes_fit s m.shape m.held o)
 
 -- ---- a caller's steps
 
--- what has to be known of the steps on media: their frames' contents, the chunks that they copy, and their sizes
-pub record AreSteps (steps : ℕ → List Step) (chunks : ℕ → MediaStep → Option Chunk) : Type 0 where
+-- what has to be known of the steps on media: their frames' contents, the chunks that they copy, the outputs that they take,
+-- and their sizes
+pub record AreSteps (s : ScriptData) (steps : ℕ → List Step) (brought : ℕ → ℕ → MediaStep → Brought) : Type 0 where
   pub contents : (c j : ℕ) (x : MediaStep) → slice_get (steps c) j ≡ Some (step.Media x) → IsContentWithin x
-  pub copied : (c : ℕ) (x : MediaStep) → IsChunkOfBytes (chunks c x)
+  pub copied : (c j : ℕ) (x : MediaStep) → IsChunkOfBytes (brought c j x).chunk
+  pub outputs : (c j : ℕ) (x : MediaStep) → IsOutputWithin (brought c j x).taken
+  pub told : (c j : ℕ) (x : MediaStep) → FitsTaken s (brought c j x).taken
   pub sizes : (c j : ℕ) (x : MediaStep) → slice_get (steps c) j ≡ Some (step.Media x) → IsSizeSmall x
 
 media_of_is : (x : Step) (m : MediaStep) → media_of x ≡ Some m → x ≡ step.Media m
@@ -259,27 +293,27 @@ variables_kept : (o : Option Came) (vs : List (Option Medium)) → IsCameWithin 
 variables_kept None vs own h = h
 variables_kept (Some y) vs own h = own
 
-came_on_within : (steps : ℕ → List Step) (chunks : ℕ → MediaStep → Option Chunk) (pool : List PoolEntry) (c j : ℕ) (vs : List (Option Medium)) → AreSteps steps chunks → AreVariables vs → IsCameWithin (came_on steps chunks pool c j vs)
-came_on_within steps chunks pool c j vs given h = one (option_and_then media_of (slice_get (steps c) j)) (λ x is. given.contents c j x (media_is (slice_get (steps c) j) x is))
+came_on_within : (s : ScriptData) (steps : ℕ → List Step) (brought : ℕ → ℕ → MediaStep → Brought) (pool : List PoolEntry) (c j : ℕ) (vs : List (Option Medium)) → AreSteps s steps brought → AreVariables vs → IsCameWithin (came_on steps brought pool c j vs)
+came_on_within s steps brought pool c j vs given h = one (option_and_then media_of (slice_get (steps c) j)) (λ x is. given.contents c j x (media_is (slice_get (steps c) j) x is))
   where
-    one : (o : Option MediaStep) → ((x : MediaStep) → o ≡ Some x → IsContentWithin x) → IsCameWithin (option_and_then (λ x. media_came (before_step c j pool) (step_by c j) (chunks c x) x vs) o)
+    one : (o : Option MediaStep) → ((x : MediaStep) → o ≡ Some x → IsContentWithin x) → IsCameWithin (option_and_then (λ x. media_came (before_step c j pool) (step_by c j) (brought c j x) x vs) o)
     one None own = tt
-    one (Some x) own = came_within (before_step c j pool) (step_by c j) (chunks c x) x vs (own x refl) h
+    one (Some x) own = came_within (before_step c j pool) (step_by c j) (brought c j x) x vs (own x refl) (given.outputs c j x) h
 
 -- what a caller's variables hold after so many of its steps
-pub variables_within : (steps : ℕ → List Step) (chunks : ℕ → MediaStep → Option Chunk) (pool : List PoolEntry) (c j : ℕ) → AreSteps steps chunks → AreVariables (variables_in steps chunks pool c j)
-variables_within steps chunks pool c zero given = tt
-variables_within steps chunks pool c (suc j) given =
-    let h = variables_within steps chunks pool c j given in
-    let vs = variables_in steps chunks pool c j in
-    variables_kept (came_on steps chunks pool c j vs) vs (came_on_within steps chunks pool c j vs given h) h
+pub variables_within : (s : ScriptData) (steps : ℕ → List Step) (brought : ℕ → ℕ → MediaStep → Brought) (pool : List PoolEntry) (c j : ℕ) → AreSteps s steps brought → AreVariables (variables_in steps brought pool c j)
+variables_within s steps brought pool c zero given = tt
+variables_within s steps brought pool c (suc j) given =
+    let h = variables_within s steps brought pool c j given in
+    let vs = variables_in steps brought pool c j in
+    variables_kept (came_on steps brought pool c j vs) vs (came_on_within s steps brought pool c j vs given h) h
 
-pub came_answers : (s : ScriptData) (steps : ℕ → List Step) (chunks : ℕ → MediaStep → Option Chunk) (pool : List PoolEntry) (c j : ℕ) → AreSteps steps chunks → IsAnswerWithin s (came_in steps chunks pool c j)
-came_answers s steps chunks pool c j given = one (option_and_then media_of (slice_get (steps c) j)) (λ x is. given.sizes c j x (media_is (slice_get (steps c) j) x is))
+pub came_answers : (s : ScriptData) (steps : ℕ → List Step) (brought : ℕ → ℕ → MediaStep → Brought) (pool : List PoolEntry) (c j : ℕ) → AreSteps s steps brought → IsAnswerWithin s (came_in steps brought pool c j)
+came_answers s steps brought pool c j given = one (option_and_then media_of (slice_get (steps c) j)) (λ x is. given.sizes c j x (media_is (slice_get (steps c) j) x is))
   where
-    one : (o : Option MediaStep) → ((x : MediaStep) → o ≡ Some x → IsSizeSmall x) → IsAnswerWithin s (option_and_then (λ x. media_came (before_step c j pool) (step_by c j) (chunks c x) x (variables_in steps chunks pool c j)) o)
+    one : (o : Option MediaStep) → ((x : MediaStep) → o ≡ Some x → IsSizeSmall x) → IsAnswerWithin s (option_and_then (λ x. media_came (before_step c j pool) (step_by c j) (brought c j x) x (variables_in steps brought pool c j)) o)
     one None few = tt
-    one (Some x) few = media_answers s (before_step c j pool) (step_by c j) (chunks c x) x (variables_in steps chunks pool c j) (given.copied c x) (few x refl) (variables_within steps chunks pool c j given)
+    one (Some x) few = media_answers s (before_step c j pool) (step_by c j) (brought c j x) x (variables_in steps brought pool c j) (given.copied c j x) (given.told c j x) (few x refl) (variables_within s steps brought pool c j given)
 
 -- the answer of a step on media
 pub media_fits : (s : ScriptData) (o : Option Came) (r : StepResult) → IsAnswerWithin s o → IsMediaAnswer o r → FitsResult s r

@@ -6,7 +6,6 @@ use Rattle.std.proofs.lemmas.Bool.{and_parts, and_from, eqb-true, ltb-true}
 use Rattle.std.proofs.lemmas.List.Sums.{count_by-le-length}
 use Rattle.wc_base.specs.declared.who.By.{By}
 use Rattle.wc_base.specs.declared.who.By.TheVariants as by
-use Rattle.wc_chunk.specs.declared.chunk.Chunk.{Chunk}
 use Rattle.wc_pool.specs.declared.entry.PoolEntry.{PoolEntry}
 use Rattle.wc_pool.specs.declared.entry.PoolOp.{PoolOp}
 use Rattle.wc_pool.specs.declared.entry.PoolOp.TheVariants as op
@@ -15,7 +14,7 @@ use Rattle.wc_pool.specs.Laws.{LiveAreNumbered}
 use Rattle.script_types.specs.declared.script.ScriptData.{ScriptData}
 use Rattle.script_types.specs.declared.steps.MediaStep.{MediaStep}
 use Rattle.script_types.specs.declared.steps.Step.{Step}
-use Rattle.media_variables.specs.Variables.{Came}
+use Rattle.media_variables.specs.Variables.{Came, Brought}
 use Rattle.media_accounts.specs.Accounts.{is_by_step, ops_by, owes, IsOfCaller, MediaAreIn, came_in}
 use Rattle.trace_text.specs.Report.{lines_from, pool_lines}
 use Rattle.report_lines.specs.Fits.{FitsBy, FitsPoolOp, FitsLine}
@@ -123,15 +122,15 @@ abbrev pub IsMadeStep : (ℕ → ℕ) → By → Type 0
 IsMadeStep made (by.Caller who) = who.step < made who.caller
 IsMadeStep made (by.Codec k place) = ⊥
 
-pub entry_made : (steps : ℕ → List Step) (chunks : ℕ → MediaStep → Option Chunk) (made : ℕ → ℕ) (pool : List PoolEntry) → MediaAreIn steps chunks made pool → (n : ℕ) (e : PoolEntry) → slice_get pool n ≡ Some e → IsMadeStep made e.by
-entry_made steps chunks made pool h n e is = of (e.by) refl (h.callers n e is)
+pub entry_made : (steps : ℕ → List Step) (brought : ℕ → ℕ → MediaStep → Brought) (made : ℕ → ℕ) (pool : List PoolEntry) → MediaAreIn steps brought made pool → (n : ℕ) (e : PoolEntry) → slice_get pool n ≡ Some e → IsMadeStep made e.by
+entry_made steps brought made pool h n e is = of (e.by) refl (h.callers n e is)
   where
     of : (b : By) → e.by ≡ b → IsOfCaller b → IsMadeStep made b
     of (by.Caller who) its caller =
         let own : is_by_step who.caller who.step e.by ≡ true =
         ap (λ (b : By). is_by_step who.caller who.step b) its ∙ and_from (who.caller == who.caller) (who.step == who.step) (eq-eqb who.caller who.caller refl) (eq-eqb who.step who.step refl) in
         ltb-true who.step (made who.caller)
-        (owing (nat_lt who.step (made who.caller)) (came_in steps chunks pool who.caller who.step) (λ none. ops_some who.caller who.step n pool e is own (h.owed who.caller who.step ∙ none)))
+        (owing (nat_lt who.step (made who.caller)) (came_in steps brought pool who.caller who.step) (λ none. ops_some who.caller who.step n pool e is own (h.owed who.caller who.step ∙ none)))
     of (by.Codec k place) its caller = absurd caller
 
 -- ---- the lines

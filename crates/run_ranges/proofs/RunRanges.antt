@@ -1,6 +1,6 @@
 -- The lines of a legal run that fits its script are within their types, and name callers and codecs that are there.
 use Rattle.std.proofs.Common.{◌≡◌, ℕ, zero, suc, ◌+◌, ◌*◌, ◌<◌, ◌≤◌, ◌^◌, ◌&&◌, true, List, [], ◌∷◌, length, map, take, Option, Some, None, refl, sym, subst, ◌∙◌, arith}
-use Rattle.std.specs.Prelude.{nat_le, option_and_then, unwrap_or}
+use Rattle.std.specs.Prelude.{nat_le, option_map, option_and_then, unwrap_or}
 use Rattle.std.specs.List.{AllByRecursion, zip, slice_get, sum_by}
 use Rattle.std.proofs.lemmas.Bool.{and_parts, leb-true}
 use Rattle.std.proofs.lemmas.List.{length-map}
@@ -14,6 +14,7 @@ use Rattle.wc_config.specs.declared.config.Config.{Config}
 use Rattle.wc_chunk.specs.declared.chunk.Chunk.{Chunk}
 use Rattle.wc_pool.specs.Laws.{LiveAreNumbered}
 use Rattle.wc_video.specs.declared.layout.Layouts.{Layouts}
+use Rattle.codec_definitions.specs.declared.unit.Unit as output
 use Rattle.coder_api.specs.declared.slot.SlotEntry.{SlotEntry}
 use Rattle.coder_api.specs.declared.slot.SlotOp.{SlotOp}
 use Rattle.coder_api.specs.declared.slot.SlotOp.TheVariants as slot
@@ -22,10 +23,12 @@ use Rattle.codec_model.specs.declared.entry.Opening.{Opening}
 use Rattle.codec_model.specs.declared.entry.PromiseState.{PromiseState}
 use Rattle.codec_model.specs.declared.entry.Entry.{Entry}
 use Rattle.codec_model.specs.declared.entry.Entry.TheVariants as entry
+use Rattle.codec_model.specs.declared.entry.Handed.{Handed}
 use Rattle.codec_model.specs.declared.entry.Outcome.{Outcome}
 use Rattle.codec_model.specs.declared.entry.Outcome.TheVariants as outcome
 use Rattle.codec_model.specs.declared.entry.Shown.{Shown}
 use Rattle.codec_model.specs.Replay.{State, opening_state, step as legal_step, replay, replay_from}
+use Rattle.codec_model.specs.Shown.{shown, outputs_of}
 use Rattle.codec_model.specs.Facts.{IsNeverStuck, Always}
 use Rattle.script_types.specs.declared.script.ScriptData.{ScriptData}
 use Rattle.script_types.specs.declared.script.CodecItem.{CodecItem}
@@ -36,7 +39,7 @@ use Rattle.script_types.specs.declared.steps.MediaStep.TheVariants as media_step
 use Rattle.script_types.specs.declared.steps.Step.{Step}
 use Rattle.script_types.specs.declared.steps.Step.TheVariants as step
 use Rattle.script_types.specs.Names.{is_name}
-use Rattle.script_types.specs.Sound.{is_sound, any_kind, is_sound_order, most_order, most_codecs, most_callers, most_steps}
+use Rattle.script_types.specs.Sound.{is_sound, any_kind, gives, is_free, is_codec, is_sound_order, most_order, most_codecs, most_callers, most_steps}
 use Rattle.script_types.specs.SoundLaws.{parts_of, codec_at, step_at, codec_within}
 use Rattle.report_text.specs.declared.result.StepResult.{StepResult}
 use Rattle.report_text.specs.declared.result.StepResult.TheVariants as result
@@ -45,9 +48,9 @@ use Rattle.trace_text.specs.declared.run.CodecTrace.{CodecTrace}
 use Rattle.trace_text.specs.declared.run.Run.{Run}
 use Rattle.trace_text.specs.Report.{lines_from, result_lines, caller_lines, entry_lines, codec_lines, pool_lines, slot_lines, lines_of}
 use Rattle.media_variables.specs.Variables.{Came, chunk_in}
-use Rattle.trace_text.specs.Follow.{Recorded, record_of, opening_at, steps_of, chunk_by, chunk_at, order_items}
+use Rattle.trace_text.specs.Follow.{Recorded, record_of, opening_at, output_at, steps_of, chunk_by, chunk_at, order_items}
 use Rattle.trace_text.specs.FitsLaws.{calls_by_places, order_by_places}
-use Rattle.trace_text.specs.Fits.{recorded_of, result_in, entry_in, step_in, CallsAreIn, LookShows, LooksAreIn, IsLocalAnswer, LocalsAreIn, came_at, chunks_of, made_steps, HasArguments, ArgumentsAreIn, Fits, IsLegalTrace, AreLegalTraces, IsLegalRun}
+use Rattle.trace_text.specs.Fits.{recorded_of, result_in, entry_in, step_in, CallsAreIn, LookShows, LooksAreIn, IsLocalAnswer, LocalsAreIn, IsResultOf, taken_by, came_at, brought_to, made_steps, HasArguments, ArgumentsAreIn, Fits, IsLegalTrace, AreLegalTraces, IsLegalRun}
 use Rattle.codec_accounts.specs.Owed.{at}
 use Rattle.codec_accounts.specs.Calls.{who_of}
 use Rattle.codec_accounts.specs.Codec.{state_after}
@@ -58,11 +61,13 @@ use Rattle.history_laws.specs.Outputs.{HoldsOwn}
 use Rattle.history_laws.specs.Numbers.{IsUpTo}
 use Rattle.history_laws.specs.NumberLaws.{step_up, opening_up}
 use Rattle.history_laws.specs.OutputLaws.{all_append, outputs_are}
+use Rattle.history_laws.specs.CountLaws.{outputs_each}
 use Rattle.run_ranges.specs.Counts.{traces_count, caller_of_step}
 use Rattle.run_ranges.specs.Ranges.{IsConfigWithin, IsChunkWithin, AreWithin}
-use Rattle.run_ranges.proofs.UnitRanges.{judge}
+use Rattle.run_ranges.proofs.UnitRanges.{IsUnitWithin, judge}
+use Rattle.run_ranges.proofs.TakenRanges.{takes_small}
 use Rattle.run_ranges.proofs.PoolRanges.{held_up_to, pool_ops_fit, pool_lines_fit, IsMadeStep, entry_made}
-use Rattle.run_ranges.proofs.MediaRanges.{IsContentWithin, IsAnswerWithin, IsChunkOfBytes, size_small_of, AreSteps, came_answers, media_fits}
+use Rattle.run_ranges.proofs.MediaRanges.{IsContentWithin, IsOutputWithin, IsAnswerWithin, FitsTaken, IsChunkOfBytes, size_small_of, AreSteps, came_answers, media_fits}
 use Rattle.run_ranges.proofs.EntryRanges.{IsOutcomeWithin, IsEntryWithin, lines_within}
 use Rattle.run_ranges.proofs.CourseRanges.{IsMomentOf, IsByUpTo, IsOpUpTo, IsCourseUpTo, course_up}
 
@@ -99,6 +104,7 @@ pub record IsKnown (s : ScriptData) (media : List (List Chunk)) (made : List Cod
   slots : length w.slots ≤ 2 * most_order
   pool : length w.pool ≤ most_order
   moments : (k p : ℕ) (e : Entry) → entry_in w k p ≡ Some e → IsMomentOf e
+  takes : (k p : ℕ) (who : Who) (unit : ℕ) → entry_in w k p ≡ Some (entry.Take who unit) → unit ≤ p
   ops : (i : ℕ) (e : SlotEntry) → slice_get w.slots i ≡ Some e → IsByUpTo most_order e.by × IsOpUpTo (length made) e.op
 
 by_most : (n m : ℕ) (b : By) → n ≤ m → IsByUpTo n b → IsByUpTo m b
@@ -132,6 +138,7 @@ known s media made run sound within legal fits =
       entries = here.1;
       slots = here.2;
       moments = here.3;
+      takes = takes_small s.codecs run.codecs legal.codecs;
       ops = here.4;
       pool = here.5;
     }
@@ -158,6 +165,13 @@ call_fits s media made w h calls c j k p error is =
     let kept = (calls_by_places s w calls).kept c j k p error is in
     (codec_known s media made w k h (at_there k p w.codecs kept.entry kept.stands), omega (arith, slice_get_within (at k w.codecs) p kept.entry kept.stands, h.entries k))
 
+take_fits : (s : ScriptData) (media : List (List Chunk)) (made : List CoderId) (w : Recorded) → IsKnown s media made w → CallsAreIn s w → (c j k p unit : ℕ) → result_in w c j ≡ Some (result.Unit k p unit) → FitsResult s (result.Unit k p unit)
+take_fits s media made w h calls c j k p unit is =
+    let who : Who = record { caller = c; step = j } in
+    let stands = (calls_by_places s w calls).taken c j k p unit is in
+    let place : p < 2 ^ 64 = omega (arith, slice_get_within (at k w.codecs) p (entry.Take who unit) stands, h.entries k) in
+    (codec_known s media made w k h (at_there k p w.codecs (entry.Take who unit) stands), place, omega (arith, place, h.takes k p who unit stands))
+
 look_there : (s : ScriptData) (media : List (List Chunk)) (made : List CoderId) (w : Recorded) (c k n : ℕ) (end : PromiseState) (x : Step) → IsKnown s media made w → CallsAreIn s w → LookShows s w c x (result.Look k n end) → IsCodec s k
 look_there s media made w c k n end (step.Await promise) h calls shows = (call_fits s media made w h calls c promise.step k shows.0 shows.1 shows.2).0
 look_there s media made w c k n end (step.Poll promise) h calls shows = (call_fits s media made w h calls c promise.step k shows.0 shows.1 shows.2).0
@@ -168,6 +182,7 @@ look_there s media made w c k n end (step.Flush on bind) h calls shows = absurd 
 look_there s media made w c k n end (step.Reset on) h calls shows = absurd shows
 look_there s media made w c k n end (step.Close on) h calls shows = absurd shows
 look_there s media made w c k n end (step.State on) h calls shows = absurd shows
+look_there s media made w c k n end (step.Media (media_step.Take on bind kind)) h calls shows = absurd shows
 look_there s media made w c k n end (step.Media m) h calls shows = absurd shows
 
 -- the size after a history is at most its length
@@ -191,6 +206,26 @@ take_few zero xs = omega arith
 take_few (suc n) [] = omega arith
 take_few (suc n) (x ∷ xs) = omega (arith, take_few n xs)
 
+-- a look of a take that found no output
+none_fits : (s : ScriptData) (media : List (List Chunk)) (made : List CoderId) (w : Recorded) (c j k n : ℕ) (x : Step) → is_sound s ≡ true → IsKnown s media made w → step_in s c j ≡ Some x → LookShows s w c x (result.NoUnit k n) → IsCodec s k
+none_fits s media made w c j k n (step.Media (media_step.Take on bind kind)) sound h is shows =
+    let x = step.Media (media_step.Take on bind kind) in
+    let caller = caller_of_step s.callers c j x is in
+    let fine = step_at s c j caller.0 x sound caller.1 caller.2 in
+    let there = codec_within s.codecs (gives kind) on (and_parts (is_codec s.codecs (gives kind) on) (is_free (take j caller.0.steps) bind) fine).0 in
+    let codec : k < length s.codecs = omega (arith, shows.0, there) in
+    (codec, omega (arith, codec, h.few.codecs))
+none_fits s media made w c j k n (step.Media m) sound h is shows = absurd shows
+none_fits s media made w c j k n (step.Await promise) sound h is shows = absurd shows
+none_fits s media made w c j k n (step.Poll promise) sound h is shows = absurd shows
+none_fits s media made w c j k n (step.Configure on config) sound h is shows = absurd shows
+none_fits s media made w c j k n (step.Chunk bind source) sound h is shows = absurd shows
+none_fits s media made w c j k n (step.Decode on chunk) sound h is shows = absurd shows
+none_fits s media made w c j k n (step.Flush on bind) sound h is shows = absurd shows
+none_fits s media made w c j k n (step.Reset on) sound h is shows = absurd shows
+none_fits s media made w c j k n (step.Close on) sound h is shows = absurd shows
+none_fits s media made w c j k n (step.State on) sound h is shows = absurd shows
+
 state_fits : (s : ScriptData) (media : List (List Chunk)) (made : List CoderId) (w : Recorded) (c j k n : ℕ) (state : CodecState) (size : ℕ) (x : Step) → is_sound s ≡ true → IsKnown s media made w → step_in s c j ≡ Some x → LookShows s w c x (result.State k n state size) → IsCodec s k × (size < 2 ^ 64)
 state_fits s media made w c j k n state size (step.State on) sound h is shows =
     let caller = caller_of_step s.callers c j (step.State on) is in
@@ -205,12 +240,103 @@ state_fits s media made w c j k n state size (step.Decode on chunk) sound h is s
 state_fits s media made w c j k n state size (step.Flush on bind) sound h is shows = absurd shows
 state_fits s media made w c j k n state size (step.Reset on) sound h is shows = absurd shows
 state_fits s media made w c j k n state size (step.Close on) sound h is shows = absurd shows
+state_fits s media made w c j k n state size (step.Media (media_step.Take on bind kind)) sound h is shows = absurd shows
 state_fits s media made w c j k n state size (step.Media m) sound h is shows = absurd shows
 
 -- a chunk of a step
 chunk_step : (media : List (List Chunk)) (steps : List Step) (j : ℕ) (o : Option Step) (chunk : Chunk) → slice_get steps j ≡ o → option_and_then (chunk_by media) o ≡ Some chunk → (x : Step) × (slice_get steps j ≡ Some x) × (chunk_by media x ≡ Some chunk)
 chunk_step media steps j None chunk is made = absurd cc
 chunk_step media steps j (Some x) chunk is made = (x, is, made)
+
+-- the config and the chunk of an entry are the script's
+config_within : (s : ScriptData) (media : List (List Chunk)) (made : List CoderId) (who : Who) (given : Config) (x : Step) → AreWithin s media made → step_in s who.caller who.step ≡ Some x → HasArguments s media who (entry.Configure who given) x → IsConfigWithin given
+config_within s media made who given (step.Configure on config) within is has =
+    let same : config ≡ given = cc in subst IsConfigWithin same (within.configs who.caller who.step on config is)
+config_within s media made who given (step.Chunk bind source) within is has = absurd has
+config_within s media made who given (step.Decode on chunk) within is has = absurd (let wrong = has.2 in cc)
+config_within s media made who given (step.Flush on bind) within is has = absurd cc
+config_within s media made who given (step.Poll promise) within is has = absurd has
+config_within s media made who given (step.Await promise) within is has = absurd has
+config_within s media made who given (step.Reset on) within is has = absurd cc
+config_within s media made who given (step.Close on) within is has = absurd cc
+config_within s media made who given (step.State on) within is has = absurd has
+config_within s media made who given (step.Media (media_step.Take on bind kind)) within is has = absurd (let wrong = has.1 in cc)
+config_within s media made who given (step.Media m) within is has = absurd has
+
+chunk_within : (s : ScriptData) (media : List (List Chunk)) (made : List CoderId) (who : Who) (given : Chunk) (x : Step) → AreWithin s media made → HasArguments s media who (entry.Decode who given) x → IsChunkWithin given
+chunk_within s media made who given (step.Decode on chunk) within has =
+    let same : has.0 ≡ given = (let e = has.2 in cc) in
+    let found = chunk_step media (steps_of s who.caller) chunk.step (slice_get (steps_of s who.caller) chunk.step) has.0 refl has.1 in
+    subst IsChunkWithin same (within.chunks who.caller chunk.step found.0 has.0 found.1 found.2)
+chunk_within s media made who given (step.Configure on config) within has = absurd cc
+chunk_within s media made who given (step.Chunk bind source) within has = absurd has
+chunk_within s media made who given (step.Flush on bind) within has = absurd cc
+chunk_within s media made who given (step.Poll promise) within has = absurd has
+chunk_within s media made who given (step.Await promise) within has = absurd has
+chunk_within s media made who given (step.Reset on) within has = absurd cc
+chunk_within s media made who given (step.Close on) within has = absurd cc
+chunk_within s media made who given (step.State on) within has = absurd has
+chunk_within s media made who given (step.Media (media_step.Take on bind kind)) within has = absurd (let wrong = has.1 in cc)
+chunk_within s media made who given (step.Media m) within has = absurd has
+
+-- no step encodes
+no_encode : (s : ScriptData) (media : List (List Chunk)) (who : Who) (given : Handed) (x : Step) → HasArguments s media who (entry.Encode who given) x → ⊥
+no_encode s media who given (step.Configure on config) has = absurd cc
+no_encode s media who given (step.Chunk bind source) has = has
+no_encode s media who given (step.Decode on chunk) has = absurd (let wrong = has.2 in cc)
+no_encode s media who given (step.Flush on bind) has = absurd cc
+no_encode s media who given (step.Poll promise) has = has
+no_encode s media who given (step.Await promise) has = has
+no_encode s media who given (step.Reset on) has = absurd cc
+no_encode s media who given (step.Close on) has = absurd cc
+no_encode s media who given (step.State on) has = has
+no_encode s media who given (step.Media (media_step.Take on bind kind)) has = absurd (let wrong = has.1 in cc)
+no_encode s media who given (step.Media m) has = has
+
+entry_own : (s : ScriptData) (media : List (List Chunk)) (made : List CoderId) (w : Recorded) → AreWithin s media made → ArgumentsAreIn s media w → (k p : ℕ) (e : Entry) → entry_in w k p ≡ Some e → HoldsOwn judge e
+entry_own s media made w within arguments k p (entry.Configure who config) is = λ valid. (let has = arguments k p (entry.Configure who config) who is refl in config_within s media made who config has.0 within has.1 has.2)
+entry_own s media made w within arguments k p (entry.Decode who chunk) is = let has = arguments k p (entry.Decode who chunk) who is refl in chunk_within s media made who chunk has.0 within has.2
+entry_own s media made w within arguments k p (entry.Encode who given) is = absurd (let has = arguments k p (entry.Encode who given) who is refl in no_encode s media who given has.0 has.2)
+entry_own s media made w within arguments k p (entry.Flush who) is = tt
+entry_own s media made w within arguments k p (entry.Reset who) is = tt
+entry_own s media made w within arguments k p (entry.Close who) is = tt
+entry_own s media made w within arguments k p (entry.Take who unit) is = tt
+entry_own s media made w within arguments k p (entry.Start epoch item) is = tt
+entry_own s media made w within arguments k p (entry.Done epoch item moment o) is = tt
+entry_own s media made w within arguments k p entry.Turn is = tt
+entry_own s media made w within arguments k p (entry.Reclaim moment) is = tt
+
+all_from : {X : Type 0} (P : X → Type 0) (xs : List X) → ((i : ℕ) (x : X) → slice_get xs i ≡ Some x → P x) → AllByRecursion P xs
+all_from P [] h = tt
+all_from P (x ∷ xs) h = (h 0 x refl, all_from P xs (λ i y is. h (suc i) y is))
+
+all_at : {X : Type 0} (P : X → Type 0) (xs : List X) (i : ℕ) (x : X) → AllByRecursion P xs → slice_get xs i ≡ Some x → P x
+all_at P [] i x h is = absurd cc
+all_at P (y ∷ ys) zero x h is = let same : y ≡ x = cc in subst P same h.0
+all_at P (y ∷ ys) (suc i) x h is = all_at P ys i x h.1 is
+
+-- each output of a history
+output_within : (s : ScriptData) (media : List (List Chunk)) (made : List CoderId) (w : Recorded) → AreWithin s media made → ArgumentsAreIn s media w → (k n : ℕ) (u : output.Unit) → output_at (opening_at s k) (at k w.codecs) n ≡ Some u → IsUnitWithin u
+output_within s media made w within arguments k n u is =
+    let own = all_from (HoldsOwn judge) (at k w.codecs) (λ p e at. entry_own s media made w within arguments k p e at) in
+    all_at IsUnitWithin (outputs_of (shown (opening_at s k) (at k w.codecs))) n u (outputs_each IsUnitWithin (opening_at s k) (at k w.codecs) (outputs_are judge (opening_at s k) (at k w.codecs) own)) is
+
+-- what a caller's step took
+taken_within : (s : ScriptData) (media : List (List Chunk)) (made : List CoderId) (w : Recorded) → AreWithin s media made → ArgumentsAreIn s media w → (o : Option StepResult) → IsOutputWithin (taken_by s w o)
+taken_within s media made w within arguments (Some (result.Unit k p n)) = one (output_at (opening_at s k) (at k w.codecs) n) refl
+  where
+    one : (o : Option output.Unit) → output_at (opening_at s k) (at k w.codecs) n ≡ o → IsOutputWithin (option_map (λ u. record { unit = u; answer = result.Unit k p n }) o)
+    one None is = tt
+    one (Some u) is = output_within s media made w within arguments k n u is
+taken_within s media made w within arguments o = tt
+
+taken_fits : (s : ScriptData) (media : List (List Chunk)) (made : List CoderId) (w : Recorded) → IsKnown s media made w → CallsAreIn s w → (c j : ℕ) (o : Option StepResult) → result_in w c j ≡ o → FitsTaken s (taken_by s w o)
+taken_fits s media made w h calls c j (Some (result.Unit k p n)) is = one (output_at (opening_at s k) (at k w.codecs) n)
+  where
+    one : (o : Option output.Unit) → FitsTaken s (option_map (λ u. record { unit = u; answer = result.Unit k p n }) o)
+    one None = tt
+    one (Some u) = take_fits s media made w h calls c j k p n is
+taken_fits s media made w h calls c j o is = tt
 
 -- what is known of a script's steps on media
 chunk_bytes : (s : ScriptData) (media : List (List Chunk)) (made : List CoderId) → AreWithin s media made → (c : ℕ) (o : Option ℕ) → IsChunkOfBytes (option_and_then (chunk_at media (steps_of s c)) o)
@@ -227,51 +353,61 @@ contents_within : (s : ScriptData) (media : List (List Chunk)) (made : List Code
 contents_within s media made c j (media_step.Frame bind (Some init)) within is = within.frames c j bind init is
 contents_within s media made c j x within is = tt
 
-steps_within : (s : ScriptData) (media : List (List Chunk)) (made : List CoderId) → is_sound s ≡ true → AreWithin s media made → AreSteps (steps_of s) (chunks_of s media)
-steps_within s media made sound within = record {
+steps_within : (s : ScriptData) (media : List (List Chunk)) (made : List CoderId) (w : Recorded) → is_sound s ≡ true → AreWithin s media made → IsKnown s media made w → CallsAreIn s w → ArgumentsAreIn s media w → AreSteps s (steps_of s) (brought_to s media w)
+steps_within s media made w sound within h calls arguments = record {
   contents = λ c j x is. contents_within s media made c j x within is;
-  copied = λ c x. chunk_bytes s media made within c (chunk_in x);
+  copied = λ c j x. chunk_bytes s media made within c (chunk_in x);
+  outputs = λ c j x. taken_within s media made w within arguments (result_in w c j);
+  told = λ c j x. taken_fits s media made w h calls c j (result_in w c j) refl;
   sizes = λ c j x is. (let caller = caller_of_step s.callers c j (step.Media x) is in size_small_of s.codecs (take j caller.0.steps) x (step_at s c j caller.0 (step.Media x) sound caller.1 caller.2));
 }
 
 -- copies and sizes are answers of steps on media alone
-copy_fits : (s : ScriptData) (media : List (List Chunk)) (came : Option Came) (c : ℕ) (x : Step) (n : ℕ) (bytes : List ℕ) → IsAnswerWithin s came → IsLocalAnswer s media came c x (result.Copied n bytes) → FitsResult s (result.Copied n bytes)
-copy_fits s media came c (step.Chunk bind source) n bytes within h = absurd cc
-copy_fits s media came c (step.Media m) n bytes within h = media_fits s came (result.Copied n bytes) within h
-copy_fits s media came c x n bytes within h = absurd h
+copy_fits : (s : ScriptData) (media : List (List Chunk)) (w : Recorded) (came : Option Came) (who : Who) (x : Step) (n : ℕ) (bytes : List ℕ) → IsAnswerWithin s came → IsResultOf s w who x (result.Copied n bytes) → IsLocalAnswer s media came who.caller x (result.Copied n bytes) → FitsResult s (result.Copied n bytes)
+copy_fits s media w came who (step.Chunk bind source) n bytes within of h = absurd cc
+copy_fits s media w came who (step.Media (media_step.Take on bind kind)) n bytes within of h = absurd of
+copy_fits s media w came who (step.Media m) n bytes within of h = media_fits s came (result.Copied n bytes) within h
+copy_fits s media w came who x n bytes within of h = absurd h
 
-frame_copy_fits : (s : ScriptData) (media : List (List Chunk)) (came : Option Came) (c : ℕ) (x : Step) (n : ℕ) (layouts : Layouts) (bytes : List ℕ) → IsAnswerWithin s came → IsLocalAnswer s media came c x (result.CopiedFrame n layouts bytes) → FitsResult s (result.CopiedFrame n layouts bytes)
-frame_copy_fits s media came c (step.Chunk bind source) n layouts bytes within h = absurd cc
-frame_copy_fits s media came c (step.Media m) n layouts bytes within h = media_fits s came (result.CopiedFrame n layouts bytes) within h
-frame_copy_fits s media came c x n layouts bytes within h = absurd h
+frame_copy_fits : (s : ScriptData) (media : List (List Chunk)) (w : Recorded) (came : Option Came) (who : Who) (x : Step) (n : ℕ) (layouts : Layouts) (bytes : List ℕ) → IsAnswerWithin s came → IsResultOf s w who x (result.CopiedFrame n layouts bytes) → IsLocalAnswer s media came who.caller x (result.CopiedFrame n layouts bytes) → FitsResult s (result.CopiedFrame n layouts bytes)
+frame_copy_fits s media w came who (step.Chunk bind source) n layouts bytes within of h = absurd cc
+frame_copy_fits s media w came who (step.Media (media_step.Take on bind kind)) n layouts bytes within of h = absurd of
+frame_copy_fits s media w came who (step.Media m) n layouts bytes within of h = media_fits s came (result.CopiedFrame n layouts bytes) within h
+frame_copy_fits s media w came who x n layouts bytes within of h = absurd h
 
-size_fits : (s : ScriptData) (media : List (List Chunk)) (came : Option Came) (c : ℕ) (x : Step) (n : ℕ) → IsAnswerWithin s came → IsLocalAnswer s media came c x (result.Size n) → FitsResult s (result.Size n)
-size_fits s media came c (step.Chunk bind source) n within h = absurd cc
-size_fits s media came c (step.Media m) n within h = media_fits s came (result.Size n) within h
-size_fits s media came c x n within h = absurd h
+size_fits : (s : ScriptData) (media : List (List Chunk)) (w : Recorded) (came : Option Came) (who : Who) (x : Step) (n : ℕ) → IsAnswerWithin s came → IsResultOf s w who x (result.Size n) → IsLocalAnswer s media came who.caller x (result.Size n) → FitsResult s (result.Size n)
+size_fits s media w came who (step.Chunk bind source) n within of h = absurd cc
+size_fits s media w came who (step.Media (media_step.Take on bind kind)) n within of h = absurd of
+size_fits s media w came who (step.Media m) n within of h = media_fits s came (result.Size n) within h
+size_fits s media w came who x n within of h = absurd h
 
-results_fit : (s : ScriptData) (media : List (List Chunk)) (made : List CoderId) (w : Recorded) → is_sound s ≡ true → AreWithin s media made → IsKnown s media made w → CallsAreIn s w → LooksAreIn s w → LocalsAreIn s media w → (c j : ℕ) (r : StepResult) → result_in w c j ≡ Some r → FitsResult s r
-results_fit s media made w sound within h calls looks locals c j (result.Call k p error) is = call_fits s media made w h calls c j k p error is
-results_fit s media made w sound within h calls looks locals c j (result.Local error) is = tt
-results_fit s media made w sound within h calls looks locals c j (result.Look k n end) is =
+results_fit : (s : ScriptData) (media : List (List Chunk)) (made : List CoderId) (w : Recorded) → is_sound s ≡ true → AreWithin s media made → IsKnown s media made w → CallsAreIn s w → LooksAreIn s w → ArgumentsAreIn s media w → LocalsAreIn s media w → (c j : ℕ) (r : StepResult) → result_in w c j ≡ Some r → FitsResult s r
+results_fit s media made w sound within h calls looks arguments locals c j (result.Call k p error) is = call_fits s media made w h calls c j k p error is
+results_fit s media made w sound within h calls looks arguments locals c j (result.Local error) is = tt
+results_fit s media made w sound within h calls looks arguments locals c j (result.Look k n end) is =
     let step = calls.made c j (result.Look k n end) is in
     let seen = (order_by_places w looks.climbs).within c j k n (result.Look k n end) is refl in
     (look_there s media made w c k n end step.0 h calls (looks.shows c j step.0 (result.Look k n end) step.1 is), omega (arith, seen, h.entries k))
-results_fit s media made w sound within h calls looks locals c j (result.State k n state size) is =
+results_fit s media made w sound within h calls looks arguments locals c j (result.State k n state size) is =
     let step = calls.made c j (result.State k n state size) is in
     let seen = (order_by_places w looks.climbs).within c j k n (result.State k n state size) is refl in
     let shown = state_fits s media made w c j k n state size step.0 sound h step.1 (looks.shows c j step.0 (result.State k n state size) step.1 is) in
     (shown.0, omega (arith, seen, h.entries k), shown.1)
-results_fit s media made w sound within h calls looks locals c j (result.Copied n bytes) is =
+results_fit s media made w sound within h calls looks arguments locals c j (result.Unit k p n) is = take_fits s media made w h calls c j k p n is
+results_fit s media made w sound within h calls looks arguments locals c j (result.NoUnit k n) is =
+    let step = calls.made c j (result.NoUnit k n) is in
+    let seen = (order_by_places w looks.climbs).within c j k n (result.NoUnit k n) is refl in
+    (none_fits s media made w c j k n step.0 sound h step.1 (looks.shows c j step.0 (result.NoUnit k n) step.1 is), omega (arith, seen, h.entries k))
+results_fit s media made w sound within h calls looks arguments locals c j (result.Copied n bytes) is =
     let step = calls.made c j (result.Copied n bytes) is in
-    copy_fits s media (came_at s media w c j) c step.0 n bytes (came_answers s (steps_of s) (chunks_of s media) w.pool c j (steps_within s media made sound within)) (locals c j step.0 (result.Copied n bytes) step.1 is)
-results_fit s media made w sound within h calls looks locals c j (result.CopiedFrame n layouts bytes) is =
+    copy_fits s media w (came_at s media w c j) (record { caller = c; step = j }) step.0 n bytes (came_answers s (steps_of s) (brought_to s media w) w.pool c j (steps_within s media made w sound within h calls arguments)) step.2 (locals c j step.0 (result.Copied n bytes) step.1 is)
+results_fit s media made w sound within h calls looks arguments locals c j (result.CopiedFrame n layouts bytes) is =
     let step = calls.made c j (result.CopiedFrame n layouts bytes) is in
-    frame_copy_fits s media (came_at s media w c j) c step.0 n layouts bytes (came_answers s (steps_of s) (chunks_of s media) w.pool c j (steps_within s media made sound within)) (locals c j step.0 (result.CopiedFrame n layouts bytes) step.1 is)
-results_fit s media made w sound within h calls looks locals c j (result.Size n) is =
+    frame_copy_fits s media w (came_at s media w c j) (record { caller = c; step = j }) step.0 n layouts bytes (came_answers s (steps_of s) (brought_to s media w) w.pool c j (steps_within s media made w sound within h calls arguments)) step.2 (locals c j step.0 (result.CopiedFrame n layouts bytes) step.1 is)
+results_fit s media made w sound within h calls looks arguments locals c j (result.Size n) is =
     let step = calls.made c j (result.Size n) is in
-    size_fits s media (came_at s media w c j) c step.0 n (came_answers s (steps_of s) (chunks_of s media) w.pool c j (steps_within s media made sound within)) (locals c j step.0 (result.Size n) step.1 is)
-results_fit s media made w sound within h calls looks locals c j result.Absent is = tt
+    size_fits s media w (came_at s media w c j) (record { caller = c; step = j }) step.0 n (came_answers s (steps_of s) (brought_to s media w) w.pool c j (steps_within s media made w sound within h calls arguments)) step.2 (locals c j step.0 (result.Size n) step.1 is)
+results_fit s media made w sound within h calls looks arguments locals c j result.Absent is = tt
 
 -- ---- entries
 
@@ -285,58 +421,20 @@ entry_within : (s : ScriptData) (media : List (List Chunk)) (made : List CoderId
 entry_within s media made w h calls boxes k p e is = by e is
   where
     who : (x : Entry) (name : Who) → entry_in w k p ≡ Some x → who_of x ≡ Some name → FitsWho s name
-    who x name at names = let kept = (calls_by_places s w calls).only k p x name at names in who_known s media made w name (result.Call k p kept.0) h kept.1
+    who x name at names = let kept = (calls_by_places s w calls).only k p x name at names in who_known s media made w name kept.0 h kept.1
 
     by : (x : Entry) → entry_in w k p ≡ Some x → IsEntryWithin s x
     by (entry.Configure name config) at = who (entry.Configure name config) name at refl
     by (entry.Decode name chunk) at = who (entry.Decode name chunk) name at refl
+    by (entry.Encode name handed) at = who (entry.Encode name handed) name at refl
     by (entry.Flush name) at = who (entry.Flush name) name at refl
     by (entry.Reset name) at = who (entry.Reset name) name at refl
     by (entry.Close name) at = who (entry.Close name) name at refl
+    by (entry.Take name unit) there = (who (entry.Take name unit) name there refl, omega (arith, h.takes k p name unit there, slice_get_within (at k w.codecs) p (entry.Take name unit) there, h.entries k))
     by (entry.Start epoch item) at = tt
     by (entry.Done epoch item moment o) at = (h.moments k p (entry.Done epoch item moment o) at, let end = boxes.ends k p epoch item moment o at in outcome_within s media made w _ o h end.says)
     by entry.Turn at = tt
     by (entry.Reclaim moment) at = h.moments k p (entry.Reclaim moment) at
-
--- the config and the chunk of an entry are the script's
-config_within : (s : ScriptData) (media : List (List Chunk)) (made : List CoderId) (who : Who) (given : Config) (x : Step) → AreWithin s media made → step_in s who.caller who.step ≡ Some x → HasArguments s media who (entry.Configure who given) x → IsConfigWithin given
-config_within s media made who given (step.Configure on config) within is has =
-    let same : config ≡ given = cc in subst IsConfigWithin same (within.configs who.caller who.step on config is)
-config_within s media made who given (step.Chunk bind source) within is has = absurd has
-config_within s media made who given (step.Decode on chunk) within is has = absurd (let wrong = has.2 in cc)
-config_within s media made who given (step.Flush on bind) within is has = absurd cc
-config_within s media made who given (step.Poll promise) within is has = absurd has
-config_within s media made who given (step.Await promise) within is has = absurd has
-config_within s media made who given (step.Reset on) within is has = absurd cc
-config_within s media made who given (step.Close on) within is has = absurd cc
-config_within s media made who given (step.State on) within is has = absurd has
-config_within s media made who given (step.Media m) within is has = absurd has
-
-chunk_within : (s : ScriptData) (media : List (List Chunk)) (made : List CoderId) (who : Who) (given : Chunk) (x : Step) → AreWithin s media made → HasArguments s media who (entry.Decode who given) x → IsChunkWithin given
-chunk_within s media made who given (step.Decode on chunk) within has =
-    let same : has.0 ≡ given = (let e = has.2 in cc) in
-    let found = chunk_step media (steps_of s who.caller) chunk.step (slice_get (steps_of s who.caller) chunk.step) has.0 refl has.1 in
-    subst IsChunkWithin same (within.chunks who.caller chunk.step found.0 has.0 found.1 found.2)
-chunk_within s media made who given (step.Configure on config) within has = absurd cc
-chunk_within s media made who given (step.Chunk bind source) within has = absurd has
-chunk_within s media made who given (step.Flush on bind) within has = absurd cc
-chunk_within s media made who given (step.Poll promise) within has = absurd has
-chunk_within s media made who given (step.Await promise) within has = absurd has
-chunk_within s media made who given (step.Reset on) within has = absurd cc
-chunk_within s media made who given (step.Close on) within has = absurd cc
-chunk_within s media made who given (step.State on) within has = absurd has
-chunk_within s media made who given (step.Media m) within has = absurd has
-
-entry_own : (s : ScriptData) (media : List (List Chunk)) (made : List CoderId) (w : Recorded) → AreWithin s media made → ArgumentsAreIn s media w → (k p : ℕ) (e : Entry) → entry_in w k p ≡ Some e → HoldsOwn judge e
-entry_own s media made w within arguments k p (entry.Configure who config) is = λ valid. (let has = arguments k p (entry.Configure who config) who is refl in config_within s media made who config has.0 within has.1 has.2)
-entry_own s media made w within arguments k p (entry.Decode who chunk) is = let has = arguments k p (entry.Decode who chunk) who is refl in chunk_within s media made who chunk has.0 within has.2
-entry_own s media made w within arguments k p (entry.Flush who) is = tt
-entry_own s media made w within arguments k p (entry.Reset who) is = tt
-entry_own s media made w within arguments k p (entry.Close who) is = tt
-entry_own s media made w within arguments k p (entry.Start epoch item) is = tt
-entry_own s media made w within arguments k p (entry.Done epoch item moment o) is = tt
-entry_own s media made w within arguments k p entry.Turn is = tt
-entry_own s media made w within arguments k p (entry.Reclaim moment) is = tt
 
 -- ---- the registry
 
@@ -377,10 +475,6 @@ caller_lines_fit s k (c ∷ cs) le few long h = (
       (result_lines_fit s 0 c.results (omega (arith, long 0)) (λ j r is. h 0 j r is)) (caller_lines_fit s (k + 1) cs (omega (arith, le)) few (λ i. long (suc i)) (λ i j r is. h (suc i) j r is)),
 )
 
-all_from : {X : Type 0} (P : X → Type 0) (xs : List X) → ((i : ℕ) (x : X) → slice_get xs i ≡ Some x → P x) → AllByRecursion P xs
-all_from P [] h = tt
-all_from P (x ∷ xs) h = (h 0 x refl, all_from P xs (λ i y is. h (suc i) y is))
-
 trace_lines_fit : (s : ScriptData) (c : CodecItem) (t : CodecTrace) → Always IsNeverStuck → IsLegalTrace c t → (1 ≤ c.saturation) × (c.saturation ≤ 64) → length t.entries ≤ most_order
     → ((p : ℕ) (e : Entry) → slice_get t.entries p ≡ Some e → IsEntryWithin s e × HoldsOwn judge e) → AllByRecursion (FitsLine s) (lines_from entry_lines 0 (zip t.entries t.shown))
 trace_lines_fit s c t always legal some long h =
@@ -420,11 +514,11 @@ lines_fit always numbered s media made run sound within legal fits =
     let w = recorded_of run in
     let h = known s media made run sound within legal fits in
     let count = traces_count s.codecs run.codecs legal.codecs in
-    let callers = caller_lines_fit s 0 run.callers (omega (arith, legal.callers)) h.few.callers h.results (λ c j r is. results_fit s media made w sound within h fits.calls fits.looks fits.locals c j r is) in
+    let callers = caller_lines_fit s 0 run.callers (omega (arith, legal.callers)) h.few.callers h.results (λ c j r is. results_fit s media made w sound within h fits.calls fits.looks fits.arguments fits.locals c j r is) in
     let codecs = codec_lines_fit s 0 s.codecs run.codecs always legal.codecs (omega (arith, count)) h.few.codecs (saturations s sound) h.entries
     (λ k p e is. (entry_within s media made w h fits.calls fits.boxes k p e is, entry_own s media made w within fits.arguments k p e is)) in
     let pool = pool_lines_fit s 0 run.pool (omega (arith, h.pool)) (λ n e is. (
-      pool_by_fits s media made w e.by h (entry_made (steps_of s) (chunks_of s media) (made_steps w) w.pool fits.accounted n e is),
+      pool_by_fits s media made w e.by h (entry_made (steps_of s) (brought_to s media w) (made_steps w) w.pool fits.accounted n e is),
       pool_ops_fit numbered run.pool (omega (arith, h.pool)) fits.accounted.legal n e is,
     )) in
     let slots = slot_lines_fit s 0 run.slots (omega (arith, h.slots)) (λ i e is. (let op = h.ops i e is in

@@ -52,6 +52,10 @@ frame_bytes_small h samples =
 
 -- ---- units
 
+-- no codec is given samples, since no step of a script encodes yet
+abbrev pub AreNoSamples : Samples → Type 0
+AreNoSamples samples = ⊥
+
 -- samples and pictures that are within their types; no codec gives another output for chunks
 abbrev pub IsUnitWithin : media.Unit → Type 0
 IsUnitWithin (unit.Sound samples) = FitsSound samples.shape samples.bytes
@@ -61,12 +65,12 @@ IsUnitWithin u = ⊥
 -- The units that a command gives: one at most, and within its type where the config and the command's chunk are.
 pub record AreGiven (c : Config) (x : Command) (us : List media.Unit) : Type 0 where
   pub few : length us ≤ 1
-  pub within : IsConfigWithin c → IsOwnCommand IsChunkWithin x → AllByRecursion IsUnitWithin us
+  pub within : IsConfigWithin c → IsOwnCommand IsChunkWithin AreNoSamples x → AllByRecursion IsUnitWithin us
 
 none_given : (c : Config) (x : Command) (us : List media.Unit) → ◌≡◌ {A = Option (List media.Unit)} (Some []) (Some us) → AreGiven c x us
 none_given c x us h = subst (AreGiven c x) (some_same [] us h) (record { few = omega arith; within = λ config chunk. tt })
 
-one_given : (c : Config) (x : Command) (u : media.Unit) (us : List media.Unit) → (IsConfigWithin c → IsOwnCommand IsChunkWithin x → IsUnitWithin u) → Some (u ∷ []) ≡ Some us → AreGiven c x us
+one_given : (c : Config) (x : Command) (u : media.Unit) (us : List media.Unit) → (IsConfigWithin c → IsOwnCommand IsChunkWithin AreNoSamples x → IsUnitWithin u) → Some (u ∷ []) ≡ Some us → AreGiven c x us
 one_given c x u us within h = subst (AreGiven c x) (some_same (u ∷ []) us h) (record { few = omega arith; within = λ config chunk. (within config chunk, tt) })
 
 -- a codec without a definition yet
@@ -78,7 +82,7 @@ undefined_given c command.Drain us h = none_given c command.Drain us h
 
 -- ---- codecs that code each sample by itself
 
-sound_or : (a b : Bool) (c : Config) (x : Command) (u : media.Unit) (us : List media.Unit) → (b ≡ true → IsConfigWithin c → IsOwnCommand IsChunkWithin x → IsUnitWithin u) → cond a (Some []) (cond b (Some (u ∷ [])) None) ≡ Some us → AreGiven c x us
+sound_or : (a b : Bool) (c : Config) (x : Command) (u : media.Unit) (us : List media.Unit) → (b ≡ true → IsConfigWithin c → IsOwnCommand IsChunkWithin AreNoSamples x → IsUnitWithin u) → cond a (Some []) (cond b (Some (u ∷ [])) None) ≡ Some us → AreGiven c x us
 sound_or true b c x u us within h = none_given c x us h
 sound_or false true c x u us within h = one_given c x u us (within refl) h
 sound_or false false c x u us within h = absurd cc
@@ -195,4 +199,12 @@ are_given id (config.VideoDecoder c) before x us h = raw_given (raw_shape id.cod
 are_given id config.Bad before x us h = undefined_given config.Bad x us h
 
 abbrev pub judge : Judge
-judge = record { config = IsConfigWithin; chunk = IsChunkWithin; output = IsUnitWithin; nothing = tt; gives = λ id c before x us own chunk_own h. (are_given id c before x us h).within own chunk_own }
+judge = record {
+  config = IsConfigWithin;
+  chunk = IsChunkWithin;
+  sound = AreNoSamples;
+  output = IsUnitWithin;
+  nothing = tt;
+  gives = λ id c before x us own input h. (are_given id c before x us h).within own input;
+  relabel = λ c old new carried own. absurd own;
+}

@@ -1,6 +1,6 @@
 -- What fits, said of single results and entries, by their places.
 use Rattle.std.proofs.Common.{ℕ, zero, suc, ◌≡◌, ◌≤◌, ◌<◌, List, [], ◌∷◌, length, map, Option, Some, None, refl, ap, sym, ◌∙◌, arith, subst, eq-eqb, cond, Bool}
-use Rattle.std.specs.Prelude.{slice_get, option_map, option_and_then}
+use Rattle.std.specs.Prelude.{slice_get, option_map}
 use Rattle.wc_base.specs.declared.error.DomError.{DomError}
 use Rattle.wc_base.specs.declared.who.Who.{Who}
 use Rattle.codec_model.specs.declared.entry.Entry.{Entry}
@@ -10,11 +10,10 @@ use Rattle.codec_accounts.specs.Calls.{who_of, Mark, reach}
 use Rattle.codec_accounts.specs.Calls as mark
 use Rattle.codec_accounts.specs.CallsLaws.{call_stands, names_call, climbs_between, climbs_within}
 use Rattle.script_types.specs.declared.script.ScriptData.{ScriptData}
-use Rattle.script_types.specs.declared.steps.Step.{Step}
 use Rattle.report_text.specs.declared.result.StepResult.{StepResult}
 use Rattle.report_text.specs.declared.result.StepResult.TheVariants as result
 use Rattle.trace_text.specs.Follow.{Recorded, opening_at}
-use Rattle.trace_text.specs.Fits.{result_in, entry_in, step_in, called, exception_at, mark_of, marks_of, taken_from, IsAnswerOf, IsResultBy, CallsAreIn, MarksClimb}
+use Rattle.trace_text.specs.Fits.{result_in, entry_in, called, exception_at, mark_of, marks_of, taken_from, IsResultBy, CallsAreIn, MarksClimb}
 
 -- The entry at this place is the call of this step, and shows this exception.
 pub record KeepsCall (s : ScriptData) (w : Recorded) (who : Who) (k p : ℕ) (error : Option DomError) : Type 0 where
@@ -79,7 +78,7 @@ shows_of s w who None None k p error h = absurd h
 shows_of s w who None (Some n) k p error h = subst (λ (m : ℕ). error ≡ exception_at (opening_at s m) (at m w.codecs) p) (sym h.0) h.1
 
 takes_of : (s : ScriptData) (w : Recorded) (who : Who) (t o : Option ℕ) (k p n : ℕ) → IsResultBy s w who t o (result.Unit k p n) → entry_in w k p ≡ Some (entry.Take who n)
-takes_of s w who (Some m) o k p n h = h.1
+takes_of s w who (Some m) o k p n h = subst (λ (i : ℕ). entry_in w i p ≡ Some (entry.Take who n)) (sym h.0) h.1
 takes_of s w who None None k p n h = absurd h
 takes_of s w who None (Some m) k p n h = absurd h
 

@@ -1,6 +1,6 @@
 -- What a script's order makes, item after item (our choice: the order of a script is the interleaving of its callers, of the
 -- work items and of the event tasks).
-use Rattle.std.specs.Prelude.{ℕ, zero, suc, ◌≡◌, ◌==◌, Bool, true, false, List, [], ◌∷◌, ◌++◌, length, map, slice_get, slice_set, Option, Some, None, option_map, option_and_then, unwrap_or, if◌then◌else◌}
+use Rattle.std.specs.Prelude.{ℕ, zero, suc, ◌≡◌, Bool, true, false, List, [], ◌∷◌, length, map, slice_get, Option, Some, None, option_map, option_and_then, unwrap_or, if◌then◌else◌}
 use Rattle.wc_base.specs.declared.error.DomError.{DomError}
 use Rattle.wc_base.specs.declared.error.DomError.TheVariants as dom
 use Rattle.wc_base.specs.declared.who.Who.{Who}
@@ -9,7 +9,6 @@ use Rattle.wc_chunk.specs.declared.chunk.Chunk.{Chunk}
 use Rattle.codec_definitions.specs.declared.unit.Unit as media
 use Rattle.coder_api.specs.declared.slot.SlotEntry.{SlotEntry}
 use Rattle.slot_registry.specs.Slots.{SlotsValue}
-use Rattle.wc_config.specs.declared.kind.Kind.{Kind}
 use Rattle.wc_config.specs.declared.kind.Kind.TheVariants as kind
 use Rattle.codec_model.specs.declared.entry.Opening.{Opening}
 use Rattle.codec_model.specs.declared.entry.Call.{Call}
@@ -43,7 +42,7 @@ use Rattle.script_types.specs.declared.script.OrderItem.TheVariants as item
 use Rattle.report_text.specs.declared.result.StepResult.{StepResult}
 use Rattle.report_text.specs.declared.result.StepResult.TheVariants as result
 use Rattle.wc_pool.specs.declared.entry.PoolEntry.{PoolEntry}
-use Rattle.media_variables.specs.Variables.{Media, Came, Taken, chunk_in, media_came, after_came, variables_of}
+use Rattle.media_variables.specs.Variables.{Media, Came, Taken, Brought, chunk_in, media_came, after_came, variables_of}
 
 -- What was recorded so far: each caller's results, each codec's history, the pool's of media, and the registry's.
 pub record Recorded : Type 0 where
@@ -247,10 +246,10 @@ take_move who k d (Some y) = Receive who k (entry.Take who (state_of d).control.
 
 abbrev pub media_move : ScriptData → List (List Chunk) → Who → MediaStep → Course → Move
 media_move s media who (on_media.Take on bind kind) v =
-    let b = record { chunk = None; taken = found_at on (codec_at on v.codecs) } in
+    let b : Brought = record { chunk = None; taken = found_at on (codec_at on v.codecs) } in
     take_move who on (codec_at on v.codecs) (media_came v.media.pool who b (on_media.Take on bind kind) (variables_of who.caller v.media.variables))
 media_move s media who x v =
-    let b = record { chunk = copied_chunk media (steps_of s who.caller) x; taken = None } in
+    let b : Brought = record { chunk = copied_chunk media (steps_of s who.caller) x; taken = None } in
     handle_move who (media_came v.media.pool who b x (variables_of who.caller v.media.variables))
 
 -- the step of a caller

@@ -2,12 +2,18 @@
 -- what was recorded, and the text of its report, as plain data.
 use Rattle.std.specs.Prelude.{ℕ, ◌≡◌, true, false, pos, List, [], ◌∷◌, ◌++◌, Some, None, codes}
 use Rattle.wc_base.specs.declared.who.By.TheVariants as by
+use Rattle.wc_base.specs.declared.media.Samples.{Samples}
+use Rattle.wc_base.specs.declared.media.SampleFormat.TheVariants.{S16}
 use Rattle.wc_chunk.specs.declared.chunk.Chunk.{Chunk}
+use Rattle.wc_pool.specs.declared.entry.PoolEntry.{PoolEntry}
+use Rattle.wc_pool.specs.declared.entry.PoolOp.TheVariants as pool
 use Rattle.wc_config.specs.declared.codec.CoderId.{CoderId}
 use Rattle.wc_config.specs.declared.codec.CodecId.TheVariants.{PcmS16}
 use Rattle.wc_config.specs.declared.codec.Role.TheVariants as role
 use Rattle.coder_api.specs.declared.slot.SlotEntry.{SlotEntry}
 use Rattle.coder_api.specs.declared.slot.SlotOp.TheVariants as slot
+use Rattle.codec_model.specs.declared.entry.Entry.{Entry}
+use Rattle.codec_model.specs.declared.entry.Entry.TheVariants as entry
 use Rattle.codec_model.specs.declared.entry.Event.{Event}
 use Rattle.codec_model.specs.declared.entry.Event.TheVariants as event
 use Rattle.codec_model.specs.declared.entry.PromiseState.TheVariants.{Resolved}
@@ -15,7 +21,7 @@ use Rattle.codec_model.specs.declared.entry.Shown.{Shown}
 use Rattle.codec_model.specs.declared.entry.TurnWord.{TurnWord}
 use Rattle.codec_model.specs.declared.entry.TurnWord.TheVariants as turn
 use Rattle.codec_model.specs.Shown.{each_shown}
-use Rattle.codec_model.specs.Rows.{four, pcm, unit, chunk, ordinary}
+use Rattle.codec_model.specs.Rows.{four, pcm, unit, chunk, step_of, ordinary}
 use Rattle.script_types.specs.declared.fault.Place.TheVariants as place
 use Rattle.script_types.specs.declared.script.ScriptData.{ScriptData}
 use Rattle.wc_config.specs.declared.kind.Kind.TheVariants as word
@@ -24,6 +30,7 @@ use Rattle.script_types.specs.declared.steps.ChunkInit.{ChunkInit}
 use Rattle.script_types.specs.declared.steps.ChunkSource.{ChunkSource}
 use Rattle.script_types.specs.declared.steps.ChunkSource.TheVariants as source
 use Rattle.script_types.specs.declared.steps.VariableKind.TheVariants as holds
+use Rattle.script_types.specs.declared.steps.MediaStep.TheVariants as on_media
 use Rattle.script_types.specs.declared.steps.Step.{Step}
 use Rattle.script_types.specs.declared.steps.Step.TheVariants as step
 use Rattle.script_types.specs.declared.script.OrderItem.{OrderItem}
@@ -31,7 +38,7 @@ use Rattle.script_types.specs.declared.script.OrderItem.TheVariants as item
 use Rattle.trace_text.specs.declared.run.Run.{Run}
 use Rattle.report_text.specs.declared.result.StepResult.{StepResult}
 use Rattle.report_text.specs.declared.result.StepResult.TheVariants as result
-use Rattle.trace_text.specs.Fits.{FollowsTheOrder}
+use Rattle.trace_text.specs.Fits.{FollowsTheOrder, IsLegalRun}
 use Rattle.trace_text.specs.Missing.{missing_in}
 use Rattle.trace_text.specs.Report.{report_of}
 
@@ -151,3 +158,55 @@ NothingMissing = missing_in file_script (two_chunks ∷ []) ≡ None
 -- a file of one chunk lacks the one that is named
 abbrev pub SecondMissing : Type 0
 SecondMissing = missing_in file_script ((chunk ∷ []) ∷ []) ≡ Some (0, place.Step 0 1)
+
+-- ---- the same run, whose caller then takes the output, and looks for another
+
+-- the samples that the ordinary run showed
+abbrev pub sound : Samples
+sound = record { shape = record { format = S16; rate = 8000; channels = 1; frames = 2; timestamp = pos 0 }; bytes = 1 ∷ 0 ∷ 2 ∷ 0 ∷ [] }
+
+abbrev pub takes : List Step
+takes = step.Media (on_media.Take 0 (codes "o") holds.Audio) ∷ step.Media (on_media.Take 0 (codes "q") holds.Audio) ∷ []
+
+abbrev pub taking_script : ScriptData
+taking_script = record {
+  codecs = decoder ∷ [];
+  callers = record { name = codes "a"; steps = steps_with (source.Init (Some init)) ++ takes } ∷ [];
+  order = Some (order ++ item.Caller 0 ∷ item.Caller 0 ∷ []);
+  chunk_files = [];
+  inline = 4;
+}
+
+abbrev pub taking_history : List Entry
+taking_history = ordinary ++ entry.Take (step_of 5) 0 ∷ []
+
+abbrev pub taking_results : List StepResult
+taking_results = results ++ result.Unit 0 14 0 ∷ result.NoUnit 0 15 ∷ []
+
+-- the output's bytes are those of a new resource
+abbrev pub make_entry : PoolEntry
+make_entry = record { by = by.Caller (step_of 5); op = pool.Make 0 0 }
+
+abbrev pub taking_run : Run
+taking_run = record {
+  callers = record { results = taking_results } ∷ [];
+  codecs = record { opening = four; entries = taking_history; shown = shown ++ quiet ∷ [] } ∷ [];
+  pool = make_entry ∷ [];
+  slots = acquire_entry ∷ [];
+  held = 1;
+}
+
+abbrev pub taking_text : List ℕ
+taking_text =
+    codes "wcrun report 1\n" ++ caller_part ++ codes "5 d.14 unit 0\n6 d:15 none\n" ++ codec_part ++ codes "14 a.5 take = 0\n"
+    ++ codes "pool\n0 a.5 make 0 0\nslots\n" ++ slot_part ++ codes "held 1\nend\n"
+
+abbrev pub TakingFollows : Type 0
+TakingFollows = FollowsTheOrder taking_script [] (coder ∷ []) taking_run
+
+-- the codec's history is legal, shows what stands beside its entries, and one reference is held
+abbrev pub TakingIsLegal : Type 0
+TakingIsLegal = IsLegalRun taking_script taking_run
+
+abbrev pub TakingReport : Type 0
+TakingReport = report_of taking_script taking_run ≡ taking_text

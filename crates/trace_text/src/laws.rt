@@ -4,8 +4,9 @@ ghost use Rattle.trace_text.specs.Follow.{Recorded};
 ghost use Rattle.trace_text.specs.FitsLaws.{CallsByPlaces, OrderByPlaces};
 ghost use Rattle.script_types.specs.declared.script.ScriptData.{ScriptData};
 
-/// A law: where calls stand once, each call's result names its entry, and each entry that names a caller's step is that
-/// step's call; where looks stand between them, the places of a caller's calls and looks on a codec rise with its steps.
+/// A law: where calls stand once, the result of each call and of each take that found an output names its entry, and each
+/// entry that names a caller's step is the one in that step's result; where looks stand between them, the places of a
+/// caller's calls, takes and looks on a codec rise with its steps.
 pub fn fits_by_places()
     ensures calls { (script : ScriptData) (run : Recorded) → CallsAreIn script run
         → CallsByPlaces script run }

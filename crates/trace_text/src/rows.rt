@@ -1,6 +1,7 @@
 // The report of a whole run and the boxes of whole histories, computed by the checker.
 ghost use Rattle.trace_text.specs.AccountsRows.{KeepsOne, LeavesAtTheEnd, LeavesForAnother};
 ghost use Rattle.trace_text.specs.Rows.{OrdinaryFollows, OrdinaryShown, OrdinaryReport, FileFollows, NothingMissing, SecondMissing};
+ghost use Rattle.trace_text.specs.Rows.{TakingFollows, TakingIsLegal, TakingReport};
 
 /// One configure, one chunk, one decode, one flush and one look at its promise: what the script's order makes, what the
 /// entries show, and the text of the report.
@@ -16,6 +17,14 @@ pub fn run_from_a_file()
     ensures follows { FileFollows }
     ensures there { NothingMissing }
     ensures missing { SecondMissing }
+{}
+
+/// The ordinary run, whose caller then takes the output that was shown, and finds no other: what the script's order makes,
+/// which is legal, and the text of the report.
+pub fn run_with_takes()
+    ensures follows { TakingFollows }
+    ensures legal { TakingIsLegal }
+    ensures report { TakingReport }
 {}
 
 /// Which entries ask for a box, and by which it leaves: in an ordinary run, in one with a reset while an item is at work,

@@ -1,5 +1,24 @@
--- The move of a step on media, by the codec that it takes an output of.
-use Rattle.std.proofs.Common.{ℕ, ◌≡◌, ◌∙◌, Option, Some, None, List, refl, ap, subst, ◌<◌}
+-- What a take of a caller finds and makes, and the move of a step on media.
+use Rattle.std.proofs.Common.{ℕ, zero, suc, ◌≡◌, ◌∙◌, ◌&&◌, ◌<◌, ◌≤◌, Bool, true, false, eq-eqb, Option, Some, None, is_some, List, [], ◌∷◌, length, refl, ap, sym, subst, arith}
+use Rattle.std.specs.Prelude.{slice_get, IfSome, IfNone, nat_lt, ◌==◌}
+use Rattle.std.specs.List.{AllByRecursion}
+use Rattle.std.proofs.lemmas.Bool.{ltb-false}
+use Rattle.std.proofs.lemmas.Option.{slice_get_past}
+use Rattle.wc_base.specs.Options.{some_same}
+use Rattle.codec_definitions.specs.declared.unit.Unit as media
+use Rattle.codec_definitions.specs.declared.unit.Unit.TheVariants as unit
+use Rattle.codec_model.specs.declared.entry.Entry.TheVariants as entry
+use Rattle.codec_model.specs.Control.{may_take}
+use Rattle.codec_model.specs.Shown.{shown, outputs_of}
+use Rattle.codec_core.specs.declared.reply.Taken.{Taken}
+use Rattle.codec_core.specs.Codec.{Codec, state_at, Makes}
+use Rattle.codec_core.specs.Job.{JobValue}
+use Rattle.history_laws.specs.Outputs.{IsWholeUnit}
+use Rattle.history_laws.specs.CountLaws.{shown_counted}
+use Rattle.history_laws.specs.WholeLaws.{outputs_are_whole}
+use Rattle.media_variables.specs.Held.{IsEnoughUnit}
+use Rattle.wc_replay.specs.Desk.{holding_of, IsDesk, Received}
+use Rattle.wc_replay.proofs.Desks.{seen, seen_more}
 use Rattle.wc_base.specs.declared.who.Who.{Who}
 use Rattle.wc_chunk.specs.declared.chunk.Chunk.{Chunk}
 use Rattle.script_types.specs.declared.script.ScriptData.{ScriptData}
@@ -49,3 +68,41 @@ named_within n (on_media.Transfer of bind) k is h = absurd cc
 named_within n (on_media.CloseData of) k is h = absurd cc
 named_within n (on_media.Copy of o size) k is h = absurd cc
 named_within n (on_media.Size of o) k is h = absurd cc
+
+-- ---- a codec's next output
+
+at_each : {X : Type 0} (P : X → Type 0) (xs : List X) (n : ℕ) (x : X) → AllByRecursion P xs → slice_get xs n ≡ Some x → P x
+at_each P [] n x all is = absurd cc
+at_each P (y ∷ ys) zero x all is = subst P (some_same y x is) all.0
+at_each P (y ∷ ys) (suc n) x all is = at_each P ys n x all.1 is
+
+enough : (u : media.Unit) → IsWholeUnit u → IsEnoughUnit u
+enough (unit.Sound s) h = omega (arith, h)
+enough (unit.Image p) h = omega (arith, h)
+enough (unit.Coded chunk config) h = tt
+
+second_false : (a b : Bool) → a ≡ true → false ≡ (a && b) → b ≡ false
+second_false true b a h = sym h
+second_false false b a h = absurd cc
+
+-- where no output may be taken none is left
+none_left : (old : Codec) (job : Option JobValue) (refusal : Option ℕ) → IsDesk old job refusal → false ≡ may_take (state_at old).control.taken (state_at old).control → slice_get (outputs_of (shown old.opening old.history)) (state_at old).control.taken ≡ None
+none_left old job refusal d may =
+    let c = (state_at old).control in
+    let less : c.shown ≤ c.taken = ltb-false c.taken c.shown (second_false (c.taken == c.taken) (nat_lt c.taken c.shown) (eq-eqb c.taken c.taken refl) may) in
+    let count = shown_counted old.opening old.history (state_at old) d.legal in
+    slice_get_past (outputs_of (shown old.opening old.history)) c.taken (omega (arith, less, count))
+
+pub received : (who : Who) (old new : Codec) (job : Option JobValue) (refusal : Option ℕ) (o : Option Taken) → IsDesk old job refusal
+    → is_some o ≡ may_take (state_at old).control.taken (state_at old).control
+    → IfSome o (λ t. Makes old new (entry.Take who t.number)) → IfSome o (λ t. t.place ≡ length old.history) → IfSome o (λ t. t.number ≡ (state_at old).control.taken)
+    → IfSome o (λ t. slice_get (outputs_of (shown old.opening old.history)) t.number ≡ Some t.unit)
+    → IfNone o (new ≡ old) → new.slot ≡ old.slot → Received who (seen old job refusal) (seen new job refusal) o
+received who old new job refusal None d may made place number unit none slot = (none_left old job refusal d may, ap (λ (c : Codec). seen c job refusal) none)
+received who old new job refusal (Some t) d may made place number unit none slot = record {
+  next = ap (λ (n : ℕ). slice_get (outputs_of (shown old.opening old.history)) n) (sym number) ∙ unit;
+  place = place;
+  number = number;
+  made = seen_more old new (entry.Take who t.number) job job refusal refusal (holding_of old.slot job refusal) made (ap (λ s. holding_of s job refusal) slot);
+  enough = enough t.unit (at_each IsWholeUnit (outputs_of (shown old.opening old.history)) t.number t.unit (outputs_are_whole old.opening old.history) unit);
+}

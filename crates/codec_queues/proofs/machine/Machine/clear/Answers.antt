@@ -17,6 +17,7 @@ invariant_of-self c =
       coded = rw c.clear-2.ensures.items (sym (ap (λ (n : ℕ). 0 + n) (none_coded c.self.inside.epoch c.self.inside.running c.self.invariant.ran)));
       promises = search rules;
       outputs = c.self.invariant.outputs;
+      takes = c.self.invariant.takes;
     }
 
 pub returns-clause-left : goal.returns-clause-left

@@ -1,6 +1,7 @@
 use Rattle.std.proofs.Common.{rules, arith, refl}
 use Rattle.codec_queues.proofs.Room.{room_left, sizes_up}
 use Rattle.codec_queues.proofs.Rising.{rising_next}
+use Rattle.codec_model.specs.declared.entry.Coded.TheVariants as coded
 use Rattle.codec_model.specs.declared.entry.Work.TheVariants as work
 use Rattle.codec_queues.proofs.machine.Machine.decode.Goals as goal
 
@@ -13,8 +14,9 @@ invariant_of-self-2 c = record {
   epochs = search rules;
   ran = c.self.invariant.ran;
   items = search rules;
-  sizes = rw (c.push_back_reserved.ensures.items, c.reserve_places.ensures.messages) (sizes_up c.self.inside.size c.self.inside.place (work.Coded c.args.chunk) c.self.inside.messages.items refl c.self.invariant.sizes);
+  sizes = rw (c.push_back_reserved.ensures.items, c.reserve_places.ensures.messages) (sizes_up c.self.inside.size c.self.inside.place (work.Coded (coded.Chunk c.args.chunk)) c.self.inside.messages.items refl c.self.invariant.sizes);
   coded = rw c.reserve_places.ensures.work c.self.invariant.coded;
   promises = rw c.reserve_places.ensures.pending (rising_next c.self.inside.pending.items c.self.inside.place c.self.invariant.promises);
   outputs = omega (arith, c.self.invariant.outputs);
+  takes = omega (arith, c.self.invariant.takes);
 }

@@ -17,4 +17,5 @@ invariant_of-self-2 c = record {
   coded = rw c.reserve_places.ensures.work c.self.invariant.coded;
   promises = rw (c.push_back_reserved.ensures.items, c.reserve_places.ensures.pending) (rising_push c.self.inside.pending.items c.self.inside.place c.self.invariant.promises);
   outputs = omega (arith, c.self.invariant.outputs);
+  takes = omega (arith, c.self.invariant.takes);
 }

@@ -16,4 +16,5 @@ invariant_of-self-2 c = record {
   coded = grind (arith, common_steps);
   promises = rising_next c.self.inside.pending.items c.self.inside.place c.self.invariant.promises;
   outputs = omega (arith, c.self.invariant.outputs);
+  takes = omega (arith, c.self.invariant.takes);
 }

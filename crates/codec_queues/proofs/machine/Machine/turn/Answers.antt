@@ -16,6 +16,23 @@ invariant_of-self-in-Unblock c = record {
   coded = search rules;
   promises = rising_next c.self.inside.pending.items c.self.inside.place c.self.invariant.promises;
   outputs = omega (arith, c.self.invariant.outputs);
+  takes = omega (arith, c.self.invariant.takes);
+}
+
+pub invariant_of-self-in-Unblock-4 : goal.invariant_of-self-in-Unblock-4
+invariant_of-self-in-Unblock-4 c = record {
+  counted = grind (arith, common_steps);
+  small = search rules;
+  for_work = search rules;
+  for_tasks = search rules;
+  epochs = search rules;
+  ran = search rules;
+  items = search rules;
+  sizes = search rules;
+  coded = search rules;
+  promises = rising_next c.self.inside.pending.items c.self.inside.place c.self.invariant.promises;
+  outputs = omega (arith, c.self.invariant.outputs);
+  takes = omega (arith, c.self.invariant.takes);
 }
 
 pub invariant_of-self-in-Process : goal.invariant_of-self-in-Process
@@ -31,6 +48,7 @@ invariant_of-self-in-Process c = record {
   coded = search rules;
   promises = rising_next c.self.inside.pending.items c.self.inside.place c.self.invariant.promises;
   outputs = omega (arith, c.self.invariant.outputs);
+  takes = omega (arith, c.self.invariant.takes);
 }
 
 pub invariant_of-self-in-Desaturate : goal.invariant_of-self-in-Desaturate
@@ -46,6 +64,7 @@ invariant_of-self-in-Desaturate c = record {
   coded = search rules;
   promises = rising_next c.self.inside.pending.items c.self.inside.place c.self.invariant.promises;
   outputs = omega (arith, c.self.invariant.outputs);
+  takes = omega (arith, c.self.invariant.takes);
 }
 
 pub invariant_of-self-in-Output : goal.invariant_of-self-in-Output
@@ -61,6 +80,7 @@ invariant_of-self-in-Output c = record {
   coded = search rules;
   promises = rising_next c.self.inside.pending.items c.self.inside.place c.self.invariant.promises;
   outputs = omega (arith, c.self.invariant.outputs);
+  takes = omega (arith, c.self.invariant.takes);
 }
 
 pub invariant_of-self-in-Flushed : goal.invariant_of-self-in-Flushed
@@ -76,6 +96,7 @@ invariant_of-self-in-Flushed c = record {
   coded = search rules;
   promises = rw c.remove_promise.ensures.items (rising_filter c.in-Flushed.promise c.self.inside.pending.items _ (rising_next c.self.inside.pending.items c.self.inside.place c.self.invariant.promises));
   outputs = omega (arith, c.self.invariant.outputs);
+  takes = omega (arith, c.self.invariant.takes);
 }
 
 pub invariant_of-self-in-Dequeue : goal.invariant_of-self-in-Dequeue
@@ -91,6 +112,23 @@ invariant_of-self-in-Dequeue c = record {
   coded = search rules;
   promises = rising_next c.self.inside.pending.items c.self.inside.place c.self.invariant.promises;
   outputs = omega (arith, c.self.invariant.outputs);
+  takes = omega (arith, c.self.invariant.takes);
+}
+
+pub invariant_of-self-in-Dequeue-4 : goal.invariant_of-self-in-Dequeue-4
+invariant_of-self-in-Dequeue-4 c = record {
+  counted = grind (arith, common_steps);
+  small = search rules;
+  for_work = search rules;
+  for_tasks = search rules;
+  epochs = search rules;
+  ran = search rules;
+  items = search rules;
+  sizes = search rules;
+  coded = search rules;
+  promises = rising_next c.self.inside.pending.items c.self.inside.place c.self.invariant.promises;
+  outputs = omega (arith, c.self.invariant.outputs);
+  takes = omega (arith, c.self.invariant.takes);
 }
 
 pub invariant_of-self-in-Close : goal.invariant_of-self-in-Close
@@ -106,4 +144,5 @@ invariant_of-self-in-Close c = record {
   coded = search rules;
   promises = rising_next c.self.inside.pending.items c.self.inside.place c.self.invariant.promises;
   outputs = omega (arith, c.self.invariant.outputs);
+  takes = omega (arith, c.self.invariant.takes);
 }

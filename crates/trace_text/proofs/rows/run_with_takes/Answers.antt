@@ -1,0 +1,37 @@
+-- The texts of numbers and bytes compute once their digits are opened.
+use Rattle.std.proofs.Common.{refl, false, [], ◌∷◌, Some, None}
+use Rattle.std.specs.Fmt.{digits}
+use Rattle.hex.specs.Hex.{encode_with}
+use Rattle.wc_base.specs.declared.who.By.TheVariants as by
+use Rattle.codec_model.specs.Rows.{four}
+use Rattle.media_variables.specs.Variables.{SoundOf}
+use Rattle.trace_text.specs.Rows.{coder, sound, taking_history, taking_results, make_entry, acquire_entry}
+use Rattle.trace_text.proofs.rows.run_with_takes.Goals as goal
+
+pub returns-clause-report : goal.returns-clause-report
+unfolding digits encode_with
+returns-clause-report c = refl
+
+pub returns-clause-legal : goal.returns-clause-legal
+returns-clause-legal c = record {
+  callers = refl;
+  codecs = (record { opening = refl; legal = refl; shown = refl }, tt);
+  held = refl;
+}
+
+-- no end wants memory, the codec has its box in the end, and the step that took the output holds it
+pub returns-clause-follows : goal.returns-clause-follows
+returns-clause-follows c = record {
+  course = record {
+    callers = taking_results ∷ [];
+    codecs = record { opening = four; history = taking_history; holding = record { box = Some (record { id = coder; number = 0; by = by.Codec 0 3 }); refusal = None } } ∷ [];
+    media = record {
+      variables =
+          (None ∷ None ∷ None ∷ None ∷ None ∷ Some (record { shape = SoundOf sound.shape; held = Some (record { resource = 0; number = 0; bytes = sound.bytes }) }) ∷ []) ∷ [];
+      pool = make_entry ∷ [];
+    };
+    slots = record { made = coder ∷ []; history = acquire_entry ∷ [] };
+  };
+  follows = (false, (false, (false, (false, (false, (false, (false, (false, (false, (false, (false, (false, (false, (false, (false, (false, (false, (false, refl))))))))))))))))));
+  is_recorded = refl;
+}
