@@ -47,7 +47,7 @@ look_read ds k place n d end is at_end ends = rw (at_end, ends, is) refl
 pub look_past : (ds : List CodecValue) (k place : ℕ) → length ds ≤ k → result.Look k 0 Pending ≡ look_at ds k place
 look_past ds k place beyond = rw (slice_get_past ds k beyond) refl
 
-set_same : (ds : List CodecValue) (k : ℕ) → slice_set ds k (codec_at k ds) ≡ ds
+pub set_same : (ds : List CodecValue) (k : ℕ) → slice_set ds k (codec_at k ds) ≡ ds
 set_same [] k = refl
 set_same (d ∷ ds) zero = refl
 set_same (d ∷ ds) (suc k) = ap (λ (l : List CodecValue). d ∷ l) (set_same ds k)

@@ -1,10 +1,15 @@
 -- What a take of a caller finds and makes, and the move of a step on media.
 use Rattle.std.proofs.Common.{ℕ, zero, suc, ◌≡◌, ◌∙◌, ◌&&◌, ◌<◌, ◌≤◌, Bool, true, false, eq-eqb, Option, Some, None, is_some, List, [], ◌∷◌, length, refl, ap, sym, subst, arith}
-use Rattle.std.specs.Prelude.{slice_get, IfSome, IfNone, nat_lt, ◌==◌}
+use Rattle.std.specs.Prelude.{slice_get, slice_set, IfSome, IfNone, IfOk, Result, Ok, Err, option_map, nat_lt, ◌==◌}
 use Rattle.std.specs.List.{AllByRecursion}
 use Rattle.std.proofs.lemmas.Bool.{ltb-false}
 use Rattle.std.proofs.lemmas.Option.{slice_get_past}
 use Rattle.wc_base.specs.Options.{some_same}
+use Rattle.wc_base.specs.declared.error.NoMemory.{NoMemory}
+use Rattle.slot_registry.specs.Slots.{SlotsValue}
+use Rattle.report_text.specs.declared.result.StepResult.{StepResult}
+use Rattle.report_text.specs.declared.result.StepResult.TheVariants as result
+use Rattle.codec_accounts.specs.Owed.{append_at}
 use Rattle.codec_definitions.specs.declared.unit.Unit as media
 use Rattle.codec_definitions.specs.declared.unit.Unit.TheVariants as unit
 use Rattle.codec_model.specs.declared.entry.Entry.TheVariants as entry
@@ -17,17 +22,19 @@ use Rattle.history_laws.specs.Outputs.{IsWholeUnit}
 use Rattle.history_laws.specs.CountLaws.{shown_counted}
 use Rattle.history_laws.specs.WholeLaws.{outputs_are_whole}
 use Rattle.media_variables.specs.Held.{IsEnoughUnit}
-use Rattle.wc_replay.specs.Desk.{holding_of, IsDesk, Received}
+use Rattle.wc_replay.specs.Desk.{holding_of, IsDesk, Takes, Received, more}
 use Rattle.wc_replay.proofs.Desks.{seen, seen_more}
+use Rattle.wc_replay.proofs.Looks.{set_same}
 use Rattle.wc_base.specs.declared.who.Who.{Who}
 use Rattle.wc_chunk.specs.declared.chunk.Chunk.{Chunk}
 use Rattle.script_types.specs.declared.script.ScriptData.{ScriptData}
 use Rattle.script_types.specs.declared.steps.Step.TheVariants as step
 use Rattle.script_types.specs.declared.steps.MediaStep.{MediaStep}
 use Rattle.script_types.specs.declared.steps.MediaStep.TheVariants as on_media
-use Rattle.codec_accounts.specs.Codec.{codec_at}
-use Rattle.media_variables.specs.Variables.{media_came, taken_came, variables_of}
-use Rattle.trace_text.specs.Follow.{Course, media_move, take_move, found_at, handle_move, copied_chunk, steps_of}
+use Rattle.codec_accounts.specs.Codec.{CodecValue, codec_at, state_of}
+use Rattle.media_variables.specs.Variables as variables
+use Rattle.media_variables.specs.Variables.{Media, Came, IsCome, media_came, taken_came, unit_came, after_came, variables_of}
+use Rattle.trace_text.specs.Follow.{Course, after_move, media_move, take_move, found_at, handle_move, copied_chunk, steps_of}
 use Rattle.trace_text.specs.Fits.{taken_from}
 use Rattle.wc_replay.specs.Player.{LooksInRange}
 
@@ -106,3 +113,56 @@ received who old new job refusal (Some t) d may made place number unit none slot
   made = seen_more old new (entry.Take who t.number) job job refusal refusal (holding_of old.slot job refusal) made (ap (λ s. holding_of s job refusal) slot);
   enough = enough t.unit (at_each IsWholeUnit (outputs_of (shown old.opening old.history)) t.number t.unit (outputs_are_whole old.opening old.history) unit);
 }
+
+-- the same, as a call on a core answers it
+pub receives : (r : Result (Option Taken) NoMemory) (who : Who) (old new : Codec) (job : Option JobValue) (refusal : Option ℕ) (v : CodecValue) → IsDesk old job refusal → seen old job refusal ≡ v
+    → IfOk r (λ o. is_some o ≡ may_take (state_at old).control.taken (state_at old).control)
+    → IfOk r (λ o. IfSome o (λ t. Makes old new (entry.Take who t.number))) → IfOk r (λ o. IfSome o (λ t. t.place ≡ length old.history)) → IfOk r (λ o. IfSome o (λ t. t.number ≡ (state_at old).control.taken))
+    → IfOk r (λ o. IfSome o (λ t. slice_get (outputs_of (shown old.opening old.history)) t.number ≡ Some t.unit))
+    → IfOk r (λ o. IfNone o (new ≡ old)) → new.slot ≡ old.slot → IfOk r (Received who v (seen new job refusal))
+receives (Ok o) who old new job refusal v d is may made place number unit none slot = subst (λ (x : CodecValue). Received who x (seen new job refusal) o) is (received who old new job refusal o d may made place number unit none slot)
+receives (Err e) who old new job refusal v d is may made place number unit none slot = tt
+
+-- ---- the move of a take
+
+same_all : (a b : List (List StepResult)) (c d : List CodecValue) (m n : Media) (s : SlotsValue) → a ≡ b → c ≡ d → m ≡ n → ◌≡◌ {A = Course} (record { callers = a; codecs = c; media = m; slots = s }) (record { callers = b; codecs = d; media = n; slots = s })
+same_all a b c d m n s p q r = cc
+
+-- what a take finds, where the next output is this one
+found : (k : ℕ) (d : CodecValue) (who : Who) (new : CodecValue) (t : Taken) → Takes who d new t → found_at k d ≡ Some (record { unit = t.unit; answer = result.Unit k t.place t.number })
+found k d who new t is =
+    ap (λ (o : Option media.Unit). option_map (λ u. record { unit = u; answer = result.Unit k (length d.history) (state_of d).control.taken }) o) is.next
+    ∙ ap (λ (x : ℕ × ℕ). Some (taken_with t.unit (result.Unit k x.0 x.1))) (pair_is (length d.history) t.place (state_of d).control.taken t.number (sym is.place) (sym is.number))
+  where
+    taken_with : media.Unit → StepResult → variables.Taken
+    taken_with u r = record { unit = u; answer = r }
+
+    pair_is : (a b c d : ℕ) → a ≡ b → c ≡ d → ◌≡◌ {A = ℕ × ℕ} (a, c) (b, d)
+    pair_is a b c d p q = cc
+
+-- a take that found an output is its move
+pub took : (v : Course) (who : Who) (k : ℕ) (t : Taken) (new : CodecValue) (callers : List (List StepResult)) (codecs : List CodecValue) (m : Media) (r : StepResult)
+    → Takes who (codec_at k v.codecs) new t → codecs ≡ slice_set v.codecs k new
+    → IsCome v.media m who (taken_came v.media.pool who.step (Some (record { unit = t.unit; answer = result.Unit k t.place t.number })) (variables_of who.caller v.media.variables)) (Some r)
+    → callers ≡ append_at who.caller r v.callers
+    → ◌≡◌ {A = Course} (record { callers = callers; codecs = codecs; media = m; slots = v.slots }) (after_move (take_move who k (codec_at k v.codecs) (taken_came v.media.pool who.step (found_at k (codec_at k v.codecs)) (variables_of who.caller v.media.variables))) v)
+took v who k t new callers codecs m r is set come noted =
+    let d = codec_at k v.codecs in
+    let y : Came = unit_came v.media.pool who.step (result.Unit k t.place t.number) t.unit (variables_of who.caller v.media.variables) in
+    let answer : r ≡ y.answer = some_same r y.answer come.0 in
+    let entry_is : new ≡ more (entry.Take who (state_of d).control.taken) d = is.made ∙ ap (λ (n : ℕ). more (entry.Take who n) d) is.number in
+    same_all callers (append_at who.caller y.answer v.callers) codecs (slice_set v.codecs k (more (entry.Take who (state_of d).control.taken) d)) m (after_came who y v.media) v.slots
+        (noted ∙ ap (λ (x : StepResult). append_at who.caller x v.callers) answer) (set ∙ ap (λ (x : CodecValue). slice_set v.codecs k x) entry_is) come.1
+    ∙ ap (λ (o : Option variables.Taken). after_move (take_move who k d (taken_came v.media.pool who.step o (variables_of who.caller v.media.variables))) v) (sym (found k d who new t is))
+
+-- a take that found none is a look
+pub found_none : (v : Course) (who : Who) (k : ℕ) (new : CodecValue) (callers : List (List StepResult)) (codecs : List CodecValue) (r : StepResult)
+    → Received who (codec_at k v.codecs) new None → codecs ≡ slice_set v.codecs k new → r ≡ result.NoUnit k (length new.history) → callers ≡ append_at who.caller r v.callers
+    → ◌≡◌ {A = Course} (record { callers = callers; codecs = codecs; media = v.media; slots = v.slots }) (after_move (take_move who k (codec_at k v.codecs) (taken_came v.media.pool who.step (found_at k (codec_at k v.codecs)) (variables_of who.caller v.media.variables))) v)
+found_none v who k new callers codecs r is set came noted =
+    let d = codec_at k v.codecs in
+    let none : found_at k d ≡ None = ap (λ (o : Option media.Unit). option_map (λ u. record { unit = u; answer = result.Unit k (length d.history) (state_of d).control.taken }) o) is.0 in
+    same_all callers (append_at who.caller (result.NoUnit k (length d.history)) v.callers) codecs v.codecs v.media v.media v.slots
+        (noted ∙ ap (λ (x : StepResult). append_at who.caller x v.callers) (came ∙ ap (λ (x : CodecValue). result.NoUnit k (length x.history)) is.1))
+        (set ∙ (ap (λ (x : CodecValue). slice_set v.codecs k x) is.1 ∙ set_same v.codecs k)) refl
+    ∙ ap (λ (o : Option variables.Taken). after_move (take_move who k d (taken_came v.media.pool who.step o (variables_of who.caller v.media.variables))) v) (sym none)

@@ -4,7 +4,7 @@ ghost use Rattle.codec_accounts.specs.Codec.{codec_at, AreGivable};
 ghost use Rattle.codec_accounts.specs.Owed.{at};
 ghost use Rattle.trace_text.specs.Fits.{called, taken_from};
 ghost use Rattle.script_types.specs.declared.steps.Step.TheVariants as a_step;
-ghost use Rattle.media_variables.specs.Variables.{media_came, taken_came, variables_of};
+ghost use Rattle.media_variables.specs.Variables.{Brought, media_came, taken_came, variables_of};
 ghost use Rattle.trace_text.specs.Follow.{with_result, after_move, advance, item_entry, call_move, decode_move, handle_move, media_move, take_move, found_at, removal_move, look_of_flush, look_of_state, step_move, follow_item, steps_of, source_error};
 ghost use Rattle.report_text.specs.declared.result.StepResult.TheVariants as came;
 ghost use Rattle.script_types.specs.declared.script.OrderItem.TheVariants as item;
@@ -240,7 +240,7 @@ impl<C: Coder> Player<C> {
         step: &MediaStep,
     ) -> Result<(), NoMemory>
         requires { who.caller < length self.old.media.variables }
-        ensures { let b = record { chunk = chunk; taken = None } in
+        ensures { let b : Brought = record { chunk = chunk; taken = None } in
             OnOk result
             (self.new
             ≡ after_move

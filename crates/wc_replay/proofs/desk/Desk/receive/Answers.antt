@@ -1,5 +1,8 @@
-use Rattle.std.proofs.Common.{subst}
-use Rattle.codec_accounts.specs.Codec.{CodecValue}
-use Rattle.std.proofs.lemmas.Result.{IfOk-at_ok}
-use Rattle.wc_replay.proofs.Takes.{received}
+use Rattle.wc_replay.proofs.Takes.{receives}
 use Rattle.wc_replay.proofs.desk.Desk.receive.Goals as goal
+
+pub returns : goal.returns
+returns g c =
+    let d = c.self.inside in
+    let said = c.take.ensures in
+    receives c.take.result c.args.who d.core c.take.new.self d.job d.refusal c.args.self.now c.self.invariant c.self.view_is said.may said.made said.place said.number said.unit said.none said.slot
