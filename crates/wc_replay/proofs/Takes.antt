@@ -152,7 +152,7 @@ took v who k t new callers codecs m r is set come noted =
     let answer : r ≡ y.answer = some_same r y.answer come.0 in
     let entry_is : new ≡ more (entry.Take who (state_of d).control.taken) d = is.made ∙ ap (λ (n : ℕ). more (entry.Take who n) d) is.number in
     same_all callers (append_at who.caller y.answer v.callers) codecs (slice_set v.codecs k (more (entry.Take who (state_of d).control.taken) d)) m (after_came who y v.media) v.slots
-        (noted ∙ ap (λ (x : StepResult). append_at who.caller x v.callers) answer) (set ∙ ap (λ (x : CodecValue). slice_set v.codecs k x) entry_is) come.1
+    (noted ∙ ap (λ (x : StepResult). append_at who.caller x v.callers) answer) (set ∙ ap (λ (x : CodecValue). slice_set v.codecs k x) entry_is) come.1
     ∙ ap (λ (o : Option variables.Taken). after_move (take_move who k d (taken_came v.media.pool who.step o (variables_of who.caller v.media.variables))) v) (sym (found k d who new t is))
 
 -- a take that found none is a look
@@ -163,6 +163,6 @@ found_none v who k new callers codecs r is set came noted =
     let d = codec_at k v.codecs in
     let none : found_at k d ≡ None = ap (λ (o : Option media.Unit). option_map (λ u. record { unit = u; answer = result.Unit k (length d.history) (state_of d).control.taken }) o) is.0 in
     same_all callers (append_at who.caller (result.NoUnit k (length d.history)) v.callers) codecs v.codecs v.media v.media v.slots
-        (noted ∙ ap (λ (x : StepResult). append_at who.caller x v.callers) (came ∙ ap (λ (x : CodecValue). result.NoUnit k (length x.history)) is.1))
-        (set ∙ (ap (λ (x : CodecValue). slice_set v.codecs k x) is.1 ∙ set_same v.codecs k)) refl
+    (noted ∙ ap (λ (x : StepResult). append_at who.caller x v.callers) (came ∙ ap (λ (x : CodecValue). result.NoUnit k (length x.history)) is.1))
+    (set ∙ (ap (λ (x : CodecValue). slice_set v.codecs k x) is.1 ∙ set_same v.codecs k)) refl
     ∙ ap (λ (o : Option variables.Taken). after_move (take_move who k d (taken_came v.media.pool who.step o (variables_of who.caller v.media.variables))) v) (sym none)
