@@ -1,3 +1,6 @@
+ghost use Rattle.std.specs.Prelude.{◌≡◌, None, true};
+ghost use Rattle.codec_queues.specs.Labels.{label_of};
+
 use bytes::Bytes;
 use codec_model::{Call, CodecState, Ended, Event, Kind, Opening};
 use codec_queues::Machine;
@@ -56,11 +59,25 @@ fn start(machine: &mut Machine) -> bool {
     machine.place() < 100 && machine.start().is_some()
 }
 
+// Whether no config goes with an end.
+fn is_bare(ended: &Ended) -> bool
+    ensures { result ≡ true → label_of ended.now ≡ None }
+{
+    match ended {
+        Ended::Ran(units) => match units.as_slice() {
+            [] => true,
+            [Unit::Sound(_), ..] => true,
+            _ => false,
+        },
+        _ => false,
+    }
+}
+
 fn ends(machine: &mut Machine, ended: Ended, moment: u64) -> bool {
-    if machine.place() >= 100 || machine.running().is_none() {
+    if machine.place() >= 100 || machine.running().is_none() || !is_bare(&ended) {
         return false;
     }
-    machine.done(ended, moment);
+    machine.done(ended, moment, None);
     true
 }
 
