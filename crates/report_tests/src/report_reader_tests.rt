@@ -369,10 +369,26 @@ fn lines_that_differ(rt: HostRuntime) -> Result<(), Fail> {
 fn takes_and_encodes_that_no_step_makes(rt: HostRuntime) -> Result<(), Fail> {
     let rows = [
         // a step that takes nothing, an output that was not shown, and calls that no step makes
-        (RESOLVED, "13 turn flushed\n  resolve 2\n14 a.4 take = 0\n", 26),
-        (RESOLVED, "13 turn flushed\n  resolve 2\n14 a.5 take = 1\n", 26),
-        (RESOLVED, "13 turn flushed\n  resolve 2\n14 a.5 encode = ok\n", 26),
-        (RESOLVED, "13 turn flushed\n  resolve 2\n14 a.5 flush = ok\n", 26),
+        (
+            RESOLVED,
+            "13 turn flushed\n  resolve 2\n14 a.4 take = 0\n",
+            26,
+        ),
+        (
+            RESOLVED,
+            "13 turn flushed\n  resolve 2\n14 a.5 take = 1\n",
+            26,
+        ),
+        (
+            RESOLVED,
+            "13 turn flushed\n  resolve 2\n14 a.5 encode = ok\n",
+            26,
+        ),
+        (
+            RESOLVED,
+            "13 turn flushed\n  resolve 2\n14 a.5 flush = ok\n",
+            26,
+        ),
         ("0 a.0 configure = ok", "0 a.0 take = 0", 9),
         ("1 a.2 decode = ok", "1 a.2 encode = ok", 10),
         // a take before any output is shown
