@@ -1,6 +1,6 @@
 -- The ordinary run and its report.
 use Rattle.std.specs.Prelude.{◌≡◌, [], ◌∷◌, codes}
-use Rattle.trace_text.specs.Rows.{ordinary_script, file_script, two_chunks, ordinary_run}
+use Rattle.trace_text.specs.Rows.{ordinary_script, file_script, two_chunks, ordinary_run, taking_script, taking_run}
 use Rattle.trace_text.specs.Report.{lines_of}
 use Rattle.report_reader.specs.Read.{run_of}
 use Rattle.report_reader.specs.Told.{IsTold}
@@ -12,6 +12,10 @@ OrdinaryAgain = run_of ordinary_script [] (lines_of ordinary_run) ≡ ordinary_r
 
 abbrev pub FileAgain : Type 0
 FileAgain = run_of file_script (two_chunks ∷ []) (lines_of ordinary_run) ≡ ordinary_run
+
+-- and so do those of the run whose caller takes the output
+abbrev pub TakingAgain : Type 0
+TakingAgain = run_of taking_script [] (lines_of taking_run) ≡ taking_run
 
 -- the run is told by its report
 abbrev pub OrdinaryTold : Type 0

@@ -6,7 +6,7 @@ ghost use Rattle.script_types.specs.declared.steps.Step.TheVariants as step;
 ghost use Rattle.script_types.specs.declared.steps.VariableKind.TheVariants as holds;
 ghost use Rattle.script_types.specs.declared.steps.ChunkSource.TheVariants as source;
 ghost use Rattle.script_types.specs.Sound.{is_sound};
-ghost use Rattle.trace_text.specs.Rows.{init, steps_with};
+ghost use Rattle.trace_text.specs.Rows.{init, steps_with, takes};
 
 use bytes::Bytes;
 use codec_model::Entry;
@@ -83,11 +83,7 @@ fn take(alloc: Global, name: &str) -> Result<Step, Fail>
 
 // The ordinary steps, and two takes behind them.
 fn steps(alloc: Global) -> Result<Vec<Step>, Fail>
-    ensures { IfOk result
-        (λ v. v.items
-        ≡ steps_with (source.Init (Some init))
-        ++ step.Media (on_media.Take 0 (codes "o") holds.Audio)
-        ∷ step.Media (on_media.Take 0 (codes "q") holds.Audio) ∷ []) }
+    ensures { IfOk result (λ v. v.items ≡ steps_with (source.Init (Some init)) ++ takes) }
 {
     let decode = Step::Decode {
         on: 0,
@@ -369,14 +365,30 @@ fn lines_that_differ(rt: HostRuntime) -> Result<(), Fail> {
 fn takes_and_encodes_that_no_step_makes(rt: HostRuntime) -> Result<(), Fail> {
     let rows = [
         // a step that takes nothing, an output that was not shown, and calls that no step makes
-        (RESOLVED, "13 turn flushed\n  resolve 2\n14 a.4 take = 0\n", 26),
-        (RESOLVED, "13 turn flushed\n  resolve 2\n14 a.5 take = 1\n", 26),
-        (RESOLVED, "13 turn flushed\n  resolve 2\n14 a.5 encode = ok\n", 26),
-        (RESOLVED, "13 turn flushed\n  resolve 2\n14 a.5 flush = ok\n", 26),
+        (
+            RESOLVED,
+            "13 turn flushed\n  resolve 2\n14 a.4 take = 0\n",
+            26,
+        ),
+        (
+            RESOLVED,
+            "13 turn flushed\n  resolve 2\n14 a.5 take = 1\n",
+            26,
+        ),
+        (
+            RESOLVED,
+            "13 turn flushed\n  resolve 2\n14 a.5 encode = ok\n",
+            26,
+        ),
+        (
+            RESOLVED,
+            "13 turn flushed\n  resolve 2\n14 a.5 flush = ok\n",
+            26,
+        ),
         ("0 a.0 configure = ok", "0 a.0 take = 0", 9),
         ("1 a.2 decode = ok", "1 a.2 encode = ok", 10),
         // a take before any output is shown
-        ("10 turn output", "10 a.5 take = 0\n11 turn output", 20),
+        ("9 turn dequeue", "9 a.5 take = 0", 18),
     ];
     each_is_refused(&rt, rt.alloc(), &rows)
 }

@@ -2,7 +2,9 @@
 use bytes::Bytes;
 use codec_model::{CodecState, Kind, Opening, Outcome};
 use coder_api::{SlotEntry, SlotOp};
-use report_text::{CallWord, EntryLine, EventLine, Line, StepResult, caller_name, codec_name, line_text};
+use report_text::{
+    CallWord, EntryLine, EventLine, Line, StepResult, caller_name, codec_name, line_text,
+};
 use script_types::{CallerItem, CodecItem, ScriptData};
 use std::alloc::Global;
 use std::process::Abort;
