@@ -4,7 +4,8 @@ use std::test::Fail;
 
 // Two callers take the outputs of one decoder in their order: none is left before the first and after the second; the
 // second take leaves the codec before it is reset, and its samples stay with the caller.
-const SOUND: &str = r#"{"codecs":[{"name":"d","kind":"audio-decoder"}],"callers":[{"name":"a","steps":[
+const SOUND: &str =
+    r#"{"codecs":[{"name":"d","kind":"audio-decoder"}],"callers":[{"name":"a","steps":[
 {"do":"configure","on":"d","config":{"codec":"pcm-s16","sampleRate":8000,"numberOfChannels":1}},
 {"do":"chunk","as":"c","init":{"type":"key","timestamp":0,"data":"01000200"}},
 {"do":"decode","on":"d","chunk":"c"},
@@ -74,7 +75,8 @@ end
 ";
 
 // A picture that was shown before its codec was closed is taken after it.
-const PICTURE: &str = r#"{"codecs":[{"name":"v","kind":"video-decoder"}],"callers":[{"name":"a","steps":[
+const PICTURE: &str =
+    r#"{"codecs":[{"name":"v","kind":"video-decoder"}],"callers":[{"name":"a","steps":[
 {"do":"configure","on":"v","config":{"codec":"x-raw-i420","codedWidth":3,"codedHeight":1}},
 {"do":"chunk","as":"k","init":{"type":"key","timestamp":0,"duration":40000,"data":"00010203040506ff"}},
 {"do":"decode","on":"v","chunk":"k"},
