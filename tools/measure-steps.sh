@@ -1,7 +1,8 @@
 #!/usr/bin/env bash
 # Replays scripts of many steps, and prints what each costs: tools/measure-steps.sh [PROGRAM]
 # shown: each chunk is decoded and shown before the next comes. queued: all decodes are called before any work begins.
-# flushes: all steps flush, and no work begins before. Wants /usr/bin/time and valgrind.
+# flushes: all steps flush, and no work begins before. taken: half of the steps decode, each shown before the next, and the
+# others then take what was shown. Wants /usr/bin/time and valgrind.
 cd "$(dirname "$0")/.." || exit 2
 program=$(realpath "${1:-crates/wcrun/out/wcrun}") || exit 2
 work=$(mktemp -d) || exit 2
@@ -13,17 +14,20 @@ script() {
     printf "{\"codecs\":[{\"name\":\"d\",\"kind\":\"audio-decoder\"}],\"callers\":[{\"name\":\"a\",\"steps\":["
     printf "{\"do\":\"configure\",\"on\":\"d\",\"config\":{\"codec\":\"pcm-s16\",\"sampleRate\":8000,\"numberOfChannels\":1}},"
     printf "{\"do\":\"chunk\",\"as\":\"c\",\"init\":{\"type\":\"key\",\"timestamp\":0,\"data\":\"0100\"}}"
+    half = kind == "taken" ? n / 2 + 1 : n
     for (i = 2; i < n; i++) {
-      if (kind == "flushes") printf ",{\"do\":\"flush\",\"on\":\"d\",\"as\":\"p%d\"}", i
+      if (i >= half) printf ",{\"do\":\"take\",\"on\":\"d\",\"as\":\"t%d\"}", i
+      else if (kind == "flushes") printf ",{\"do\":\"flush\",\"on\":\"d\",\"as\":\"p%d\"}", i
       else printf ",{\"do\":\"decode\",\"on\":\"d\",\"chunk\":\"c\"}"
     }
     printf "]}],\"order\":[\"a\",{\"start\":\"d\"},{\"done\":\"d\",\"at\":1},{\"turn\":\"d\"},{\"turn\":\"d\"},\"a\""
-    if (kind != "shown") for (i = 2; i < n; i++) printf ",\"a\""
-    for (i = 2; i < n; i++) {
-      if (kind == "shown") printf ",\"a\""
+    if (kind == "queued" || kind == "flushes") for (i = 2; i < n; i++) printf ",\"a\""
+    for (i = 2; i < half; i++) {
+      if (kind == "shown" || kind == "taken") printf ",\"a\""
       printf ",{\"start\":\"d\"},{\"done\":\"d\",\"at\":%d},{\"turn\":\"d\"},{\"turn\":\"d\"}", i
     }
     if (kind == "queued") for (i = 2; i < n; i++) printf ",{\"turn\":\"d\"}"
+    for (i = half; i < n; i++) printf ",\"a\""
     printf "]}\n"
   }'
 }
@@ -39,3 +43,4 @@ measure() {
 for steps in 25000 50000 100000; do measure shown "$steps"; done
 for steps in 2500 5000 10000; do measure queued "$steps"; done
 for steps in 2500 5000 10000; do measure flushes "$steps"; done
+for steps in 25000 50000 100000; do measure taken "$steps"; done
