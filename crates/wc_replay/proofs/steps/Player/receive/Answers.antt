@@ -1,8 +1,7 @@
-use Rattle.std.proofs.Common.{ℕ, ◌≡◌, Option, Some, None, sym, ap, subst, ◌∙◌}
+use Rattle.std.proofs.Common.{Option, Some, ap, subst, ◌∙◌}
 use Rattle.std.proofs.lemmas.Result.{on_ok_weaker}
 use Rattle.codec_core.specs.declared.reply.Taken.{Taken}
 use Rattle.codec_accounts.specs.Codec.{codec_at}
-use Rattle.codec_accounts.specs.Owed.{append_at}
 use Rattle.media_variables.specs.Variables.{IsCome, taken_came, variables_of}
 use Rattle.report_text.specs.declared.result.StepResult.{StepResult}
 use Rattle.trace_text.specs.Follow.{Course, after_move, take_move, found_at}
