@@ -3,14 +3,14 @@ ghost use Rattle.std.specs.Prelude.{◌≡◌, ℕ, None, Option, Some, is_some,
 ghost use Rattle.codec_core.specs.Job.{IsJob, IsJobOf, IsEndOf, EndsBy, missing_id, stopped_box, with_box, done_with, wants};
 ghost use Rattle.codec_core.specs.Codec.{IsBy, IsAskedAt};
 ghost use Rattle.codec_core.specs.Owning.{IsOwnJob};
-ghost use Rattle.codec_model.specs.Control.{kind_of};
+ghost use Rattle.codec_model.specs.Control.{kind_of, held_of};
 ghost use Rattle.codec_model.specs.Replay.{State, Given, answer_to};
 ghost use Rattle.codec_queues.specs.Labels.{label_of};
 ghost use Rattle.codec_model.specs.declared.entry.Ended.TheVariants as ended;
 
 use crate::labels::with_label;
 use crate::work::{kind_of_work, missing_id, work_end};
-use codec_model::{Ended, Work, WorkKind};
+use codec_model::{Coded, Ended, Pair, Work, WorkKind};
 use coder_api::{Coder, SlotBox};
 use std::alloc::Global;
 use std::marker::Model;
@@ -73,6 +73,18 @@ impl<C: Coder> Job<C> {
         ensures { result ≡ self.now.place }
     {
         self.place
+    }
+
+    /// The reference that its item holds, if it holds one.
+    pub fn held(&self) -> Option<Pair>
+        ensures { result ≡ held_of self.now.work }
+    {
+        match &self.work {
+            Work::Coded(Coded::Sound(sound)) => Some(sound.pair),
+            Work::Coded(Coded::Chunk(_)) => None,
+            Work::Configure(_) => None,
+            Work::Flush => None,
+        }
     }
 
     /// The id of the coder that the job has no box of: some exactly for the configure job of a supported config whose
