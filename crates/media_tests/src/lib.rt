@@ -4,6 +4,8 @@
 #[cfg(test)]
 mod conversion_tests;
 #[cfg(test)]
+mod lent_media_tests;
+#[cfg(test)]
 mod media_variables_tests;
 #[cfg(test)]
 mod wc_audio_tests;

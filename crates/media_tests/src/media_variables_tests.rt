@@ -19,7 +19,7 @@ use wc_video::{Layouts, PlaneLayout};
 
 /// A step on media. A variable is named by the number of the step that defines it.
 #[derive(Clone, Copy)]
-enum Act {
+pub(crate) enum Act {
     /// Makes audio data with two frames of two channels, of this content; without one the init breaks a rule
     /// of WebIDL.
     Audio(Option<&'static [u8]>),
@@ -40,7 +40,7 @@ enum Act {
 
 /// What a step is to answer.
 #[derive(Clone, Copy)]
-enum Wanted {
+pub(crate) enum Wanted {
     Done,
     Refused(DomError),
     Absent,
@@ -53,11 +53,11 @@ enum Wanted {
     Nothing,
 }
 
-const SOUND: &[u8] = &[1, 0, 2, 0, 3, 0, 4, 0];
+pub(crate) const SOUND: &[u8] = &[1, 0, 2, 0, 3, 0, 4, 0];
 
 const PICTURE: &[u8] = &[0, 1, 2, 3, 4, 5, 6, 7, 8, 9, 10, 11, 12, 13, 14, 15, 16];
 
-fn shared(alloc: Global, content: &[u8]) -> Result<Bytes, Fail> {
+pub(crate) fn shared(alloc: Global, content: &[u8]) -> Result<Bytes, Fail> {
     Ok(Bytes::from_vec(Vec::from_slice(alloc, content)?)?)
 }
 
@@ -247,7 +247,7 @@ fn caller(alloc: Global, name: &str) -> Result<CallerItem, Fail> {
 }
 
 /// The media of two callers.
-fn opened(alloc: Global) -> Result<CallerMedia, Fail>
+pub(crate) fn opened(alloc: Global) -> Result<CallerMedia, Fail>
     ensures { IfOk result (λ m. length m.variables ≡ 2) }
 {
     let callers = vec![in alloc; caller(alloc, "a")?, caller(alloc, "b")?]?;
@@ -256,7 +256,7 @@ fn opened(alloc: Global) -> Result<CallerMedia, Fail>
 
 /// Makes a step of the first or the second caller, and tells whether this is its answer.
 #[tactic(auto, using(crate::proofs::Kept::callers_kept))]
-fn comes_to(
+pub(crate) fn comes_to(
     alloc: Global,
     media: &mut CallerMedia,
     who: Who,
@@ -299,7 +299,7 @@ fn each_comes_to(
     Ok(())
 }
 
-fn plain(plane: u32, format: Option<FormatWord>) -> Option<AudioOptions> {
+pub(crate) fn plain(plane: u32, format: Option<FormatWord>) -> Option<AudioOptions> {
     Some(AudioOptions {
         plane,
         offset: 0,
@@ -366,28 +366,28 @@ const MEETING: &[LayoutWords] = &[
     },
 ];
 
-fn entry(caller: u32, step: u32, op: PoolOp) -> PoolEntry {
+pub(crate) fn entry(caller: u32, step: u32, op: PoolOp) -> PoolEntry {
     PoolEntry {
         by: By::Caller(Who { caller, step }),
         op,
     }
 }
 
-fn make(resource: u64, reference: u64) -> PoolOp {
+pub(crate) fn make(resource: u64, reference: u64) -> PoolOp {
     PoolOp::Make {
         resource,
         reference,
     }
 }
 
-fn cloned(resource: u64, reference: u64) -> PoolOp {
+pub(crate) fn cloned(resource: u64, reference: u64) -> PoolOp {
     PoolOp::Clone {
         resource,
         reference,
     }
 }
 
-fn end(resource: u64, reference: u64, last: bool) -> PoolOp {
+pub(crate) fn end(resource: u64, reference: u64, last: bool) -> PoolOp {
     PoolOp::End {
         resource,
         reference,

@@ -14,7 +14,7 @@ use Rattle.wc_pool.specs.Pools.{Adds, ended_by}
 use Rattle.wc_audio.specs.Sound as sound
 use Rattle.wc_video.specs.Frames as frames
 use Rattle.media_variables.specs.Variables.{entries_of}
-use Rattle.media_variables.specs.Held.{reference_of}
+use Rattle.media_variables.specs.Held.{reference_of, pair_of, ends_behind}
 use Rattle.media_variables.specs.Given.{closed_op}
 
 abbrev one_if : Bool → ℕ
@@ -50,15 +50,16 @@ flag_is cause r f false h legal =
     let next = and_parts (is_live r f h) (is_held r (h ++ end_of cause r f false ∷ [])) legal in
     sym (ap not next.1)
 
-ends : (who : Who) (pool new : List PoolEntry) (r : MediaRef) (last : Bool) → Adds pool new (ended_by (by.Caller who) r last) → new ≡ pool ++ entries_of who (closed_op pool who (Some (reference_of r)))
-ends who pool new r last h =
-    let flag = flag_is (by.Caller who) r.resource r.number last pool h.next in
-    h.longer ∙ ap (λ (b : Bool). pool ++ end_of (by.Caller who) r.resource r.number b ∷ []) flag
+-- the end of a reference, with the flag that it has to have
+pub ends : (cause : By) (pool new : List PoolEntry) (r : MediaRef) (last : Bool) → Adds pool new (ended_by cause r last) → new ≡ pool ++ ends_behind cause pool (pair_of r ∷ [])
+ends cause pool new r last h =
+    let flag = flag_is cause r.resource r.number last pool h.next in
+    h.longer ∙ ap (λ (b : Bool). pool ++ end_of cause r.resource r.number b ∷ []) flag
 
 pub closes_audio : (who : Who) (pool new : List PoolEntry) (held : Option MediaRef) (last : Bool) → sound.Closes (Adds pool new) (new ≡ pool) (by.Caller who) held last → new ≡ pool ++ entries_of who (closed_op pool who (option_map reference_of held))
 closes_audio who pool new None last h = h.0 ∙ sym (append-nil pool)
-closes_audio who pool new (Some r) last h = ends who pool new r last h
+closes_audio who pool new (Some r) last h = ends (by.Caller who) pool new r last h
 
 pub closes_frame : (who : Who) (pool new : List PoolEntry) (held : Option MediaRef) (last : Bool) → frames.Closes (Adds pool new) (new ≡ pool) (by.Caller who) held last → new ≡ pool ++ entries_of who (closed_op pool who (option_map reference_of held))
 closes_frame who pool new None last h = h.0 ∙ sym (append-nil pool)
-closes_frame who pool new (Some r) last h = ends who pool new r last h
+closes_frame who pool new (Some r) last h = ends (by.Caller who) pool new r last h

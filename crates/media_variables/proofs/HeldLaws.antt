@@ -26,7 +26,7 @@ use Rattle.script_types.specs.declared.options.Options.{Options}
 use Rattle.script_types.specs.declared.options.Options.TheVariants as options
 use Rattle.report_text.specs.declared.result.StepResult.{StepResult}
 use Rattle.report_text.specs.declared.result.StepResult.TheVariants as result
-use Rattle.media_variables.specs.Variables.{Reference, Shape, SoundOf, PictureOf, Medium, Came, refused, entries_of, with_medium, detached, medium_at, variables_of, only_answers, makes, audio_came, frame_came, clone_held, transfer_held, close_held, if_there, is_last, copy_came, copy_chunk, copy_medium, size_of_medium, Taken, Brought, unit_came, taken_came, media_came, IsCome, CameTo}
+use Rattle.media_variables.specs.Variables.{Reference, Shape, SoundOf, PictureOf, Medium, Came, refused, entries_of, with_medium, detached, medium_at, variables_of, only_answers, makes, audio_came, frame_came, clone_held, transfer_held, close_held, if_there, is_last, chunk_of_variable, chunk_medium, copy_came, copy_chunk, copy_medium, size_of_medium, Taken, Brought, unit_came, taken_came, media_came, IsCome, CameTo}
 use Rattle.media_variables.specs.Held.{held_by, reference_at, IsLiveIn, IsHeldIn, AreHeld, AreLive, StayHeld}
 use Rattle.media_variables.specs.Given.{Comes, Reaches}
 use Rattle.media_variables.proofs.Ends.{resource_more}
@@ -111,7 +111,7 @@ taken pool old new k j r p h lives free =
     }
 
 -- the same variables after other histories
-carried : (pool new : List PoolEntry) (all : List (List (Option Medium))) → ((l i : ℕ) (s : Reference) → reference_at all l i ≡ Some s → IsLiveIn pool s → IsLiveIn new s) → AreHeld pool all → AreHeld new all
+pub carried : (pool new : List PoolEntry) (all : List (List (Option Medium))) → ((l i : ℕ) (s : Reference) → reference_at all l i ≡ Some s → IsLiveIn pool s → IsLiveIn new s) → AreHeld pool all → AreHeld new all
 carried pool new all keeps h = record { live = λ l i s e. keeps l i s e (h.live l i s e); apart = h.apart }
 
 other_test : (a b : ℕ) → a ≢ b → (a == b) ≡ false
@@ -124,18 +124,18 @@ mint who o = record { by = by.Caller who; op = o }
 abbrev pub Mints : PoolEntry → ℕ → ℕ → Type 0
 Mints e r f = (g : ℕ) (held : Option ℕ) → resource_after g held e ≡ (if f == g then Some r else held)
 
-minted_live : (pool : List PoolEntry) (e : PoolEntry) (r f : ℕ) → Mints e r f → resource_of f (pool ++ e ∷ []) ≡ Some r
+pub minted_live : (pool : List PoolEntry) (e : PoolEntry) (r f : ℕ) → Mints e r f → resource_of f (pool ++ e ∷ []) ≡ Some r
 minted_live pool e r f m = resource_more f pool e ∙ m f (resource_of f pool) ∙ ap (λ (b : Bool). if b then Some r else resource_of f pool) (eq-eqb f f refl)
 
 minted_others : (pool : List PoolEntry) (e : PoolEntry) (r f g : ℕ) → Mints e r f → f ≢ g → resource_of g (pool ++ e ∷ []) ≡ resource_of g pool
 minted_others pool e r f g m apart = resource_more g pool e ∙ m g (resource_of g pool) ∙ ap (λ (b : Bool). if b then Some r else resource_of g pool) (other_test f g apart)
 
-fresh : LiveAreNumbered → (pool : List PoolEntry) (all : List (List (Option Medium))) → is_legal_pool pool ≡ true → AreHeld pool all → IsFree all (references_made pool)
+pub fresh : LiveAreNumbered → (pool : List PoolEntry) (all : List (List (Option Medium))) → is_legal_pool pool ≡ true → AreHeld pool all → IsFree all (references_made pool)
 fresh numbered pool all legal h = record {
   none = λ l i s e same. let lt = (numbered pool s.number s.resource legal (h.live l i s e)).0 in omega arith;
 }
 
-minted_held : LiveAreNumbered → (pool : List PoolEntry) (e : PoolEntry) (r : ℕ) (all : List (List (Option Medium))) → is_legal_pool pool ≡ true → Mints e r (references_made pool) → AreHeld pool all → AreHeld (pool ++ e ∷ []) all
+pub minted_held : LiveAreNumbered → (pool : List PoolEntry) (e : PoolEntry) (r : ℕ) (all : List (List (Option Medium))) → is_legal_pool pool ≡ true → Mints e r (references_made pool) → AreHeld pool all → AreHeld (pool ++ e ∷ []) all
 minted_held numbered pool e r all legal m h =
     carried pool (pool ++ e ∷ []) all (λ l i s there lives.
     let lt = (numbered pool s.number s.resource legal lives).0 in
@@ -229,7 +229,7 @@ keeps_if_there pool who all None came h each = keeps_all pool who all result.Abs
 keeps_if_there pool who all (Some m) came h each = each m refl
 
 keeps_copy : (pool : List PoolEntry) (who : Who) (all : List (List (Option Medium))) (chunk : Option Chunk) (of : ℕ) (o : Options) (size : ℕ) → Has pool who all → Keeps pool who all (copy_came chunk of o size (variables_of who.caller all))
-keeps_copy pool who all chunk of options.Nothing size h = keeps_all pool who all (copy_chunk chunk size) h
+keeps_copy pool who all chunk of options.Nothing size h = keeps_all pool who all (copy_chunk (chunk_of_variable chunk (variables_of who.caller all) of) size) h
 keeps_copy pool who all chunk of (options.Audio o) size h =
     keeps_if_there pool who all (medium_at (variables_of who.caller all) of) _ h (λ m e. keeps_all pool who all (copy_medium m (options.Audio o) size) h)
 keeps_copy pool who all chunk of (options.Frame o) size h =
@@ -240,10 +240,17 @@ abbrev KeepsIf : List PoolEntry → Who → List (List (Option Medium)) → Opti
 KeepsIf pool who all None = Unit {0}
 KeepsIf pool who all (Some c) = Keeps pool who all c
 
+-- a chunk in a variable, which holds no reference
+keeps_chunk : (pool : List PoolEntry) (who : Who) (all : List (List (Option Medium))) (answer : StepResult) (chunk : Chunk) → Has pool who all → Keeps pool who all (record { answer = answer; variables = with_medium who.step (chunk_medium chunk) (variables_of who.caller all); does = None })
+keeps_chunk pool who all answer chunk h =
+    let new = slice_set all who.caller (with_medium who.step (chunk_medium chunk) (variables_of who.caller all)) in
+    let p = puts all who.caller who.step (chunk_medium chunk) h.there in
+    subst (λ (x : List PoolEntry). AreHeld x new) (sym (append-nil pool)) (let_go pool all new who.caller who.step p h.held)
+
 keeps_unit : (pool : List PoolEntry) (who : Who) (all : List (List (Option Medium))) (answer : StepResult) (u : output.Unit) → Has pool who all → Keeps pool who all (unit_came pool who.step answer u (variables_of who.caller all))
 keeps_unit pool who all answer (unit.Sound s) h = keeps_made pool who all (SoundOf s.shape) s.bytes h
 keeps_unit pool who all answer (unit.Image p) h = keeps_made pool who all (PictureOf p.shape) p.bytes h
-keeps_unit pool who all answer (unit.Coded chunk config) h = keeps_all pool who all answer h
+keeps_unit pool who all answer (unit.Coded chunk config) h = keeps_chunk pool who all answer chunk h
 
 keeps_taken : (pool : List PoolEntry) (who : Who) (all : List (List (Option Medium))) (t : Option Taken) → Has pool who all → KeepsIf pool who all (taken_came pool who.step t (variables_of who.caller all))
 keeps_taken pool who all None h = tt

@@ -2,5 +2,6 @@ pub mod CopyLaws
 pub mod Ends
 pub mod HeldLaws
 pub mod LegalLaws
+pub mod LendLaws
 pub mod Places
 pub mod StepLaws

@@ -94,3 +94,9 @@ variables_within (suc k) (x ∷ xs) vs h = variables_within k xs vs h
 
 pub variables_read : (k : ℕ) (all : List (List (Option Medium))) (vs : List (Option Medium)) → k < length all → vs ≡ get_or all k vs → variables_of k all ≡ vs
 variables_read k all vs lt is = variables_within k all vs (slice_get_read all (length all) k vs refl lt is)
+
+-- a caller that is not there has no variables
+pub variables_past : (k : ℕ) (all : List (List (Option Medium))) → length all ≤ k → variables_of k all ≡ []
+variables_past k [] beyond = refl
+variables_past zero (x ∷ xs) beyond = absurd (omega arith)
+variables_past (suc k) (x ∷ xs) beyond = variables_past k xs (omega arith)

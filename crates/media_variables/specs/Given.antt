@@ -16,7 +16,7 @@ use Rattle.script_types.specs.declared.steps.PictureInit.{PictureInit}
 use Rattle.report_text.specs.declared.result.StepResult.{StepResult}
 use Rattle.report_text.specs.declared.result.StepResult.TheVariants as result
 use Rattle.media_variables.specs.declared.given.Given.{Given}
-use Rattle.media_variables.specs.Variables.{Reference, Shape, SoundOf, PictureOf, Medium, Came, refused, detached, entries_of, is_last, with_medium}
+use Rattle.media_variables.specs.Variables.{Reference, Shape, SoundOf, PictureOf, Medium, Came, refused, detached, entries_of, is_last, with_medium, chunk_medium}
 
 -- an answer and what is given, and what is done to the pool
 pub record Done : Type 0 where
@@ -53,7 +53,7 @@ frame_done pool (Some i) =
 abbrev pub taken_done : List PoolEntry → StepResult → output.Unit → Done
 taken_done pool answer (unit.Sound s) = with_answer answer (made_done pool (SoundOf s.shape) s.bytes)
 taken_done pool answer (unit.Image p) = with_answer answer (made_done pool (PictureOf p.shape) p.bytes)
-taken_done pool answer (unit.Coded chunk config) = gives_nothing answer
+taken_done pool answer (unit.Coded chunk config) = record { given = record { answer = answer; medium = Some (chunk_medium chunk) }; does = None }
 
 abbrev pub cloned_done : List PoolEntry → Shape → Option Reference → Done
 cloned_done pool shape None = gives_nothing (refused dom.InvalidState)

@@ -1,17 +1,24 @@
 -- How the crate's own media are seen, and what holds of the references that variables hold.
-use Rattle.std.specs.Prelude.{ℕ, ◌≡◌, ◌<◌, ◌≤◌, true, List, [], ◌∷◌, ◌++◌, length, slice_set, Option, Some, IfSome, option_map, option_and_then}
+use Rattle.std.specs.Prelude.{ℕ, ◌≡◌, ◌≢◌, ◌<◌, ◌≤◌, true, List, [], ◌∷◌, ◌++◌, length, map, slice_get, slice_set, Option, Some, None, IfSome, option_map, option_and_then}
+use Rattle.wc_base.specs.declared.who.By.{By}
 use Rattle.wc_base.specs.declared.who.Who.{Who}
+use Rattle.wc_base.specs.declared.media.Samples.{Samples}
+use Rattle.codec_model.specs.declared.entry.Pair.{Pair}
+use Rattle.codec_model.specs.declared.entry.Handed.TheVariants as handed
 use Rattle.codec_definitions.specs.declared.unit.Unit as output
 use Rattle.codec_definitions.specs.declared.unit.Unit.TheVariants as unit
 use Rattle.picture_planes.specs.Planes.{picture_size}
-use Rattle.wc_audio.specs.Sound.{needed}
+use Rattle.wc_audio.specs.Sound.{Sound, needed}
 use Rattle.wc_pool.specs.declared.entry.PoolEntry.{PoolEntry}
+use Rattle.wc_pool.specs.declared.entry.PoolOp.TheVariants as op
 use Rattle.wc_pool.specs.declared.reference.MediaRef.{MediaRef}
-use Rattle.wc_pool.specs.Bag.{resource_of, is_legal_next, is_legal_pool}
+use Rattle.wc_pool.specs.Bag.{resource_of, references_made, is_held, is_legal_next, is_legal_pool}
 use Rattle.script_types.specs.declared.steps.MediaStep.{MediaStep}
 use Rattle.media_variables.specs.declared.medium.Kind.{Kind}
 use Rattle.media_variables.specs.declared.medium.Kind.TheVariants as kind
-use Rattle.media_variables.specs.Variables.{Reference, Medium, SoundOf, PictureOf, Came, Brought, medium_at, variables_of, media_came, entries_of}
+use Rattle.media_variables.specs.declared.lending.SoundFound.{SoundFound}
+use Rattle.media_variables.specs.declared.lending.SoundFound.TheVariants as found
+use Rattle.media_variables.specs.Variables.{Reference, Medium, SoundOf, PictureOf, Came, Brought, chunk_medium, sound_in, handed_of, medium_at, variables_of, media_came, entries_of, is_last_of}
 
 -- without the key of a pool
 abbrev pub reference_of : MediaRef → Reference
@@ -20,6 +27,7 @@ reference_of r = record { resource = r.resource; number = r.number; bytes = r.by
 abbrev pub medium_of : Kind → Medium
 medium_of (kind.Audio s) = record { shape = SoundOf s.shape; held = option_map reference_of s.held }
 medium_of (kind.Frame f) = record { shape = PictureOf f.shape; held = option_map reference_of f.held }
+medium_of (kind.Chunk c) = chunk_medium c
 
 -- the reference that a medium holds, and that a variable does
 abbrev pub held_by : Option Medium → Option Reference
@@ -45,6 +53,51 @@ pub record AreHeld (pool : List PoolEntry) (callers : List (List (Option Medium)
   pub live : (k j : ℕ) (r : Reference) → reference_at callers k j ≡ Some r → IsLiveIn pool r
   pub apart : (k j l i : ℕ) (r s : Reference) → reference_at callers k j ≡ Some r → reference_at callers l i ≡ Some s →
       r.number ≡ s.number → (k ≡ l) × (j ≡ i)
+
+-- ---- references that codecs hold
+
+abbrev pub pair_of : MediaRef → Pair
+pair_of r = record { resource = r.resource; reference = r.number }
+
+-- each of these references is live, stands once among them, and no variable holds it
+pub record AreApart (pool : List PoolEntry) (callers : List (List (Option Medium))) (ps : List Pair) : Type 0 where
+  pub lives : (i : ℕ) (p : Pair) → slice_get ps i ≡ Some p → resource_of p.reference pool ≡ Some p.resource
+  pub once : (i j : ℕ) (p q : Pair) → slice_get ps i ≡ Some p → slice_get ps j ≡ Some q → p.reference ≡ q.reference → i ≡ j
+  pub elsewhere : (i k j : ℕ) (p : Pair) (r : Reference) → slice_get ps i ≡ Some p → reference_at callers k j ≡ Some r → p.reference ≢ r.number
+
+-- the ends of these references by one cause, in order, behind a pool's history
+abbrev pub ends_behind : By → List PoolEntry → List Pair → List PoolEntry
+ends_behind cause pool [] = []
+ends_behind cause pool (p ∷ ps) =
+    let e : PoolEntry = record { by = cause; op = op.End p.resource p.reference (is_last_of cause p.resource p.reference pool) } in
+    e ∷ ends_behind cause (pool ++ e ∷ []) ps
+
+-- the clones of these references by one cause
+abbrev pub clones_of : By → List Pair → List PoolEntry
+clones_of cause ps = map (λ p. record { by = cause; op = op.Clone p.resource p.reference }) ps
+
+-- ---- what a codec is lent
+
+abbrev pub sound_of_variable : Option Medium → Option Sound
+sound_of_variable v = option_and_then sound_in v
+
+abbrev pub found_by : Option MediaRef → SoundFound
+found_by None = found.Detached
+found_by (Some r) = found.Open
+
+-- whether a variable holds audio data, and whether that is open
+abbrev pub sound_found : Option Sound → SoundFound
+sound_found None = found.Absent
+sound_found (Some s) = found_by s.held
+
+-- the samples of audio data with one reference more to their resource, which was held: what an encode that is accepted is handed
+pub record IsLent (cause : By) (pool new : List PoolEntry) (sound : Option Sound) (x : Samples × MediaRef) : Type 0 where
+  pub handed : IfSome sound (λ s. handed_of (references_made pool) true s ≡ handed.Cloned (record { samples = x.0; pair = pair_of x.1 }))
+  pub history : new ≡ pool ++ clones_of cause (pair_of x.1 ∷ [])
+  pub may : is_held x.1.resource pool ≡ true
+  pub next : x.1.number ≡ references_made pool
+
+-- ---- steps of callers
 
 -- whatever a step on media comes to, the references that variables hold stay live and apart
 abbrev pub StayHeld : Type 0

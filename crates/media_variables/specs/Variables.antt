@@ -1,13 +1,17 @@
 -- The media that callers' variables hold, and what each step on them comes to (W3C WebCodecs, AudioData and VideoFrame). A
 -- variable whose step was refused is absent, and so is one that is not defined yet (our choice).
 use Rattle.std.specs.Prelude.{ℕ, zero, suc, ◌≡◌, ◌++◌, not, Bool, false, List, [], ◌∷◌, length, take, drop, slice_get, slice_set, map, replicate, Option, Some, None, option_map, option_and_then, unwrap_or, Result, Ok, Err, if◌then◌else◌}
+use Rattle.std.specs.Option.{option_or}
 use Rattle.wc_base.specs.declared.error.DomError.{DomError}
 use Rattle.wc_base.specs.declared.error.DomError.TheVariants as dom
 use Rattle.wc_base.specs.declared.media.SoundShape.{SoundShape}
 use Rattle.wc_base.specs.declared.media.PictureShape.{PictureShape}
 use Rattle.wc_base.specs.declared.who.Who.{Who}
+use Rattle.wc_base.specs.declared.who.By.{By}
 use Rattle.wc_base.specs.declared.who.By.TheVariants as by
 use Rattle.wc_chunk.specs.declared.chunk.Chunk.{Chunk}
+use Rattle.codec_model.specs.declared.entry.Handed.{Handed}
+use Rattle.codec_model.specs.declared.entry.Handed.TheVariants as handed
 use Rattle.codec_definitions.specs.declared.unit.Unit as output
 use Rattle.codec_definitions.specs.declared.unit.Unit.TheVariants as unit
 use Rattle.wc_chunk.specs.Copied.{copied_count, copied_to}
@@ -53,11 +57,13 @@ pub record Reference : Type 0 where
   pub number : ℕ
   pub bytes : List ℕ
 
+-- the shape of audio data or of a video frame; or a whole chunk, which was taken from an encoder
 pub data Shape : Type 0 where
   SoundOf : SoundShape → Shape
   PictureOf : PictureShape → Shape
+  ChunkOf : Chunk → Shape
 
--- audio data or a video frame, with the reference that it holds; none where it is detached
+-- audio data or a video frame, with the reference that it holds; none where it is detached. A chunk holds none
 pub record Medium : Type 0 where
   pub shape : Shape
   pub held : Option Reference
@@ -136,9 +142,12 @@ abbrev pub transfer_held : ℕ → ℕ → Medium → Option Reference → List 
 transfer_held j of m None vs = only_answers (refused dom.DataClone) vs
 transfer_held j of m (Some r) vs = only_answers (result.Local None) (with_medium j m (with_medium of (detached m) vs))
 
--- whether a reference that ends is the last one of its resource
+-- whether a reference that ends by this cause is the last one of its resource
+abbrev pub is_last_of : By → ℕ → ℕ → List PoolEntry → Bool
+is_last_of cause resource number pool = not (is_held resource (pool ++ record { by = cause; op = op.End resource number false } ∷ []))
+
 abbrev pub is_last : Who → Reference → List PoolEntry → Bool
-is_last who r pool = not (is_held r.resource (pool ++ record { by = by.Caller who; op = op.End r.resource r.number false } ∷ []))
+is_last who r pool = is_last_of (by.Caller who) r.resource r.number pool
 
 -- the reference ends
 abbrev pub close_held : List PoolEntry → Who → ℕ → Medium → Option Reference → List (Option Medium) → Came
@@ -236,14 +245,21 @@ size_of_frame f (options.Frame (Some o)) = size_found (video.allocation_size f (
 size_of_frame f _ = refused dom.TypeErr
 
 abbrev pub copy_medium : Medium → Options → ℕ → StepResult
-copy_medium m o size = elim (m.shape) [ SoundOf shape ↦ copy_sound (sound_of shape m.held) o size | PictureOf shape ↦ copy_frame (frame_of shape m.held) o size ]
+copy_medium m o size = elim (m.shape) [ SoundOf shape ↦ copy_sound (sound_of shape m.held) o size | PictureOf shape ↦ copy_frame (frame_of shape m.held) o size | ChunkOf chunk ↦ refused dom.TypeErr ]
 
 abbrev pub size_of_medium : Medium → Options → StepResult
-size_of_medium m o = elim (m.shape) [ SoundOf shape ↦ size_of_sound (sound_of shape m.held) o | PictureOf shape ↦ size_of_frame (frame_of shape m.held) o ]
+size_of_medium m o = elim (m.shape) [ SoundOf shape ↦ size_of_sound (sound_of shape m.held) o | PictureOf shape ↦ size_of_frame (frame_of shape m.held) o | ChunkOf chunk ↦ refused dom.TypeErr ]
+
+abbrev pub chunk_in_medium : Medium → Option Chunk
+chunk_in_medium m = elim (m.shape) [ SoundOf shape ↦ None | PictureOf shape ↦ None | ChunkOf chunk ↦ Some chunk ]
+
+-- the chunk of a variable: the one that its step makes or takes from a chunk file, or the one that was taken from an encoder
+abbrev pub chunk_of_variable : Option Chunk → List (Option Medium) → ℕ → Option Chunk
+chunk_of_variable made vs j = option_or made (option_and_then chunk_in_medium (medium_at vs j))
 
 -- a chunk has no options
 abbrev pub copy_came : Option Chunk → ℕ → Options → ℕ → List (Option Medium) → Came
-copy_came chunk of options.Nothing size vs = only_answers (copy_chunk chunk size) vs
+copy_came chunk of options.Nothing size vs = only_answers (copy_chunk (chunk_of_variable chunk vs of) size) vs
 copy_came chunk of o size vs = if_there (medium_at vs of) vs (λ m. only_answers (copy_medium m o size) vs)
 
 -- ---- outputs of codecs
@@ -258,16 +274,40 @@ pub record Brought : Type 0 where
   pub chunk : Option Chunk
   pub taken : Option Taken
 
+-- the variable holds the chunk itself
+abbrev pub chunk_medium : Chunk → Medium
+chunk_medium chunk = record { shape = ChunkOf chunk; held = None }
+
 -- the output's bytes are those of a new resource; a chunk has none
 abbrev pub unit_came : List PoolEntry → ℕ → StepResult → output.Unit → List (Option Medium) → Came
 unit_came pool j answer (unit.Sound s) vs = record (makes pool j (SoundOf s.shape) s.bytes vs) { answer = answer }
 unit_came pool j answer (unit.Image p) vs = record (makes pool j (PictureOf p.shape) p.bytes vs) { answer = answer }
-unit_came pool j answer (unit.Coded chunk config) vs = only_answers answer vs
+unit_came pool j answer (unit.Coded chunk config) vs = record { answer = answer; variables = with_medium j (chunk_medium chunk) vs; does = None }
 
 -- where no output is taken, the step is none on media
 abbrev pub taken_came : List PoolEntry → ℕ → Option Taken → List (Option Medium) → Option Came
 taken_came pool j None vs = None
 taken_came pool j (Some t) vs = Some (unit_came pool j t.answer t.unit vs)
+
+-- ---- what an encode is given
+
+abbrev pub sound_in : Medium → Option Sound
+sound_in m = elim (m.shape) [ SoundOf shape ↦ Some (sound_of shape m.held) | PictureOf shape ↦ None | ChunkOf chunk ↦ None ]
+
+-- the audio data of the variable that the step with this number defines; none where it is absent
+abbrev pub sound_at : List (Option Medium) → ℕ → Option Sound
+sound_at vs j = option_and_then sound_in (medium_at vs j)
+
+-- What an encode hands to its codec: nothing of data that is detached; else, where the codec accepts it, the samples, with
+-- one reference more to their resource, of this number.
+abbrev pub handed_by : ℕ → Bool → SoundShape → Option MediaRef → Handed
+handed_by number accepts shape None = handed.Gone
+handed_by number accepts shape (Some r) =
+    if accepts then handed.Cloned (record { samples = record { shape = shape; bytes = r.bytes }; pair = record { resource = r.resource; reference = number } })
+    else handed.Kept
+
+abbrev pub handed_of : ℕ → Bool → Sound → Handed
+handed_of number accepts s = handed_by number accepts s.shape s.held
 
 -- ---- every step
 

@@ -1,21 +1,29 @@
 // The media of all callers.
-ghost use Rattle.std.specs.Prelude.{◌≡◌, ◌<◌, [], true, None, Some, IfOk, OnErr, map, length};
-ghost use Rattle.wc_pool.specs.Bag.{held_in, is_legal_pool};
+ghost use Rattle.std.specs.Prelude.{◌≡◌, ◌<◌, ◌++◌, [], ◌∷◌, true, None, Some, IfOk, IfSome, OnErr};
+ghost use Rattle.std.specs.Prelude.{map, length, option_and_then};
+ghost use Rattle.codec_model.specs.Held.{in_order};
+ghost use Rattle.codec_model.specs.declared.entry.Handed.TheVariants as handed;
+ghost use Rattle.wc_pool.specs.Bag.{held_in, is_held, is_legal_pool, references_made};
+ghost use Rattle.media_variables.specs.declared.lending.SoundFound.TheVariants as found;
 ghost use Rattle.media_variables.specs.Variables.{Brought, CameTo, IsCome, Media, Taken};
 ghost use Rattle.media_variables.specs.Variables.{media_came, taken_came, unit_came, variables_of};
-ghost use Rattle.media_variables.specs.Held.{AreHeld, AreLive, IsEnoughUnit};
+ghost use Rattle.media_variables.specs.Variables.{chunk_in_medium, handed_of, medium_at, sound_at};
+ghost use Rattle.media_variables.specs.Held.{AreHeld, AreLive, AreApart, IsEnoughUnit, IsLent};
+ghost use Rattle.media_variables.specs.Held.{clones_of, ends_behind, pair_of, sound_found};
 ghost use Rattle.media_variables.specs.Given.{Comes, Reaches};
 
+use crate::ending::{end_each, end_if};
+use crate::lending::{SoundFound, lend_at};
 use crate::medium::Medium;
-use crate::steps::{media_step, take_step};
+use crate::steps::{chunk_at, find_sound, media_step, take_step};
 use codec_definitions::Unit;
 use report_text::StepResult;
 use script_types::{CallerItem, MediaStep};
 use std::alloc::Global;
 use std::marker::Model;
-use wc_base::{NoMemory, Who};
+use wc_base::{By, NoMemory, Samples, Who};
 use wc_chunk::Chunk;
-use wc_pool::{Pool, PoolEntry, references_are_apart};
+use wc_pool::{MediaRef, Pool, PoolEntry, references_are_apart};
 
 /// The variables of one caller, by the numbers of the steps that define them.
 #[derive(Drop)]
@@ -64,7 +72,8 @@ impl CallerMedia {
     }
 
     /// A step on media of a caller, and its answer. A step that encodes or takes is the codec's: it has
-    /// no answer here, and changes nothing. `chunk` is the one that the step copies, if it copies one.
+    /// no answer here, and changes nothing. `chunk` is the one that the step copies, if it copies one that
+    /// was made or is of a chunk file.
     pub fn step(
         &mut self,
         alloc: Global,
@@ -80,7 +89,7 @@ impl CallerMedia {
     }
 
     /// A step of a caller that takes an output of a codec, and its answer. The step's variable holds
-    /// audio data or a video frame with the output's bytes; a chunk makes nothing, and changes nothing.
+    /// audio data or a video frame with the output's bytes, or the output itself where it is a chunk.
     pub fn take(&mut self, who: Who, unit: Unit, answer: StepResult) -> Result<StepResult, NoMemory>
         requires there { who.caller < length self.old.variables }
         requires enough { IsEnoughUnit unit }
@@ -90,6 +99,68 @@ impl CallerMedia {
             IfOk result (λ r. IsCome self.old self.new who came (Some r)) }
     {
         caller_take(&mut self.pool, &mut self.callers, who, unit, answer)
+    }
+
+    /// The chunk that a variable of a caller holds, again; none where it holds none.
+    pub fn chunk(&self, caller: u32, variable: u32) -> Result<Option<Chunk>, NoMemory>
+        ensures { let vs = variables_of caller self.now.variables in
+            IfOk result (λ o. o ≡ option_and_then chunk_in_medium (medium_at vs variable)) }
+    {
+        match chunk_at(variables_of(self.callers.as_slice(), caller), variable) {
+            Some(chunk) => Ok(Some(chunk.copy()?)),
+            None => Ok(None),
+        }
+    }
+
+    /// Whether a variable of a caller holds audio data, and whether that is open.
+    pub fn find_sound(&self, caller: u32, variable: u32) -> SoundFound
+        ensures { let vs = variables_of caller self.now.variables in
+            result ≡ sound_found (sound_at vs variable) }
+    {
+        find_sound(variables_of(self.callers.as_slice(), caller), variable)
+    }
+
+    /// One more reference to the open audio data of a variable, for a codec, with its samples: what an
+    /// encode that is accepted is handed. The variable stays as it is.
+    pub fn lend(
+        &mut self,
+        by: By,
+        caller: u32,
+        variable: u32,
+    ) -> Result<(Samples, MediaRef), NoMemory>
+        requires { let vs = variables_of caller self.old.variables in
+            sound_found (sound_at vs variable) ≡ found.Open }
+        ensures handed { let vs = variables_of caller self.old.variables in
+            let number = references_made self.old.pool in
+            IfOk result (λ x. IfSome (sound_at vs variable) (λ s. handed_of number true s
+            ≡ handed.Cloned (record { samples = x.0; pair = pair_of x.1 }))) }
+        ensures media { IfOk result (λ x. self.new
+            ≡ record self.old { pool = self.old.pool ++ clones_of by (pair_of x.1 ∷ []) }) }
+        ensures may { IfOk result (λ x. is_held x.1.resource self.old.pool ≡ true) }
+        ensures next { IfOk result (λ x. x.1.number ≡ references_made self.old.pool) }
+        ensures apart { IfOk result
+            (λ x. AreApart self.new.pool self.new.variables (pair_of x.1 ∷ [])) }
+        ensures err { OnErr result (self.new ≡ self.old) }
+    {
+        caller_lend(&mut self.pool, &mut self.callers, by, caller, variable)
+    }
+
+    /// Ends these references by one cause, one after another. It takes no memory.
+    pub fn end_all(&mut self, by: By, media: Vec<MediaRef>)
+        requires { AreApart self.old.pool self.old.variables (map pair_of media.items) }
+        ensures { let ends = ends_behind by self.old.pool (map pair_of media.items) in
+            self.new ≡ record self.old { pool = self.old.pool ++ ends } }
+    {
+        end_each(&mut self.pool, by, media);
+    }
+
+    /// Ends this reference, if there is one. It takes no memory.
+    pub fn end_one(&mut self, by: By, media: Option<MediaRef>)
+        requires { AreApart self.old.pool self.old.variables (map pair_of (in_order media)) }
+        ensures { let ends = ends_behind by self.old.pool (map pair_of (in_order media)) in
+            self.new ≡ record self.old { pool = self.old.pool ++ ends } }
+    {
+        end_if(&mut self.pool, by, media);
     }
 
     /// How many resources have a live reference.
@@ -115,6 +186,16 @@ fn no_variables(alloc: Global, callers: &[CallerItem]) -> Result<Vec<Variables>,
         media: Vec::new(alloc),
     });
     Ok(all.collect(alloc)?)
+}
+
+/// The variables of a caller; none of one that is not there.
+fn variables_of(callers: &[Variables], caller: u32) -> &[Option<Medium>]
+    ensures { result.now ≡ variables_of caller callers.now }
+{
+    match callers.get(caller as usize) {
+        Some(variables) => variables.media.as_slice(),
+        None => &[],
+    }
 }
 
 /// A step of a caller, on the variables of all.
@@ -169,6 +250,34 @@ fn caller_take(
     }
 }
 
+/// One more reference to the open audio data of a variable, with its samples; the variables of all stay
+/// as they are.
+fn caller_lend(
+    pool: &mut Pool,
+    callers: &mut Vec<Variables>,
+    by: By,
+    caller: u32,
+    variable: u32,
+) -> Result<(Samples, MediaRef), NoMemory>
+    requires open { let vs = variables_of caller callers.old.items in
+        sound_found (sound_at vs variable) ≡ found.Open }
+    requires held { AreHeld pool.old callers.old.items }
+    ensures ok { let vs = variables_of caller callers.old.items in
+        IfOk result (IsLent by pool.old pool.new (sound_at vs variable)) }
+    ensures apart { IfOk result
+        (λ x. AreApart pool.new callers.new.items (pair_of x.1 ∷ [])) }
+    ensures same { callers.new.items ≡ callers.old.items }
+    ensures err { OnErr result (pool.new ≡ pool.old) }
+    ensures held { AreHeld pool.new callers.new.items }
+{
+    references_are_apart();
+    let _legal = pool.entries().len();
+    match callers.get_mut(caller as usize) {
+        Some(variables) => variables.lend(pool, by, variable),
+        None => unreachable!(),
+    }
+}
+
 impl Variables {
     /// A step of the caller.
     fn step(
@@ -204,5 +313,21 @@ impl Variables {
         ensures variables { OnErr result (self.new ≡ self.old) }
     {
         take_step(pool, who, unit, answer, &mut self.media)
+    }
+
+    /// One more reference to the open audio data of a variable, with its samples.
+    fn lend(
+        &mut self,
+        pool: &mut Pool,
+        by: By,
+        variable: u32,
+    ) -> Result<(Samples, MediaRef), NoMemory>
+        requires open { sound_found (sound_at self.old variable) ≡ found.Open }
+        requires live { AreLive pool.old self.old }
+        ensures same { self.new ≡ self.old }
+        ensures ok { IfOk result (IsLent by pool.old pool.new (sound_at self.old variable)) }
+        ensures err { OnErr result (pool.new ≡ pool.old) }
+    {
+        lend_at(&mut self.media, variable, pool, by)
     }
 }

@@ -1,5 +1,5 @@
 // Copies of media and of chunks, and how many bytes they need.
-ghost use Rattle.std.specs.Prelude.{◌≡◌, [], Some, map, unwrap_or, IfOk};
+ghost use Rattle.std.specs.Prelude.{◌≡◌, [], Some, map, option_map, unwrap_or, IfOk};
 ghost use Rattle.std.specs.Option.{option_copied};
 ghost use Rattle.wc_video.specs.Frames.{content_of};
 ghost use Rattle.wc_video.specs.Copies.{plan_for};
@@ -85,10 +85,10 @@ fn shared(bytes: Vec<u8>) -> Result<Bytes, NoMemory>
 /// A copy of a chunk into zero bytes; none where the chunk is absent.
 pub(crate) fn copy_chunk(
     alloc: Global,
-    chunk: &Option<Chunk>,
+    chunk: Option<&Chunk>,
     size: u64,
 ) -> Result<StepResult, NoMemory>
-    ensures { IfOk result (λ r. r ≡ copy_chunk chunk.now size) }
+    ensures { IfOk result (λ r. r ≡ copy_chunk (option_map (λ c. c.now) chunk.entry) size) }
 {
     let Some(chunk) = chunk else {
         return Ok(StepResult::Absent);
@@ -223,6 +223,7 @@ pub(crate) fn copy_medium(
     match medium.kind() {
         Kind::Audio(audio) => copy_audio(alloc, audio, options, size),
         Kind::Frame(frame) => copy_frame(alloc, frame, options, size),
+        Kind::Chunk(_) => Ok(refused(DomError::TypeErr)),
     }
 }
 
@@ -237,5 +238,6 @@ pub(crate) fn size_of_medium(
     match medium.kind() {
         Kind::Audio(audio) => Ok(size_of_audio(audio, options)),
         Kind::Frame(frame) => size_of_frame(alloc, frame, options),
+        Kind::Chunk(_) => Ok(refused(DomError::TypeErr)),
     }
 }

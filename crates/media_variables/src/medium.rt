@@ -1,25 +1,29 @@
-// A medium that a variable holds: audio data or a video frame.
-ghost use Rattle.std.specs.Prelude.{◌≡◌, ◌++◌, Option, Some, None, IfOk, OnErr};
+// A medium that a variable holds: audio data, a video frame or a chunk.
+ghost use Rattle.std.specs.Prelude.{◌≡◌, ◌++◌, Option, Some, None, IfOk, OnErr, option_map};
 ghost use Rattle.wc_base.specs.declared.who.By.TheVariants as by;
 ghost use Rattle.wc_audio.specs.Sound.{IsHeldOf};
 ghost use Rattle.wc_video.specs.Frames as frames;
 ghost use Rattle.wc_pool.specs.Pools.{IsLive};
 ghost use Rattle.media_variables.specs.declared.medium.Kind.TheVariants as kind;
-ghost use Rattle.media_variables.specs.Variables.{detached};
-ghost use Rattle.media_variables.specs.Held.{medium_of, IsEnoughUnit, IsHeldIn};
+ghost use Rattle.media_variables.specs.declared.lending.SoundFound.{SoundFound};
+ghost use Rattle.media_variables.specs.declared.lending.SoundFound.TheVariants as found;
+ghost use Rattle.media_variables.specs.Variables.{detached, chunk_in_medium, sound_in};
+ghost use Rattle.media_variables.specs.Held.{medium_of, sound_found, IsEnoughUnit, IsHeldIn, IsLent};
 ghost use Rattle.media_variables.specs.Given.{Does, audio_done, frame_done, clone_done};
 ghost use Rattle.media_variables.specs.Given.{taken_done, transfer_done, closed_op};
 ghost use Rattle.media_variables.specs.Variables.{entries_of};
 
 use crate::given::{Given, gives, gives_nothing};
+use crate::lending::{SoundFound, find_in, lend_sound};
 use codec_definitions::Unit;
 use report_text::StepResult;
 use script_types::{PictureInit, SoundInit};
 use std::alloc::Global;
 use std::marker::Model;
 use wc_audio::AudioData;
-use wc_base::{By, DomError, NoMemory, Who};
-use wc_pool::{MediaFault, Pool};
+use wc_base::{By, DomError, NoMemory, Samples, Who};
+use wc_chunk::Chunk;
+use wc_pool::{MediaFault, MediaRef, Pool};
 use wc_video::VideoFrame;
 
 /// What kind of medium it is.
@@ -27,6 +31,7 @@ use wc_video::VideoFrame;
 pub(crate) enum Kind {
     Audio(AudioData),
     Frame(VideoFrame),
+    Chunk(Chunk),
 }
 
 /// A medium. A contract sees its shape, and the reference that it holds, without the place where the pool
@@ -92,7 +97,7 @@ pub(crate) fn make_frame(
     }
 }
 
-/// Audio data or a video frame with the bytes of an output; a chunk is neither.
+/// Audio data or a video frame with the bytes of an output, or the output itself where it is a chunk.
 pub(crate) fn make_taken(
     pool: &mut Pool,
     who: Who,
@@ -105,18 +110,23 @@ pub(crate) fn make_taken(
 {
     let by = By::Caller(who);
     let medium = match unit {
-        Unit::Sound(samples) => Some(Medium {
+        Unit::Sound(samples) => Medium {
             kind: Kind::Audio(AudioData::of_samples(samples, pool, by)?),
-        }),
-        Unit::Image(picture) => Some(Medium {
+        },
+        Unit::Image(picture) => Medium {
             kind: Kind::Frame(VideoFrame::of_picture(picture, pool, by)?),
-        }),
+        },
         Unit::Coded {
-            chunk: _chunk,
+            chunk,
             config: _config,
-        } => None,
+        } => Medium {
+            kind: Kind::Chunk(chunk),
+        },
     };
-    Ok(Given { answer, medium })
+    Ok(Given {
+        answer,
+        medium: Some(medium),
+    })
 }
 
 fn clone_audio(audio: &mut AudioData, pool: &mut Pool, who: Who) -> Result<Given, NoMemory>
@@ -205,6 +215,7 @@ impl Medium {
         match &mut self.kind {
             Kind::Audio(audio) => clone_audio(audio, pool, who),
             Kind::Frame(frame) => clone_frame(frame, pool, who),
+            Kind::Chunk(_) => Ok(gives_nothing(DomError::InvalidState)),
         }
     }
 
@@ -216,6 +227,7 @@ impl Medium {
         match &mut self.kind {
             Kind::Audio(audio) => transfer_audio(audio),
             Kind::Frame(frame) => transfer_frame(frame),
+            Kind::Chunk(_) => gives_nothing(DomError::DataClone),
         }
     }
 
@@ -229,6 +241,44 @@ impl Medium {
         match &mut self.kind {
             Kind::Audio(audio) => close_audio(audio, pool, who),
             Kind::Frame(frame) => close_frame(frame, pool, who),
+            Kind::Chunk(_) => (),
+        }
+    }
+
+    /// One more reference to the resource of open audio data, for a codec, with its samples.
+    pub(crate) fn lend(&mut self, pool: &mut Pool, by: By) -> Result<(Samples, MediaRef), NoMemory>
+        requires open { sound_found (sound_in self.old) ≡ found.Open }
+        requires held { IsHeldIn pool.old self.old.held }
+        ensures same { self.new ≡ self.old }
+        ensures ok { IfOk result (IsLent by pool.old pool.new (sound_in self.old)) }
+        ensures err { OnErr result (pool.new ≡ pool.old) }
+    {
+        match &mut self.kind {
+            Kind::Audio(audio) => lend_sound(audio, pool, by),
+            Kind::Frame(_) => unreachable!(),
+            Kind::Chunk(_) => unreachable!(),
+        }
+    }
+
+    /// Whether it is audio data, and whether that is open.
+    pub(crate) fn find_sound(&self) -> SoundFound
+        ensures { result ≡ sound_found (sound_in self.now) }
+    {
+        match &self.kind {
+            Kind::Audio(audio) => find_in(audio),
+            Kind::Frame(_) => SoundFound::Absent,
+            Kind::Chunk(_) => SoundFound::Absent,
+        }
+    }
+
+    /// The chunk that it is, if it is one.
+    pub(crate) fn chunk(&self) -> Option<&Chunk>
+        ensures { option_map (λ c. c.now) result ≡ chunk_in_medium self.now }
+    {
+        match &self.kind {
+            Kind::Audio(_) => None,
+            Kind::Frame(_) => None,
+            Kind::Chunk(chunk) => Some(chunk),
         }
     }
 

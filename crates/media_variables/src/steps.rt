@@ -1,16 +1,19 @@
 // What the steps of one caller come to.
-ghost use Rattle.std.specs.Prelude.{◌≡◌, ◌++◌, Option, None, IfOk, OnErr, option_map, vec_capacity};
+ghost use Rattle.std.specs.Prelude.{◌≡◌, ◌++◌, Option, None, IfOk, OnErr, vec_capacity};
+ghost use Rattle.std.specs.Prelude.{option_map, option_and_then};
 ghost use Rattle.media_variables.specs.Variables.{Brought, audio_came, copy_came, frame_came};
 ghost use Rattle.media_variables.specs.Variables.{media_came, unit_came};
 ghost use Rattle.media_variables.specs.Variables.{if_there, medium_at, clone_held, transfer_held};
 ghost use Rattle.media_variables.specs.Variables.{close_held, only_answers, copy_medium};
 ghost use Rattle.media_variables.specs.Variables.{size_of_medium, entries_of, detached};
-ghost use Rattle.media_variables.specs.Held.{AreLive, IsEnoughUnit, IsHeldIn, held_by};
+ghost use Rattle.media_variables.specs.Variables.{chunk_in_medium, chunk_of_variable, sound_at};
+ghost use Rattle.media_variables.specs.Held.{AreLive, IsEnoughUnit, IsHeldIn, held_by, sound_found};
 ghost use Rattle.media_variables.specs.Given.{Comes, Does, Reaches, clone_done, transfer_done};
 ghost use Rattle.media_variables.specs.Given.{closed_answer, closed_op, without};
 
 use crate::copies::{copy_chunk, copy_medium, size_of_medium};
 use crate::given::{Given, absent, done};
+use crate::lending::SoundFound;
 use crate::medium::{Medium, make_audio, make_frame, make_taken};
 use crate::variables::{keep, make_room};
 use codec_definitions::Unit;
@@ -56,7 +59,7 @@ fn frame_step(
 }
 
 /// A step of a caller that takes an output: its variable holds audio data or a video frame with the
-/// output's bytes, or nothing where it is a chunk.
+/// output's bytes, or the output itself where it is a chunk.
 pub(crate) fn take_step(
     pool: &mut Pool,
     who: Who,
@@ -209,7 +212,7 @@ fn copy_step(
         (λ r. r ≡ (copy_came chunk.now of options.now size variables.now).answer) }
 {
     if let Options::Nothing = options {
-        return copy_chunk(alloc, chunk, size);
+        return copy_chunk(alloc, chunk_for(chunk, variables, of), size);
     }
     match medium_at(variables, of) {
         Some(medium) => copy_medium(alloc, medium, options, size),
@@ -241,6 +244,41 @@ fn medium_at(variables: &[Option<Medium>], of: u32) -> Option<&Medium>
     match variables.get(of as usize) {
         Some(Some(medium)) => Some(medium),
         _ => None,
+    }
+}
+
+/// The chunk that was taken into the variable of a step, if that holds one.
+pub(crate) fn chunk_at(variables: &[Option<Medium>], of: u32) -> Option<&Chunk>
+    ensures { option_map (λ c. c.now) result
+        ≡ option_and_then chunk_in_medium (medium_at variables.now of) }
+{
+    match medium_at(variables, of) {
+        Some(medium) => medium.chunk(),
+        None => None,
+    }
+}
+
+/// The chunk of a variable: the one that its step makes, or the one that was taken.
+fn chunk_for<'a>(
+    made: &'a Option<Chunk>,
+    variables: &'a [Option<Medium>],
+    of: u32,
+) -> Option<&'a Chunk>
+    ensures { option_map (λ c. c.now) result ≡ chunk_of_variable made.now variables.now of }
+{
+    match made {
+        Some(chunk) => Some(chunk),
+        None => chunk_at(variables, of),
+    }
+}
+
+/// Whether the variable of a step holds audio data, and whether that is open.
+pub(crate) fn find_sound(variables: &[Option<Medium>], of: u32) -> SoundFound
+    ensures { result ≡ sound_found (sound_at variables.now of) }
+{
+    match medium_at(variables, of) {
+        Some(medium) => medium.find_sound(),
+        None => SoundFound::Absent,
     }
 }
 
