@@ -1,4 +1,8 @@
 pub mod Pools
 pub mod Free
 pub mod Steps
+pub mod Lent
+pub mod Ends
+pub mod Entries
 pub mod Standing
+pub mod SampleLaws

@@ -10,6 +10,7 @@ use Rattle.wc_pool.specs.declared.entry.PoolEntry.{PoolEntry}
 use Rattle.media_variables.specs.Variables.{Medium, Came, Brought, media_came, entries_of, variables_of, medium_at}
 use Rattle.media_variables.specs.Held.{reference_at, AreHeld, StayHeld, DoLegally}
 use Rattle.media_accounts.specs.Accounts.{step_by, before_step, media_of, variables_by, owes, came_on, came_in, variables_in, Next, IsBroughtToo, NothingStands, StepsStand, OthersStand, LaterStand}
+use Rattle.media_accounts.proofs.Lent.{stay_apart}
 use Rattle.media_accounts.proofs.Steps.{media_stay, quiet_came, other_stays}
 
 -- ---- lists of variables
@@ -56,18 +57,26 @@ nothing_stands steps brought callers = record {
   accounted = record {
     legal = refl;
     owed = λ c j. sym (ap (λ (b : Bool). owes b (came_in steps brought [] c j)) (le-ltb j 0 (omega arith)));
-    callers = λ n e is. absurd cc;
+    codecs = λ k place. refl;
     rises = λ c i j m n d e lt is its one two. absurd cc;
   };
   variables = λ c. none_there callers c;
   held = none_held callers;
+  lent = record {
+    apart = λ k. record {
+      lives = λ i p at. absurd cc;
+      once = λ i j p q at there same. absurd cc;
+      elsewhere = λ i l j p r at there. absurd cc;
+    };
+    between = λ k l i j p q other at there. absurd cc;
+  };
   there = none_long callers;
 }
 
 -- ---- a step on media
 
 pub step_stands : StayHeld → DoLegally → StepsStand
-step_stands stay legally steps brought made more callers m c x y st lt one is comes =
+step_stands stay legally steps brought codecs made more callers m c x y st lt one is comes =
     let who = step_by c (made c) in
     let there : c < length m.variables = (let n = st.there in omega (arith, lt, n)) in
     let next : Next steps brought made m.pool c x y = record {
@@ -75,7 +84,7 @@ step_stands stay legally steps brought made more callers m c x y st lt one is co
       comes = subst (λ (vs : List (Option Medium)). media_came m.pool who (brought c (made c) x) x vs ≡ Some y) (st.variables c) comes;
       legal = λ e made_it. legally m.pool who m.variables (brought c (made c) x) x y e st.accounted.legal st.held comes made_it;
     } in
-    let after = media_stay steps brought made more m.pool c x y st.accounted one next in
+    let after = media_stay steps brought codecs.lends made more m.pool c x y st.accounted one next in
     record {
       stands = record {
         accounted = after.accounted;
@@ -85,6 +94,10 @@ step_stands stay legally steps brought made more callers m c x y st lt one is co
           | inr other ↦ variables_else d c y.variables m.variables other ∙ (st.variables d ∙ sym (after.others d other))
         ];
         held = stay m.pool who m.variables (brought c (made c) x) x y st.accounted.legal there st.held comes;
+        lent = record {
+          apart = λ k. stay_apart stay m.pool who m.variables (brought c (made c) x) x y (codecs.holds k) st.accounted.legal there st.held (st.lent.apart k) comes;
+          between = st.lent.between;
+        };
         there = set_long c y.variables m.variables ∙ st.there;
       };
       here = after.here;
@@ -94,8 +107,8 @@ step_stands stay legally steps brought made more callers m c x y st lt one is co
 -- ---- any other step
 
 pub other_stands : OthersStand
-other_stands steps brought made more callers m c st one quiet = record {
-  accounted = other_stays steps brought made more m.pool c st.accounted one quiet;
+other_stands steps brought codecs made more callers m c st one quiet = record {
+  accounted = other_stays steps brought codecs.lends made more m.pool c st.accounted one quiet;
   variables = λ d. elim (cases_eq d c) [
     | inr other ↦ st.variables d ∙ ap (variables_in steps brought m.pool d) (sym (one.others d other))
     | inl same ↦ subst (λ (k : ℕ). variables_of k m.variables ≡ variables_in steps brought m.pool k (more k)) (sym same)
@@ -103,6 +116,7 @@ other_stands steps brought made more callers m c st one quiet = record {
         ∙ ap (λ (o : Option Came). variables_by o (variables_in steps brought m.pool c (made c))) (quiet_came steps brought m.pool c (made c) (variables_in steps brought m.pool c (made c)) quiet)))
   ];
   held = st.held;
+  lent = st.lent;
   there = st.there;
 }
 
@@ -139,16 +153,17 @@ module _ (steps : ℕ → List Step) (brought later : ℕ → ℕ → MediaStep 
   ]
 
 pub later_stand : LaterStand
-later_stand steps brought later made callers m st too = record {
+later_stand steps brought later codecs made callers m st too = record {
   stands = record {
     accounted = record {
       legal = st.accounted.legal;
       owed = λ c j. st.accounted.owed c j ∙ owes_too steps brought later made m.pool too c j;
-      callers = st.accounted.callers;
+      codecs = st.accounted.codecs;
       rises = st.accounted.rises;
     };
     variables = λ c. st.variables c ∙ sym (variables_too steps brought later made m.pool too c (made c) (omega arith));
     held = st.held;
+    lent = st.lent;
     there = st.there;
   };
   same = came_in_too steps brought later made m.pool too;

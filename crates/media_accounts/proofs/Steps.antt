@@ -1,6 +1,6 @@
 -- One step more of a caller.
 use Rattle.std.proofs.Common.{ℕ, zero, suc, ◌≡◌, ◌≢◌, ◌≤◌, ◌<◌, inl, inr, Bool, true, false, cond, eqb, ltb, List, [], ◌∷◌, ◌++◌, Option, Some, None, refl, ap, sym, subst, ◌∙◌, arith, append-nil}
-use Rattle.std.specs.Prelude.{slice_get, option_and_then, ◌&&◌}
+use Rattle.std.specs.Prelude.{map, slice_get, option_and_then, ◌&&◌}
 use Rattle.std.specs.Option.{option_to_list}
 use Rattle.std.proofs.lemmas.Bool.{and_parts, cases_eq, cases_lt, eqb-true, eq-eqb, ne_eqb, lt-ltb, le-ltb}
 use Rattle.wc_base.specs.declared.who.By.TheVariants as by
@@ -11,8 +11,8 @@ use Rattle.script_types.specs.declared.steps.MediaStep.{MediaStep}
 use Rattle.script_types.specs.declared.steps.Step.{Step}
 use Rattle.script_types.specs.declared.steps.Step.TheVariants as step
 use Rattle.media_variables.specs.Variables.{Medium, Came, Brought, media_came, entries_of}
-use Rattle.media_accounts.specs.Accounts.{step_by, is_by_step, before_step, ops_by, media_of, variables_by, owes, IsOfCaller, came_on, variables_in, came_in, MediaAreIn, Next, After, OneMore, IsQuiet}
-use Rattle.media_accounts.proofs.Pools.{get_more, before_new, before_same, ops_more, ops_some, legal_more}
+use Rattle.media_accounts.specs.Accounts.{step_by, is_by_step, before_step, ops_where, ops_by, without_last, media_of, variables_by, owes, is_by_entry, ops_of_entry, came_on, variables_in, came_in, MediaAreIn, Next, After, OneMore, IsQuiet}
+use Rattle.media_accounts.proofs.Pools.{get_more, before_new, before_same, ops_more, ops_some, legal_more, legal_one}
 use Rattle.media_accounts.proofs.Free.{came_free}
 
 -- ---- whose an entry is
@@ -47,18 +47,18 @@ module _ (steps : ℕ → List Step) (brought : ℕ → ℕ → MediaStep → Br
       ap (λ (b : List PoolEntry). option_and_then (λ (x : MediaStep). media_came b (step_by c j) (brought c j x) x us) (option_and_then media_of (slice_get (steps c) j))) is
       ∙ ap (λ (v : List (Option Medium)). came_on steps brought pool c j v) same
 
-  variables_stay : (pool : List PoolEntry) (e : PoolEntry) (c j : ℕ) → ((i : ℕ) → i < j → is_by_step c i e.by ≡ false) → variables_in steps brought (pool ++ e ∷ []) c j ≡ variables_in steps brought pool c j
-  variables_stay pool e c zero other = refl
-  variables_stay pool e c (suc j) other =
-      let vs = variables_stay pool e c j (λ i lt. other i (omega (arith, lt))) in
-      let came = came_same pool (pool ++ e ∷ []) c j (variables_in steps brought pool c j) (variables_in steps brought (pool ++ e ∷ []) c j) (before_same c j [] pool e (other j (omega arith))) vs in
-      ap (λ (y : Option Came). variables_by y (variables_in steps brought (pool ++ e ∷ []) c j)) came
+  pub variables_stay : (pool new : List PoolEntry) (c j : ℕ) → ((i : ℕ) → i < j → before_step c i new ≡ before_step c i pool) → variables_in steps brought new c j ≡ variables_in steps brought pool c j
+  variables_stay pool new c zero same = refl
+  variables_stay pool new c (suc j) same =
+      let vs = variables_stay pool new c j (λ i lt. same i (omega (arith, lt))) in
+      let came = came_same pool new c j (variables_in steps brought pool c j) (variables_in steps brought new c j) (same j (omega arith)) vs in
+      ap (λ (y : Option Came). variables_by y (variables_in steps brought new c j)) came
       ∙ ap (λ (v : List (Option Medium)). variables_by (came_in steps brought pool c j) v) vs
 
-  came_stays : (pool : List PoolEntry) (e : PoolEntry) (c j : ℕ) → ((i : ℕ) → i ≤ j → is_by_step c i e.by ≡ false) → came_in steps brought (pool ++ e ∷ []) c j ≡ came_in steps brought pool c j
-  came_stays pool e c j other =
-      came_same pool (pool ++ e ∷ []) c j (variables_in steps brought pool c j) (variables_in steps brought (pool ++ e ∷ []) c j) (before_same c j [] pool e (other j (omega arith)))
-      (variables_stay pool e c j (λ i lt. other i (omega (arith, lt))))
+  pub came_stays : (pool new : List PoolEntry) (c j : ℕ) → ((i : ℕ) → i ≤ j → before_step c i new ≡ before_step c i pool) → came_in steps brought new c j ≡ came_in steps brought pool c j
+  came_stays pool new c j same =
+      came_same pool new c j (variables_in steps brought pool c j) (variables_in steps brought new c j) (same j (omega arith))
+      (variables_stay pool new c j (λ i lt. same i (omega (arith, lt))))
 
   -- a step on media, by its variables and what stands before its entry
   came_here : (pool : List PoolEntry) (c j : ℕ) (x : MediaStep) (vs : List (Option Medium)) → slice_get (steps c) j ≡ Some (step.Media x) → came_on steps brought pool c j vs ≡ media_came (before_step c j pool) (step_by c j) (brought c j x) x vs
@@ -86,30 +86,30 @@ module _ (steps : ℕ → List Step) (brought : ℕ → ℕ → MediaStep → Br
   owed_here made more c y one = ap (λ (b : Bool). owes b y) (lt-ltb (made c) (more c) (let h = one.here in omega (arith, h)))
 
   -- the next step did nothing yet
-  owed_none : (made : ℕ → ℕ) (pool : List PoolEntry) (c : ℕ) → MediaAreIn steps brought made pool → ops_by c (made c) pool ≡ []
-  owed_none made pool c m = m.owed c (made c) ∙ ap (λ (b : Bool). owes b (came_in steps brought pool c (made c))) (le-ltb (made c) (made c) (omega arith))
+  owed_none : (lends : ℕ → ℕ → List PoolOp) (made : ℕ → ℕ) (pool : List PoolEntry) (c : ℕ) → MediaAreIn steps brought lends made pool → ops_by c (made c) pool ≡ []
+  owed_none lends made pool c m = m.owed c (made c) ∙ ap (λ (b : Bool). owes b (came_in steps brought pool c (made c))) (le-ltb (made c) (made c) (omega arith))
 
   -- ---- a step that does nothing to the pool
 
   -- all steps owe what they did, where the next one owes nothing
-  quiet_owed : (made more : ℕ → ℕ) (pool : List PoolEntry) (c : ℕ) → MediaAreIn steps brought made pool → OneMore made more c → option_to_list (option_and_then (λ (z : Came). z.does) (came_in steps brought pool c (made c))) ≡ []
+  quiet_owed : (lends : ℕ → ℕ → List PoolOp) (made more : ℕ → ℕ) (pool : List PoolEntry) (c : ℕ) → MediaAreIn steps brought lends made pool → OneMore made more c → option_to_list (option_and_then (λ (z : Came). z.does) (came_in steps brought pool c (made c))) ≡ []
       → (d i : ℕ) → ops_by d i pool ≡ owes (ltb i (more d)) (came_in steps brought pool d i)
-  quiet_owed made more pool c m one nothing d i = elim (cases_eq d c) [
+  quiet_owed lends made more pool c m one nothing d i = elim (cases_eq d c) [
     | inr other ↦ m.owed d i ∙ sym (owed_still made more c d i (came_in steps brought pool d i) one (λ same at. other same))
     | inl same ↦ elim (cases_eq i (made c)) [
       | inr apart ↦ m.owed d i ∙ sym (owed_still made more c d i (came_in steps brought pool d i) one (λ _ at. apart at))
       | inl at ↦ subst (λ (k : ℕ). ops_by k i pool ≡ owes (ltb i (more k)) (came_in steps brought pool k i)) (sym same)
           (subst (λ (n : ℕ). ops_by c n pool ≡ owes (ltb n (more c)) (came_in steps brought pool c n)) (sym at)
-          (owed_none made pool c m ∙ sym (owed_here made more c (came_in steps brought pool c (made c)) one ∙ nothing)))
+          (owed_none lends made pool c m ∙ sym (owed_here made more c (came_in steps brought pool c (made c)) one ∙ nothing)))
     ]
   ]
 
-  quiet_stays : (made more : ℕ → ℕ) (pool : List PoolEntry) (c : ℕ) → MediaAreIn steps brought made pool → OneMore made more c → option_to_list (option_and_then (λ (z : Came). z.does) (came_in steps brought pool c (made c))) ≡ []
-      → MediaAreIn steps brought more pool
-  quiet_stays made more pool c m one nothing = record {
+  quiet_stays : (lends : ℕ → ℕ → List PoolOp) (made more : ℕ → ℕ) (pool : List PoolEntry) (c : ℕ) → MediaAreIn steps brought lends made pool → OneMore made more c → option_to_list (option_and_then (λ (z : Came). z.does) (came_in steps brought pool c (made c))) ≡ []
+      → MediaAreIn steps brought lends more pool
+  quiet_stays lends made more pool c m one nothing = record {
     legal = m.legal;
-    owed = quiet_owed made more pool c m one nothing;
-    callers = m.callers;
+    owed = quiet_owed lends made more pool c m one nothing;
+    codecs = m.codecs;
     rises = m.rises;
   }
 
@@ -117,16 +117,16 @@ module _ (steps : ℕ → List Step) (brought : ℕ → ℕ → MediaStep → Br
   pub quiet_came : (pool : List PoolEntry) (c j : ℕ) (vs : List (Option Medium)) → IsQuiet steps brought c j → came_on steps brought pool c j vs ≡ None
   quiet_came pool c j vs quiet = came_none (before_step c j pool) (step_by c j) (brought c j) (option_and_then media_of (slice_get (steps c) j)) vs (λ x is. quiet x (before_step c j pool) vs is)
 
-  pub other_stays : (made more : ℕ → ℕ) (pool : List PoolEntry) (c : ℕ) → MediaAreIn steps brought made pool → OneMore made more c → IsQuiet steps brought c (made c) → MediaAreIn steps brought more pool
-  other_stays made more pool c m one quiet =
-      quiet_stays made more pool c m one (ap (λ (o : Option Came). option_to_list (option_and_then (λ (z : Came). z.does) o)) (quiet_came pool c (made c) (variables_in steps brought pool c (made c)) quiet))
+  pub other_stays : (lends : ℕ → ℕ → List PoolOp) (made more : ℕ → ℕ) (pool : List PoolEntry) (c : ℕ) → MediaAreIn steps brought lends made pool → OneMore made more c → IsQuiet steps brought c (made c) → MediaAreIn steps brought lends more pool
+  other_stays lends made more pool c m one quiet =
+      quiet_stays lends made more pool c m one (ap (λ (o : Option Came). option_to_list (option_and_then (λ (z : Came). z.does) o)) (quiet_came pool c (made c) (variables_in steps brought pool c (made c)) quiet))
 
-  quiet_after : (made more : ℕ → ℕ) (pool : List PoolEntry) (c : ℕ) (x : MediaStep) (y : Came) → MediaAreIn steps brought made pool → OneMore made more c → Next steps brought made pool c x y → y.does ≡ None → After steps brought made more pool pool c y
-  quiet_after made more pool c x y m one next none =
+  quiet_after : (lends : ℕ → ℕ → List PoolOp) (made more : ℕ → ℕ) (pool : List PoolEntry) (c : ℕ) (x : MediaStep) (y : Came) → MediaAreIn steps brought lends made pool → OneMore made more c → Next steps brought made pool c x y → y.does ≡ None → After steps brought lends made more pool pool c y
+  quiet_after lends made more pool c x y m one next none =
       let vs = variables_in steps brought pool c (made c) in
       let here : came_in steps brought pool c (made c) ≡ Some y = came_here pool c (made c) x vs next.is_step ∙ came_free pool (before_step c (made c) pool) (step_by c (made c)) (brought c (made c) x) x vs y next.comes none in
       record {
-        accounted = quiet_stays made more pool c m one (ap (λ (o : Option Came). option_to_list (option_and_then (λ (z : Came). z.does) o)) here ∙ ap (λ (o : Option PoolOp). option_to_list o) none);
+        accounted = quiet_stays lends made more pool c m one (ap (λ (o : Option Came). option_to_list (option_and_then (λ (z : Came). z.does) o)) here ∙ ap (λ (o : Option PoolOp). option_to_list o) none);
         here = here;
         earlier = λ d j lt. refl;
         variables = ap (λ (o : Option Came). variables_by o vs) here;
@@ -135,7 +135,7 @@ module _ (steps : ℕ → List Step) (brought : ℕ → ℕ → MediaStep → Br
 
   -- ---- a step with an entry
 
-  module _ (made more : ℕ → ℕ) (pool : List PoolEntry) (c : ℕ) (x : MediaStep) (y : Came) (m : MediaAreIn steps brought made pool) (one : OneMore made more c) (next : Next steps brought made pool c x y) (o : PoolOp) (does : y.does ≡ Some o) where
+  module _ (lends : ℕ → ℕ → List PoolOp) (made more : ℕ → ℕ) (pool : List PoolEntry) (c : ℕ) (x : MediaStep) (y : Came) (m : MediaAreIn steps brought lends made pool) (one : OneMore made more c) (next : Next steps brought made pool c x y) (o : PoolOp) (does : y.does ≡ Some o) where
     abbrev new_entry : PoolEntry
     new_entry = entry_by c (made c) o
 
@@ -150,10 +150,10 @@ module _ (steps : ℕ → List Step) (brought : ℕ → ℕ → MediaStep → Br
     ]
 
     before_here : before_step c (made c) longer ≡ pool
-    before_here = before_new c (made c) [] pool new_entry (owed_none made pool c m) (its_own c (made c))
+    before_here = before_new c (made c) [] pool new_entry (owed_none lends made pool c m) (its_own c (made c))
 
     variables_here : variables_in steps brought longer c (made c) ≡ variables_in steps brought pool c (made c)
-    variables_here = variables_stay pool new_entry c (made c) (λ i lt. apart_from c i (λ _ e. omega (arith, lt, e)))
+    variables_here = variables_stay pool longer c (made c) (λ i lt. before_same c i [] pool new_entry (apart_from c i (λ _ e. omega (arith, lt, e))))
 
     came_now : came_in steps brought longer c (made c) ≡ Some y
     came_now =
@@ -162,7 +162,7 @@ module _ (steps : ℕ → List Step) (brought : ℕ → ℕ → MediaStep → Br
         ∙ (ap (λ (v : List (Option Medium)). media_came pool (step_by c (made c)) (brought c (made c) x) x v) variables_here ∙ next.comes))
 
     came_before : (d i : ℕ) → i < made d → came_in steps brought longer d i ≡ came_in steps brought pool d i
-    came_before d i lt = came_stays pool new_entry d i (λ k le. apart_from d k (λ same e. (let at = ap made same in omega (arith, lt, le, e, at))))
+    came_before d i lt = came_stays pool longer d i (λ k le. before_same d k [] pool new_entry (apart_from d k (λ same e. (let at = ap made same in omega (arith, lt, le, e, at)))))
 
     -- a step that was not made owes nothing, whatever it comes to
     owes_same : (d i : ℕ) → owes (ltb i (made d)) (came_in steps brought pool d i) ≡ owes (ltb i (made d)) (came_in steps brought longer d i)
@@ -173,7 +173,7 @@ module _ (steps : ℕ → List Step) (brought : ℕ → ℕ → MediaStep → Br
 
     owed_apart : (d i : ℕ) → ((d ≡ c) → (i ≡ made c) → ⊥) → ops_by d i longer ≡ owes (ltb i (more d)) (came_in steps brought longer d i)
     owed_apart d i apart =
-        ops_more d i pool new_entry
+        ops_more (is_by_step d i) pool (new_entry ∷ [])
         ∙ (ap (λ (b : Bool). ops_by d i pool ++ cond b (o ∷ []) []) (apart_from d i apart)
         ∙ (append-nil (ops_by d i pool)
         ∙ (m.owed d i
@@ -181,9 +181,9 @@ module _ (steps : ℕ → List Step) (brought : ℕ → ℕ → MediaStep → Br
 
     owed_now : ops_by c (made c) longer ≡ owes (ltb (made c) (more c)) (came_in steps brought longer c (made c))
     owed_now =
-        ops_more c (made c) pool new_entry
+        ops_more (is_by_step c (made c)) pool (new_entry ∷ [])
         ∙ (ap (λ (b : Bool). ops_by c (made c) pool ++ cond b (o ∷ []) []) (its_own c (made c))
-        ∙ (ap (λ (l : List PoolOp). l ++ o ∷ []) (owed_none made pool c m)
+        ∙ (ap (λ (l : List PoolOp). l ++ o ∷ []) (owed_none lends made pool c m)
         ∙ sym (owed_here made more c (came_in steps brought longer c (made c)) one
         ∙ (ap (λ (z : Option Came). option_to_list (option_and_then (λ (w : Came). w.does) z)) came_now
         ∙ ap (λ (z : Option PoolOp). option_to_list z) does))))
@@ -223,35 +223,34 @@ module _ (steps : ℕ → List Step) (brought : ℕ → ℕ → MediaStep → Br
       ]
     ]
 
-    callers_still : (n : ℕ) (e : PoolEntry) → slice_get longer n ≡ Some e → IsOfCaller e.by
-    callers_still n e is = elim (get_more pool new_entry e n is) [
-      | inl old ↦ m.callers n e old.0
-      | inr new ↦ subst (λ (z : PoolEntry). IsOfCaller z.by) (sym new.1) tt
-    ]
+    -- the entry is no codec's
+    codecs_still : (k place : ℕ) → ops_of_entry k place longer ≡ lends k place
+    codecs_still k place =
+        ap (map without_last) (ops_more (is_by_entry k place) pool (new_entry ∷ []) ∙ append-nil (ops_where (is_by_entry k place) pool)) ∙ m.codecs k place
 
-    loud_after : After steps brought made more pool longer c y
+    loud_after : After steps brought lends made more pool longer c y
     loud_after = record {
       accounted = record {
-        legal = legal_more pool new_entry m.legal (next.legal new_entry (ap (entries_of (step_by c (made c))) does));
+        legal = legal_more pool (new_entry ∷ []) m.legal (legal_one pool new_entry (next.legal new_entry (ap (entries_of (step_by c (made c))) does)));
         owed = owed_all;
-        callers = callers_still;
+        codecs = codecs_still;
         rises = rises_still;
       };
       here = came_now;
       earlier = came_before;
       variables = ap (λ (z : Option Came). variables_by z (variables_in steps brought longer c (made c))) came_now;
       others = λ d other. (
-          variables_stay pool new_entry d (more d) (λ i lt. apart_from d i (λ same at. other same))
+          variables_stay pool longer d (more d) (λ i lt. before_same d i [] pool new_entry (apart_from d i (λ same at. other same)))
           ∙ ap (variables_in steps brought pool d) (one.others d other)
           );
     }
 
   -- ---- both
 
-  pub media_stay : (made more : ℕ → ℕ) (pool : List PoolEntry) (c : ℕ) (x : MediaStep) (y : Came) → MediaAreIn steps brought made pool → OneMore made more c → Next steps brought made pool c x y
-      → After steps brought made more pool (pool ++ entries_of (step_by c (made c)) y.does) c y
-  media_stay made more pool c x y m one next = by_op y.does refl
+  pub media_stay : (lends : ℕ → ℕ → List PoolOp) (made more : ℕ → ℕ) (pool : List PoolEntry) (c : ℕ) (x : MediaStep) (y : Came) → MediaAreIn steps brought lends made pool → OneMore made more c → Next steps brought made pool c x y
+      → After steps brought lends made more pool (pool ++ entries_of (step_by c (made c)) y.does) c y
+  media_stay lends made more pool c x y m one next = by_op y.does refl
     where
-      by_op : (o : Option PoolOp) → y.does ≡ o → After steps brought made more pool (pool ++ entries_of (step_by c (made c)) y.does) c y
-      by_op None is = subst (λ (l : List PoolEntry). After steps brought made more pool l c y) (sym (ap (λ (o : Option PoolOp). pool ++ entries_of (step_by c (made c)) o) is ∙ append-nil pool)) (quiet_after made more pool c x y m one next is)
-      by_op (Some o) is = subst (λ (l : List PoolEntry). After steps brought made more pool l c y) (sym (ap (λ (z : Option PoolOp). pool ++ entries_of (step_by c (made c)) z) is)) (loud_after made more pool c x y m one next o is)
+      by_op : (o : Option PoolOp) → y.does ≡ o → After steps brought lends made more pool (pool ++ entries_of (step_by c (made c)) y.does) c y
+      by_op None is = subst (λ (l : List PoolEntry). After steps brought lends made more pool l c y) (sym (ap (λ (o : Option PoolOp). pool ++ entries_of (step_by c (made c)) o) is ∙ append-nil pool)) (quiet_after lends made more pool c x y m one next is)
+      by_op (Some o) is = subst (λ (l : List PoolEntry). After steps brought lends made more pool l c y) (sym (ap (λ (z : Option PoolOp). pool ++ entries_of (step_by c (made c)) z) is)) (loud_after lends made more pool c x y m one next o is)

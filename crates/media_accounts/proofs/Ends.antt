@@ -1,0 +1,166 @@
+-- What one more entry, and the ends of a list of references, make of a pool's history.
+use Rattle.std.proofs.Common.{ℕ, zero, suc, ◌≡◌, ◌≢◌, ◌<◌, ◌+◌, ◌==◌, Bool, true, false, cond, not, if◌then◌else◌, List, [], ◌∷◌, ◌++◌, Option, Some, None, refl, ap, sym, subst, ◌∙◌, arith, append_assoc, append-nil, eq-eqb}
+use Rattle.std.specs.Prelude.{map, slice_get, ◌&&◌}
+use Rattle.std.proofs.lemmas.Bool.{ne_eqb}
+use Rattle.std.proofs.lemmas.List.Sums.{fold_push, sum_by_push}
+use Rattle.wc_base.specs.declared.who.By.{By}
+use Rattle.wc_pool.specs.declared.entry.PoolEntry.{PoolEntry}
+use Rattle.wc_pool.specs.declared.entry.PoolOp.{PoolOp}
+use Rattle.wc_pool.specs.declared.entry.PoolOp.TheVariants as op
+use Rattle.wc_pool.specs.Bag.{resource_after, resource_of, is_live, is_number, mints, references_made, count_below, is_held, is_legal_next, is_legal_from}
+use Rattle.codec_model.specs.declared.entry.Pair.{Pair}
+use Rattle.media_variables.specs.Variables.{is_last_of}
+use Rattle.media_variables.specs.Held.{clones_of, ends_behind}
+use Rattle.media_accounts.specs.Accounts.{MayAdd, ops_where, without_last}
+use Rattle.media_accounts.proofs.Pools.{AllBy, legal_one}
+
+abbrev one_if : Bool → ℕ
+one_if b = cond b 1 0
+
+count_same : (p q : ℕ → Bool) (n : ℕ) → ((k : ℕ) → p k ≡ q k) → count_below p n ≡ count_below q n
+count_same p q zero h = refl
+count_same p q (suc n) h = let rest = count_same p q n h in let here = ap one_if (h n) in omega (arith, rest, here)
+
+pub resource_more : (f : ℕ) (h : List PoolEntry) (e : PoolEntry) → resource_of f (h ++ e ∷ []) ≡ resource_after f (resource_of f h) e
+resource_more f h e = fold_push (resource_after f) None h e
+
+-- ---- one end
+
+abbrev end_of : By → ℕ → ℕ → Bool → PoolEntry
+end_of cause r f last = record { by = cause; op = op.End r f last }
+
+minted_same : (cause : By) (r f : ℕ) (a : Bool) (h : List PoolEntry) → references_made (h ++ end_of cause r f a ∷ []) ≡ references_made h + 0
+minted_same cause r f a h = sum_by_push (λ x. one_if (mints x)) h (end_of cause r f a)
+
+-- the flag of an end does not matter to what is held after it
+held_same : (cause : By) (r f : ℕ) (a b : Bool) (n : ℕ) (h : List PoolEntry) → is_held n (h ++ end_of cause r f a ∷ []) ≡ is_held n (h ++ end_of cause r f b ∷ [])
+held_same cause r f a b n h =
+    let p : ℕ → Bool = λ g. is_live n g (h ++ end_of cause r f a ∷ []) in
+    let q : ℕ → Bool = λ g. is_live n g (h ++ end_of cause r f b ∷ []) in
+    let each : (g : ℕ) → p g ≡ q g = λ g. ap (λ (o : Option ℕ). is_number o n) (resource_more g h (end_of cause r f a) ∙ sym (resource_more g h (end_of cause r f b))) in
+    let made = minted_same cause r f a h ∙ sym (minted_same cause r f b h) in
+    ap (λ (c : ℕ). not (c == 0)) (ap (count_below p) made ∙ count_same p q (references_made (h ++ end_of cause r f b ∷ [])) each)
+
+flag_legal : (cause : By) (pool : List PoolEntry) (r f : ℕ) (b : Bool) → is_held r (pool ++ end_of cause r f false ∷ []) ≡ b
+    → (if not b then not (is_held r (pool ++ end_of cause r f (not b) ∷ [])) else is_held r (pool ++ end_of cause r f (not b) ∷ [])) ≡ true
+flag_legal cause pool r f true is = is
+flag_legal cause pool r f false is = ap not (held_same cause r f true false r pool ∙ is)
+
+-- the end of this reference, as it is recorded
+abbrev end_here : By → List PoolEntry → Pair → PoolEntry
+end_here cause pool p = end_of cause p.resource p.reference (is_last_of cause p.resource p.reference pool)
+
+-- the end of a live reference is legal
+end_legal : (cause : By) (pool : List PoolEntry) (p : Pair) → resource_of p.reference pool ≡ Some p.resource → is_legal_next pool (end_here cause pool p) ≡ true
+end_legal cause pool p lives =
+    let r = p.resource in
+    let f = p.reference in
+    let live : is_live r f pool ≡ true = ap (λ (o : Option ℕ). is_number o r) lives ∙ eq-eqb r r refl in
+    let still = is_held r (pool ++ end_of cause r f false ∷ []) in
+    ap (λ (b : Bool). b && (if not still then not (is_held r (pool ++ end_of cause r f (not still) ∷ [])) else is_held r (pool ++ end_of cause r f (not still) ∷ []))) live
+    ∙ flag_legal cause pool r f still refl
+
+-- and all others stay live
+end_others : (cause : By) (pool : List PoolEntry) (p : Pair) (g : ℕ) → p.reference ≢ g → resource_of g (pool ++ end_here cause pool p ∷ []) ≡ resource_of g pool
+end_others cause pool p g other =
+    resource_more g pool (end_here cause pool p) ∙ ap (λ (b : Bool). if b then None else resource_of g pool) (ne_eqb p.reference g other)
+
+-- ---- what is added and what is let go, as one
+
+-- These entries, behind a pool's history, are legal there; what was live still is, but for what is let go; and what is added
+-- is live, has the next number, and is one at most.
+pub record Grows (cause : By) (pool new : List PoolEntry) (gone added : List Pair) : Type 0 where
+  pub legal : is_legal_from pool new ≡ true
+  pub its : AllBy cause new
+  pub stays : (f r : ℕ) → resource_of f pool ≡ Some r → ((i : ℕ) (q : Pair) → slice_get gone i ≡ Some q → q.reference ≢ f) → resource_of f (pool ++ new) ≡ Some r
+  pub adds : (i : ℕ) (p : Pair) → slice_get added i ≡ Some p → resource_of p.reference (pool ++ new) ≡ Some p.resource
+  pub fresh : (i : ℕ) (p : Pair) → slice_get added i ≡ Some p → p.reference ≡ references_made pool
+  pub single : (i j : ℕ) (p q : Pair) → slice_get added i ≡ Some p → slice_get added j ≡ Some q → i ≡ j
+
+-- ---- one clone
+
+abbrev clone_of : By → Pair → PoolEntry
+clone_of cause p = record { by = cause; op = op.Clone p.resource p.reference }
+
+clone_legal : (cause : By) (pool : List PoolEntry) (p : Pair) → MayAdd pool p → is_legal_next pool (clone_of cause p) ≡ true
+clone_legal cause pool p may = ap (λ (b : Bool). b && (p.reference == references_made pool)) may.0 ∙ eq-eqb p.reference (references_made pool) may.1
+
+only_one : (p q : Pair) (i : ℕ) → slice_get (p ∷ []) i ≡ Some q → (i ≡ 0) × (q ≡ p)
+only_one p q zero is = (refl, let same : p ≡ q = cc in sym same)
+only_one p q (suc i) is = absurd cc
+
+pub clone_grows : (cause : By) (pool : List PoolEntry) (p : Pair) → MayAdd pool p → ((f r : ℕ) → resource_of f pool ≡ Some r → f < references_made pool) → Grows cause pool (clone_of cause p ∷ []) [] (p ∷ [])
+clone_grows cause pool p may numbered = record {
+  legal = legal_one pool (clone_of cause p) (clone_legal cause pool p may);
+  its = (refl, tt);
+  stays = λ f r lives none. (
+      let lt = numbered f r lives in
+      let at = may.1 in
+      let other : p.reference ≢ f = λ e. omega (arith, lt, at, e) in
+      resource_more f pool (clone_of cause p) ∙ (ap (λ (b : Bool). if b then Some p.resource else resource_of f pool) (ne_eqb p.reference f other) ∙ lives)
+      );
+  adds = λ i q is. (
+      let same = (only_one p q i is).1 in
+      subst (λ (x : Pair). resource_of x.reference (pool ++ clone_of cause p ∷ []) ≡ Some x.resource) (sym same)
+      (resource_more p.reference pool (clone_of cause p) ∙ ap (λ (b : Bool). if b then Some p.resource else resource_of p.reference pool) (eq-eqb p.reference p.reference refl))
+      );
+  fresh = λ i q is. ap (λ (x : Pair). x.reference) (only_one p q i is).1 ∙ may.1;
+  single = λ i j q s one two. (only_one p q i one).0 ∙ sym (only_one p s j two).0;
+}
+
+-- ---- a list of ends
+
+-- each of these is live, and stands once among them
+pub record MayEnd (pool : List PoolEntry) (ps : List Pair) : Type 0 where
+  pub lives : (i : ℕ) (p : Pair) → slice_get ps i ≡ Some p → resource_of p.reference pool ≡ Some p.resource
+  pub once : (i j : ℕ) (p q : Pair) → slice_get ps i ≡ Some p → slice_get ps j ≡ Some q → p.reference ≡ q.reference → i ≡ j
+
+may_end_rest : (cause : By) (pool : List PoolEntry) (p : Pair) (ps : List Pair) → MayEnd pool (p ∷ ps) → MayEnd (pool ++ end_here cause pool p ∷ []) ps
+may_end_rest cause pool p ps m = record {
+  lives = λ i q at. end_others cause pool p q.reference (λ e. (let bad = m.once 0 (suc i) p q refl at e in omega (arith, bad))) ∙ m.lives (suc i) q at;
+  once = λ i j q s one two same. (let both = m.once (suc i) (suc j) q s one two same in omega (arith, both));
+}
+
+ends_by : (cause : By) (pool : List PoolEntry) (ps : List Pair) → AllBy cause (ends_behind cause pool ps)
+ends_by cause pool [] = tt
+ends_by cause pool (p ∷ ps) = (refl, ends_by cause (pool ++ end_here cause pool p ∷ []) ps)
+
+ends_legal : (cause : By) (pool : List PoolEntry) (ps : List Pair) → MayEnd pool ps → is_legal_from pool (ends_behind cause pool ps) ≡ true
+ends_legal cause pool [] m = refl
+ends_legal cause pool (p ∷ ps) m =
+    let new = pool ++ end_here cause pool p ∷ [] in
+    ap (λ (b : Bool). b && is_legal_from new (ends_behind cause new ps)) (end_legal cause pool p (m.lives 0 p refl))
+    ∙ ends_legal cause new ps (may_end_rest cause pool p ps m)
+
+ends_others : (cause : By) (pool : List PoolEntry) (ps : List Pair) (f : ℕ) → ((i : ℕ) (q : Pair) → slice_get ps i ≡ Some q → q.reference ≢ f) → resource_of f (pool ++ ends_behind cause pool ps) ≡ resource_of f pool
+ends_others cause pool [] f other = ap (resource_of f) (append-nil pool)
+ends_others cause pool (p ∷ ps) f other =
+    let new = pool ++ end_here cause pool p ∷ [] in
+    ap (resource_of f) (sym (append_assoc pool (end_here cause pool p ∷ []) (ends_behind cause new ps)))
+    ∙ (ends_others cause new ps f (λ i q at. other (suc i) q at) ∙ end_others cause pool p f (other 0 p refl))
+
+pub ends_grow : (cause : By) (pool : List PoolEntry) (ps : List Pair) → MayEnd pool ps → Grows cause pool (ends_behind cause pool ps) ps []
+ends_grow cause pool ps m = record {
+  legal = ends_legal cause pool ps m;
+  its = ends_by cause pool ps;
+  stays = λ f r lives other. ends_others cause pool ps f other ∙ lives;
+  adds = λ i p at. absurd cc;
+  fresh = λ i p at. absurd cc;
+  single = λ i j p q one two. absurd cc;
+}
+
+-- ---- what they did
+
+pub clones_do : (test : By → Bool) (cause : By) (ps : List Pair) → test cause ≡ true → map without_last (ops_where test (clones_of cause ps)) ≡ map (λ p. op.Clone p.resource p.reference) ps
+clones_do test cause [] its = refl
+clones_do test cause (p ∷ ps) its =
+    ap (λ (b : Bool). map without_last (cond b (op.Clone p.resource p.reference ∷ ops_where test (clones_of cause ps)) (ops_where test (clones_of cause ps)))) its
+    ∙ ap (λ (l : List PoolOp). op.Clone p.resource p.reference ∷ l) (clones_do test cause ps its)
+
+pub ends_do : (test : By → Bool) (cause : By) (pool : List PoolEntry) (ps : List Pair) → test cause ≡ true → map without_last (ops_where test (ends_behind cause pool ps)) ≡ map (λ p. op.End p.resource p.reference false) ps
+ends_do test cause pool [] its = refl
+ends_do test cause pool (p ∷ ps) its =
+    let e = end_here cause pool p in
+    let rest = ops_where test (ends_behind cause (pool ++ e ∷ []) ps) in
+    ap (λ (b : Bool). map without_last (cond b (e.op ∷ rest) rest)) its
+    ∙ ap (λ (l : List PoolOp). op.End p.resource p.reference false ∷ l) (ends_do test cause (pool ++ e ∷ []) ps its)

@@ -1,0 +1,136 @@
+-- The references that codecs hold stay live and apart in each step of a caller: they stand as those of one caller more do.
+use Rattle.std.proofs.Common.{ℕ, zero, suc, ◌≡◌, ◌≢◌, ◌<◌, ◌+◌, inl, inr, true, List, [], ◌∷◌, ◌++◌, length, map, Option, Some, None, refl, ap, sym, subst, ◌∙◌, arith}
+use Rattle.std.specs.Prelude.{pos, slice_get, slice_set, option_map}
+use Rattle.std.proofs.lemmas.Bool.{cases_eq}
+use Rattle.std.proofs.lemmas.List.{length-append}
+use Rattle.wc_base.specs.declared.media.SampleFormat.TheVariants as format
+use Rattle.wc_base.specs.declared.who.Who.{Who}
+use Rattle.wc_pool.specs.declared.entry.PoolEntry.{PoolEntry}
+use Rattle.wc_pool.specs.Bag.{resource_of, is_legal_pool}
+use Rattle.codec_model.specs.declared.entry.Pair.{Pair}
+use Rattle.script_types.specs.declared.steps.MediaStep.{MediaStep}
+use Rattle.media_variables.specs.Variables.{Reference, SoundOf, Medium, Came, Brought, medium_at, variables_of, media_came, entries_of}
+use Rattle.media_variables.specs.Held.{held_by, reference_at, AreHeld, AreApart, StayHeld}
+
+-- ---- lists of variables
+
+variables_last : (vs : List (Option Medium)) (all : List (List (Option Medium))) → variables_of (length all) (all ++ vs ∷ []) ≡ vs
+variables_last vs [] = refl
+variables_last vs (x ∷ xs) = variables_last vs xs
+
+variables_past : (all : List (List (Option Medium))) → variables_of (length all) all ≡ []
+variables_past [] = refl
+variables_past (x ∷ xs) = variables_past xs
+
+variables_before : (k : ℕ) (vs : List (Option Medium)) (all : List (List (Option Medium))) → k ≢ length all → variables_of k (all ++ vs ∷ []) ≡ variables_of k all
+variables_before zero vs [] other = absurd (other refl)
+variables_before (suc k) vs [] other = refl
+variables_before zero vs (x ∷ xs) other = refl
+variables_before (suc k) vs (x ∷ xs) other = variables_before k vs xs (λ e. other (ap suc e))
+
+set_before : (k : ℕ) (us vs : List (Option Medium)) (all : List (List (Option Medium))) → k < length all → slice_set (all ++ vs ∷ []) k us ≡ slice_set all k us ++ vs ∷ []
+set_before k us vs [] lt = absurd (omega (arith, lt))
+set_before zero us vs (x ∷ xs) lt = refl
+set_before (suc k) us vs (x ∷ xs) lt = ap (λ (l : List (List (Option Medium))). x ∷ l) (set_before k us vs xs (omega (arith, lt)))
+
+-- ---- variables that hold these references
+
+abbrev of_pair : Pair → Reference
+of_pair p = record { resource = p.resource; number = p.reference; bytes = [] }
+
+-- of what shape they are is nothing to it
+abbrev holder : Pair → Option Medium
+holder p = Some (record { shape = SoundOf (record { format = format.U8; rate = 0; channels = 0; frames = 0; timestamp = pos 0 }); held = Some (of_pair p) })
+
+abbrev holders : List Pair → List (Option Medium)
+holders ps = map holder ps
+
+holds_it : (ps : List Pair) (i : ℕ) → held_by (medium_at (holders ps) i) ≡ option_map of_pair (slice_get ps i)
+holds_it [] i = refl
+holds_it (p ∷ ps) zero = refl
+holds_it (p ∷ ps) (suc i) = holds_it ps i
+
+abbrev with_holders : List (List (Option Medium)) → List Pair → List (List (Option Medium))
+with_holders all ps = all ++ holders ps ∷ []
+
+at_last : (all : List (List (Option Medium))) (ps : List Pair) (i : ℕ) → reference_at (with_holders all ps) (length all) i ≡ option_map of_pair (slice_get ps i)
+at_last all ps i = ap (λ (vs : List (Option Medium)). held_by (medium_at vs i)) (variables_last (holders ps) all) ∙ holds_it ps i
+
+at_other : (all : List (List (Option Medium))) (ps : List Pair) (k j : ℕ) → k ≢ length all → reference_at (with_holders all ps) k j ≡ reference_at all k j
+at_other all ps k j other = ap (λ (vs : List (Option Medium)). held_by (medium_at vs j)) (variables_before k (holders ps) all other)
+
+-- a variable that holds something is one of a caller
+within : (all : List (List (Option Medium))) (k j : ℕ) (r : Reference) → reference_at all k j ≡ Some r → k ≢ length all
+within all k j r is same =
+    let none : reference_at all k j ≡ None = ap (λ (n : ℕ). reference_at all n j) same ∙ ap (λ (vs : List (Option Medium)). held_by (medium_at vs j)) (variables_past all) in
+    let bad : None ≡ Some r = sym none ∙ is in
+    absurd cc
+
+-- which of the references such a variable holds
+record Holds (ps : List Pair) (i : ℕ) (r : Reference) : Type 0 where
+  pair : Pair
+  there : slice_get ps i ≡ Some pair
+  same : r ≡ of_pair pair
+
+holds_some : (ps : List Pair) (i : ℕ) (r : Reference) (o : Option Pair) → slice_get ps i ≡ o → option_map of_pair o ≡ Some r → Holds ps i r
+holds_some ps i r None at is = absurd cc
+holds_some ps i r (Some p) at is = record { pair = p; there = at; same = (let both : of_pair p ≡ r = cc in sym both) }
+
+held_last : (all : List (List (Option Medium))) (ps : List Pair) (k i : ℕ) (r : Reference) → k ≡ length all → reference_at (with_holders all ps) k i ≡ Some r → Holds ps i r
+held_last all ps k i r same is = holds_some ps i r (slice_get ps i) refl (sym (ap (λ (n : ℕ). reference_at (with_holders all ps) n i) same ∙ at_last all ps i) ∙ is)
+
+-- ---- both ways
+
+add_holders : (pool : List PoolEntry) (all : List (List (Option Medium))) (ps : List Pair) → AreHeld pool all → AreApart pool all ps → AreHeld pool (with_holders all ps)
+add_holders pool all ps h a =
+    let number : Reference → ℕ = λ r. r.number in
+    record {
+      live = λ k j r is. elim (cases_eq k (length all)) [
+        | inl last ↦ (let its = held_last all ps k j r last is in subst (λ (x : Reference). resource_of x.number pool ≡ Some x.resource) (sym its.same) (a.lives j its.pair its.there))
+        | inr other ↦ h.live k j r (sym (at_other all ps k j other) ∙ is)
+      ];
+      apart = λ k j l i r s one two same. elim (cases_eq k (length all)) [
+        | inl last ↦ (
+            let its = held_last all ps k j r last one in
+            elim (cases_eq l (length all)) [
+              | inl last_too ↦ (
+                  let other = held_last all ps l i s last_too two in
+                  (last ∙ sym last_too, a.once j i its.pair other.pair its.there other.there (sym (ap number its.same) ∙ (same ∙ ap number other.same)))
+                  )
+              | inr before ↦ absurd (a.elsewhere j l i its.pair s its.there (sym (at_other all ps l i before) ∙ two) (sym (ap number its.same) ∙ same))
+            ]
+            )
+        | inr before ↦ elim (cases_eq l (length all)) [
+          | inl last ↦ (
+              let its = held_last all ps l i s last two in
+              absurd (a.elsewhere i k j its.pair r its.there (sym (at_other all ps k j before) ∙ one) (sym (same ∙ ap number its.same)))
+              )
+          | inr before_too ↦ h.apart k j l i r s (sym (at_other all ps k j before) ∙ one) (sym (at_other all ps l i before_too) ∙ two) same
+        ]
+      ];
+    }
+
+drop_holders : (pool : List PoolEntry) (all : List (List (Option Medium))) (ps : List Pair) → AreHeld pool (with_holders all ps) → AreApart pool all ps
+drop_holders pool all ps h =
+    let there : (i : ℕ) (p : Pair) → slice_get ps i ≡ Some p → reference_at (with_holders all ps) (length all) i ≡ Some (of_pair p) = λ i p at. at_last all ps i ∙ ap (option_map of_pair) at in
+    record {
+      lives = λ i p at. h.live (length all) i (of_pair p) (there i p at);
+      once = λ i j p q one two same. (h.apart (length all) i (length all) j (of_pair p) (of_pair q) (there i p one) (there j q two) same).1;
+      elsewhere = λ i k j p r at held same. (
+          let other = within all k j r held in
+          other (sym (h.apart (length all) i k j (of_pair p) r (there i p at) (at_other all ps k j other ∙ held) same).0)
+          );
+    }
+
+-- references that are apart from all variables stay so, whatever a step on media comes to
+pub stay_apart : StayHeld → (pool : List PoolEntry) (who : Who) (all : List (List (Option Medium))) (b : Brought) (x : MediaStep) (y : Came) (ps : List Pair)
+    → is_legal_pool pool ≡ true → who.caller < length all → AreHeld pool all → AreApart pool all ps → media_came pool who b x (variables_of who.caller all) ≡ Some y
+    → AreApart (pool ++ entries_of who y.does) (slice_set all who.caller y.variables) ps
+stay_apart stay pool who all b x y ps legal lt h a comes =
+    let more = with_holders all ps in
+    let long : length more ≡ length all + 1 = length-append all (holders ps ∷ []) in
+    let here : variables_of who.caller more ≡ variables_of who.caller all = variables_before who.caller (holders ps) all (λ e. omega (arith, lt, e)) in
+    let comes_too : media_came pool who b x (variables_of who.caller more) ≡ Some y = ap (media_came pool who b x) here ∙ comes in
+    let kept = stay pool who more b x y legal (omega (arith, lt, long)) (add_holders pool all ps h a) comes_too in
+    drop_holders (pool ++ entries_of who y.does) (slice_set all who.caller y.variables) ps
+    (subst (λ (l : List (List (Option Medium))). AreHeld (pool ++ entries_of who y.does) l) (set_before who.caller y.variables (holders ps) all lt) kept)
