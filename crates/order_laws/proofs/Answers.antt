@@ -25,10 +25,10 @@ use Rattle.script_types.specs.declared.steps.MediaStep.TheVariants as media
 use Rattle.script_types.specs.declared.steps.Step.TheVariants as step
 use Rattle.report_text.specs.declared.result.StepResult.{StepResult}
 use Rattle.report_text.specs.declared.result.StepResult.TheVariants as result
-use Rattle.media_variables.specs.Variables.{Reference, Shape, SoundOf, PictureOf, Medium, Came, medium_at, audio_came, frame_came, clone_held, transfer_held, close_held, if_there, zeros, sound_of, frame_of, copy_options, rect_of, layouts_in, audio_copied, frame_copied, planes_copied, chunk_copied, size_found, copy_chunk, copy_medium, size_of_medium, copy_came, media_came}
+use Rattle.media_variables.specs.Variables.{Reference, Shape, SoundOf, PictureOf, ChunkOf, Medium, Came, medium_at, audio_came, frame_came, clone_held, transfer_held, close_held, if_there, zeros, sound_of, frame_of, copy_options, rect_of, layouts_in, audio_copied, frame_copied, planes_copied, chunk_copied, size_found, copy_chunk, copy_medium, size_of_medium, chunk_of_variable, copy_came, media_came}
 use Rattle.trace_text.specs.Follow.{Recorded}
 use Rattle.order_laws.proofs.Grown.{IsFound, brought}
-use Rattle.trace_text.specs.Fits.{mark_of, taken_from, taken_by, IsAnswerOf, LookShows, IsMediaAnswer, IsLocalAnswer}
+use Rattle.trace_text.specs.Fits.{mark_of, called, taken_from, taken_by, IsAnswerOf, LookShows, IsMediaAnswer, IsLocalAnswer}
 
 -- neither a call of a codec, nor a look at one, nor a take
 abbrev pub IsOwn : StepResult → Type 0
@@ -150,6 +150,7 @@ copy_own (PictureOf shape) held (options.Frame (Some o)) size =
 copy_own (PictureOf shape) held (options.Frame None) size = tt
 copy_own (PictureOf shape) held (options.Audio o) size = tt
 copy_own (PictureOf shape) held options.Nothing size = tt
+copy_own (ChunkOf chunk) held o size = tt
 
 medium_size : (shape : Shape) (held : Option Reference) (o : Options) → IsOwn (size_of_medium (record { shape = shape; held = held }) o)
 medium_size (SoundOf shape) held (options.Audio (Some o)) = size_own (allocation_size (sound_of shape held) (copy_options o))
@@ -160,9 +161,10 @@ medium_size (PictureOf shape) held (options.Frame (Some o)) = size_own (video.al
 medium_size (PictureOf shape) held (options.Frame None) = tt
 medium_size (PictureOf shape) held (options.Audio o) = tt
 medium_size (PictureOf shape) held options.Nothing = tt
+medium_size (ChunkOf chunk) held o = tt
 
 copies_own : (chunk : Option Chunk) (of : ℕ) (o : Options) (size : ℕ) (vs : List (Option Medium)) → AnswersOwn (copy_came chunk of o size vs)
-copies_own chunk of options.Nothing size vs = chunk_own chunk size
+copies_own chunk of options.Nothing size vs = chunk_own (chunk_of_variable chunk vs of) size
 copies_own chunk of (options.Audio o) size vs = there_own (medium_at vs of) vs _ (λ m. copy_own m.shape m.held (options.Audio o) size)
 copies_own chunk of (options.Frame o) size vs = there_own (medium_at vs of) vs _ (λ m. copy_own m.shape m.held (options.Frame o) size)
 
@@ -183,12 +185,15 @@ media_own pool who chunk (media.CloseData of) vs y comes = came_own _ y (there_o
 media_own pool who chunk (media.Copy of o size) vs y comes = came_own _ y (copies_own chunk of.step o size vs) comes
 media_own pool who chunk (media.Size of o) vs y comes = came_own _ y (there_own (medium_at vs of.step) vs _ (λ m. medium_size m.shape m.held o)) comes
 
--- such a step takes no output
-pub takes_none : (pool : List PoolEntry) (who : Who) (chunk : Option Chunk) (x : MediaStep) (vs : List (Option Medium)) (y : Came) → media_came pool who (brought chunk None) x vs ≡ Some y → taken_from (step.Media x) ≡ None
+-- such a step takes no output, and calls no codec
+pub takes_none : (pool : List PoolEntry) (who : Who) (chunk : Option Chunk) (x : MediaStep) (vs : List (Option Medium)) (y : Came) → media_came pool who (brought chunk None) x vs ≡ Some y → (taken_from (step.Media x) ≡ None) × (called (step.Media x) ≡ None)
 takes_none pool who chunk (media.Take on bind kind) vs y comes = absurd cc
-takes_none pool who chunk x vs y comes = refl
+takes_none pool who chunk (media.Encode on content) vs y comes = absurd cc
+takes_none pool who chunk x vs y comes = (refl, refl)
 
 -- a step on media answers what it comes to
-pub media_answers : (s : ScriptData) (files : List (List Chunk)) (came : Option Came) (c : ℕ) (x : MediaStep) (r : StepResult) → IsMediaAnswer came r → IsLocalAnswer s files came c (step.Media x) r
-media_answers s files came c (media.Take on bind kind) r h = tt
-media_answers s files came c x r h = h
+pub media_answers : (s : ScriptData) (files : List (List Chunk)) (pool : List PoolEntry) (who : Who) (chunk : Option Chunk) (x : MediaStep) (before vs : List (Option Medium)) (y : Came) (came : Option Came) (c : ℕ) (r : StepResult)
+    → media_came pool who (brought chunk None) x vs ≡ Some y → IsMediaAnswer came r → IsLocalAnswer s files before came c (step.Media x) r
+media_answers s files pool who chunk (media.Take on bind kind) before vs y came c r comes h = tt
+media_answers s files pool who chunk (media.Encode on content) before vs y came c r comes h = absurd cc
+media_answers s files pool who chunk x before vs y came c r comes h = h

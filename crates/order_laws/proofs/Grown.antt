@@ -1,5 +1,5 @@
 -- What is recorded grows: what was there stays, and what it says of the script too.
-use Rattle.std.proofs.Common.{ℕ, ◌≡◌, ◌≤◌, ◌<◌, ◌++◌, List, take, length, Option, Some, None, refl, ap, sym, ◌∙◌, subst, arith}
+use Rattle.std.proofs.Common.{ℕ, zero, suc, ◌≡◌, ◌≤◌, ◌<◌, ◌++◌, List, take, length, Option, Some, None, refl, ap, sym, ◌∙◌, subst, arith}
 use Rattle.std.specs.Prelude.{slice_get, option_map, option_and_then}
 use Rattle.std.proofs.lemmas.List.{take-append-le}
 use Rattle.std.proofs.lemmas.Option.{slice_get_within}
@@ -23,9 +23,9 @@ use Rattle.report_text.specs.declared.result.StepResult.{StepResult}
 use Rattle.report_text.specs.declared.result.StepResult.TheVariants as result
 use Rattle.trace_text.specs.Report.{refusal_in}
 use Rattle.trace_text.specs.Follow.{Recorded, opening_at, steps_of, copied_chunk, promise_after, output_at}
-use Rattle.trace_text.specs.Fits.{result_in, entry_in, step_in, called, taken_from, exception_at, made_steps, taken_by, brought_to, came_at, IsAnswerOf, IsResultBy, IsResultOf, LookShows, IsLocalAnswer, MarksClimb}
-use Rattle.media_variables.specs.Variables.{Came, Taken, Brought}
-use Rattle.media_accounts.specs.Accounts.{IsBroughtToo}
+use Rattle.trace_text.specs.Fits.{result_in, entry_in, step_in, called, taken_from, exception_at, made_steps, taken_by, brought_to, came_at, variables_at, IsAnswerOf, IsResultBy, IsResultOf, LookShows, IsLocalAnswer, MarksClimb}
+use Rattle.media_variables.specs.Variables.{Medium, Came, Taken, Brought}
+use Rattle.media_accounts.specs.Accounts.{variables_by, IsBroughtToo}
 use Rattle.trace_text.specs.FitsLaws.{made_at, look_of, order_by_places}
 use Rattle.order_laws.proofs.Legal.{shown_kept}
 
@@ -42,6 +42,17 @@ pub record Grows (w v : Recorded) : Type 0 where
 abbrev pub SameMedia : ScriptData → List (List Chunk) → Recorded → Recorded → Type 0
 SameMedia s media w v = (c j : ℕ) → j < made_steps w c → came_at s media v c j ≡ came_at s media w c j
 
+-- a caller's variables are the same where its steps so far came to the same
+pub same_variables : (s : ScriptData) (media : List (List Chunk)) (w v : Recorded) (c n : ℕ) → ((j : ℕ) → j < n → came_at s media v c j ≡ came_at s media w c j) → variables_at s media v c n ≡ variables_at s media w c n
+same_variables s media w v c zero same = refl
+same_variables s media w v c (suc n) same =
+    ap (λ (o : Option Came). variables_by o (variables_at s media v c n)) (same n (omega arith))
+    ∙ ap (variables_by (came_at s media w c n)) (same_variables s media w v c n (λ j lt. same j (omega (arith, lt))))
+
+-- before each of its steps that were made, and before its next one
+pub variables_stay : (s : ScriptData) (media : List (List Chunk)) (w v : Recorded) (c n : ℕ) → SameMedia s media w v → n ≤ made_steps w c → variables_at s media v c n ≡ variables_at s media w c n
+variables_stay s media w v c n same le = same_variables s media w v c n (λ j lt. same c j (omega (arith, lt, le)))
+
 -- the output that a result names was shown
 abbrev pub IsFound : ScriptData → Recorded → StepResult → Type 0
 IsFound s w (result.Unit k p n) = (u : media.Unit) × (output_at (opening_at s k) (at k w.codecs) n ≡ Some u)
@@ -54,7 +65,7 @@ pub record ResultFits (s : ScriptData) (media : List (List Chunk)) (w : Recorded
   pub made : IsResultOf s w (record { caller = c; step = j }) step r
   pub found : IsFound s w r
   pub shows : LookShows s w c step r
-  pub answers : IsLocalAnswer s media (came_at s media w c j) c step r
+  pub answers : IsLocalAnswer s media (variables_at s media w c j) (came_at s media w c j) c step r
 
 answer_stays : (s : ScriptData) (w v : Recorded) → Legals s w → Grows w v → (o : Option ℕ) (r : StepResult) → ((k p : ℕ) (e : Option DomError) → r ≡ result.Call k p e → p < length (at k w.codecs)) → IsAnswerOf s w o r → IsAnswerOf s v o r
 answer_stays s w v legal g (Some k) (result.Call other p error) within h =
@@ -138,11 +149,13 @@ shows_stays s w v g c x r within h = h
 pub result_stays : (s : ScriptData) (media : List (List Chunk)) (w v : Recorded) → Legals s w → MarksClimb w → Grows w v → SameMedia s media w v → (c j : ℕ) (r : StepResult) → result_in w c j ≡ Some r → ResultFits s media w c j r → ResultFits s media v c j r
 result_stays s media w v legal climbs g same c j r is fits =
     let order = order_by_places w climbs in
+    let made : j < made_steps w c = slice_get_within (at c w.callers) j r is in
     record {
       step = fits.step;
       is_step = fits.is_step;
       made = made_stays s w v legal g (record { caller = c; step = j }) (taken_from fits.step) (called fits.step) r (λ k p e call. order.stands c j k p r is (ap made_at call)) fits.made;
       found = found_stays s w v g r fits.found;
       shows = shows_stays s w v g c fits.step r (λ k n l. order.within c j k n r is l) fits.shows;
-      answers = subst (λ (o : Option Came). IsLocalAnswer s media o c fits.step r) (sym (same c j (slice_get_within (at c w.callers) j r is))) fits.answers;
+      answers = subst (λ (vs : List (Option Medium)). IsLocalAnswer s media vs (came_at s media v c j) c fits.step r) (sym (variables_stay s media w v c j same (omega (arith, made))))
+          (subst (λ (o : Option Came). IsLocalAnswer s media (variables_at s media w c j) o c fits.step r) (sym (same c j made)) fits.answers);
     }

@@ -1,11 +1,18 @@
 -- Each item of a sound script's order makes a move that fits.
-use Rattle.std.proofs.Common.{ℕ, zero, suc, ◌≡◌, ◌≤◌, ◌<◌, ◌⊎◌, inl, inr, Bool, true, false, cond, List, [], ◌∷◌, take, length, Option, Some, None, is_some, refl, ap, sym, subst, ◌∙◌, arith}
+use Rattle.std.proofs.Common.{ℕ, zero, suc, ◌≡◌, ◌≤◌, ◌<◌, inl, inr, Bool, true, false, not, cond, if◌then◌else◌, eq-eqb, List, [], ◌∷◌, take, length, Option, Some, None, is_some, refl, ap, sym, subst, ◌∙◌, arith}
 use Rattle.std.proofs.Math.Seq.{take-length}
 use Rattle.std.specs.Prelude.{slice_get, option_map, option_and_then, unwrap_or, ◌==◌}
+use Rattle.std.proofs.lemmas.Bool.{cases_eq, ne_eqb}
 use Rattle.std.proofs.lemmas.Option.{slice_get_past, slice_get_within}
 use Rattle.wc_base.specs.declared.error.DomError.{DomError}
 use Rattle.wc_base.specs.declared.error.DomError.TheVariants as dom
 use Rattle.wc_base.specs.declared.who.Who.{Who}
+use Rattle.wc_base.specs.declared.media.SoundShape.{SoundShape}
+use Rattle.wc_pool.specs.declared.entry.PoolEntry.{PoolEntry}
+use Rattle.wc_pool.specs.declared.reference.MediaRef.{MediaRef}
+use Rattle.wc_pool.specs.Bag.{resource_of, is_number, is_live, references_made, references_of, count_below, is_held, is_legal_pool}
+use Rattle.wc_pool.specs.Laws.{LiveAreNumbered}
+use Rattle.wc_audio.specs.Sound.{Sound}
 use Rattle.wc_config.specs.declared.codec.CoderId.{CoderId}
 use Rattle.wc_chunk.specs.declared.chunk.Chunk.{Chunk}
 use Rattle.codec_definitions.specs.declared.unit.Unit as output
@@ -20,7 +27,10 @@ use Rattle.codec_model.specs.declared.entry.Running.{Running}
 use Rattle.codec_model.specs.declared.entry.Task.{Task}
 use Rattle.codec_model.specs.Control.{start_item, may_reclaim}
 use Rattle.history_laws.specs.CountLaws.{shown_counted}
-use Rattle.codec_model.specs.Replay.{State, step as entry_step, entry_of, call_error, removal_error, answer_to}
+use Rattle.codec_model.specs.Replay.{State, step as entry_step, entry_of, call_error, encode_error, is_configured, removal_error, answer_to}
+use Rattle.codec_model.specs.Held.{adds_held}
+use Rattle.codec_model.specs.declared.entry.Pair.{Pair}
+use Rattle.codec_model.specs.declared.entry.Handed.TheVariants as handed
 use Rattle.codec_model.specs.Shown.{refusal, rejection, rejections, removal_shows, shows, shown, outputs_of, exception_of}
 use Rattle.codec_accounts.specs.Owed.{at}
 use Rattle.codec_accounts.specs.ListLaws.{get_some, result_kept, result_new}
@@ -41,17 +51,19 @@ use Rattle.script_types.specs.declared.steps.Variable.{Variable}
 use Rattle.report_text.specs.declared.result.StepResult.{StepResult}
 use Rattle.report_text.specs.declared.result.StepResult.TheVariants as result
 use Rattle.trace_text.specs.Report.{refusal_in}
-use Rattle.trace_text.specs.Follow.{Recorded, Course, record_of, opening_in, opening_at, promise_after, steps_in, steps_of, chunk_at, source_error, output_at, with_result, Answer, handle_move, take_move, media_move, copied_chunk, outcome_for, end_of, turn_on, item_entry, advance, decode_move, look_of_flush, look_of_state, step_move, next_move, item_move}
+use Rattle.trace_text.specs.Follow.{Recorded, Course, record_of, opening_in, opening_at, promise_after, steps_in, steps_of, chunk_for, source_error, output_at, with_result, Answer, handle_move, take_move, media_move, copied_chunk, outcome_for, end_of, turn_on, item_entry, advance, decode_move, is_gone, encode_move, look_of_flush, look_of_state, step_move, next_move, item_move}
 use Rattle.script_types.specs.declared.steps.MediaStep.{MediaStep}
 use Rattle.script_types.specs.declared.steps.MediaStep.TheVariants as on_media
 use Rattle.script_types.specs.declared.steps.VariableKind.{VariableKind}
-use Rattle.media_variables.specs.Variables.{Came, Taken, media_came, taken_came, variables_of}
-use Rattle.media_accounts.specs.Accounts.{media_of, IsQuiet}
-use Rattle.trace_text.specs.Fits.{taken_by, brought_to, came_at, result_in, step_in, called, mark_of, IsResultOf, LookShows, IsLocalAnswer, HasArguments}
+use Rattle.media_variables.specs.Variables.{Reference, Shape, SoundOf, PictureOf, ChunkOf, Medium, Came, Taken, medium_at, media_ref, sound_of, sound_in, sound_at, handed_by, handed_of, media_came, taken_came, variables_of}
+use Rattle.media_variables.specs.Held.{held_by}
+use Rattle.media_accounts.specs.Accounts.{media_of, MayAdd, IsQuiet}
+use Rattle.trace_text.specs.Fits.{taken_by, brought_to, came_at, variables_at, result_in, step_in, called, mark_of, IsResultOf, LookShows, IsLocalAnswer, HasArguments}
 use Rattle.order_laws.specs.Sound.{IsSound, promise_of, IsFlush}
+use Rattle.order_laws.proofs.Entries.{below_or_past, MayAddAll}
 use Rattle.order_laws.proofs.Grown.{IsFound, taken_as, brought}
 use Rattle.order_laws.proofs.Legal.{Steps, MayBeRefused, call_legal, take_legal, start_legal, done_legal, turn_legal, reclaim_legal}
-use Rattle.order_laws.proofs.Moves.{Stands, next_who, next_place, take_result, AnswerFits, AskFits, MoveFits, none_quiet}
+use Rattle.order_laws.proofs.Moves.{Stands, next_who, next_place, take_result, AnswerFits, AskFits, MoveFits, one_medium, none_quiet, call_quiet}
 
 steps_within : (cs : List CallerItem) (c j : ℕ) (x : Step) → slice_get (steps_in cs c) j ≡ Some x → c < length cs
 steps_within [] c j x h = absurd cc
@@ -97,10 +109,13 @@ removal_is_shown : (o : Option DomError) (pending : List ℕ) → o ≡ refusal_
 removal_is_shown None pending = no_rejection dom.Abort pending
 removal_is_shown (Some error) pending = refl
 
+none_added : (pool : List PoolEntry) (e : Entry) → adds_held e ≡ [] → MayAddAll pool e
+none_added pool e none i p is = absurd (let bad : None ≡ Some p = sym (ap (λ (ps : List Pair). slice_get ps i) none) ∙ is in cc)
+
 -- a caller's step on a codec, and its entry
 ask_fits : (s : ScriptData) (media : List (List Chunk)) (made : List CoderId) (v : Course) (c k : ℕ) (x : Step) (e : Entry) (error : Option DomError) → IsSound s → Stands s media made v → IsNext s v c x → called x ≡ Some k → Steps e (state_of (codec_at k v.codecs))
-    → who_of e ≡ Some (next_who v c) → HasArguments s media (next_who v c) e x → error ≡ refusal_in (shows e (state_of (codec_at k v.codecs))) → AskFits s media v c k e error
-ask_fits s media made v c k x e error sound st is calls steps names arguments shown =
+    → who_of e ≡ Some (next_who v c) → HasArguments s media (variables_of c v.media.variables) (next_who v c) e x → error ≡ refusal_in (shows e (state_of (codec_at k v.codecs))) → MayAddAll v.media.pool e → AskFits s media v c k e error
+ask_fits s media made v c k x e error sound st is calls steps names arguments shown adds =
     let after = legal_after e (state_of (codec_at k v.codecs)) steps in
     record {
       caller = caller_there s media made v c x st is;
@@ -112,6 +127,7 @@ ask_fits s media made v c k x e error sound st is calls steps names arguments sh
       steps = after.1;
       names = names;
       arguments = arguments;
+      adds = adds;
       shown = shown;
     }
 
@@ -123,10 +139,17 @@ record Apart (v : Course) (r : StepResult) : Type 0 where
   no_call : (k : ℕ) (who : Who) → call_in k who (mark_of r) ≡ []
 
 answer_fits : (s : ScriptData) (media : List (List Chunk)) (made : List CoderId) (v : Course) (c : ℕ) (x : Step) (r : StepResult) → Stands s media made v → IsNext s v c x → Apart v r → IsResultOf s (record_of (with_result c r v)) (next_who v c) x r → IsFound s (record_of (with_result c r v)) r
-    → LookShows s (record_of (with_result c r v)) c x r → ((o : Option Came) → IsLocalAnswer s media o c x r) → IsQuiet (steps_of s) (brought_to s media (record_of (with_result c r v))) c (length (at c v.callers)) → AnswerFits s media v c r
+    → LookShows s (record_of (with_result c r v)) c x r → ((o : Option Came) → IsLocalAnswer s media (variables_of c v.media.variables) o c x r) → IsQuiet (steps_of s) (brought_to s media (record_of (with_result c r v))) c (length (at c v.callers)) → AnswerFits s media v c r
 answer_fits s media made v c x r st is apart made_of found looks answers quiet = record {
   caller = caller_there s media made v c x st is;
-  fits = record { step = x; is_step = is; made = made_of; found = found; shows = looks; answers = answers (came_at s media (record_of (with_result c r v)) c (length (at c v.callers))) };
+  fits = λ before. record {
+    step = x;
+    is_step = is;
+    made = made_of;
+    found = found;
+    shows = looks;
+    answers = (let came = came_at s media (record_of (with_result c r v)) c (length (at c v.callers)) in subst (λ (vs : List (Option Medium)). IsLocalAnswer s media vs came c x r) (sym before) (answers came));
+  };
   climbs = apart.climbs;
   no_call = apart.no_call;
   quiet = quiet;
@@ -134,7 +157,7 @@ answer_fits s media made v c x r st is apart made_of found looks answers quiet =
 
 -- a step that is none on media
 still_fits : (s : ScriptData) (media : List (List Chunk)) (made : List CoderId) (v : Course) (c : ℕ) (x : Step) (r : StepResult) → Stands s media made v → IsNext s v c x → Apart v r → IsResultOf s (record_of (with_result c r v)) (next_who v c) x r → IsFound s (record_of (with_result c r v)) r
-    → LookShows s (record_of (with_result c r v)) c x r → ((o : Option Came) → IsLocalAnswer s media o c x r) → media_of x ≡ None → AnswerFits s media v c r
+    → LookShows s (record_of (with_result c r v)) c x r → ((o : Option Came) → IsLocalAnswer s media (variables_of c v.media.variables) o c x r) → media_of x ≡ None → AnswerFits s media v c r
 still_fits s media made v c x r st is apart made_of found looks answers other =
     answer_fits s media made v c x r st is apart made_of found looks answers
     (none_quiet s (brought_to s media (record_of (with_result c r v))) c (length (at c v.callers)) (ap (option_and_then media_of) is ∙ other))
@@ -156,36 +179,39 @@ look_climbs v on k true same =
 same_codec : (a b : ℕ) → (a == b) ≡ true → a ≡ b
 same_codec a b h = grind arith
 
-decode_fits : (s : ScriptData) (media : List (List Chunk)) (made : List CoderId) (v : Course) (c k : ℕ) (chunk : Variable) (o : Option Chunk) → IsSound s → Stands s media made v → IsNext s v c (step.Decode k chunk) → chunk_at media (steps_of s c) chunk.step ≡ o
+decode_fits : (s : ScriptData) (media : List (List Chunk)) (made : List CoderId) (v : Course) (c k : ℕ) (chunk : Variable) (o : Option Chunk) → IsSound s → Stands s media made v → IsNext s v c (step.Decode k chunk) → chunk_for media (steps_of s c) (variables_of c v.media.variables) chunk.step ≡ o
     → MoveFits s media v (decode_move (next_who v c) k o (codec_at k v.codecs))
 decode_fits s media made v c k chunk None sound st is none = still_fits s media made v c (step.Decode k chunk) result.Absent st is (absent_apart v) tt tt tt (λ o. none) refl
 decode_fits s media made v c k chunk (Some value) sound st is some =
-    ask_fits s media made v c k (step.Decode k chunk) (entry.Decode (next_who v c) value) _ sound st is refl (call_legal (next_who v c) (call.Decode value) (state_of (codec_at k v.codecs))) refl (value, some, refl) (call_shows (next_who v c) (call.Decode value) (state_of (codec_at k v.codecs)))
+    ask_fits s media made v c k (step.Decode k chunk) (entry.Decode (next_who v c) value) _ sound st is refl (call_legal (next_who v c) (call.Decode value) (state_of (codec_at k v.codecs))) refl (value, some, refl) (call_shows (next_who v c) (call.Decode value) (state_of (codec_at k v.codecs))) (none_added v.media.pool (entry.Decode (next_who v c) value) refl)
 
 -- the earlier flush came to a call
-flush_came : (s : ScriptData) (media : List (List Chunk)) (w : Recorded) (who : Who) (o : Option Came) (c : ℕ) (y : Step) (r : StepResult) → IsFlush y → IsResultOf s w who y r → IsLocalAnswer s media o c y r → (k : ℕ) × (p : ℕ) × (error : Option DomError) × (r ≡ result.Call k p error)
-flush_came s media w who o c (step.Flush on bind) (result.Call k p error) flush made answers = (k, p, error, refl)
-flush_came s media w who o c (step.Flush on bind) result.Absent flush made answers = absurd answers
-flush_came s media w who o c (step.Flush on bind) (result.Local error) flush made answers = absurd made
-flush_came s media w who o c (step.Flush on bind) (result.Look k n end) flush made answers = absurd made
-flush_came s media w who o c (step.Flush on bind) (result.Copied n bytes) flush made answers = absurd made
-flush_came s media w who o c (step.Flush on bind) (result.CopiedFrame n layouts bytes) flush made answers = absurd made
-flush_came s media w who o c (step.Flush on bind) (result.Size n) flush made answers = absurd made
-flush_came s media w who o c (step.Flush on bind) (result.State k n state size) flush made answers = absurd made
-flush_came s media w who o c (step.Flush on bind) (result.Unit k p n) flush made answers = absurd made
-flush_came s media w who o c (step.Flush on bind) (result.NoUnit k n) flush made answers = absurd made
-flush_came s media w who o c (step.Configure on config) r flush made answers = absurd flush
-flush_came s media w who o c (step.Chunk bind source) r flush made answers = absurd flush
-flush_came s media w who o c (step.Decode on chunk) r flush made answers = absurd flush
-flush_came s media w who o c (step.Poll promise) r flush made answers = absurd flush
-flush_came s media w who o c (step.Await promise) r flush made answers = absurd flush
-flush_came s media w who o c (step.Reset on) r flush made answers = absurd flush
-flush_came s media w who o c (step.Close on) r flush made answers = absurd flush
-flush_came s media w who o c (step.State on) r flush made answers = absurd flush
-flush_came s media w who o c (step.Media x) r flush made answers = absurd flush
+flush_came : (s : ScriptData) (media : List (List Chunk)) (w : Recorded) (who : Who) (vs : List (Option Medium)) (o : Option Came) (c : ℕ) (y : Step) (r : StepResult) → IsFlush y → IsResultOf s w who y r → IsLocalAnswer s media vs o c y r → (k : ℕ) × (p : ℕ) × (error : Option DomError) × (r ≡ result.Call k p error)
+flush_came s media w who vs o c (step.Flush on bind) (result.Call k p error) flush made answers = (k, p, error, refl)
+flush_came s media w who vs o c (step.Flush on bind) result.Absent flush made answers = absurd answers
+flush_came s media w who vs o c (step.Flush on bind) (result.Local error) flush made answers = absurd made
+flush_came s media w who vs o c (step.Flush on bind) (result.Look k n end) flush made answers = absurd made
+flush_came s media w who vs o c (step.Flush on bind) (result.Copied n bytes) flush made answers = absurd made
+flush_came s media w who vs o c (step.Flush on bind) (result.CopiedFrame n layouts bytes) flush made answers = absurd made
+flush_came s media w who vs o c (step.Flush on bind) (result.Size n) flush made answers = absurd made
+flush_came s media w who vs o c (step.Flush on bind) (result.State k n state size) flush made answers = absurd made
+flush_came s media w who vs o c (step.Flush on bind) (result.Unit k p n) flush made answers = absurd made
+flush_came s media w who vs o c (step.Flush on bind) (result.NoUnit k n) flush made answers = absurd made
+flush_came s media w who vs o c (step.Configure on config) r flush made answers = absurd flush
+flush_came s media w who vs o c (step.Chunk bind source) r flush made answers = absurd flush
+flush_came s media w who vs o c (step.Decode on chunk) r flush made answers = absurd flush
+flush_came s media w who vs o c (step.Poll promise) r flush made answers = absurd flush
+flush_came s media w who vs o c (step.Await promise) r flush made answers = absurd flush
+flush_came s media w who vs o c (step.Reset on) r flush made answers = absurd flush
+flush_came s media w who vs o c (step.Close on) r flush made answers = absurd flush
+flush_came s media w who vs o c (step.State on) r flush made answers = absurd flush
+flush_came s media w who vs o c (step.Media x) r flush made answers = absurd flush
 
 one_step : (a b : Step) → Some a ≡ Some b → a ≡ b
 one_step a b h = cc
+
+call_found : (o : Option StepResult) (r : StepResult) → o ≡ Some r → (k : ℕ) × (p : ℕ) × (error : Option DomError) × (r ≡ result.Call k p error) → (k : ℕ) × (p : ℕ) × (error : Option DomError) × (o ≡ Some (result.Call k p error))
+call_found o r is came = (came.0, came.1, came.2, is ∙ ap (λ (q : StepResult). Some q) came.3)
 
 -- a step that looks at an earlier promise finds the call of its flush
 promise_call : (s : ScriptData) (media : List (List Chunk)) (made : List CoderId) (v : Course) (c : ℕ) (x : Step) (promise : Variable) → IsSound s → Stands s media made v → IsNext s v c x → promise_of x ≡ Some promise
@@ -196,8 +222,8 @@ promise_call s media made v c x promise sound st is looks =
     let flush = sound.promised c (length (at c v.callers)) x promise is looks in
     let fits = st.results c promise.step there.0 there.1 in
     let same : fits.step ≡ flush.0 = one_step fits.step flush.0 (sym fits.is_step ∙ flush.1) in
-    let came = flush_came s media (record_of v) (record { caller = c; step = promise.step }) (came_at s media (record_of v) c promise.step) c flush.0 there.0 flush.2 (subst (λ (y : Step). IsResultOf s (record_of v) (record { caller = c; step = promise.step }) y there.0) same fits.made) (subst (λ (y : Step). IsLocalAnswer s media (came_at s media (record_of v) c promise.step) c y there.0) same fits.answers) in
-    (came.0, came.1, came.2, there.1 ∙ ap (λ (q : StepResult). Some q) came.3)
+    let came = flush_came s media (record_of v) (record { caller = c; step = promise.step }) (variables_at s media (record_of v) c promise.step) (came_at s media (record_of v) c promise.step) c flush.0 there.0 flush.2 (subst (λ (y : Step). IsResultOf s (record_of v) (record { caller = c; step = promise.step }) y there.0) same fits.made) (subst (λ (y : Step). IsLocalAnswer s media (variables_at s media (record_of v) c promise.step) (came_at s media (record_of v) c promise.step) c y there.0) same fits.answers) in
+    call_found (result_in (record_of v) c promise.step) there.0 there.1 came
 
 -- a codec that is not there is a new one, in the course and in the script
 codec_past : (k : ℕ) (ds : List CodecValue) → length ds ≤ k → codec_at k ds ≡ new_codec (record { kind = kind.AudioDecoder; saturation = 4 })
@@ -207,11 +233,6 @@ opening_past : (cs : List CodecItem) (k : ℕ) → length cs ≤ k → opening_i
 opening_past [] k le = refl
 opening_past (c ∷ cs) zero le = absurd (omega (arith, le))
 opening_past (c ∷ cs) (suc k) le = opening_past cs k (omega (arith, le))
-
-below_or_past : (k n : ℕ) → (k < n) ⊎ (n ≤ k)
-below_or_past k zero = inr (omega arith)
-below_or_past zero (suc n) = inl (omega arith)
-below_or_past (suc k) (suc n) = elim (below_or_past k n) [ inl lt ↦ inl (omega (arith, lt)) | inr le ↦ inr (omega (arith, le)) ]
 
 -- each codec is opened as the script says
 pub opens : (s : ScriptData) (media : List (List Chunk)) (made : List CoderId) (v : Course) (k : ℕ) → Stands s media made v → (codec_at k v.codecs).opening ≡ opening_at s k
@@ -273,9 +294,6 @@ handle_fits : (s : ScriptData) (media : List (List Chunk)) (made : List CoderId)
 handle_fits s media made v c x None st is comes = tt
 handle_fits s media made v c x (Some y) st is comes = record { next = refl; caller = caller_there s media made v c (step.Media x) st is; handled = x; is_step = is; comes = comes }
 
-one_medium : (x y : MediaStep) → Some x ≡ Some y → x ≡ y
-one_medium x y h = cc
-
 -- a take that found nothing comes to nothing of media
 take_quiet : (s : ScriptData) (media : List (List Chunk)) (v : Course) (c k n : ℕ) (bind : List ℕ) (holds : VariableKind) → c < length v.callers → IsNext s v c (step.Media (on_media.Take k bind holds))
     → IsQuiet (steps_of s) (brought_to s media (record_of (with_result c (result.NoUnit k n) v))) c (length (at c v.callers))
@@ -324,34 +342,125 @@ take_fits s media made v c k bind holds (Some u) sound st is some =
       comes = refl;
     }
 
+-- ---- encodes
+
+-- what is handed over is legal where it tells whether the codec is configured
+encode_legal : (who : Who) (number : ℕ) (shape : SoundShape) (held : Option MediaRef) (t : State) (b : Bool) → is_configured t.control ≡ b → Steps (entry.Encode who (handed_by number b shape held)) t
+encode_legal who number shape None t b is = refl
+encode_legal who number shape (Some r) t true is = taken (is_configured t.control) _ is
+  where
+    taken : (b : Bool) (u : State) → b ≡ true → is_some (if b then Some u else None) ≡ true
+    taken b u is = ap (λ (c : Bool). is_some (if c then Some u else None)) is
+encode_legal who number shape (Some r) t false is = refused (is_configured t.control) _ is
+  where
+    refused : (b : Bool) (u : State) → b ≡ false → is_some (if b then None else Some u) ≡ true
+    refused b u is = ap (λ (c : Bool). is_some (if c then None else Some u)) is
+
+error_by : (c b : Bool) → c ≡ b → (if c then None else Some dom.InvalidState) ≡ (if b then None else Some dom.InvalidState)
+error_by c b is = ap (λ (d : Bool). if d then None else Some dom.InvalidState) is
+
+-- its exception is what its entry shows
+encode_shows : (who : Who) (number : ℕ) (shape : SoundShape) (held : Option MediaRef) (t : State) (b : Bool) → is_configured t.control ≡ b
+    → encode_error (is_gone (handed_by number b shape held)) t.control ≡ refusal_in (shows (entry.Encode who (handed_by number b shape held)) t)
+encode_shows who number shape None t b is = refl
+encode_shows who number shape (Some r) t true is = error_by (is_configured t.control) true is
+encode_shows who number shape (Some r) t false is = error_by (is_configured t.control) false is
+
+-- it adds a reference to what is held
+encode_adds : (pool : List PoolEntry) (who : Who) (shape : SoundShape) (held : Option MediaRef) (b : Bool) → ((r : MediaRef) → held ≡ Some r → is_held r.resource pool ≡ true) → MayAddAll pool (entry.Encode who (handed_by (references_made pool) b shape held))
+encode_adds pool who shape None b lives = none_added pool (entry.Encode who handed.Gone) refl
+encode_adds pool who shape (Some r) false lives = none_added pool (entry.Encode who handed.Kept) refl
+encode_adds pool who shape (Some r) true lives = λ i p is. (let same = only_one i p is in subst (MayAdd pool) same (lives r refl, refl))
+  where
+    only_one : (i : ℕ) (p : Pair) → slice_get (record { resource = r.resource; reference = references_made pool } ∷ []) i ≡ Some p → record { resource = r.resource; reference = references_made pool } ≡ p
+    only_one zero p is = cc
+    only_one (suc i) p is = absurd cc
+
+-- the reference of audio data is that of its variable
+sound_held : (m : Option Medium) (x : Sound) (r : MediaRef) → option_and_then sound_in m ≡ Some x → x.held ≡ Some r → (q : Reference) × (held_by m ≡ Some q) × (q.resource ≡ r.resource)
+sound_held None x r is holds = absurd cc
+sound_held (Some m) x r is holds = by_shape m.shape m.held is
+  where
+    by_shape : (shape : Shape) (held : Option Reference) → sound_in (record { shape = shape; held = held }) ≡ Some x → (q : Reference) × (held ≡ Some q) × (q.resource ≡ r.resource)
+    by_shape (PictureOf shape) held is = absurd cc
+    by_shape (ChunkOf chunk) held is = absurd cc
+    by_shape (SoundOf shape) None is =
+        let same : sound_of shape None ≡ x = cc in
+        absurd (let bad : None ≡ Some r = ap (λ (s : Sound). s.held) same ∙ holds in cc)
+    by_shape (SoundOf shape) (Some q) is =
+        let same : sound_of shape (Some q) ≡ x = cc in
+        let one : media_ref q ≡ r = one_ref (media_ref q) r (ap (λ (s : Sound). s.held) same ∙ holds) in
+        (q, refl, ap (λ (y : MediaRef). y.resource) one)
+      where
+        one_ref : (a b : MediaRef) → Some a ≡ Some b → a ≡ b
+        one_ref a b h = cc
+
+abbrev one_if : Bool → ℕ
+one_if b = if b then 1 else 0
+
+-- some number passes
+count_some : (p : ℕ → Bool) (n i : ℕ) → i < n → p i ≡ true → 1 ≤ count_below p n
+count_some p zero i lt is = absurd (omega (arith, lt))
+count_some p (suc n) i lt is = elim (cases_eq i n) [
+  | inl same ↦ (let here = ap one_if (ap p (sym same) ∙ is) in omega (arith, here))
+  | inr other ↦ (let rest = count_some p n i (omega (arith, lt, other)) is in omega (arith, rest))
+]
+
+-- a resource with a live reference is held
+live_held : LiveAreNumbered → (pool : List PoolEntry) (number resource : ℕ) → is_legal_pool pool ≡ true → resource_of number pool ≡ Some resource → is_held resource pool ≡ true
+live_held numbered pool number resource legal lives =
+    let some = count_some (λ f. is_live resource f pool) (references_made pool) number (numbered pool number resource legal lives).0 (ap (λ (o : Option ℕ). is_number o resource) lives ∙ eq-eqb resource resource refl) in
+    ap not (ne_eqb (references_of resource pool) 0 (λ e. omega (arith, some, e)))
+
+encode_fits : LiveAreNumbered → (s : ScriptData) (media : List (List Chunk)) (made : List CoderId) (v : Course) (c k : ℕ) (content : Variable) (o : Option Sound) → IsSound s → Stands s media made v → IsNext s v c (step.Media (on_media.Encode k content))
+    → sound_at (variables_of c v.media.variables) content.step ≡ o → MoveFits s media v (encode_move (next_who v c) k v.media.pool o (codec_at k v.codecs))
+encode_fits numbered s media made v c k content None sound st is none =
+    answer_fits s media made v c (step.Media (on_media.Encode k content)) result.Absent st is (absent_apart v) tt tt tt (λ o. none)
+    (call_quiet s (brought_to s media (record_of (with_result c result.Absent v))) c (length (at c v.callers)) k (step.Media (on_media.Encode k content)) is refl)
+encode_fits numbered s media made v c k content (Some x) sound st is some =
+    let who = next_who v c in
+    let t = state_of (codec_at k v.codecs) in
+    let pool = v.media.pool in
+    let n = references_made pool in
+    let accepts = is_configured t.control in
+    ask_fits s media made v c k (step.Media (on_media.Encode k content)) (entry.Encode who (handed_of n accepts x)) _ sound st is refl (encode_legal who n x.shape x.held t accepts refl) refl
+    (x, n, accepts, some, refl) (encode_shows who n x.shape x.held t accepts refl) (encode_adds pool who x.shape x.held accepts lives)
+  where
+    lives : (r : MediaRef) → x.held ≡ Some r → is_held r.resource v.media.pool ≡ true
+    lives r holds =
+        let found = sound_held (medium_at (variables_of c v.media.variables) content.step) x r some holds in
+        subst (λ (i : ℕ). is_held i v.media.pool ≡ true) found.2 (live_held numbered v.media.pool found.0.number found.0.resource st.stand.accounted.legal (st.stand.held.live c content.step found.0 found.1))
+
 -- a step on media
-media_fits : (s : ScriptData) (media : List (List Chunk)) (made : List CoderId) (v : Course) (c : ℕ) (x : MediaStep) → IsSound s → Stands s media made v → IsNext s v c (step.Media x) → MoveFits s media v (media_move s media (next_who v c) x v)
-media_fits s media made v c (on_media.Take on bind kind) sound st is =
+media_fits : LiveAreNumbered → (s : ScriptData) (media : List (List Chunk)) (made : List CoderId) (v : Course) (c : ℕ) (x : MediaStep) → IsSound s → Stands s media made v → IsNext s v c (step.Media x) → MoveFits s media v (media_move s media (next_who v c) x v)
+media_fits numbered s media made v c (on_media.Take on bind kind) sound st is =
     take_fits s media made v c on bind kind (output_at (codec_at on v.codecs).opening (codec_at on v.codecs).history (state_of (codec_at on v.codecs)).control.taken) sound st is refl
-media_fits s media made v c x sound st is =
+media_fits numbered s media made v c (on_media.Encode on content) sound st is = encode_fits numbered s media made v c on content (sound_at (variables_of c v.media.variables) content.step) sound st is refl
+media_fits numbered s media made v c x sound st is =
     handle_fits s media made v c x (media_came v.media.pool (next_who v c) (brought (copied_chunk media (steps_of s c) x) None) x (variables_of c v.media.variables)) st is refl
 
-step_fits : (s : ScriptData) (media : List (List Chunk)) (made : List CoderId) (v : Course) (c : ℕ) (x : Step) → IsSound s → Stands s media made v → IsNext s v c x → MoveFits s media v (step_move s media (next_who v c) x v)
-step_fits s media made v c (step.Configure on config) sound st is =
+step_fits : LiveAreNumbered → (s : ScriptData) (media : List (List Chunk)) (made : List CoderId) (v : Course) (c : ℕ) (x : Step) → IsSound s → Stands s media made v → IsNext s v c x → MoveFits s media v (step_move s media (next_who v c) x v)
+step_fits numbered s media made v c (step.Configure on config) sound st is =
     ask_fits s media made v c on (step.Configure on config) (entry.Configure (next_who v c) config) _ sound st is refl (call_legal (next_who v c) (call.Configure config) (state_of (codec_at on v.codecs))) refl refl (call_shows (next_who v c) (call.Configure config) (state_of (codec_at on v.codecs)))
-step_fits s media made v c (step.Chunk bind source) sound st is = still_fits s media made v c (step.Chunk bind source) (result.Local (source_error source)) st is (local_apart v (source_error source)) tt tt tt (λ o. refl) refl
-step_fits s media made v c (step.Decode on chunk) sound st is = decode_fits s media made v c on chunk (chunk_at media (steps_of s c) chunk.step) sound st is refl
-step_fits s media made v c (step.Flush on bind) sound st is =
-    ask_fits s media made v c on (step.Flush on bind) (entry.Flush (next_who v c)) _ sound st is refl (call_legal (next_who v c) call.Flush (state_of (codec_at on v.codecs))) refl refl (call_shows (next_who v c) call.Flush (state_of (codec_at on v.codecs)))
-step_fits s media made v c (step.Poll promise) sound st is = poll_fits s media made v c promise sound st is
-step_fits s media made v c (step.Await promise) sound st is = await_fits s media made v c promise sound st is
-step_fits s media made v c (step.Reset on) sound st is =
+    (none_added v.media.pool (entry.Configure (next_who v c) config) refl)
+step_fits numbered s media made v c (step.Chunk bind source) sound st is = still_fits s media made v c (step.Chunk bind source) (result.Local (source_error source)) st is (local_apart v (source_error source)) tt tt tt (λ o. refl) refl
+step_fits numbered s media made v c (step.Decode on chunk) sound st is = decode_fits s media made v c on chunk (chunk_for media (steps_of s c) (variables_of c v.media.variables) chunk.step) sound st is refl
+step_fits numbered s media made v c (step.Flush on bind) sound st is =
+    ask_fits s media made v c on (step.Flush on bind) (entry.Flush (next_who v c)) _ sound st is refl (call_legal (next_who v c) call.Flush (state_of (codec_at on v.codecs))) refl refl (call_shows (next_who v c) call.Flush (state_of (codec_at on v.codecs))) (none_added v.media.pool (entry.Flush (next_who v c)) refl)
+step_fits numbered s media made v c (step.Poll promise) sound st is = poll_fits s media made v c promise sound st is
+step_fits numbered s media made v c (step.Await promise) sound st is = await_fits s media made v c promise sound st is
+step_fits numbered s media made v c (step.Reset on) sound st is =
     let t = state_of (codec_at on v.codecs) in
-    ask_fits s media made v c on (step.Reset on) (entry.Reset (next_who v c)) _ sound st is refl refl refl refl (removal_is_shown (removal_error t.control) t.control.pending)
-step_fits s media made v c (step.Close on) sound st is =
+    ask_fits s media made v c on (step.Reset on) (entry.Reset (next_who v c)) _ sound st is refl refl refl refl (removal_is_shown (removal_error t.control) t.control.pending) (none_added v.media.pool (entry.Reset (next_who v c)) refl)
+step_fits numbered s media made v c (step.Close on) sound st is =
     let t = state_of (codec_at on v.codecs) in
-    ask_fits s media made v c on (step.Close on) (entry.Close (next_who v c)) _ sound st is refl refl refl refl (removal_is_shown (removal_error t.control) t.control.pending)
-step_fits s media made v c (step.State on) sound st is = state_fits s media made v c on st is
-step_fits s media made v c (step.Media x) sound st is = media_fits s media made v c x sound st is
+    ask_fits s media made v c on (step.Close on) (entry.Close (next_who v c)) _ sound st is refl refl refl refl (removal_is_shown (removal_error t.control) t.control.pending) (none_added v.media.pool (entry.Close (next_who v c)) refl)
+step_fits numbered s media made v c (step.State on) sound st is = state_fits s media made v c on st is
+step_fits numbered s media made v c (step.Media x) sound st is = media_fits numbered s media made v c x sound st is
 
-next_fits : (s : ScriptData) (media : List (List Chunk)) (made : List CoderId) (v : Course) (c : ℕ) (o : Option Step) → IsSound s → Stands s media made v → step_in s c (length (at c v.callers)) ≡ o → MoveFits s media v (next_move s media (next_who v c) o v)
-next_fits s media made v c None sound st is = tt
-next_fits s media made v c (Some x) sound st is = step_fits s media made v c x sound st is
+next_fits : LiveAreNumbered → (s : ScriptData) (media : List (List Chunk)) (made : List CoderId) (v : Course) (c : ℕ) (o : Option Step) → IsSound s → Stands s media made v → step_in s c (length (at c v.callers)) ≡ o → MoveFits s media v (next_move s media (next_who v c) o v)
+next_fits numbered s media made v c None sound st is = tt
+next_fits numbered s media made v c (Some x) sound st is = step_fits numbered s media made v c x sound st is
 
 -- ---- entries of no caller
 
@@ -440,9 +549,9 @@ own_fits s media made v k wants x (Some e) st is =
     }
 
 -- Each item of a sound script's order makes a move that fits.
-pub item_fits : (s : ScriptData) (media : List (List Chunk)) (made : List CoderId) (v : Course) (wants : Bool) (x : OrderItem) → IsSound s → Stands s media made v → MoveFits s media v (item_move s media wants x v)
-item_fits s media made v wants (item.Caller c) sound st = next_fits s media made v c (step_in s c (length (at c v.callers))) sound st refl
-item_fits s media made v wants (item.Start k) sound st = own_fits s media made v k wants (item.Start k) (item_entry wants (item.Start k) (codec_at k v.codecs)) st refl
-item_fits s media made v wants (item.Done k moment) sound st = own_fits s media made v k wants (item.Done k moment) (item_entry wants (item.Done k moment) (codec_at k v.codecs)) st refl
-item_fits s media made v wants (item.Turn k) sound st = own_fits s media made v k wants (item.Turn k) (item_entry wants (item.Turn k) (codec_at k v.codecs)) st refl
-item_fits s media made v wants (item.Reclaim k moment) sound st = own_fits s media made v k wants (item.Reclaim k moment) (item_entry wants (item.Reclaim k moment) (codec_at k v.codecs)) st refl
+pub item_fits : LiveAreNumbered → (s : ScriptData) (media : List (List Chunk)) (made : List CoderId) (v : Course) (wants : Bool) (x : OrderItem) → IsSound s → Stands s media made v → MoveFits s media v (item_move s media wants x v)
+item_fits numbered s media made v wants (item.Caller c) sound st = next_fits numbered s media made v c (step_in s c (length (at c v.callers))) sound st refl
+item_fits numbered s media made v wants (item.Start k) sound st = own_fits s media made v k wants (item.Start k) (item_entry wants (item.Start k) (codec_at k v.codecs)) st refl
+item_fits numbered s media made v wants (item.Done k moment) sound st = own_fits s media made v k wants (item.Done k moment) (item_entry wants (item.Done k moment) (codec_at k v.codecs)) st refl
+item_fits numbered s media made v wants (item.Turn k) sound st = own_fits s media made v k wants (item.Turn k) (item_entry wants (item.Turn k) (codec_at k v.codecs)) st refl
+item_fits numbered s media made v wants (item.Reclaim k moment) sound st = own_fits s media made v k wants (item.Reclaim k moment) (item_entry wants (item.Reclaim k moment) (codec_at k v.codecs)) st refl

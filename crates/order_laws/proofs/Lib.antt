@@ -1,6 +1,7 @@
 pub mod Legal
 pub mod Grown
 pub mod Answers
+pub mod Entries
 pub mod Moves
 pub mod Items
 pub mod Orders

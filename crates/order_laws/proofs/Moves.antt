@@ -1,8 +1,12 @@
 -- What stands of a course stands after each kind of move.
-use Rattle.std.proofs.Common.{ℕ, zero, suc, ◌≡◌, ◌≢◌, ◌≤◌, ◌<◌, ◌++◌, ◌⊎◌, inl, inr, Bool, true, false, cond, eq-eqb, List, [], ◌∷◌, length, length-append, map, Option, Some, None, refl, ap, sym, subst, ◌∙◌, arith, append-nil}
+use Rattle.std.proofs.Common.{ℕ, zero, suc, ◌≡◌, ◌≢◌, ◌≤◌, ◌<◌, ◌++◌, inl, inr, Bool, true, false, cond, eq-eqb, List, [], ◌∷◌, length, length-append, map, Option, Some, None, refl, ap, sym, subst, ◌∙◌, arith, append-nil}
 use Rattle.std.specs.Prelude.{slice_get, option_map, option_and_then, ◌==◌}
 use Rattle.std.specs.List.{sum_by}
 use Rattle.std.proofs.lemmas.Bool.{cases_eq}
+use Rattle.std.proofs.lemmas.Option.{slice_get_within}
+use Rattle.wc_base.specs.declared.who.By.TheVariants as by
+use Rattle.codec_model.specs.Held.{HeldStays}
+use Rattle.wc_pool.specs.Laws.{LiveAreNumbered}
 use Rattle.wc_base.specs.declared.error.DomError.{DomError}
 use Rattle.wc_base.specs.declared.who.Who.{Who}
 use Rattle.wc_config.specs.declared.codec.CoderId.{CoderId}
@@ -17,35 +21,39 @@ use Rattle.codec_model.specs.declared.entry.Shown.{Shown}
 use Rattle.codec_model.specs.Replay.{State, step as entry_step, IsLegal}
 use Rattle.codec_model.specs.Shown.{shows}
 use Rattle.codec_accounts.specs.Owed.{at, append_at}
-use Rattle.codec_accounts.specs.ListLaws.{IsNew, append_at_length, at_same, at_other, at_grows, get_end, result_kept, result_new, result_more, there}
+use Rattle.codec_accounts.specs.ListLaws.{append_at_length, at_same, at_other, get_end, result_kept, result_new, result_more, there}
 use Rattle.codec_accounts.specs.Calls.{who_of, Mark, reach, named_at, named, call_in, all_calls, Climbs}
 use Rattle.codec_accounts.specs.Calls as mark
-use Rattle.codec_accounts.specs.CallsLaws.{named_more, calls_in_more, climbs_on, climbs_add, MayClimb}
-use Rattle.codec_accounts.specs.Codec.{CodecValue, state_after, state_of, codec_at, histories, after_entry, slots_after, next_by, step_by, BoxStep, Keep, Give, Renew}
-use Rattle.codec_accounts.specs.AccountLaws.{Accounted, EntryFits, accounted_more, histories_more, history_at, histories_count, set_here, set_other, set_count}
+use Rattle.codec_accounts.specs.CallsLaws.{names_call, named_more, calls_in_more, climbs_on, climbs_add, MayClimb}
+use Rattle.codec_accounts.specs.Codec.{CodecValue, state_after, state_of, codec_at, histories}
+use Rattle.codec_accounts.specs.AccountLaws.{Accounted, EntryFits, accounted_more, history_at, histories_count}
 use Rattle.script_types.specs.declared.script.ScriptData.{ScriptData}
 use Rattle.script_types.specs.declared.steps.Step.{Step}
 use Rattle.script_types.specs.declared.steps.Step.TheVariants as step
 use Rattle.report_text.specs.declared.result.StepResult.{StepResult}
 use Rattle.report_text.specs.declared.result.StepResult.TheVariants as result
 use Rattle.trace_text.specs.Report.{refusal_in}
-use Rattle.media_variables.specs.Variables.{Medium, Media, Came, Taken, Brought, media_came, variables_of}
-use Rattle.media_accounts.specs.Accounts.{media_of, came_in, OneMore, IsQuiet, MediaStand, StepStands, NothingStands, StepsStand, OthersStand, LaterStand, LaterStands}
+use Rattle.media_variables.specs.Variables.{Medium, Media, Came, Taken, Brought, media_came, variables_of, after_came}
+use Rattle.media_accounts.specs.Accounts.{pool_by, media_of, came_in, OneMore, IsQuiet, MediaStand, StepStands, NothingStands, StepsStand, OthersStand, LaterStand, LaterStands, EntryStands, EntriesStand}
 use Rattle.script_types.specs.declared.steps.MediaStep.{MediaStep}
 use Rattle.script_types.specs.declared.steps.MediaStep.TheVariants as on_media
 use Rattle.script_types.specs.declared.steps.VariableKind.{VariableKind}
 use Rattle.trace_text.specs.Follow.{Recorded, Course, record_of, opening_at, steps_of, copied_chunk, output_at, with_result, with_entry, Move, Idle, Answer, Advance, Ask, Handle, Receive, after_move}
-use Rattle.trace_text.specs.Fits.{result_in, entry_in, step_in, called, taken_from, exception_at, mark_of, marks_of, taken_by, brought_to, made_steps, came_at, IsAnswerOf, IsResultBy, LookShows, IsLocalAnswer, IsMediaAnswer, HasArguments, ArgumentsAreIn, MarksClimb}
+use Rattle.trace_text.specs.Fits.{result_in, entry_in, step_in, called, taken_from, exception_at, mark_of, marks_of, taken_by, brought_to, made_steps, came_at, variables_at, IsAnswerOf, IsResultBy, LookShows, IsLocalAnswer, IsMediaAnswer, HasArguments, ArgumentsAreIn, MarksClimb}
 use Rattle.order_laws.proofs.Legal.{shown_last}
-use Rattle.order_laws.proofs.Grown.{Legals, Grows, SameMedia, ResultFits, taken_as, brought, output_stays, brought_stays, result_stays}
+use Rattle.order_laws.proofs.Entries.{codec_count, opened_still, call_fits, history_there, entries_new, longer_history, made_stays, same_history, this_history, lending_of, OneEntry, MayAddAll, entry_more, nobody_adds}
+use Rattle.order_laws.proofs.Grown.{Legals, Grows, SameMedia, variables_stay, ResultFits, taken_as, brought, output_stays, brought_stays, result_stays}
 use Rattle.order_laws.proofs.Answers.{IsOwn, own_mark, own_result, own_shows, own_found, own_taken, media_own, takes_none, media_answers}
 
--- the laws of callers' media
+-- the laws of media
 pub record MediaLaws : Type 0 where
   pub nothing : NothingStands
   pub media : StepsStand
   pub others : OthersStand
   pub later : LaterStand
+  pub codecs : EntriesStand
+  pub held : HeldStays
+  pub numbered : LiveAreNumbered
 
 -- What stands of a course that followed a script's order so far.
 pub record Stands (s : ScriptData) (media : List (List Chunk)) (made : List CoderId) (v : Course) : Type 0 where
@@ -58,7 +66,7 @@ pub record Stands (s : ScriptData) (media : List (List Chunk)) (made : List Code
   pub arguments : ArgumentsAreIn s media (record_of v)
   pub once : (k : ℕ) → mark.CallsAreIn k (at k (histories v.codecs)) (marks_of (record_of v))
   pub climbs : MarksClimb (record_of v)
-  pub stand : MediaStand (steps_of s) (brought_to s media (record_of v)) (made_steps (record_of v)) (length s.callers) v.media
+  pub stand : MediaStand (steps_of s) (brought_to s media (record_of v)) (lending_of s v.codecs) (made_steps (record_of v)) (length s.callers) v.media
 
 -- a codec's history, as the script opened it
 pub legals : (s : ScriptData) (media : List (List Chunk)) (made : List CoderId) (v : Course) → Stands s media made v → Legals s (record_of v)
@@ -108,10 +116,21 @@ map_more (x ∷ xs) r = ap (λ (m : List Mark). mark_of x ∷ m) (map_more xs r)
 abbrev pub next_who : Course → ℕ → Who
 next_who v c = record { caller = c; step = length (at c v.callers) }
 
+-- the place at which a caller's entry stands, and the result of a take of this output
+abbrev pub next_place : Course → ℕ → ℕ
+next_place v k = length (codec_at k v.codecs).history
+
+abbrev pub take_result : Course → ℕ → ℕ → StepResult
+take_result v k n = result.Unit k (next_place v k) n
+
+-- the variables of its caller's media before it, as a course that goes on has them, are those of the course
+abbrev pub SameBefore : ScriptData → List (List Chunk) → Course → Recorded → ℕ → Type 0
+SameBefore s media v w c = variables_at s media w c (length (at c v.callers)) ≡ variables_of c v.media.variables
+
 -- a result without an entry: the script's step that it answers, and what it shows
 pub record AnswerFits (s : ScriptData) (media : List (List Chunk)) (v : Course) (c : ℕ) (r : StepResult) : Type 0 where
   pub caller : c < length v.callers
-  pub fits : ResultFits s media (record_of (with_result c r v)) c (length (at c v.callers)) r
+  pub fits : SameBefore s media v (record_of (with_result c r v)) c → ResultFits s media (record_of (with_result c r v)) c (length (at c v.callers)) r
   pub climbs : (k : ℕ) → MayClimb (reach k (mark_of r)) (length (at k (histories v.codecs))) (length (at k (histories v.codecs)))
   pub no_call : (k : ℕ) (who : Who) → call_in k who (mark_of r) ≡ []
   pub quiet : IsQuiet (steps_of s) (brought_to s media (record_of (with_result c r v))) c (length (at c v.callers))
@@ -134,7 +153,8 @@ pub record AskFits (s : ScriptData) (media : List (List Chunk)) (v : Course) (c 
   pub after : State
   pub steps : entry_step e (state_of (codec_at k v.codecs)) ≡ Some after
   pub names : who_of e ≡ Some (next_who v c)
-  pub arguments : HasArguments s media (next_who v c) e step
+  pub arguments : HasArguments s media (variables_of c v.media.variables) (next_who v c) e step
+  pub adds : MayAddAll v.media.pool e
   pub shown : error ≡ refusal_in (shows e (state_of (codec_at k v.codecs)))
 
 -- what the next step of a caller, one on media, comes to
@@ -144,13 +164,6 @@ pub record HandleFits (s : ScriptData) (media : List (List Chunk)) (v : Course) 
   pub handled : MediaStep
   pub is_step : step_in s who.caller (length (at who.caller v.callers)) ≡ Some (step.Media handled)
   pub comes : media_came v.media.pool (next_who v who.caller) (brought (copied_chunk media (steps_of s who.caller) handled) None) handled (variables_of who.caller v.media.variables) ≡ Some y
-
--- the place at which a caller's entry stands, and the result of a take of this output
-abbrev pub next_place : Course → ℕ → ℕ
-next_place v k = length (codec_at k v.codecs).history
-
-abbrev pub take_result : Course → ℕ → ℕ → StepResult
-take_result v k n = result.Unit k (next_place v k) n
 
 -- a take of an output that was shown: the caller's next step, its entry, and what it comes to
 pub record ReceiveFits (s : ScriptData) (media : List (List Chunk)) (v : Course) (who : Who) (k : ℕ) (e : Entry) (y : Came) : Type 0 where
@@ -175,60 +188,6 @@ MoveFits s media v (Advance k e) = AdvanceFits v k e
 MoveFits s media v (Ask c k e error) = AskFits s media v c k e error
 MoveFits s media v (Handle who y) = HandleFits s media v who y
 MoveFits s media v (Receive who k e y) = ReceiveFits s media v who k e y
-
--- ---- an entry
-
-codec_count : (v : Course) (k : ℕ) (e : Entry) → length (with_entry k e v).codecs ≡ length v.codecs
-codec_count v k e = set_count k (after_entry k e v.slots (codec_at k v.codecs)) v.codecs
-
-opened_still : (s : ScriptData) (v : Course) (k : ℕ) (e : Entry) → ((j : ℕ) → j < length v.codecs → (codec_at j v.codecs).opening ≡ opening_at s j) → (j : ℕ) → j < length v.codecs → (codec_at j (with_entry k e v).codecs).opening ≡ opening_at s j
-opened_still s v k e opened j lt = elim (cases_eq j k) [
-  | inl same ↦ (
-      ap (λ (n : ℕ). (codec_at n (with_entry k e v).codecs).opening) same
-      ∙ (ap (λ (d : CodecValue). d.opening) (set_here k (after_entry k e v.slots (codec_at k v.codecs)) v.codecs (let s = same in omega (arith, lt, s)))
-      ∙ (ap (λ (n : ℕ). (codec_at n v.codecs).opening) (sym same) ∙ opened j lt))
-      )
-  | inr other ↦ ap (λ (d : CodecValue). d.opening) (set_other j k (after_entry k e v.slots (codec_at k v.codecs)) v.codecs other) ∙ opened j lt
-]
-
-call_fits : (e : Entry) (who : Who) (refusal : Option ℕ) → who_of e ≡ Some who → EntryFits e refusal
-call_fits (entry.Configure w config) who refusal names = tt
-call_fits (entry.Decode w chunk) who refusal names = tt
-call_fits (entry.Encode w handed) who refusal names = tt
-call_fits (entry.Flush w) who refusal names = tt
-call_fits (entry.Reset w) who refusal names = tt
-call_fits (entry.Close w) who refusal names = tt
-call_fits (entry.Take w n) who refusal names = tt
-call_fits (entry.Start epoch item) who refusal names = absurd cc
-call_fits (entry.Done epoch item moment o) who refusal names = absurd cc
-call_fits entry.Turn who refusal names = absurd cc
-call_fits (entry.Reclaim moment) who refusal names = absurd cc
-
--- the histories after an entry
-history_there : (v : Course) (k : ℕ) → length (at k (histories v.codecs)) ≡ length (codec_at k v.codecs).history
-history_there v k = ap length (history_at k v.codecs)
-
-entries_new : (v : Course) (k p n : ℕ) (e f : Entry) → slice_get (at n (histories (with_entry k e v).codecs)) p ≡ Some f → (slice_get (at n (histories v.codecs)) p ≡ Some f) ⊎ IsNew k e (histories v.codecs) n p f
-entries_new v k p n e f is = result_more n k p e f (histories v.codecs) (ap (λ (l : List (List Entry)). slice_get (at n l) p) (sym (histories_more k e v.slots v.codecs)) ∙ is)
-
-pub longer_history : (v : Course) (k n : ℕ) (e : Entry) → (more : List Entry) × (at n (histories (with_entry k e v).codecs) ≡ at n (histories v.codecs) ++ more)
-longer_history v k n e = let g = at_grows n k e (histories v.codecs) in (g.0, ap (at n) (histories_more k e v.slots v.codecs) ∙ g.1)
-
--- the registry is of the same boxes
-made_stays : (v : Course) (k : ℕ) (e : Entry) → (with_entry k e v).slots.made ≡ v.slots.made
-made_stays v k e = by_step (step_by e (codec_at k v.codecs))
-  where
-    by_step : (b : BoxStep) → (slots_after (next_by k (codec_at k v.codecs)) b (codec_at k v.codecs).holding.box v.slots).made ≡ v.slots.made
-    by_step Keep = refl
-    by_step Give = refl
-    by_step (Renew id) = refl
-
--- another history stays
-same_history : (v : Course) (k n : ℕ) (e : Entry) → n ≢ k → at n (histories (with_entry k e v).codecs) ≡ at n (histories v.codecs)
-same_history v k n e other = ap (at n) (histories_more k e v.slots v.codecs) ∙ at_other n k e (histories v.codecs) other
-
-pub this_history : (v : Course) (k : ℕ) (e : Entry) → k < length v.codecs → at k (histories (with_entry k e v).codecs) ≡ at k (histories v.codecs) ++ e ∷ []
-this_history v k e lt = ap (at k) (histories_more k e v.slots v.codecs) ∙ at_same k e (histories v.codecs) (let c = histories_count v.codecs in omega (arith, lt, c))
 
 -- ---- what grows
 
@@ -300,34 +259,75 @@ one_more v u c r callers lt = record {
 
 -- what is brought to each step that was made is so still
 later_stands : MediaLaws → (s : ScriptData) (media : List (List Chunk)) (made : List CoderId) (v u : Course) → Stands s media made v → Grows (record_of v) (record_of u)
-    → LaterStands (steps_of s) (brought_to s media (record_of v)) (brought_to s media (record_of u)) (made_steps (record_of v)) (length s.callers) v.media
+    → LaterStands (steps_of s) (brought_to s media (record_of v)) (brought_to s media (record_of u)) (lending_of s v.codecs) (made_steps (record_of v)) (length s.callers) v.media
 later_stands laws s media made v u st g =
-    laws.later (steps_of s) (brought_to s media (record_of v)) (brought_to s media (record_of u)) (made_steps (record_of v)) (length s.callers) v.media st.stand
+    laws.later (steps_of s) (brought_to s media (record_of v)) (brought_to s media (record_of u)) (lending_of s v.codecs) (made_steps (record_of v)) (length s.callers) v.media st.stand
     (brought_stays s media (record_of v) (record_of u) g (λ c j r is. (st.results c j r is).found))
 
 -- a step that is none on media is quiet
 pub none_quiet : (s : ScriptData) (brought : ℕ → ℕ → MediaStep → Brought) (c j : ℕ) → option_and_then media_of (step_in s c j) ≡ None → IsQuiet (steps_of s) brought c j
 none_quiet s brought c j none x pool vs is = absurd (let bad : None ≡ Some x = sym none ∙ is in cc)
 
--- a step that calls a codec is none on media
-no_media : (x : Step) (k : ℕ) → called x ≡ Some k → media_of x ≡ None
-no_media (step.Configure on config) k h = refl
-no_media (step.Decode on chunk) k h = refl
-no_media (step.Flush on bind) k h = refl
-no_media (step.Reset on) k h = refl
-no_media (step.Close on) k h = refl
-no_media (step.Chunk bind source) k h = refl
-no_media (step.Poll promise) k h = refl
-no_media (step.Await promise) k h = refl
-no_media (step.State on) k h = refl
-no_media (step.Media x) k h = absurd cc
+pub one_medium : (x y : MediaStep) → Some x ≡ Some y → x ≡ y
+one_medium x y h = cc
 
--- all media stand after a step of a caller that came to nothing of media
-other_stands : MediaLaws → (s : ScriptData) (media : List (List Chunk)) (made : List CoderId) (v u : Course) (c : ℕ) (r : StepResult)
-    → LaterStands (steps_of s) (brought_to s media (record_of v)) (brought_to s media (record_of u)) (made_steps (record_of v)) (length s.callers) v.media → u.callers ≡ append_at c r v.callers → c < length v.callers
-    → IsQuiet (steps_of s) (brought_to s media (record_of u)) c (length (at c v.callers)) → MediaStand (steps_of s) (brought_to s media (record_of u)) (made_steps (record_of u)) (length s.callers) v.media
-other_stands laws s media made v u c r later callers lt quiet =
-    laws.others (steps_of s) (brought_to s media (record_of u)) (made_steps (record_of v)) (made_steps (record_of u)) (length s.callers) v.media c later.stands (one_more v u c r callers lt) quiet
+-- a step that calls a codec is quiet: it is none on media, or one that encodes
+pub call_quiet : (s : ScriptData) (brought : ℕ → ℕ → MediaStep → Brought) (c j k : ℕ) (x : Step) → step_in s c j ≡ Some x → called x ≡ Some k → IsQuiet (steps_of s) brought c j
+call_quiet s brought c j k (step.Media (on_media.Encode on content)) is h = λ y pool vs named. (
+    let same : on_media.Encode on content ≡ y = one_medium (on_media.Encode on content) y (sym (ap (option_and_then media_of) is) ∙ named) in
+    subst (λ (z : MediaStep). media_came pool (record { caller = c; step = j }) (brought c j z) z vs ≡ None) same refl
+    )
+call_quiet s brought c j k (step.Media x) is h = absurd cc
+call_quiet s brought c j k (step.Configure on config) is h = none_quiet s brought c j (ap (option_and_then media_of) is)
+call_quiet s brought c j k (step.Decode on chunk) is h = none_quiet s brought c j (ap (option_and_then media_of) is)
+call_quiet s brought c j k (step.Flush on bind) is h = none_quiet s brought c j (ap (option_and_then media_of) is)
+call_quiet s brought c j k (step.Reset on) is h = none_quiet s brought c j (ap (option_and_then media_of) is)
+call_quiet s brought c j k (step.Close on) is h = none_quiet s brought c j (ap (option_and_then media_of) is)
+call_quiet s brought c j k (step.Chunk bind source) is h = absurd cc
+call_quiet s brought c j k (step.Poll promise) is h = absurd cc
+call_quiet s brought c j k (step.Await promise) is h = absurd cc
+call_quiet s brought c j k (step.State on) is h = absurd cc
+
+-- all media stand after one entry more of a codec, whose course goes on to u
+entry_stands : MediaLaws → (s : ScriptData) (media : List (List Chunk)) (made : List CoderId) (v u : Course) (k : ℕ) (e : Entry) (t : State) → Stands s media made v → OneEntry s v k e t → MayAddAll v.media.pool e
+    → LaterStands (steps_of s) (brought_to s media (record_of v)) (brought_to s media (record_of u)) (lending_of s v.codecs) (made_steps (record_of v)) (length s.callers) v.media
+    → EntryStands (steps_of s) (brought_to s media (record_of u)) (lending_of s (with_entry k e v).codecs) (made_steps (record_of v)) (length s.callers) k (next_place v k) e (state_of (codec_at k v.codecs)) v.media
+entry_stands laws s media made v u k e t st one may later =
+    laws.codecs (steps_of s) (brought_to s media (record_of u)) (lending_of s v.codecs) (lending_of s (with_entry k e v).codecs) (made_steps (record_of v)) (length s.callers) k (next_place v k) e (state_of (codec_at k v.codecs)) v.media
+    later.stands (entry_more laws.held s v k e t one may)
+
+-- what the steps that were made came to is told as before
+entry_told : (s : ScriptData) (media : List (List Chunk)) (v u : Course) (k : ℕ) (e : Entry)
+    → LaterStands (steps_of s) (brought_to s media (record_of v)) (brought_to s media (record_of u)) (lending_of s v.codecs) (made_steps (record_of v)) (length s.callers) v.media
+    → EntryStands (steps_of s) (brought_to s media (record_of u)) (lending_of s (with_entry k e v).codecs) (made_steps (record_of v)) (length s.callers) k (next_place v k) e (state_of (codec_at k v.codecs)) v.media
+    → u.media.pool ≡ (with_entry k e v).media.pool → SameMedia s media (record_of v) (record_of u)
+entry_told s media v u k e later stands pool c j lt =
+    ap (λ (p : List PoolEntry). came_in (steps_of s) (brought_to s media (record_of u)) p c j) pool ∙ (stands.same c j ∙ later.same c j lt)
+
+-- the variables of a caller before its next step are those of the course
+same_before : (s : ScriptData) (media : List (List Chunk)) (made : List CoderId) (v u : Course) (c : ℕ) → Stands s media made v → SameMedia s media (record_of v) (record_of u) → SameBefore s media v (record_of u) c
+same_before s media made v u c st told =
+    variables_stay s media (record_of v) (record_of u) c (length (at c v.callers)) told (omega arith) ∙ sym (st.stand.variables c)
+
+-- an entry of a caller is of a step that was made
+named_within : (s : ScriptData) (media : List (List Chunk)) (made : List CoderId) (v : Course) (k p : ℕ) (e : Entry) (who : Who) → Stands s media made v → entry_in (record_of v) k p ≡ Some e → who_of e ≡ Some who → who.step < made_steps (record_of v) who.caller
+named_within s media made v k p e who st is names =
+    let marks = marks_of (record_of v) in
+    let there = names_call k (at k (histories v.codecs)) marks p e who (st.once k) is names in
+    let lt : who.step < length (at who.caller marks) = slice_get_within (at who.caller marks) who.step (mark.Call k p) there in
+    let long = marks_long who.caller v.callers in
+    omega (arith, lt, long)
+
+-- an entry has what its step gives still
+arguments_stay : (s : ScriptData) (media : List (List Chunk)) (made : List CoderId) (v u : Course) (k p : ℕ) (e : Entry) (who : Who) → Stands s media made v → SameMedia s media (record_of v) (record_of u) → entry_in (record_of v) k p ≡ Some e → who_of e ≡ Some who
+    → (x : Step) × (step_in s who.caller who.step ≡ Some x) × HasArguments s media (variables_at s media (record_of u) who.caller who.step) who e x
+arguments_stay s media made v u k p e who st told is names =
+    let had = st.arguments k p e who is names in
+    let lt = named_within s media made v k p e who st is names in (
+      had.0,
+      had.1,
+      subst (λ (vs : List (Option Medium)). HasArguments s media vs who e had.0) (sym (variables_stay s media (record_of v) (record_of u) who.caller who.step told (omega (arith, lt)))) had.2,
+    )
 
 -- ---- each kind of move
 
@@ -340,29 +340,36 @@ answer_stands laws s media made v c r st a =
       opened = st.opened;
       same_made = st.same_made;
       boxes = st.boxes;
-      results = results_more s media made v (with_result c r v) c r st (answer_grows v c r) later.same refl a.fits;
-      arguments = st.arguments;
+      results = results_more s media made v (with_result c r v) c r st (answer_grows v c r) later.same refl (a.fits (same_before s media made v (with_result c r v) c st later.same));
+      arguments = λ k p e who is names. arguments_stay s media made v (with_result c r v) k p e who st later.same is names;
       once = λ k. calls_once v (with_result c r v) c k r [] (st.once k) refl a.caller (sym (append-nil (at k (histories v.codecs))))
           (ap named (append-nil (at k (histories v.codecs))) ∙ sym (ap (λ l. named (at k (histories v.codecs)) ++ l) (a.no_call k (next_who v c)) ∙ append-nil (named (at k (histories v.codecs)))));
       climbs = marks_climb v (with_result c r v) c r st.climbs refl a.caller (λ k. omega arith) a.climbs;
-      stand = other_stands laws s media made v (with_result c r v) c r later refl a.caller a.quiet;
+      stand = laws.others (steps_of s) (brought_to s media (record_of (with_result c r v))) (lending_of s v.codecs) (made_steps (record_of v)) (made_steps (record_of (with_result c r v))) (length s.callers) v.media c later.stands (one_more v (with_result c r v) c r refl a.caller) a.quiet;
     }
 
 up_to : (v : Course) (k n : ℕ) (e : Entry) → length (at n (histories v.codecs)) ≤ length (at n (histories (with_entry k e v).codecs))
 up_to v k n e = let m = longer_history v k n e in let l = ap length m.1 in let a = length-append (at n (histories v.codecs)) m.0 in omega (arith, l, a)
 
+-- the codec's next entry
+one_entry : (s : ScriptData) (media : List (List Chunk)) (made : List CoderId) (v : Course) (k : ℕ) (e : Entry) (t : State) → Stands s media made v → k < length v.codecs → entry_step e (state_of (codec_at k v.codecs)) ≡ Some t → OneEntry s v k e t
+one_entry s media made v k e t st lt steps = record { codec = lt; opened = st.opened k lt; replays = (st.boxes.each k).replays; steps = steps }
+
 advance_stands : MediaLaws → (s : ScriptData) (media : List (List Chunk)) (made : List CoderId) (v : Course) (k : ℕ) (e : Entry) → Stands s media made v → AdvanceFits v k e → Stands s media made (with_entry k e v)
 advance_stands laws s media made v k e st a =
-    let later = later_stands laws s media made v (with_entry k e v) st (advance_grows v k e) in
+    let u = with_entry k e v in
+    let later = later_stands laws s media made v u st (advance_grows v k e) in
+    let stands = entry_stands laws s media made v u k e a.after st (one_entry s media made v k e a.after st a.codec a.steps) (nobody_adds v.media.pool e a.nobody) later in
+    let told = entry_told s media v u k e later stands refl in
     record {
       callers = st.callers;
       count = codec_count v k e ∙ st.count;
       opened = λ j lt. opened_still s v k e st.opened j (let c = codec_count v k e in omega (arith, lt, c));
       same_made = made_stays v k e ∙ st.same_made;
       boxes = accounted_more v.codecs v.slots k e a.after st.boxes a.codec a.steps a.fits;
-      results = λ b j q is. result_stays s media (record_of v) (record_of (with_entry k e v)) (legals s media made v st) st.climbs (advance_grows v k e) later.same b j q is (st.results b j q is);
+      results = λ b j q is. result_stays s media (record_of v) (record_of u) (legals s media made v st) st.climbs (advance_grows v k e) told b j q is (st.results b j q is);
       arguments = λ n p f who is names. elim (entries_new v k p n e f is) [
-        | inl was ↦ st.arguments n p f who was names
+        | inl was ↦ arguments_stay s media made v u n p f who st told was names
         | inr new ↦ absurd (let bad = sym a.nobody ∙ (ap who_of (sym new.value) ∙ names) in cc)
       ];
       once = λ n. elim (cases_eq n k) [
@@ -372,7 +379,7 @@ advance_stands laws s media made v k e st a =
             (λ t. ap (sum_by t) (named_more (at k (histories v.codecs)) e ∙ (ap (λ (o : Option Who). named (at k (histories v.codecs)) ++ named_at (length (at k (histories v.codecs))) o) a.nobody ∙ append-nil (named (at k (histories v.codecs))))) ∙ st.once k t))
       ];
       climbs = λ c n. climbs_on n 0 (map mark_of (at c v.callers)) (length (at n (histories v.codecs))) (length (at n (histories (with_entry k e v).codecs))) (up_to v k n e) (st.climbs c n);
-      stand = later.stands;
+      stand = stands.stands;
     }
 
 -- ---- a caller's entry, and its result
@@ -393,18 +400,21 @@ record IsNextEntry (v : Course) (c k : ℕ) (e : Entry) (r : StepResult) : Type 
   names : who_of e ≡ Some (next_who v c)
   marks : mark_of r ≡ mark.Call k (next_place v k)
 
-entry_arguments : (s : ScriptData) (media : List (List Chunk)) (v : Course) (c k : ℕ) (e : Entry) (r : StepResult) (x : Step) → ArgumentsAreIn s media (record_of v) → IsNextEntry v c k e r → step_in s c (length (at c v.callers)) ≡ Some x → HasArguments s media (next_who v c) e x
-    → ArgumentsAreIn s media (record_of (with_result c r (with_entry k e v)))
-entry_arguments s media v c k e r x before a is_step has n q f who is names = elim (entries_new v k q n e f is) [
-  | inl was ↦ before n q f who was names
-  | inr new ↦ (
-      let same : next_who v c ≡ who = some_who (sym a.names ∙ (ap who_of (sym new.value) ∙ names)) in (
-        x,
-        subst (λ (w : Who). step_in s w.caller w.step ≡ Some x) same is_step,
-        subst (λ (g : Entry). HasArguments s media who g x) (sym new.value) (subst (λ (w : Who). HasArguments s media w e x) same has),
-      )
-      )
-]
+entry_arguments : (s : ScriptData) (media : List (List Chunk)) (made : List CoderId) (v u : Course) (c k : ℕ) (e : Entry) (r : StepResult) (x : Step) → Stands s media made v → SameMedia s media (record_of v) (record_of u) → IsNextEntry v c k e r
+    → step_in s c (length (at c v.callers)) ≡ Some x → HasArguments s media (variables_of c v.media.variables) (next_who v c) e x → u.codecs ≡ (with_entry k e v).codecs → ArgumentsAreIn s media (record_of u)
+entry_arguments s media made v u c k e r x st told a is_step has codecs n q f who is names =
+    elim (entries_new v k q n e f (ap (λ (ds : List CodecValue). slice_get (at n (histories ds)) q) (sym codecs) ∙ is)) [
+      | inl was ↦ arguments_stay s media made v u n q f who st told was names
+      | inr new ↦ (
+          let same : next_who v c ≡ who = some_who (sym a.names ∙ (ap who_of (sym new.value) ∙ names)) in
+          let here : HasArguments s media (variables_at s media (record_of u) c (length (at c v.callers))) (next_who v c) e x =
+          subst (λ (vs : List (Option Medium)). HasArguments s media vs (next_who v c) e x) (sym (same_before s media made v u c st told)) has in (
+            x,
+            subst (λ (w : Who). step_in s w.caller w.step ≡ Some x) same is_step,
+            subst (λ (g : Entry). HasArguments s media (variables_at s media (record_of u) who.caller who.step) who g x) (sym new.value) (subst (λ (w : Who). HasArguments s media (variables_at s media (record_of u) w.caller w.step) w e x) same here),
+          )
+          )
+    ]
 
 entry_once : (v : Course) (c k : ℕ) (e : Entry) (r : StepResult) → ((n : ℕ) → mark.CallsAreIn n (at n (histories v.codecs)) (marks_of (record_of v))) → IsNextEntry v c k e r
     → (n : ℕ) → mark.CallsAreIn n (at n (histories (with_entry k e v).codecs)) (marks_of (record_of (with_result c r (with_entry k e v))))
@@ -471,20 +481,21 @@ call_there s media made v c k e error st a =
           (subst (λ (o : Option ℕ). IsAnswerOf s (record_of u) o (call_result v k error)) (sym a.calls) (refl, shown));
       found = tt;
       shows = none.1;
-      answers = none.2 (came_at s media (record_of u) c (length (at c v.callers)));
+      answers = none.2 (variables_at s media (record_of u) c (length (at c v.callers))) (came_at s media (record_of u) c (length (at c v.callers)));
     }
   where
     no_look : (s : ScriptData) (media : List (List Chunk)) (w : Recorded) (c k p : ℕ) (x : Step) (error : Option DomError) → called x ≡ Some k
-        → (taken_from x ≡ None) × LookShows s w c x (result.Call k p error) × ((o : Option Came) → IsLocalAnswer s media o c x (result.Call k p error))
-    no_look s media w c k p (step.Configure on config) error h = (refl, tt, λ o. tt)
-    no_look s media w c k p (step.Decode on chunk) error h = (refl, tt, λ o. tt)
-    no_look s media w c k p (step.Flush on bind) error h = (refl, tt, λ o. tt)
-    no_look s media w c k p (step.Reset on) error h = (refl, tt, λ o. tt)
-    no_look s media w c k p (step.Close on) error h = (refl, tt, λ o. tt)
+        → (taken_from x ≡ None) × LookShows s w c x (result.Call k p error) × ((vs : List (Option Medium)) (o : Option Came) → IsLocalAnswer s media vs o c x (result.Call k p error))
+    no_look s media w c k p (step.Configure on config) error h = (refl, tt, λ vs o. tt)
+    no_look s media w c k p (step.Decode on chunk) error h = (refl, tt, λ vs o. tt)
+    no_look s media w c k p (step.Flush on bind) error h = (refl, tt, λ vs o. tt)
+    no_look s media w c k p (step.Reset on) error h = (refl, tt, λ vs o. tt)
+    no_look s media w c k p (step.Close on) error h = (refl, tt, λ vs o. tt)
     no_look s media w c k p (step.Chunk bind source) error h = absurd cc
     no_look s media w c k p (step.Poll promise) error h = absurd cc
     no_look s media w c k p (step.Await promise) error h = absurd cc
     no_look s media w c k p (step.State on) error h = absurd cc
+    no_look s media w c k p (step.Media (on_media.Encode on content)) error h = (refl, tt, λ vs o. tt)
     no_look s media w c k p (step.Media x) error h = absurd cc
 
 ask_stands : MediaLaws → (s : ScriptData) (media : List (List Chunk)) (made : List CoderId) (v : Course) (c k : ℕ) (e : Entry) (error : Option DomError) → Stands s media made v → AskFits s media v c k e error → Stands s media made (after_move (Ask c k e error) v)
@@ -493,28 +504,31 @@ ask_stands laws s media made v c k e error st a =
     let r = call_result v k error in
     let next : IsNextEntry v c k e r = record { caller = a.caller; codec = a.codec; names = a.names; marks = refl } in
     let later = later_stands laws s media made v u st (both_grow v c k e r) in
+    let stands = entry_stands laws s media made v u k e a.after st (one_entry s media made v k e a.after st a.codec a.steps) a.adds later in
+    let told = entry_told s media v u k e later stands refl in
     record {
       callers = append_at_length c r v.callers ∙ st.callers;
       count = codec_count v k e ∙ st.count;
       opened = λ j lt. opened_still s v k e st.opened j (let n = codec_count v k e in omega (arith, lt, n));
       same_made = made_stays v k e ∙ st.same_made;
       boxes = accounted_more v.codecs v.slots k e a.after st.boxes a.codec a.steps (call_fits e (next_who v c) (codec_at k v.codecs).holding.refusal a.names);
-      results = results_more s media made v u c r st (both_grow v c k e r) later.same refl (call_there s media made v c k e error st a);
-      arguments = entry_arguments s media v c k e r a.step st.arguments next a.is_step a.arguments;
+      results = results_more s media made v u c r st (both_grow v c k e r) told refl (call_there s media made v c k e error st a);
+      arguments = entry_arguments s media made v u c k e r a.step st told next a.is_step a.arguments refl;
       once = entry_once v c k e r st.once next;
       climbs = entry_climbs v c k e r st.climbs next;
-      stand = other_stands laws s media made v u c r later refl a.caller (none_quiet s (brought_to s media (record_of u)) c (length (at c v.callers)) (ap (option_and_then media_of) a.is_step ∙ no_media a.step k a.calls));
+      stand = laws.others (steps_of s) (brought_to s media (record_of u)) (lending_of s u.codecs) (made_steps (record_of v)) (made_steps (record_of u)) (length s.callers) u.media c stands.stands (one_more v u c r refl a.caller)
+          (call_quiet s (brought_to s media (record_of u)) c (length (at c v.callers)) k a.step a.is_step a.calls);
     }
 
 -- ---- steps on media
 
 -- what all earlier steps came to is told as before
-still_told : (s : ScriptData) (media : List (List Chunk)) (v u : Course) (c : ℕ) (y : Came)
-    → LaterStands (steps_of s) (brought_to s media (record_of v)) (brought_to s media (record_of u)) (made_steps (record_of v)) (length s.callers) v.media
-    → StepStands (steps_of s) (brought_to s media (record_of u)) (made_steps (record_of v)) (made_steps (record_of u)) (length s.callers) v.media c y
-    → u.media ≡ (after_move (Handle (next_who v c) y) v).media → SameMedia s media (record_of v) (record_of u)
-still_told s media v u c y later told same d j lt =
-    ap (λ (m : Media). came_in (steps_of s) (brought_to s media (record_of u)) m.pool d j) same ∙ (told.earlier d j lt ∙ later.same d j lt)
+still_told : (s : ScriptData) (media : List (List Chunk)) (v u : Course) (c : ℕ) (y : Came) (m : Media)
+    → ((d j : ℕ) → j < made_steps (record_of v) d → came_in (steps_of s) (brought_to s media (record_of u)) m.pool d j ≡ came_at s media (record_of v) d j)
+    → StepStands (steps_of s) (brought_to s media (record_of u)) (lending_of s u.codecs) (made_steps (record_of v)) (made_steps (record_of u)) (length s.callers) m c y
+    → u.media ≡ after_came (next_who v c) y m → SameMedia s media (record_of v) (record_of u)
+still_told s media v u c y m before told same d j lt =
+    ap (λ (n : Media). came_in (steps_of s) (brought_to s media (record_of u)) n.pool d j) same ∙ (told.earlier d j lt ∙ before d j lt)
 
 -- a step on media of this caller, to which no output is brought
 handled_stands : MediaLaws → (s : ScriptData) (media : List (List Chunk)) (made : List CoderId) (v : Course) (who : Who) (y : Came) → Stands s media made v → HandleFits s media v who y → Stands s media made (after_move (Handle (next_who v who.caller) y) v)
@@ -530,15 +544,18 @@ handled_stands laws s media made v who y st a =
     let none : taken_by s (record_of u) (result_in (record_of u) c (length (at c v.callers))) ≡ None = ap (taken_by s (record_of u)) (result_new c r v.callers a.caller) ∙ own_taken s (record_of u) r own in
     let comes : media_came v.media.pool (next_who v c) (brought_to s media (record_of u) c (length (at c v.callers)) a.handled) a.handled (variables_of c v.media.variables) ≡ Some y =
     ap (λ (o : Option Taken). media_came v.media.pool (next_who v c) (brought chunk o) a.handled (variables_of c v.media.variables)) none ∙ a.comes in
-    let told : StepStands (steps_of s) (brought_to s media (record_of u)) (made_steps (record_of v)) (made_steps (record_of u)) (length s.callers) v.media c y =
-    laws.media (steps_of s) (brought_to s media (record_of u)) (made_steps (record_of v)) (made_steps (record_of u)) (length s.callers) v.media c a.handled y later.stands below (one_more v u c r refl a.caller) a.is_step comes in
+    let told : StepStands (steps_of s) (brought_to s media (record_of u)) (lending_of s v.codecs) (made_steps (record_of v)) (made_steps (record_of u)) (length s.callers) v.media c y =
+    laws.media (steps_of s) (brought_to s media (record_of u)) (lending_of s v.codecs) (made_steps (record_of v)) (made_steps (record_of u)) (length s.callers) v.media c a.handled y later.stands below (one_more v u c r refl a.caller) a.is_step comes in
+    let still : SameMedia s media (record_of v) (record_of u) = still_told s media v u c y v.media later.same told refl in
+    let none_named = takes_none v.media.pool (next_who v c) chunk a.handled (variables_of c v.media.variables) y a.comes in
     let fits : ResultFits s media (record_of u) c (length (at c v.callers)) r = record {
       step = step.Media a.handled;
       is_step = a.is_step;
-      made = subst (λ (t : Option ℕ). IsResultBy s (record_of u) (next_who v c) t None r) (sym (takes_none v.media.pool (next_who v c) chunk a.handled (variables_of c v.media.variables) y a.comes)) (own_result s (record_of u) r own);
+      made = subst (λ (t : Option ℕ). IsResultBy s (record_of u) (next_who v c) t (called (step.Media a.handled)) r) (sym none_named.0)
+          (subst (λ (o : Option ℕ). IsAnswerOf s (record_of u) o r) (sym none_named.1) (own_result s (record_of u) r own));
       found = own_found s (record_of u) r own;
       shows = own_shows s (record_of u) c a.handled r own;
-      answers = media_answers s media (came_at s media (record_of u) c (length (at c v.callers))) c a.handled r (subst (λ (o : Option Came). IsMediaAnswer o r) (sym told.here) refl);
+      answers = media_answers s media v.media.pool (next_who v c) chunk a.handled (variables_at s media (record_of u) c (length (at c v.callers))) (variables_of c v.media.variables) y (came_at s media (record_of u) c (length (at c v.callers))) c r a.comes (subst (λ (o : Option Came). IsMediaAnswer o r) (sym told.here) refl);
     } in
     record {
       callers = append_at_length c r v.callers ∙ st.callers;
@@ -546,8 +563,8 @@ handled_stands laws s media made v who y st a =
       opened = st.opened;
       same_made = st.same_made;
       boxes = st.boxes;
-      results = results_more s media made v u c r st grows (still_told s media v u c y later told refl) refl fits;
-      arguments = st.arguments;
+      results = results_more s media made v u c r st grows still refl fits;
+      arguments = λ k p e who is names. arguments_stay s media made v u k p e who st still is names;
       once = λ k. calls_once v u c k r [] (st.once k) refl a.caller (sym (append-nil (at k (histories v.codecs))))
           (ap named (append-nil (at k (histories v.codecs))) ∙ sym (ap (λ m. named (at k (histories v.codecs)) ++ call_in k (next_who v c) m) (own_mark r own) ∙ append-nil (named (at k (histories v.codecs)))));
       climbs = marks_climb v u c r st.climbs refl a.caller (λ k. omega arith)
@@ -591,6 +608,14 @@ take_there s media v u c k n bind holds shown is grown found = record {
         ∙ (ap (λ (i : ℕ). slice_get (at k (histories v.codecs) ++ entry.Take (next_who v c) n ∷ []) i) (sym (history_there v k))
         ∙ get_end (at k (histories v.codecs)) (entry.Take (next_who v c) n))
 
+-- a take does nothing to the pool
+take_pool : (v : Course) (k n c : ℕ) (e : Entry) → e ≡ entry.Take (next_who v c) n → (with_entry k e v).media.pool ≡ v.media.pool
+take_pool v k n c e takes =
+    ap (λ (x : Entry). v.media.pool ++ pool_by (by.Codec k (next_place v k)) x (state_of (codec_at k v.codecs)) v.media.pool) takes ∙ append-nil v.media.pool
+
+take_adds : (pool : List PoolEntry) (who : Who) (n : ℕ) (e : Entry) → e ≡ entry.Take who n → MayAddAll pool e
+take_adds pool who n e takes = subst (λ (x : Entry). MayAddAll pool x) (sym takes) (λ i p is. absurd cc)
+
 -- a take of this caller: all but its media are as after a call
 received_stands : MediaLaws → (s : ScriptData) (media : List (List Chunk)) (made : List CoderId) (v : Course) (c k : ℕ) (e : Entry) (y : Came) → Stands s media made v → ReceiveFits s media v (next_who v c) k e y → Stands s media made (after_move (Receive (next_who v c) k e y) v)
 received_stands laws s media made v c k e y st a =
@@ -607,10 +632,16 @@ received_stands laws s media made v c k e y st a =
     let shown : output_at (opening_at s k) (at k (histories u.codecs)) n ≡ Some a.unit = output_stays s (record_of v) (record_of u) grows k n a.unit a.there in
     let took : taken_by s (record_of u) (result_in (record_of u) c (length (at c v.callers))) ≡ Some (taken_as (take_result v k n) a.unit) =
     ap (taken_by s (record_of u)) (result_new c r v.callers a.caller ∙ ap (λ (q : StepResult). Some q) answers) ∙ ap (option_map (taken_as (take_result v k n))) shown in
-    let comes : media_came v.media.pool (next_who v c) (brought_to s media (record_of u) c (length (at c v.callers)) step_taken) step_taken (variables_of c v.media.variables) ≡ Some y =
-    ap (λ (o : Option Taken). media_came v.media.pool (next_who v c) (brought None o) step_taken (variables_of c v.media.variables)) took ∙ a.comes in
-    let told : StepStands (steps_of s) (brought_to s media (record_of u)) (made_steps (record_of v)) (made_steps (record_of u)) (length s.callers) v.media c y =
-    laws.media (steps_of s) (brought_to s media (record_of u)) (made_steps (record_of v)) (made_steps (record_of u)) (length s.callers) v.media c step_taken y later.stands below (one_more v u c r refl a.caller) a.is_step comes in
+    let m = (with_entry k e v).media in
+    let pool : m.pool ≡ v.media.pool = take_pool v k n c e a.takes in
+    let stands = entry_stands laws s media made v u k e a.after st (one_entry s media made v k e a.after st a.codec a.steps) (take_adds v.media.pool (next_who v c) n e a.takes) later in
+    let before = λ (d j : ℕ) (lt : j < made_steps (record_of v) d). stands.same d j ∙ later.same d j lt in
+    let comes : media_came m.pool (next_who v c) (brought_to s media (record_of u) c (length (at c v.callers)) step_taken) step_taken (variables_of c v.media.variables) ≡ Some y =
+    ap (λ (o : Option Taken). media_came m.pool (next_who v c) (brought None o) step_taken (variables_of c v.media.variables)) took
+    ∙ (ap (λ (p : List PoolEntry). media_came p (next_who v c) (brought None (Some (taken_as (take_result v k n) a.unit))) step_taken (variables_of c v.media.variables)) pool ∙ a.comes) in
+    let told : StepStands (steps_of s) (brought_to s media (record_of u)) (lending_of s u.codecs) (made_steps (record_of v)) (made_steps (record_of u)) (length s.callers) m c y =
+    laws.media (steps_of s) (brought_to s media (record_of u)) (lending_of s u.codecs) (made_steps (record_of v)) (made_steps (record_of u)) (length s.callers) m c step_taken y stands.stands below (one_more v u c r refl a.caller) a.is_step comes in
+    let still : SameMedia s media (record_of v) (record_of u) = still_told s media v u c y m before told refl in
     let grown : at k (histories u.codecs) ≡ at k (histories v.codecs) ++ entry.Take (next_who v c) n ∷ [] = this_history v k e a.codec ∙ ap (λ (x : Entry). at k (histories v.codecs) ++ x ∷ []) a.takes in
     let fits : ResultFits s media (record_of u) c (length (at c v.callers)) r =
     subst (ResultFits s media (record_of u) c (length (at c v.callers))) (sym answers) (take_there s media v u c k n a.bind a.holds a.unit a.is_step grown shown) in
@@ -620,8 +651,8 @@ received_stands laws s media made v c k e y st a =
       opened = λ j lt. opened_still s v k e st.opened j (let m = codec_count v k e in omega (arith, lt, m));
       same_made = made_stays v k e ∙ st.same_made;
       boxes = accounted_more v.codecs v.slots k e a.after st.boxes a.codec a.steps (call_fits e (next_who v c) (codec_at k v.codecs).holding.refusal names);
-      results = results_more s media made v u c r st grows (still_told s media v u c y later told refl) refl fits;
-      arguments = entry_arguments s media v c k e r (step.Media step_taken) st.arguments next a.is_step (n, a.takes);
+      results = results_more s media made v u c r st grows still refl fits;
+      arguments = entry_arguments s media made v u c k e r (step.Media step_taken) st still next a.is_step (n, a.takes) refl;
       once = entry_once v c k e r st.once next;
       climbs = entry_climbs v c k e r st.climbs next;
       stand = told.stands;

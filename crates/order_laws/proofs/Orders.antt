@@ -6,6 +6,8 @@ use Rattle.std.proofs.lemmas.List.{length-map}
 use Rattle.wc_config.specs.declared.codec.CoderId.{CoderId}
 use Rattle.wc_chunk.specs.declared.chunk.Chunk.{Chunk}
 use Rattle.codec_model.specs.declared.entry.Entry.{Entry}
+use Rattle.codec_model.specs.declared.entry.Pair.{Pair}
+use Rattle.wc_pool.specs.declared.entry.PoolOp.{PoolOp}
 use Rattle.codec_model.specs.Replay.{IsLegal}
 use Rattle.codec_accounts.specs.Owed.{at}
 use Rattle.codec_accounts.specs.ListLaws.{at_empty}
@@ -22,10 +24,11 @@ use Rattle.script_types.specs.declared.script.ScriptData.{ScriptData}
 use Rattle.report_text.specs.declared.result.StepResult.{StepResult}
 use Rattle.trace_text.specs.declared.run.Run.{Run}
 use Rattle.trace_text.specs.Follow.{Recorded, Course, record_of, opening_of, opening_in, opening_at, steps_of, order_items, follow_item, item_move, Follows, nothing_yet}
-use Rattle.trace_text.specs.Fits.{recorded_of, mark_of, marks_of, CallsAreIn, LooksAreIn, ArgumentsAreIn, LocalsAreIn, LookShows, IsLocalAnswer, brought_to, made_steps, came_at, FollowsTheOrder, Fits}
-use Rattle.media_accounts.specs.Accounts.{MediaAreIn, MediaStand}
+use Rattle.trace_text.specs.Fits.{recorded_of, mark_of, marks_of, CallsAreIn, LooksAreIn, ArgumentsAreIn, LocalsAreIn, LookShows, IsLocalAnswer, brought_to, made_steps, came_at, variables_at, lends_in, FollowsTheOrder, Fits}
+use Rattle.media_accounts.specs.Accounts.{lent_at, Lending, nothing_lent, MediaAreIn, MediaStand}
 use Rattle.order_laws.specs.Sound.{IsSound}
-use Rattle.order_laws.specs.Course.{IsCourse}
+use Rattle.order_laws.specs.Course.{held_by_codecs, IsCourse}
+use Rattle.order_laws.proofs.Entries.{lending_of}
 use Rattle.order_laws.proofs.Moves.{MediaLaws, Stands, legals, move_stands}
 use Rattle.order_laws.proofs.Items.{item_fits, opens}
 
@@ -53,6 +56,21 @@ no_calls k first (c ∷ cs) = no_calls k (suc first) cs
 none_made : (s : ScriptData) (made : List CoderId) → (λ c. 0) ≡ made_steps (record_of (nothing_yet s made))
 none_made s made = λ i c. sym (ap length (at_empty {X = StepResult} c s.callers)) i
 
+-- nothing is lent to a codec yet
+none_held : (cs : List CodecItem) (k : ℕ) → held_by_codecs (map (λ c. new_codec (opening_of c)) cs) k ≡ []
+none_held [] k = refl
+none_held (c ∷ cs) zero = refl
+none_held (c ∷ cs) (suc k) = none_held cs k
+
+lending : (ℕ → ℕ → List PoolOp) → (ℕ → List Pair) → Lending
+lending lends holds = record { lends = lends; holds = holds }
+
+none_lent : (s : ScriptData) (made : List CoderId) → nothing_lent ≡ lending_of s (nothing_yet s made).codecs
+unfolding lending
+none_lent s made = λ i. lending
+    (λ k place. sym (ap (λ (h : List Entry). lent_at (opening_at s k) h place) (no_history s.codecs k)) i)
+    (λ k. sym (none_held s.codecs k) i)
+
 nothing_stands : MediaLaws → (s : ScriptData) (media : List (List Chunk)) (made : List CoderId) → Stands s media made (nothing_yet s made)
 nothing_stands laws s media made = record {
   callers = length-map s.callers _;
@@ -64,7 +82,8 @@ nothing_stands laws s media made = record {
   arguments = λ k p e who is names. absurd (let none : None ≡ Some e = sym (ap (λ (xs : List Entry). slice_get xs p) (no_history s.codecs k)) ∙ is in cc);
   once = λ k. subst (λ (h : List Entry). mark.CallsAreIn k h (marks_of (record_of (nothing_yet s made)))) (sym (no_history s.codecs k)) (λ t. ap (sum_by t) (sym (no_calls k 0 s.callers)));
   climbs = λ c k. subst (λ (l : List StepResult). Climbs k 0 (map mark_of l) (length (at k (histories (nothing_yet s made).codecs)))) (sym (at_empty c s.callers)) (omega arith);
-  stand = subst (λ (steps : ℕ → ℕ). MediaStand (steps_of s) (brought_to s media (record_of (nothing_yet s made))) steps (length s.callers) (nothing_yet s made).media) (none_made s made) (laws.nothing (steps_of s) (brought_to s media (record_of (nothing_yet s made))) s.callers);
+  stand = subst (λ (l : Lending). MediaStand (steps_of s) (brought_to s media (record_of (nothing_yet s made))) l (made_steps (record_of (nothing_yet s made))) (length s.callers) (nothing_yet s made).media) (none_lent s made)
+      (subst (λ (steps : ℕ → ℕ). MediaStand (steps_of s) (brought_to s media (record_of (nothing_yet s made))) nothing_lent steps (length s.callers) (nothing_yet s made).media) (none_made s made) (laws.nothing (steps_of s) (brought_to s media (record_of (nothing_yet s made))) s.callers));
 }
 
 -- ---- item after item
@@ -72,7 +91,7 @@ nothing_stands laws s media made = record {
 order_stands : MediaLaws → (s : ScriptData) (media : List (List Chunk)) (made : List CoderId) → IsSound s → (xs : List OrderItem) (v u : Course) → Stands s media made v → Follows s media xs v u → Stands s media made u
 order_stands laws s media made sound [] v u st follows = subst (Stands s media made) (sym follows) st
 order_stands laws s media made sound (x ∷ xs) v u st follows =
-    order_stands laws s media made sound xs (follow_item s media follows.0 x v) u (move_stands laws s media made v (item_move s media follows.0 x v) st (item_fits s media made v follows.0 x sound st)) follows.1
+    order_stands laws s media made sound xs (follow_item s media follows.0 x v) u (move_stands laws s media made v (item_move s media follows.0 x v) st (item_fits laws.numbered s media made v follows.0 x sound st)) follows.1
 
 stands_of : MediaLaws → (s : ScriptData) (media : List (List Chunk)) (made : List CoderId) (items : List OrderItem) (v : Course) → IsSound s → Follows s media items (nothing_yet s made) v → Stands s media made v
 stands_of laws s media made items v sound follows = order_stands laws s media made sound items (nothing_yet s made) v (nothing_stands laws s media made) follows
@@ -88,6 +107,7 @@ course_of laws s media made items v sound follows =
       media = st.stand.there;
       boxes = st.same_made;
       givable = are_givable v.codecs v.slots st.boxes;
+      lent = st.stand.lent;
     }
 
 -- ---- a whole run
@@ -98,7 +118,7 @@ record Fitting (s : ScriptData) (media : List (List Chunk)) (made : List CoderId
   looks : LooksAreIn s w
   arguments : ArgumentsAreIn s media w
   locals : LocalsAreIn s media w
-  accounted : MediaAreIn (steps_of s) (brought_to s media w) (made_steps w) w.pool
+  accounted : MediaAreIn (steps_of s) (brought_to s media w) (lends_in s w) (made_steps w) w.pool
   boxes : BoxesAccounted made (opening_at s) w.codecs w.slots
   legal : (k : ℕ) → IsLegal (opening_at s k) (at k w.codecs)
 
@@ -113,7 +133,7 @@ fitting s media made v st = record {
     shows = λ c j x r is at. (let f = st.results c j r at in subst (λ y. LookShows s (record_of v) c y r) (same_step f.step x (sym f.is_step ∙ is)) f.shows);
   };
   arguments = st.arguments;
-  locals = λ c j x r is at. (let f = st.results c j r at in subst (λ y. IsLocalAnswer s media (came_at s media (record_of v) c j) c y r) (same_step f.step x (sym f.is_step ∙ is)) f.answers);
+  locals = λ c j x r is at. (let f = st.results c j r at in subst (λ y. IsLocalAnswer s media (variables_at s media (record_of v) c j) (came_at s media (record_of v) c j) c y r) (same_step f.step x (sym f.is_step ∙ is)) f.answers);
   accounted = st.stand.accounted;
   boxes = subst (λ (l : List CoderId). BoxesAccounted l (opening_at s) (histories v.codecs) v.slots.history) st.same_made (boxes_accounted (opening_at s) v.codecs v.slots st.opened st.boxes);
   legal = legals s media made v st;

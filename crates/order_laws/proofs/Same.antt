@@ -38,7 +38,7 @@ use Rattle.trace_text.specs.declared.run.Run.{Run}
 use Rattle.trace_text.specs.Follow.{Recorded, Course, record_of, Move, Idle, Answer, Advance, Ask, Handle, Receive, after_move, with_entry, steps_of, order_items, item_move, next_move, step_move, media_move, done_entry, end_of, outcome_for, advance, follow_item, Follows, nothing_yet}
 use Rattle.trace_text.specs.Fits.{recorded_of, IsLegalTrace, AreLegalTraces, IsLegalRun, FollowsTheOrder}
 use Rattle.order_laws.specs.Same.{is_want, wants_memory, SameWants, SameBoxes}
-use Rattle.order_laws.proofs.Moves.{longer_history, this_history}
+use Rattle.order_laws.proofs.Entries.{longer_history, this_history}
 
 -- ---- registries with as many boxes
 
@@ -141,6 +141,7 @@ move_alike m v u al =
 media_same : (s : ScriptData) (media : List (List Chunk)) (who : Who) (x : MediaStep) (cs : List (List StepResult)) (ds : List CodecValue) (l : Media) (a b : SlotsValue) → media_move s media who x (course cs ds l a) ≡ media_move s media who x (course cs ds l b)
 unfolding course
 media_same s media who (on_media.Take on bind kind) cs ds l a b = refl
+media_same s media who (on_media.Encode on content) cs ds l a b = refl
 media_same s media who x cs ds l a b = refl
 
 step_same : (s : ScriptData) (media : List (List Chunk)) (who : Who) (x : Step) (cs : List (List StepResult)) (ds : List CodecValue) (l : Media) (a b : SlotsValue) → step_move s media who x (course cs ds l a) ≡ step_move s media who x (course cs ds l b)

@@ -2,12 +2,20 @@
 use Rattle.std.specs.Prelude.{ℕ, ◌≡◌, List, length}
 use Rattle.wc_config.specs.declared.codec.CoderId.{CoderId}
 use Rattle.codec_model.specs.Replay.{IsLegal}
-use Rattle.codec_accounts.specs.Codec.{codec_at, AreGivable}
+use Rattle.codec_model.specs.declared.entry.Pair.{Pair}
+use Rattle.codec_model.specs.Held.{held_in}
+use Rattle.codec_accounts.specs.Codec.{CodecValue, state_of, codec_at, AreGivable}
 use Rattle.script_types.specs.declared.script.ScriptData.{ScriptData}
+use Rattle.media_accounts.specs.Accounts.{AreLent}
 use Rattle.trace_text.specs.Follow.{Course, opening_at}
 
+-- the references to media that each codec holds
+abbrev pub held_by_codecs : List CodecValue → ℕ → List Pair
+held_by_codecs codecs k = held_in (state_of (codec_at k codecs))
+
 -- The course has the script's codecs, each opened as the script says and with a legal history, media of each caller, and a
--- registry of the same boxes; each box that a codec holds may be given back by its next entry.
+-- registry of the same boxes; each box that a codec holds may be given back by its next entry, and each reference to media that a
+-- codec holds is live, and held by no variable and no other codec.
 pub record IsCourse (s : ScriptData) (made : List CoderId) (v : Course) : Type 0 where
   pub callers : length v.callers ≡ length s.callers
   pub codecs : length v.codecs ≡ length s.codecs
@@ -16,3 +24,4 @@ pub record IsCourse (s : ScriptData) (made : List CoderId) (v : Course) : Type 0
   pub media : length v.media.variables ≡ length s.callers
   pub boxes : v.slots.made ≡ made
   pub givable : AreGivable v.codecs v.slots.history
+  pub lent : AreLent v.media.pool v.media.variables (held_by_codecs v.codecs)

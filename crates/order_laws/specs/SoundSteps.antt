@@ -11,7 +11,7 @@ use Rattle.script_types.specs.declared.steps.MediaStep.TheVariants as on_media
 use Rattle.script_types.specs.declared.steps.Variable.{Variable}
 use Rattle.script_types.specs.declared.steps.VariableKind.TheVariants as holds
 use Rattle.script_types.specs.Names.{decodes, is_promise}
-use Rattle.script_types.specs.Sound.{is_sound, is_sound_step, is_variable, suits, gives, any_kind}
+use Rattle.script_types.specs.Sound.{is_sound, is_sound_step, is_variable, suits, gives, any_kind, encodes}
 use Rattle.script_types.specs.SoundLaws.{Defines, codec_within, step_at, variable_is, promise_kind, promise_of_flush}
 use Rattle.trace_text.specs.Follow.{steps_in, steps_of}
 use Rattle.trace_text.specs.Fits.{step_in, called, taken_from}
@@ -51,6 +51,7 @@ called_within codecs before (step.Chunk bind source) k h is = absurd cc
 called_within codecs before (step.Poll promise) k h is = absurd cc
 called_within codecs before (step.Await promise) k h is = absurd cc
 called_within codecs before (step.State on) k h is = absurd cc
+called_within codecs before (step.Media (on_media.Encode on content)) k h is = let same : on ≡ k = cc in subst (λ (i : ℕ). i < length codecs) same (codec_within codecs encodes on (and_parts _ _ h).0)
 called_within codecs before (step.Media y) k h is = absurd cc
 
 taken_within : (codecs : List CodecItem) (before : List Step) (x : Step) (k : ℕ) → is_sound_step codecs before x ≡ true → taken_from x ≡ Some k → k < length codecs

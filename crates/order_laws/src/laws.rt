@@ -13,7 +13,9 @@ ghost use Rattle.order_laws.specs.Same.{SameBoxes, SameWants};
 ghost use Rattle.script_types.specs.declared.script.OrderItem.{OrderItem};
 ghost use Rattle.script_types.specs.declared.script.ScriptData.{ScriptData};
 
-use media_accounts::{media_stand, what_is_brought_may_grow};
+use codec_model::references_are_held;
+use media_accounts::{codecs_stand, media_stand, what_is_brought_may_grow};
+use wc_pool::references_are_apart;
 
 /// A law: a run that follows the order of a script in which nothing is at fault, with these chunks of its chunk files, fits the script, and each
 /// codec's history in such a run is legal.
@@ -28,11 +30,14 @@ pub fn following_fits()
         → IsLegal (opening_at script k) (at k (recorded_of run).codecs) }
 {
     media_stand();
+    codecs_stand();
     what_is_brought_may_grow();
+    references_are_held();
+    references_are_apart();
 }
 
 /// A law: a course that follows some items from the beginning of a script on in which nothing is at fault has the script's codecs, with legal
-/// histories, and boxes that may be given back.
+/// histories, boxes that may be given back, and references to media that are live and held by no other.
 pub fn following_stands()
     ensures { (script : ScriptData) (media : List (List Chunk)) (made : List CoderId)
         (items : List OrderItem) (course : Course)
@@ -40,7 +45,10 @@ pub fn following_stands()
         → IsCourse script made course }
 {
     media_stand();
+    codecs_stand();
     what_is_brought_may_grow();
+    references_are_held();
+    references_are_apart();
 }
 
 /// A law: a run by order is a function of the script, the chunks of its chunk files, how many boxes of each id there are,

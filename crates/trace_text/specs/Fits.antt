@@ -1,5 +1,5 @@
 -- When a run is legal, and when it fits its script.
-use Rattle.std.specs.Prelude.{ℕ, ◌≡◌, List, [], ◌∷◌, length, map, take, slice_get, Option, Some, None, option_map, option_and_then}
+use Rattle.std.specs.Prelude.{ℕ, ◌≡◌, List, [], ◌∷◌, length, map, take, slice_get, Option, Some, None, option_map, option_and_then, Bool}
 use Rattle.wc_base.specs.declared.error.DomError.{DomError}
 use Rattle.wc_base.specs.declared.who.Who.{Who}
 use Rattle.wc_config.specs.declared.codec.CoderId.{CoderId}
@@ -26,9 +26,11 @@ use Rattle.codec_accounts.specs.Codec.{state_after}
 use Rattle.codec_accounts.specs.Calls.{who_of, Mark, Climbs}
 use Rattle.codec_accounts.specs.Calls as mark
 use Rattle.wc_pool.specs.Bag.{held_in}
-use Rattle.media_variables.specs.Variables.{Came, Taken, Brought}
-use Rattle.media_accounts.specs.Accounts.{came_in, MediaAreIn}
-use Rattle.trace_text.specs.Follow.{Recorded, Course, record_of, opening_of, opening_at, steps_of, chunk_at, copied_chunk, output_at, source_error, promise_after, order_items, Follows, nothing_yet}
+use Rattle.wc_pool.specs.declared.entry.PoolOp.{PoolOp}
+use Rattle.wc_audio.specs.Sound.{Sound}
+use Rattle.media_variables.specs.Variables.{Medium, Came, Taken, Brought, sound_at, handed_of}
+use Rattle.media_accounts.specs.Accounts.{came_in, variables_in, lent_at, MediaAreIn}
+use Rattle.trace_text.specs.Follow.{Recorded, Course, record_of, opening_of, opening_at, steps_of, chunk_for, copied_chunk, output_at, source_error, promise_after, order_items, Follows, nothing_yet}
 
 -- the codec that a step calls, if it calls one
 abbrev pub called : Step → Option ℕ
@@ -41,7 +43,8 @@ called (step.Chunk bind source) = None
 called (step.Poll promise) = None
 called (step.Await promise) = None
 called (step.State on) = None
-called (step.Media x) = None
+called (step.Media (on_media.Encode on content)) = Some on
+called (step.Media _) = None
 
 -- the codec that a step takes an output of, if it takes one
 abbrev pub taken_from : Step → Option ℕ
@@ -153,23 +156,6 @@ pub record LooksAreIn (s : ScriptData) (w : Recorded) : Type 0 where
 abbrev pub LooksAreBetween : ScriptData → Run → Type 0
 LooksAreBetween s run = LooksAreIn s (recorded_of run)
 
--- an entry has what its step gives
-abbrev pub HasArguments : ScriptData → List (List Chunk) → Who → Entry → Step → Type 0
-HasArguments s media who e (step.Configure on config) = e ≡ entry.Configure who config
-HasArguments s media who e (step.Decode on chunk) = (value : Chunk) × (chunk_at media (steps_of s who.caller) chunk.step ≡ Some value) × (e ≡ entry.Decode who value)
-HasArguments s media who e (step.Flush on bind) = e ≡ entry.Flush who
-HasArguments s media who e (step.Reset on) = e ≡ entry.Reset who
-HasArguments s media who e (step.Close on) = e ≡ entry.Close who
-HasArguments s media who e (step.Media (on_media.Take on bind kind)) = (n : ℕ) × (e ≡ entry.Take who n)
-HasArguments s media who e _ = ⊥
-
-abbrev pub ArgumentsAreIn : ScriptData → List (List Chunk) → Recorded → Type 0
-ArgumentsAreIn s media w = (k p : ℕ) (e : Entry) (who : Who) → entry_in w k p ≡ Some e → who_of e ≡ Some who → (x : Step) × (step_in s who.caller who.step ≡ Some x) × HasArguments s media who e x
-
--- The config or chunk in an entry is what the script, its chunk files and the caller's earlier steps give.
-abbrev pub ArgumentsAreTheScripts : ScriptData → List (List Chunk) → Run → Type 0
-ArgumentsAreTheScripts s media run = ArgumentsAreIn s media (recorded_of run)
-
 -- the output that a caller's step took, by its result, if it took one
 abbrev pub taken_by : ScriptData → Recorded → Option StepResult → Option Taken
 taken_by s w (Some (result.Unit k p n)) =
@@ -180,6 +166,31 @@ taken_by s w _ = None
 abbrev pub brought_to : ScriptData → List (List Chunk) → Recorded → ℕ → ℕ → MediaStep → Brought
 brought_to s media w c j x = record { chunk = copied_chunk media (steps_of s c) x; taken = taken_by s w (result_in w c j) }
 
+-- the variables of a caller's media before its step with this number
+abbrev pub variables_at : ScriptData → List (List Chunk) → Recorded → ℕ → ℕ → List (Option Medium)
+variables_at s media w c j = variables_in (steps_of s) (brought_to s media w) w.pool c j
+
+-- An entry has what its step gives, where its caller's variables hold this: which reference an encode clones, and whether it is
+-- accepted, the pool's and the codec's histories say.
+abbrev pub HasArguments : ScriptData → List (List Chunk) → List (Option Medium) → Who → Entry → Step → Type 0
+HasArguments s media vs who e (step.Configure on config) = e ≡ entry.Configure who config
+HasArguments s media vs who e (step.Decode on chunk) = (value : Chunk) × (chunk_for media (steps_of s who.caller) vs chunk.step ≡ Some value) × (e ≡ entry.Decode who value)
+HasArguments s media vs who e (step.Flush on bind) = e ≡ entry.Flush who
+HasArguments s media vs who e (step.Reset on) = e ≡ entry.Reset who
+HasArguments s media vs who e (step.Close on) = e ≡ entry.Close who
+HasArguments s media vs who e (step.Media (on_media.Encode on content)) =
+    (x : Sound) × (number : ℕ) × (accepts : Bool) × (sound_at vs content.step ≡ Some x) × (e ≡ entry.Encode who (handed_of number accepts x))
+HasArguments s media vs who e (step.Media (on_media.Take on bind kind)) = (n : ℕ) × (e ≡ entry.Take who n)
+HasArguments s media vs who e _ = ⊥
+
+abbrev pub ArgumentsAreIn : ScriptData → List (List Chunk) → Recorded → Type 0
+ArgumentsAreIn s media w = (k p : ℕ) (e : Entry) (who : Who) → entry_in w k p ≡ Some e → who_of e ≡ Some who →
+    (x : Step) × (step_in s who.caller who.step ≡ Some x) × HasArguments s media (variables_at s media w who.caller who.step) who e x
+
+-- The config, chunk or samples in an entry are what the script, its chunk files and the caller's earlier steps give.
+abbrev pub ArgumentsAreTheScripts : ScriptData → List (List Chunk) → Run → Type 0
+ArgumentsAreTheScripts s media run = ArgumentsAreIn s media (recorded_of run)
+
 -- how many steps a caller made
 abbrev pub made_steps : Recorded → ℕ → ℕ
 made_steps w c = length (at c w.callers)
@@ -188,27 +199,30 @@ made_steps w c = length (at c w.callers)
 abbrev pub came_at : ScriptData → List (List Chunk) → Recorded → ℕ → ℕ → Option Came
 came_at s media w c j = came_in (steps_of s) (brought_to s media w) w.pool c j
 
--- a step that encodes has no answer yet
+-- a step on media that is the callers' own has the answer that it comes to
 abbrev pub IsMediaAnswer : Option Came → StepResult → Type 0
 IsMediaAnswer None r = ⊥
 IsMediaAnswer (Some y) r = r ≡ y.answer
 
--- The answer of a step that calls no codec and looks at none, where a step on media comes to this; absent is only what lacks
--- its variable.
-abbrev pub IsLocalAnswer : ScriptData → List (List Chunk) → Option Came → ℕ → Step → StepResult → Type 0
-IsLocalAnswer s media came c (step.Chunk bind source) r = r ≡ result.Local (source_error source)
-IsLocalAnswer s media came c (step.Media (on_media.Take on bind kind)) r = Unit {0}
-IsLocalAnswer s media came c (step.Media x) r = IsMediaAnswer came r
-IsLocalAnswer s media came c (step.Decode on chunk) result.Absent = chunk_at media (steps_of s c) chunk.step ≡ None
-IsLocalAnswer s media came c x result.Absent = ⊥
-IsLocalAnswer s media came c x (result.Local error) = ⊥
-IsLocalAnswer s media came c x (result.Copied n bytes) = ⊥
-IsLocalAnswer s media came c x (result.CopiedFrame n layouts bytes) = ⊥
-IsLocalAnswer s media came c x (result.Size n) = ⊥
-IsLocalAnswer s media came c x r = Unit {0}
+-- The answer of a step that calls no codec and looks at none, where its caller's variables hold this and a step on media comes
+-- to this; absent is only what lacks its variable.
+abbrev pub IsLocalAnswer : ScriptData → List (List Chunk) → List (Option Medium) → Option Came → ℕ → Step → StepResult → Type 0
+IsLocalAnswer s media vs came c (step.Chunk bind source) r = r ≡ result.Local (source_error source)
+IsLocalAnswer s media vs came c (step.Media (on_media.Take on bind kind)) r = Unit {0}
+IsLocalAnswer s media vs came c (step.Media (on_media.Encode on content)) result.Absent = sound_at vs content.step ≡ None
+IsLocalAnswer s media vs came c (step.Media (on_media.Encode on content)) r = Unit {0}
+IsLocalAnswer s media vs came c (step.Media x) r = IsMediaAnswer came r
+IsLocalAnswer s media vs came c (step.Decode on chunk) result.Absent = chunk_for media (steps_of s c) vs chunk.step ≡ None
+IsLocalAnswer s media vs came c x result.Absent = ⊥
+IsLocalAnswer s media vs came c x (result.Local error) = ⊥
+IsLocalAnswer s media vs came c x (result.Copied n bytes) = ⊥
+IsLocalAnswer s media vs came c x (result.CopiedFrame n layouts bytes) = ⊥
+IsLocalAnswer s media vs came c x (result.Size n) = ⊥
+IsLocalAnswer s media vs came c x r = Unit {0}
 
 abbrev pub LocalsAreIn : ScriptData → List (List Chunk) → Recorded → Type 0
-LocalsAreIn s media w = (c j : ℕ) (x : Step) (r : StepResult) → step_in s c j ≡ Some x → result_in w c j ≡ Some r → IsLocalAnswer s media (came_at s media w c j) c x r
+LocalsAreIn s media w = (c j : ℕ) (x : Step) (r : StepResult) → step_in s c j ≡ Some x → result_in w c j ≡ Some r →
+    IsLocalAnswer s media (variables_at s media w c j) (came_at s media w c j) c x r
 
 -- Every other step has the answer of its own rule.
 abbrev pub LocalStepsAnswer : ScriptData → List (List Chunk) → Run → Type 0
@@ -219,9 +233,14 @@ LocalStepsAnswer s media run = LocalsAreIn s media (recorded_of run)
 abbrev pub BoxesAreAccounted : ScriptData → List CoderId → Run → Type 0
 BoxesAreAccounted s made run = let w = recorded_of run in BoxesAccounted made (opening_at s) w.codecs w.slots
 
--- The pool's history has what the callers' steps call for, each once and in the order of their caller, and nothing else.
+-- what the entries of codecs call for in the pool's history
+abbrev pub lends_in : ScriptData → Recorded → ℕ → ℕ → List PoolOp
+lends_in s w k place = lent_at (opening_at s k) (at k w.codecs) place
+
+-- The pool's history has what the callers' steps and the codecs' entries call for, each once and in the order of their caller,
+-- and nothing else.
 abbrev pub MediaAreAccounted : ScriptData → List (List Chunk) → Run → Type 0
-MediaAreAccounted s media run = let w = recorded_of run in MediaAreIn (steps_of s) (brought_to s media w) (made_steps w) w.pool
+MediaAreAccounted s media run = let w = recorded_of run in MediaAreIn (steps_of s) (brought_to s media w) (lends_in s w) (made_steps w) w.pool
 
 -- All entries, results, pool entries and slot entries are those that following the script's order makes, item after item. `made` has the
 -- ids of the coders that were handed in.

@@ -22,8 +22,10 @@ use Rattle.codec_model.specs.declared.entry.PromiseState.{PromiseState}
 use Rattle.codec_model.specs.declared.entry.Task.{Task}
 use Rattle.codec_model.specs.declared.entry.Entry.{Entry}
 use Rattle.codec_model.specs.declared.entry.Entry.TheVariants as entry
+use Rattle.codec_model.specs.declared.entry.Handed.{Handed}
+use Rattle.codec_model.specs.declared.entry.Handed.TheVariants as handed
 use Rattle.codec_model.specs.Control.{start_item, may_reclaim}
-use Rattle.codec_model.specs.Replay.{Given, entry_of, removal_entry, call_error, removal_error, answer_to}
+use Rattle.codec_model.specs.Replay.{Given, entry_of, removal_entry, call_error, removal_error, answer_to, encode_error, is_configured}
 use Rattle.codec_model.specs.Shown.{shown, outputs_of, ends_in, promise_state, exception_of}
 use Rattle.codec_accounts.specs.Owed.{at, append_at}
 use Rattle.codec_accounts.specs.Codec.{CodecValue, new_codec, state_of, codecs_after, slots_by, codec_at, histories}
@@ -42,7 +44,10 @@ use Rattle.script_types.specs.declared.script.OrderItem.TheVariants as item
 use Rattle.report_text.specs.declared.result.StepResult.{StepResult}
 use Rattle.report_text.specs.declared.result.StepResult.TheVariants as result
 use Rattle.wc_pool.specs.declared.entry.PoolEntry.{PoolEntry}
-use Rattle.media_variables.specs.Variables.{Media, Came, Taken, Brought, chunk_in, media_came, after_came, variables_of}
+use Rattle.wc_pool.specs.Bag.{references_made}
+use Rattle.wc_audio.specs.Sound.{Sound}
+use Rattle.media_variables.specs.Variables.{Medium, Media, Came, Taken, Brought, chunk_in, chunk_of_variable, sound_at, handed_of, media_came, after_came, variables_of}
+use Rattle.media_accounts.specs.Accounts.{after_entry_of}
 
 -- What was recorded so far: each caller's results, each codec's history, the pool's of media, and the registry's.
 pub record Recorded : Type 0 where
@@ -110,7 +115,11 @@ chunk_by media _ = None
 abbrev pub chunk_at : List (List Chunk) → List Step → ℕ → Option Chunk
 chunk_at media steps j = option_and_then (chunk_by media) (slice_get steps j)
 
--- the chunk that a step on media copies, if it copies one
+-- the chunk of a variable: made by its step, taken from a chunk file, or, where `vs` has it, taken from an encoder
+abbrev pub chunk_for : List (List Chunk) → List Step → List (Option Medium) → ℕ → Option Chunk
+chunk_for media steps vs j = chunk_of_variable (chunk_at media steps j) vs j
+
+-- the chunk that a step on media copies, if it copies one that was made or taken from a chunk file
 abbrev pub copied_chunk : List (List Chunk) → List Step → MediaStep → Option Chunk
 copied_chunk media steps x = option_and_then (chunk_at media steps) (chunk_in x)
 
@@ -141,9 +150,17 @@ pub data Move : Type 0 where
 abbrev pub with_result : ℕ → StepResult → Course → Course
 with_result c r v = record v { callers = append_at c r v.callers }
 
+-- what an entry of a codec does to the pool of media: an encode that is accepted clones, and what is let go ends
+abbrev pub media_by : ℕ → Entry → CodecValue → Media → Media
+media_by k e d m = after_entry_of k (length d.history) e (state_of d) m
+
 -- one entry more of the codec with this number, whose box stays, goes back or is renewed
 abbrev pub with_entry : ℕ → Entry → Course → Course
-with_entry k e v = record v { codecs = codecs_after k e v.slots v.codecs; slots = slots_by k e v.slots (codec_at k v.codecs) }
+with_entry k e v = record v {
+  codecs = codecs_after k e v.slots v.codecs;
+  media = media_by k e (codec_at k v.codecs) v.media;
+  slots = slots_by k e v.slots (codec_at k v.codecs);
+}
 
 -- the callers' media, after what a step of a caller came to
 abbrev pub with_media : Who → Came → Course → Course
@@ -228,7 +245,22 @@ look_of_flush ds _ = result.Absent
 abbrev pub look_of_state : ℕ → CodecValue → StepResult
 look_of_state k d = let c = (state_of d).control in result.State k (length d.history) c.phase c.size
 
--- a step on media; one that encodes is not built yet, and makes nothing
+-- a detached sound is handed to no codec
+abbrev pub is_gone : Handed → Bool
+is_gone handed.Gone = true
+is_gone handed.Kept = false
+is_gone (handed.Cloned sound) = false
+
+-- an encode of what its caller hands to a codec, with the exception that it shows
+abbrev pub hand_move : Who → ℕ → Handed → CodecValue → Move
+hand_move who k h d = Ask who.caller k (entry.Encode who h) (encode_error (is_gone h) (state_of d).control)
+
+-- a caller's encode of the audio data that a variable holds, unless it is absent; a reference that is cloned has the next number
+abbrev pub encode_move : Who → ℕ → List PoolEntry → Option Sound → CodecValue → Move
+encode_move who k pool None d = Answer who.caller result.Absent
+encode_move who k pool (Some x) d = hand_move who k (handed_of (references_made pool) (is_configured (state_of d).control) x) d
+
+-- a step on media that is the callers' own
 abbrev pub handle_move : Who → Option Came → Move
 handle_move who None = Idle
 handle_move who (Some y) = Handle who y
@@ -248,6 +280,8 @@ abbrev pub media_move : ScriptData → List (List Chunk) → Who → MediaStep �
 media_move s media who (on_media.Take on bind kind) v =
     let b : Brought = record { chunk = None; taken = found_at on (codec_at on v.codecs) } in
     take_move who on (codec_at on v.codecs) (media_came v.media.pool who b (on_media.Take on bind kind) (variables_of who.caller v.media.variables))
+media_move s media who (on_media.Encode on content) v =
+    encode_move who on v.media.pool (sound_at (variables_of who.caller v.media.variables) content.step) (codec_at on v.codecs)
 media_move s media who x v =
     let b : Brought = record { chunk = copied_chunk media (steps_of s who.caller) x; taken = None } in
     handle_move who (media_came v.media.pool who b x (variables_of who.caller v.media.variables))
@@ -256,7 +290,8 @@ media_move s media who x v =
 abbrev pub step_move : ScriptData → List (List Chunk) → Who → Step → Course → Move
 step_move s media who (step.Configure on config) v = call_move who on (call.Configure config) (codec_at on v.codecs)
 step_move s media who (step.Chunk bind source) v = Answer who.caller (result.Local (source_error source))
-step_move s media who (step.Decode on chunk) v = decode_move who on (chunk_at media (steps_of s who.caller) chunk.step) (codec_at on v.codecs)
+step_move s media who (step.Decode on chunk) v =
+    decode_move who on (chunk_for media (steps_of s who.caller) (variables_of who.caller v.media.variables) chunk.step) (codec_at on v.codecs)
 step_move s media who (step.Flush on bind) v = call_move who on call.Flush (codec_at on v.codecs)
 step_move s media who (step.Poll promise) v = Answer who.caller (look_of_flush v.codecs (slice_get (at who.caller v.callers) promise.step))
 step_move s media who (step.Await promise) v = Answer who.caller (look_of_flush v.codecs (slice_get (at who.caller v.callers) promise.step))

@@ -8,3 +8,4 @@ pub mod Behind
 pub mod Written
 pub mod Rows
 pub mod AccountsRows
+pub mod EncodingRows

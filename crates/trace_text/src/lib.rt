@@ -14,5 +14,7 @@ pub use laws::fits_by_places;
 pub use lines::{RunLines, Section};
 pub use report::{WriteFault, write_report};
 pub use report_text::StepResult;
-pub use rows::{boxes_of_histories, ordinary_report, run_from_a_file, run_with_takes};
+pub use rows::{
+    boxes_of_histories, ordinary_report, run_from_a_file, run_with_encodes, run_with_takes,
+};
 pub use run::{CallerTrace, CodecTrace, Run};

@@ -2,6 +2,7 @@
 ghost use Rattle.trace_text.specs.AccountsRows.{KeepsOne, LeavesAtTheEnd, LeavesForAnother};
 ghost use Rattle.trace_text.specs.Rows.{OrdinaryFollows, OrdinaryShown, OrdinaryReport, FileFollows, NothingMissing, SecondMissing};
 ghost use Rattle.trace_text.specs.Rows.{TakingFollows, TakingIsLegal, TakingReport};
+ghost use Rattle.trace_text.specs.EncodingRows.{EncodingFollows, EncodingIsLegal, EncodingReport};
 
 /// One configure, one chunk, one decode, one flush and one look at its promise: what the script's order makes, what the
 /// entries show, and the text of the report.
@@ -25,6 +26,14 @@ pub fn run_with_takes()
     ensures follows { TakingFollows }
     ensures legal { TakingIsLegal }
     ensures report { TakingReport }
+{}
+
+/// A caller makes audio data, encodes and closes it, and takes and copies the chunk that was coded: what the script's order
+/// makes, with the codec's clone of the data's reference and its end, which is legal, and the text of the report.
+pub fn run_with_encodes()
+    ensures follows { EncodingFollows }
+    ensures legal { EncodingIsLegal }
+    ensures report { EncodingReport }
 {}
 
 /// Which entries ask for a box, and by which it leaves: in an ordinary run, in one with a reset while an item is at work,
