@@ -1,5 +1,5 @@
 -- The references that a codec holds after one more entry.
-use Rattle.std.proofs.Common.{ℕ, ◌+◌, ◌≡◌, ◌&&◌, Bool, true, false, cond, not, List, [], ◌∷◌, ◌++◌, length, map, drop, Option, Some, None, is_none, is_some, refl, ap, sym, subst, ◌∙◌, append_assoc, append-nil, arith}
+use Rattle.std.proofs.Common.{ℕ, ◌≡◌, ◌&&◌, Bool, true, false, cond, not, List, [], ◌∷◌, ◌++◌, length, map, drop, Option, Some, None, is_none, is_some, refl, ap, sym, subst, ◌∙◌, append_assoc, append-nil, arith}
 use Rattle.std.specs.Prelude.{unwrap_or, option_map, option_to_list, Result, Ok, Err, IfOk, IfErr, OnOk, OnErr, IfSome, IfNone}
 use Rattle.std.proofs.lemmas.List.{map-append}
 use Rattle.wc_base.specs.declared.who.Who.{Who}
@@ -16,8 +16,8 @@ use Rattle.codec_model.specs.declared.entry.Item.{Item}
 use Rattle.codec_model.specs.declared.entry.Running.{Running}
 use Rattle.codec_model.specs.declared.entry.Entry.{Entry}
 use Rattle.codec_model.specs.declared.entry.Entry.TheVariants as entry
-use Rattle.codec_model.specs.Control.{Control, held_of, front, may_start, start_item, turn_closes}
-use Rattle.codec_model.specs.Replay.{State, step, entry_of}
+use Rattle.codec_model.specs.Control.{held_of, front, may_start, start_item, turn_closes}
+use Rattle.codec_model.specs.Replay.{State, entry_of}
 use Rattle.codec_model.specs.Held.{in_order, held_by, items_held, messages_held, running_pairs, waiting_held, front_held, behind_held, waiting_after, running_after, closes_codec}
 use Rattle.codec_model.specs.Held.{HeldMoves}
 use Rattle.codec_core.specs.declared.reply.Reply.{Reply}
@@ -25,7 +25,7 @@ use Rattle.codec_core.specs.declared.reply.Taken.{Taken}
 use Rattle.codec_core.specs.declared.reply.CallFault.{CallFault}
 use Rattle.codec_core.specs.declared.reply.CallFault.TheVariants as fault
 use Rattle.codec_core.specs.Codec.{Codec, state_at, Makes, Replied, FaultIs, item_parts, closes_now, removed_if, refused_as, RemovedValue}
-use Rattle.codec_media.specs.Holding.{pair_of, IsHolding, TakesIf, all_of, Holding, without_media}
+use Rattle.codec_media.specs.Holding.{pair_of, IsHolding, TakesIf, without_media}
 use Rattle.codec_media.specs.Holding as holding
 use Rattle.codec_core.specs.Owning.{GoesBack}
 
@@ -132,14 +132,6 @@ start_taken moves old new epoch number w p working waiting after m at is waits e
     let taken = taken_at working waiting after p rest e d (waits ∙ (at.queue ∙ ap (λ l. l ++ rest) one)) in
     holds_after moves old new (entry.Start epoch number) working after m (taken.0 ∙ (sym one ∙ sym at.fronts)) taken.1
 
--- before a start nothing is held by a running item
-pub none_works : (s : State) (w : Work) (working : Option MediaRef) → Starts s w → map pair_of (in_order working) ≡ running_pairs s → working ≡ None
-none_works s w working at h = by working (h ∙ at.idle)
-  where
-    by : (o : Option MediaRef) → map pair_of (in_order o) ≡ [] → o ≡ None
-    by None e = refl
-    by (Some r) e = absurd cc
-
 -- a start, with what it takes
 pub start_holds : HeldMoves → (held : Option Pair) (old new : Codec) (epoch number : ℕ) (w : Work) (working now : Option MediaRef) (waiting after : List MediaRef) → held_of w ≡ held → Makes old new (entry.Start epoch number) → Starts (state_at old) w → TakesIf (is_some held) waiting after working now → IsHolding old working waiting → IsHolding new now after
 start_holds moves None old new epoch number w working now waiting after is m at takes h =
@@ -148,13 +140,6 @@ start_holds moves None old new epoch number w working now waiting after is m at 
     subst P (sym takes.0) (subst Q (sym takes.1) (start_empty moves old new epoch number w working waiting m at is h))
 start_holds moves (Some p) old new epoch number w working now waiting after is m at takes h =
     start_taken moves old new epoch number w p now waiting after m at is h.waits takes.0 takes.1
-
--- all that is held stays
-pub start_all : (held : Option Pair) (working now : Option MediaRef) (waiting after : List MediaRef) → working ≡ None → TakesIf (is_some held) waiting after working now → in_order now ++ after ≡ waiting
-start_all None working now waiting after none takes = ap (λ (o : Option MediaRef). in_order o ++ after) (takes.1 ∙ none) ∙ takes.0
-start_all (Some p) None None waiting after none takes = sym takes.0
-start_all (Some p) None (Some r) waiting after none takes = sym takes.0
-start_all (Some p) (Some q) now waiting after none takes = absurd cc
 
 -- the end of an item
 pub done_holds : HeldMoves → (old new : Codec) (epoch number moment : ℕ) (o : _) (working : Option MediaRef) (waiting : List MediaRef) → Makes old new (entry.Done epoch number moment o) → IsHolding old working waiting → IsHolding new None waiting

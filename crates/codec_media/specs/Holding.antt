@@ -1,10 +1,8 @@
 -- A codec with the references that it holds.
-use Rattle.std.specs.Prelude.{ℕ, ◌≡◌, ◌≤◌, ◌+◌, List, [], ◌∷◌, ◌++◌, length, map, Option, Some, None, Bool, true, false, drop, option_to_list, if◌then◌else◌}
+use Rattle.std.specs.Prelude.{ℕ, ◌≡◌, List, [], ◌++◌, map, Option, Bool, true, false, drop, option_to_list}
 use Rattle.wc_pool.specs.declared.reference.MediaRef.{MediaRef}
 use Rattle.coder_api.specs.Lent.{Lent}
 use Rattle.codec_model.specs.declared.entry.Pair.{Pair}
-use Rattle.codec_model.specs.declared.entry.Entry.{Entry}
-use Rattle.codec_model.specs.Replay.{State}
 use Rattle.codec_model.specs.Held.{in_order, running_pairs, waiting_held}
 use Rattle.codec_core.specs.Codec as core
 use Rattle.codec_core.specs.Codec.{Codec, state_at}
@@ -35,6 +33,7 @@ pub record SameHeld (old new : Holding) : Type 0 where
 -- a removal lets go what waits
 pub record LetsGo (old new : Holding) (media : List MediaRef) : Type 0 where
   pub media_is : media ≡ old.waiting
+  pub pairs : map pair_of media ≡ waiting_held (state_at old.codec).control
   pub working : new.working ≡ old.working
   pub none : new.waiting ≡ []
 

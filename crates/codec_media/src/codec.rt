@@ -1,10 +1,11 @@
 // One codec with the references that it holds.
-ghost use Rattle.std.specs.Prelude.{◌≡◌, ◌==◌, ◌++◌, ◌∷◌, [], ◌≤◌, ◌+◌, IfOk, IfErr, IfNone, IfSome, OnSome, OnOk, OnErr, None, Some, length, option_map, not, is_some, slice_get, true, false};
+ghost use Rattle.std.specs.Prelude.{◌≡◌, ◌==◌, ◌++◌, ◌∷◌, [], ◌≤◌, ◌+◌, max, IfOk, IfErr, IfNone, IfSome, OnSome, OnOk, OnErr, None, Some, length, map, option_map, not, is_some, slice_get, true, false};
 ghost use Rattle.codec_model.specs.declared.entry.Entry.TheVariants as entry;
 ghost use Rattle.codec_model.specs.declared.entry.Handed.TheVariants as handed;
 ghost use Rattle.codec_model.specs.Control.{start_item, may_take, may_reclaim};
 ghost use Rattle.codec_model.specs.Shown.{shown, outputs_of};
-ghost use Rattle.codec_model.specs.Replay.{entry_of, encode_error, missing_coder, removal_error, removal_entry as the_removal_entry};
+ghost use Rattle.codec_model.specs.Held.{in_order, running_pairs};
+ghost use Rattle.codec_model.specs.Replay.{encode_error, missing_coder, removal_error, removal_entry as the_removal_entry};
 ghost use Rattle.codec_core.specs.Job.{IsJobOf, IsEndOf, outcome_of, missing_id, stopped_box};
 ghost use Rattle.codec_core.specs.Owning.{asked_of, IsOwnJob, GoesBack, KeepsAsked};
 ghost use Rattle.codec_core.specs.Codec.{state_at, Makes, IsAskedAt, KeepsRunning, Replied, FaultIs, promise_of, kept_box, handed_back, closes_now, item_parts, refused_as};
@@ -88,6 +89,16 @@ impl<C: Coder> HoldingCore<C> {
         ensures { result ≡ self.codec }
     {
         self.core
+    }
+
+    /// Makes places for at least so many more resets and closes. After want of memory nothing has changed.
+    pub fn reserve(&mut self, calls: u64) -> Result<(), NoMemory>
+        ensures ok { let codec = self.old.codec in
+            OnOk result (self.new.codec ≡ record codec { spare = max calls codec.spare }) }
+        ensures held { SameHeld self.old self.new }
+        ensures err { OnErr result (self.new ≡ self.old) }
+    {
+        self.core.reserve(calls)
     }
 
     /// A configure, decode or flush of a caller.
@@ -246,6 +257,8 @@ impl<C: Coder> HoldingCore<C> {
         ensures lets { GoesBack self.new.codec result.place result.coder }
         ensures spare { self.new.codec.spare ≡ self.old.codec.spare }
         ensures media { result.media ≡ self.old.working }
+        ensures gone { map pair_of (in_order result.media)
+            ≡ running_pairs (state_at self.old.codec) }
         ensures working { self.new.working ≡ None }
         ensures waiting { self.new.waiting ≡ self.old.waiting }
     {

@@ -30,12 +30,15 @@ use Rattle.codec_core.specs.Codec.{Codec, item_parts, state_at, Makes, KeepsRunn
 use Rattle.codec_core.specs.Owning.{IsOwnJob, KeepsAsked}
 use Rattle.codec_core.specs.Job.{JobValue, DoneValue, IsJobOf, EndsBy, outcome_of, stopped_box, missing_id}
 use Rattle.codec_accounts.specs.Boxes.{Act, Other, act_of, lacking, start_act, removal_act}
-use Rattle.codec_model.specs.Held.{closes_codec}
+use Rattle.codec_model.specs.declared.entry.Pair.{Pair}
+use Rattle.codec_model.specs.Held.{running_pairs}
+use Rattle.media_variables.specs.Variables.{Media}
 use Rattle.codec_accounts.specs.Registry.{BoxOut}
 use Rattle.codec_accounts.specs.Codec.{Holding, CodecValue, state_of, next_by, BoxStep, Keep, Give, Renew, is_old, box_step, after_give, slots_after, holding_after, step_by, after_entry, slots_by, IsGivable}
-use Rattle.trace_text.specs.Follow.{outcome_for, start_entry, end_of, done_entry, turn_on, turn_entry, reclaim_entry}
+use Rattle.trace_text.specs.Follow.{outcome_for, start_entry, end_of, done_entry, turn_on, turn_entry, reclaim_entry, media_by}
 use Rattle.wc_replay.specs.Desk as desk
-use Rattle.wc_replay.specs.Desk.{box_out, holding_with, box_of, holding_of, JobMatches, LacksBox, IsRefused, OwnsJob, IsDesk, more, renewal, codec_by, registry_by}
+use Rattle.wc_replay.specs.Desk.{box_out, holding_with, box_of, holding_of, JobMatches, LacksBox, IsRefused, OwnsJob, IsDesk, more, renewal, codec_by, registry_by, media_by_option, media_without}
+use Rattle.wc_replay.proofs.Lent.{closes_same, start_media, ended_media}
 
 -- what contracts see
 abbrev pub seen : Codec → Option JobValue → Option ℕ → CodecValue
@@ -187,11 +190,7 @@ pub removal_hands : (o : Option DomError) (slot : Option Lent) → handed_back (
 removal_hands o slot = ap (λ (b : Bool). handed_back b slot) (none_some o)
 
 pub turn_goes : (t : State) → act_of entry.Turn t ≡ removal_act (closes_now t.control)
-turn_goes t = ap removal_act (sym (closes t.control.tasks refl))
-  where
-    closes : (ts : List Task) → t.control.tasks ≡ ts → closes_now t.control ≡ closes_codec t.control.tasks
-    closes [] is = rw is refl
-    closes (x ∷ ts) is = rw is refl
+turn_goes t = ap removal_act (sym (closes_same t.control.tasks t refl))
 
 -- a call leaves the codec's box alone
 pub call_keeps : (k : ℕ) (who : Who) (x : Call) (s : SlotsValue) (d : CodecValue) → (after_entry k (entry_of who x) s d ≡ more (entry_of who x) d) × (slots_by k (entry_of who x) s d ≡ s)
@@ -228,21 +227,23 @@ pub no_done : (wants : Bool) (moment : ℕ) (d : CodecValue) → (state_of d).co
 no_done wants moment d is = ap (λ o. option_map (end_of wants moment d.holding.refusal (state_of d).running_given) o) is
 
 -- nothing was made
-pub makes_none : (k : ℕ) (o : Option Entry) (s : SlotsValue) (d new : CodecValue) → o ≡ None → new ≡ d → desk.Makes k o s s d new
-makes_none k o s d new is same = record {
+pub makes_none : (k : ℕ) (o : Option Entry) (s : SlotsValue) (m : Media) (d new : CodecValue) → o ≡ None → new ≡ d → desk.Makes k o s s m m d new
+makes_none k o s m d new is same = record {
   codec = same ∙ sym (ap (λ (x : Option Entry). codec_by k x s d) is);
   registry = sym (ap (λ (x : Option Entry). registry_by k x s d) is);
+  media = sym (ap (λ (x : Option Entry). media_by_option k x d m) is);
 }
 
-pub makes_some : (k : ℕ) (o : Option Entry) (e : Entry) (s next : SlotsValue) (d new : CodecValue) → o ≡ Some e → new ≡ after_entry k e s d → next ≡ slots_by k e s d → desk.Makes k o s next d new
-makes_some k o e s next d new is codec registry = record {
+pub makes_some : (k : ℕ) (o : Option Entry) (e : Entry) (s next : SlotsValue) (m after : Media) (d new : CodecValue) → o ≡ Some e → new ≡ after_entry k e s d → next ≡ slots_by k e s d → after ≡ media_by k e d m → desk.Makes k o s next m after d new
+makes_some k o e s next m after d new is codec registry media = record {
   codec = codec ∙ sym (ap (λ (x : Option Entry). codec_by k x s d) is);
   registry = registry ∙ sym (ap (λ (x : Option Entry). registry_by k x s d) is);
+  media = media ∙ sym (ap (λ (x : Option Entry). media_by_option k x d m) is);
 }
 
 -- what a desk made, said of what contracts see of it
-pub makes_seen : (k : ℕ) (o : CodecValue → Option Entry) (s next : SlotsValue) (c d new : CodecValue) → c ≡ d → desk.Makes k (o c) s next c new → desk.Makes k (o d) s next d new
-makes_seen k o s next c d new is made = subst (λ (x : CodecValue). desk.Makes k (o x) s next x new) is made
+pub makes_seen : (k : ℕ) (o : CodecValue → Option Entry) (s next : SlotsValue) (m after : Media) (c d new : CodecValue) → c ≡ d → desk.Makes k (o c) s next m after c new → desk.Makes k (o d) s next m after d new
+makes_seen k o s next m after c d new is made = subst (λ (x : CodecValue). desk.Makes k (o x) s next m after x new) is made
 
 -- ---- ends
 
@@ -277,11 +278,12 @@ not_end b refusal id is = by_bool (not b || is_some refusal) is
     by_bool false h = absurd cc
 
 -- the end of the running item
-pub ended_makes : (k : ℕ) (old new : Codec) (job : JobValue) (d : DoneValue) (refusal : Option ℕ) (moment : ℕ) (wants : Bool) (s next : SlotsValue) (place : ℕ) (back : Option Lent) → IsDesk old (Some job) refusal → d.epoch ≡ job.epoch → d.number ≡ job.number
+pub ended_makes : (k : ℕ) (old new : Codec) (job : JobValue) (d : DoneValue) (refusal : Option ℕ) (moment : ℕ) (wants : Bool) (s next : SlotsValue) (m after : Media) (ps : List Pair) (place : ℕ) (back : Option Lent) → IsDesk old (Some job) refusal → d.epoch ≡ job.epoch → d.number ≡ job.number
     → outcome_of d.ended ≡ outcome_for wants refusal (answer_to (kind_of job.work) (state_at old).running_given) → option_map box_out d.coder ≡ option_map box_out job.coder → Makes old new (entry.Done d.epoch d.number moment (outcome_of d.ended))
     → new.slot ≡ kept_box (d.epoch == (state_at old).control.epoch) d.coder → place ≡ length old.history → back ≡ handed_back (d.epoch == (state_at old).control.epoch) d.coder → next ≡ after_give (by.Codec k place) (option_map box_out back) s
-    → desk.Makes k (done_entry wants moment (seen old (Some job) refusal)) s next (seen old (Some job) refusal) (seen new None None)
-ended_makes k old new job d refusal moment wants s next place back is epoch number ends box made slot at handed gave_back =
+    → ps ≡ running_pairs (state_at old) → after ≡ media_without (by.Codec k place) ps m
+    → desk.Makes k (done_entry wants moment (seen old (Some job) refusal)) s next m after (seen old (Some job) refusal) (seen new None None)
+ended_makes k old new job d refusal moment wants s next m after ps place back is epoch number ends box made slot at handed gave_back pairs ended =
     let t = state_at old in
     let v = seen old (Some job) refusal in
     let b = d.epoch == t.control.epoch in
@@ -302,7 +304,7 @@ ended_makes k old new job d refusal moment wants s next place back is epoch numb
     ∙ (ap (λ (x : Option BoxOut). after_give (next_by k v) x s) (ap (option_map box_out) handed ∙ end_box b refusal d.coder job box is.refused)
     ∙ (gave (cond (not b || is_some refusal) Give Keep) (next_by k v) v.holding.box s (not_end b refusal)
     ∙ ap (λ (c : BoxStep). slots_after (next_by k v) c v.holding.box s) (sym step)))) in
-    makes_some k (done_entry wants moment v) e s next v (seen new None None) entry_is codec registry
+    makes_some k (done_entry wants moment v) e s next m after v (seen new None None) entry_is codec registry (ended ∙ ended_media k e v place ps m refl at pairs)
   where
     done_same : (a b c m n o moment : ℕ) (x y : Outcome) → a ≡ b → c ≡ b → m ≡ n → o ≡ n → x ≡ y → entry.Done a m moment x ≡ entry.Done c o moment y
     done_same a b c m n o moment x y p q r s t = cc
@@ -344,10 +346,10 @@ start_step_is : (o : Option CoderId) (c : Control) (refusal : Option ℕ) → bo
 start_step_is None c refusal = refl
 start_step_is (Some id) c refusal = refl
 
-pub started_makes : (k : ℕ) (old new : Codec) (job0 : Option JobValue) (refusal r : Option ℕ) (job job' : JobValue) (place : ℕ) (s next : SlotsValue) → IsDesk old job0 refusal → IsStarted old job → place ≡ job.place → Makes old new (entry.Start job.epoch job.number)
+pub started_makes : (k : ℕ) (old new : Codec) (job0 : Option JobValue) (refusal r : Option ℕ) (job job' : JobValue) (place : ℕ) (s next : SlotsValue) (m : Media) → IsDesk old job0 refusal → IsStarted old job → place ≡ job.place → Makes old new (entry.Start job.epoch job.number)
     → holding_with job'.coder r ≡ holding_after (by.Codec k place) (renewal (missing_id job)) (holding_with job.coder None) s → next ≡ slots_after (by.Codec k place) (renewal (missing_id job)) (option_map box_out job.coder) s
-    → desk.Makes k (start_entry (seen old job0 refusal)) s next (seen old job0 refusal) (seen new (Some job') r)
-started_makes k old new job0 refusal r job job' place s next is st at made holding slots =
+    → desk.Makes k (start_entry (seen old job0 refusal)) s next m m (seen old job0 refusal) (seen new (Some job') r)
+started_makes k old new job0 refusal r job job' place s next m is st at made holding slots =
     let t = state_at old in
     let v = seen old job0 refusal in
     let i = some_item (start_item t.control) job.number job.work st.item in
@@ -370,7 +372,7 @@ started_makes k old new job0 refusal r job job' place s next is st at made holdi
     let slots_are : next ≡ slots_by k e s v =
     slots ∙ (ap (λ (c : By). slots_after c (renewal (missing_id job)) (option_map box_out job.coder) s) there
     ∙ (ap (λ (h : Holding). slots_after (next_by k v) (renewal (missing_id job)) h.box s) held ∙ ap (λ (b : BoxStep). slots_after (next_by k v) b v.holding.box s) (sym step))) in
-    makes_some k (start_entry v) e s next v (seen new (Some job') r) entry_is (seen_more old new e job0 (Some job') refusal r _ made holding_is) slots_are
+    makes_some k (start_entry v) e s next m m v (seen new (Some job') r) entry_is (seen_more old new e job0 (Some job') refusal r _ made holding_is) slots_are (sym (start_media k job.epoch job.number v m))
 
 -- an item that lacked a box: the older one went back, and the registry was asked for one
 pub renewed : (s t u : SlotsValue) (cause : By) (id : CoderId) (missing : Option CoderId) (box handed : Option BoxOut) → missing ≡ Some id → handed ≡ box → t ≡ after_give cause handed s → u ≡ acquired cause id t → u ≡ slots_after cause (renewal missing) box s

@@ -1,6 +1,8 @@
 pub mod Built
+pub mod Calls
 pub mod Desks
 pub mod Ends
+pub mod Lent
 pub mod Looks
 pub mod Orders
 pub mod Runs

@@ -6,12 +6,13 @@ use Rattle.slot_registry.specs.Slots.{SlotsValue}
 use Rattle.codec_model.specs.declared.entry.Entry.{Entry}
 use Rattle.codec_model.specs.declared.entry.PromiseState.{PromiseState}
 use Rattle.codec_model.specs.declared.entry.PromiseState.TheVariants.{Pending}
-use Rattle.codec_accounts.specs.Codec.{CodecValue, codec_at}
+use Rattle.codec_model.specs.declared.entry.CodecState.{CodecState}
+use Rattle.codec_accounts.specs.Codec.{CodecValue, codec_at, state_of}
 use Rattle.media_variables.specs.Variables.{Media}
 use Rattle.report_text.specs.declared.result.StepResult.{StepResult}
 use Rattle.report_text.specs.declared.result.StepResult.TheVariants as result
-use Rattle.trace_text.specs.Follow.{Course, after_move, advance, look_of_flush, promise_after}
-use Rattle.wc_replay.specs.Desk.{codec_by, registry_by}
+use Rattle.trace_text.specs.Follow.{Course, after_move, advance, look_of_flush, look_of_state, promise_after}
+use Rattle.wc_replay.specs.Desk.{codec_by, registry_by, media_by_option}
 use Rattle.wc_replay.specs.Player.{call_in}
 
 -- the codec with this number is the one that was read there
@@ -43,6 +44,10 @@ look_of_call ds (Some result.Absent) k place is = absurd cc
 pub look_read : (ds : List CodecValue) (k place n : ℕ) (d : CodecValue) (end : PromiseState) → codec_at k ds ≡ d → n ≡ length d.history → end ≡ promise_after d.opening d.history place → result.Look k n end ≡ look_at ds k place
 look_read ds k place n d end is at_end ends = rw (at_end, ends, is) refl
 
+-- the state of a codec that was read
+pub state_read : (ds : List CodecValue) (k n size : ℕ) (d : CodecValue) (phase : CodecState) → codec_at k ds ≡ d → n ≡ length d.history → phase ≡ (state_of d).control.phase → size ≡ (state_of d).control.size → result.State k n phase size ≡ look_of_state k (codec_at k ds)
+state_read ds k n size d phase is at_end phases sizes = rw (at_end, phases, sizes, is) refl
+
 -- a codec that is not there has no entry
 pub look_past : (ds : List CodecValue) (k place : ℕ) → length ds ≤ k → result.Look k 0 Pending ≡ look_at ds k place
 look_past ds k place beyond = rw (slice_get_past ds k beyond) refl
@@ -52,11 +57,11 @@ set_same [] k = refl
 set_same (d ∷ ds) zero = refl
 set_same (d ∷ ds) (suc k) = ap (λ (l : List CodecValue). d ∷ l) (set_same ds k)
 
-same_course : (a : List (List StepResult)) (m : Media) (c d : List CodecValue) (s t : SlotsValue) → c ≡ d → s ≡ t → ◌≡◌ {A = Course} (record { callers = a; codecs = c; media = m; slots = s }) (record { callers = a; codecs = d; media = m; slots = t })
-same_course a m c d s t p q = cc
+same_course : (a : List (List StepResult)) (m n : Media) (c d : List CodecValue) (s t : SlotsValue) → c ≡ d → m ≡ n → s ≡ t → ◌≡◌ {A = Course} (record { callers = a; codecs = c; media = m; slots = s }) (record { callers = a; codecs = d; media = n; slots = t })
+same_course a m n c d s t p q r = cc
 
 -- an entry of one codec, or none, is the move that it makes
-pub advance_is : (v : Course) (k : ℕ) (o : Option Entry) (codecs : List CodecValue) (slots : SlotsValue) → codecs ≡ slice_set v.codecs k (codec_by k o v.slots (codec_at k v.codecs)) → slots ≡ registry_by k o v.slots (codec_at k v.codecs)
-    → ◌≡◌ {A = Course} (record { callers = v.callers; codecs = codecs; media = v.media; slots = slots }) (after_move (advance k o) v)
-advance_is v k None codecs slots is went = same_course v.callers v.media codecs v.codecs slots v.slots (is ∙ set_same v.codecs k) went
-advance_is v k (Some e) codecs slots is went = same_course v.callers v.media codecs _ slots _ is went
+pub advance_is : (v : Course) (k : ℕ) (o : Option Entry) (codecs : List CodecValue) (m : Media) (slots : SlotsValue) → codecs ≡ slice_set v.codecs k (codec_by k o v.slots (codec_at k v.codecs)) → slots ≡ registry_by k o v.slots (codec_at k v.codecs)
+    → m ≡ media_by_option k o (codec_at k v.codecs) v.media → ◌≡◌ {A = Course} (record { callers = v.callers; codecs = codecs; media = m; slots = slots }) (after_move (advance k o) v)
+advance_is v k None codecs m slots is went left = same_course v.callers m v.media codecs v.codecs slots v.slots (is ∙ set_same v.codecs k) left went
+advance_is v k (Some e) codecs m slots is went left = same_course v.callers m _ codecs _ slots _ is left went

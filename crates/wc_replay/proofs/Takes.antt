@@ -3,7 +3,7 @@ use Rattle.std.proofs.Common.{ℕ, zero, suc, ◌≡◌, ◌∙◌, ◌&&◌, �
 use Rattle.std.specs.Prelude.{slice_get, slice_set, IfSome, IfNone, IfOk, Result, Ok, Err, option_map, nat_lt, ◌==◌}
 use Rattle.std.specs.List.{AllByRecursion}
 use Rattle.std.proofs.lemmas.Bool.{ltb-false}
-use Rattle.std.proofs.lemmas.Option.{slice_get_past}
+use Rattle.std.proofs.lemmas.Option.{slice_get_past, some_pair_parts}
 use Rattle.wc_base.specs.Options.{some_same}
 use Rattle.wc_base.specs.declared.error.NoMemory.{NoMemory}
 use Rattle.slot_registry.specs.Slots.{SlotsValue}
@@ -24,6 +24,7 @@ use Rattle.history_laws.specs.WholeLaws.{outputs_are_whole}
 use Rattle.media_variables.specs.Held.{IsEnoughUnit}
 use Rattle.wc_replay.specs.Desk.{holding_of, IsDesk, Takes, Received, more}
 use Rattle.wc_replay.proofs.Desks.{seen, seen_more}
+use Rattle.wc_replay.proofs.Lent.{take_media}
 use Rattle.wc_replay.proofs.Looks.{set_same}
 use Rattle.wc_base.specs.declared.who.Who.{Who}
 use Rattle.wc_chunk.specs.declared.chunk.Chunk.{Chunk}
@@ -33,10 +34,10 @@ use Rattle.script_types.specs.declared.steps.MediaStep.{MediaStep}
 use Rattle.script_types.specs.declared.steps.MediaStep.TheVariants as on_media
 use Rattle.codec_accounts.specs.Codec.{CodecValue, codec_at, state_of}
 use Rattle.media_variables.specs.Variables as variables
-use Rattle.media_variables.specs.Variables.{Media, Came, IsCome, media_came, taken_came, unit_came, after_came, variables_of}
-use Rattle.trace_text.specs.Follow.{Course, after_move, media_move, take_move, found_at, handle_move, copied_chunk, steps_of}
-use Rattle.trace_text.specs.Fits.{taken_from}
-use Rattle.wc_replay.specs.Player.{LooksInRange}
+use Rattle.media_variables.specs.Variables.{Media, Came, IsCome, media_came, sound_at, taken_came, unit_came, after_came, variables_of}
+use Rattle.trace_text.specs.Follow.{Course, after_move, encode_move, media_by, media_move, take_move, found_at, handle_move, copied_chunk, steps_of}
+use Rattle.trace_text.specs.Fits.{called, taken_from}
+use Rattle.wc_replay.specs.Player.{LooksInRange, encode_of}
 
 pub takes : (s : ScriptData) (media : List (List Chunk)) (who : Who) (x : MediaStep) (k : ℕ) (v : Course) → taken_from (step.Media x) ≡ Some k
     → media_move s media who x v ≡ take_move who k (codec_at k v.codecs) (taken_came v.media.pool who.step (found_at k (codec_at k v.codecs)) (variables_of who.caller v.media.variables))
@@ -52,17 +53,44 @@ takes s media who (on_media.CloseData of) k v is = absurd cc
 takes s media who (on_media.Copy of o size) k v is = absurd cc
 takes s media who (on_media.Size of o) k v is = absurd cc
 
-pub handles : (s : ScriptData) (media : List (List Chunk)) (who : Who) (x : MediaStep) (v : Course) → taken_from (step.Media x) ≡ None
+pub encodes : (s : ScriptData) (media : List (List Chunk)) (who : Who) (x : MediaStep) (k j : ℕ) (v : Course) → encode_of x ≡ Some (k, j)
+    → media_move s media who x v ≡ encode_move who k v.media.pool (sound_at (variables_of who.caller v.media.variables) j) (codec_at k v.codecs)
+encodes s media who (on_media.Encode on content) k j v is =
+    let parts = some_pair_parts on k content.step j is in
+    ap (λ (n : ℕ). encode_move who n v.media.pool (sound_at (variables_of who.caller v.media.variables) content.step) (codec_at n v.codecs)) parts.0
+    ∙ ap (λ (i : ℕ). encode_move who k v.media.pool (sound_at (variables_of who.caller v.media.variables) i) (codec_at k v.codecs)) parts.1
+encodes s media who (on_media.Take on bind kind) k j v is = absurd cc
+encodes s media who (on_media.Audio bind init) k j v is = absurd cc
+encodes s media who (on_media.Frame bind init) k j v is = absurd cc
+encodes s media who (on_media.Clone of bind) k j v is = absurd cc
+encodes s media who (on_media.Transfer of bind) k j v is = absurd cc
+encodes s media who (on_media.CloseData of) k j v is = absurd cc
+encodes s media who (on_media.Copy of o size) k j v is = absurd cc
+encodes s media who (on_media.Size of o) k j v is = absurd cc
+
+-- a codec that an encode names is called
+pub encodes_on : (n : ℕ) (x : MediaStep) (k j : ℕ) → encode_of x ≡ Some (k, j) → ((i : ℕ) → called (step.Media x) ≡ Some i → i < n) → k < n
+encodes_on n (on_media.Encode on content) k j is h = subst (λ (i : ℕ). i < n) (some_pair_parts on k content.step j is).0 (h on refl)
+encodes_on n (on_media.Take on bind kind) k j is h = absurd cc
+encodes_on n (on_media.Audio bind init) k j is h = absurd cc
+encodes_on n (on_media.Frame bind init) k j is h = absurd cc
+encodes_on n (on_media.Clone of bind) k j is h = absurd cc
+encodes_on n (on_media.Transfer of bind) k j is h = absurd cc
+encodes_on n (on_media.CloseData of) k j is h = absurd cc
+encodes_on n (on_media.Copy of o size) k j is h = absurd cc
+encodes_on n (on_media.Size of o) k j is h = absurd cc
+
+pub handles : (s : ScriptData) (media : List (List Chunk)) (who : Who) (x : MediaStep) (v : Course) → taken_from (step.Media x) ≡ None → encode_of x ≡ None
     → media_move s media who x v ≡ handle_move who (media_came v.media.pool who (record { chunk = copied_chunk media (steps_of s who.caller) x; taken = None }) x (variables_of who.caller v.media.variables))
-handles s media who (on_media.Take on bind kind) v is = absurd cc
-handles s media who (on_media.Audio bind init) v is = refl
-handles s media who (on_media.Frame bind init) v is = refl
-handles s media who (on_media.Encode on content) v is = refl
-handles s media who (on_media.Clone of bind) v is = refl
-handles s media who (on_media.Transfer of bind) v is = refl
-handles s media who (on_media.CloseData of) v is = refl
-handles s media who (on_media.Copy of o size) v is = refl
-handles s media who (on_media.Size of o) v is = refl
+handles s media who (on_media.Take on bind kind) v is none = absurd cc
+handles s media who (on_media.Audio bind init) v is none = refl
+handles s media who (on_media.Frame bind init) v is none = refl
+handles s media who (on_media.Encode on content) v is none = absurd cc
+handles s media who (on_media.Clone of bind) v is none = refl
+handles s media who (on_media.Transfer of bind) v is none = refl
+handles s media who (on_media.CloseData of) v is none = refl
+handles s media who (on_media.Copy of o size) v is none = refl
+handles s media who (on_media.Size of o) v is none = refl
 
 -- a codec that is named is one of so many
 pub named_within : (n : ℕ) (x : MediaStep) (k : ℕ) → taken_from (step.Media x) ≡ Some k → LooksInRange n (step.Media x) → k < n
@@ -151,8 +179,9 @@ took v who k t new callers codecs m r is set come noted =
     let y : Came = unit_came v.media.pool who.step (result.Unit k t.place t.number) t.unit (variables_of who.caller v.media.variables) in
     let answer : r ≡ y.answer = some_same r y.answer come.0 in
     let entry_is : new ≡ more (entry.Take who (state_of d).control.taken) d = is.made ∙ ap (λ (n : ℕ). more (entry.Take who n) d) is.number in
-    same_all callers (append_at who.caller y.answer v.callers) codecs (slice_set v.codecs k (more (entry.Take who (state_of d).control.taken) d)) m (after_came who y v.media) v.slots
-    (noted ∙ ap (λ (x : StepResult). append_at who.caller x v.callers) answer) (set ∙ ap (λ (x : CodecValue). slice_set v.codecs k x) entry_is) come.1
+    let stays : media_by k (entry.Take who (state_of d).control.taken) d v.media ≡ v.media = take_media k who (state_of d).control.taken d v.media in
+    same_all callers (append_at who.caller y.answer v.callers) codecs (slice_set v.codecs k (more (entry.Take who (state_of d).control.taken) d)) m (after_came who y (media_by k (entry.Take who (state_of d).control.taken) d v.media)) v.slots
+    (noted ∙ ap (λ (x : StepResult). append_at who.caller x v.callers) answer) (set ∙ ap (λ (x : CodecValue). slice_set v.codecs k x) entry_is) (come.1 ∙ ap (λ (z : Media). after_came who y z) (sym stays))
     ∙ ap (λ (o : Option variables.Taken). after_move (take_move who k d (taken_came v.media.pool who.step o (variables_of who.caller v.media.variables))) v) (sym (found k d who new t is))
 
 -- a take that found none is a look

@@ -1,21 +1,27 @@
 -- A codec at work in a replay.
-use Rattle.std.specs.Prelude.{ℕ, ◌≡◌, true, [], ◌∷◌, ◌++◌, length, Option, Some, None, is_some, option_map}
+use Rattle.std.specs.Prelude.{ℕ, ◌≡◌, Bool, true, List, [], ◌∷◌, ◌++◌, length, map, Option, Some, None, is_some, option_map, if◌then◌else◌}
 use Rattle.coder_api.specs.Lent.{Lent}
 use Rattle.wc_config.specs.declared.codec.CoderId.{CoderId}
 use Rattle.slot_registry.specs.Slots.{SlotsValue}
 use Rattle.codec_definitions.specs.declared.unit.Unit as media
 use Rattle.codec_model.specs.declared.entry.Entry.{Entry}
 use Rattle.codec_model.specs.Replay.{State, replay}
+use Rattle.codec_model.specs.Held.{waiting_held}
+use Rattle.wc_base.specs.declared.who.By.{By}
 use Rattle.wc_base.specs.declared.who.Who.{Who}
 use Rattle.codec_model.specs.declared.entry.Entry.TheVariants as entry
 use Rattle.codec_core.specs.declared.reply.Taken.{Taken}
 use Rattle.media_variables.specs.Held.{IsEnoughUnit}
-use Rattle.trace_text.specs.Follow.{output_at}
+use Rattle.trace_text.specs.Follow.{output_at, media_by}
 use Rattle.codec_core.specs.Codec.{Codec, state_at}
 use Rattle.codec_core.specs.Job.{JobValue, IsJobOf, missing_id}
 use Rattle.codec_core.specs.Owning.{asked_of, IsOwnJob}
 use Rattle.codec_accounts.specs.Registry.{BoxOut}
 use Rattle.codec_accounts.specs.Codec.{Holding, CodecValue, state_of, BoxStep, Keep, Renew, after_entry, slots_by}
+use Rattle.codec_model.specs.declared.entry.Pair.{Pair}
+use Rattle.codec_media.specs.Holding as references
+use Rattle.media_variables.specs.Held.{pair_of, ends_behind}
+use Rattle.media_variables.specs.Variables.{Media}
 
 -- a box that is out
 abbrev pub box_out : Lent → BoxOut
@@ -87,6 +93,23 @@ abbrev pub renewal : Option CoderId → BoxStep
 renewal None = Keep
 renewal (Some id) = Renew id
 
+-- what a removal lets go, if there was one: the box, and the references
+abbrev pub box_in : Option references.RemovedValue → Option Lent
+box_in None = None
+box_in (Some r) = r.coder
+
+abbrev pub pairs_in : Option references.RemovedValue → List Pair
+pairs_in None = []
+pairs_in (Some r) = map pair_of r.media
+
+-- the callers' media after the ends of these references by one cause
+abbrev pub media_without : By → List Pair → Media → Media
+media_without by ps m = record m { pool = m.pool ++ ends_behind by m.pool ps }
+
+-- what waits, where it is let go
+abbrev pub waiting_if : Bool → State → List Pair
+waiting_if goes s = if goes then waiting_held s.control else []
+
 -- ---- after an entry, if one is made
 
 abbrev pub codec_by : ℕ → Option Entry → SlotsValue → CodecValue → CodecValue
@@ -97,7 +120,12 @@ abbrev pub registry_by : ℕ → Option Entry → SlotsValue → CodecValue → 
 registry_by k None s d = s
 registry_by k (Some e) s d = slots_by k e s d
 
--- The codec with this number made this entry, or none.
-pub record Makes (k : ℕ) (e : Option Entry) (s next : SlotsValue) (d new : CodecValue) : Type 0 where
+abbrev pub media_by_option : ℕ → Option Entry → CodecValue → Media → Media
+media_by_option k None d m = m
+media_by_option k (Some e) d m = media_by k e d m
+
+-- The codec with this number made this entry, or none: what became of it, of the registry and of the callers' media.
+pub record Makes (k : ℕ) (e : Option Entry) (s next : SlotsValue) (m after : Media) (d new : CodecValue) : Type 0 where
   pub codec : new ≡ codec_by k e s d
   pub registry : next ≡ registry_by k e s d
+  pub media : after ≡ media_by_option k e d m

@@ -8,6 +8,7 @@ use Rattle.script_types.specs.declared.script.CodecItem.{CodecItem}
 use Rattle.script_types.specs.declared.script.ScriptData.{ScriptData}
 use Rattle.script_types.specs.declared.steps.Step.{Step}
 use Rattle.script_types.specs.declared.steps.Step.TheVariants as step
+use Rattle.script_types.specs.declared.steps.MediaStep.{MediaStep}
 use Rattle.script_types.specs.declared.steps.MediaStep.TheVariants as on_media
 use Rattle.codec_model.specs.Shown.{each_shown}
 use Rattle.trace_text.specs.declared.run.CallerTrace.{CallerTrace}
@@ -48,6 +49,11 @@ pub record IsPlayable (s : ScriptData) : Type 0 where
 abbrev pub call_in : Option StepResult → Option (ℕ × ℕ)
 call_in (Some (result.Call k place error)) = Some (k, place)
 call_in _ = None
+
+-- the codec and the variable of a step that encodes, if it is one
+abbrev pub encode_of : MediaStep → Option (ℕ × ℕ)
+encode_of (on_media.Encode on content) = Some (on, content.step)
+encode_of _ = None
 
 -- ---- the beginning and the end of a replay
 

@@ -1,15 +1,18 @@
-// The boxes that codecs take from the registry and give back.
+// The boxes that codecs take from the registry and give back, and what they let go.
 ghost use Rattle.std.specs.Prelude.{◌≡◌, ℕ, IfOk, OnOk, Option, option_map, is_some, true, Some, None, length};
 ghost use Rattle.codec_accounts.specs.Codec.{IsGivable, after_give, after_ask, slots_after, holding_after};
 ghost use Rattle.codec_core.specs.Codec.{IsBy};
 ghost use Rattle.codec_core.specs.Job.{IsJobOf, missing_id};
 ghost use Rattle.codec_core.specs.Owning.{IsOwnJob};
 ghost use Rattle.codec_model.specs.Replay.{State};
+ghost use Rattle.media_variables.specs.Held.{AreApart};
 ghost use Rattle.slot_registry.specs.Slots.{acquired};
-ghost use Rattle.wc_replay.specs.Desk.{LacksBox, box_out, holding_with, renewal};
+ghost use Rattle.wc_replay.specs.Desk.{LacksBox, box_in, box_out, pairs_in, media_without, holding_with, renewal};
 
 use codec_core::Job;
+use codec_media::Removed;
 use coder_api::{Coder, SlotBox};
+use media_variables::CallerMedia;
 use slot_registry::{AcquireFault, Slots};
 use wc_base::{By, NoMemory};
 use wc_config::CoderId;
@@ -21,6 +24,27 @@ pub(crate) fn give<C: Coder>(slots: &mut Slots<C>, by: By, slot: Option<SlotBox<
 {
     match slot {
         Some(slot) => slots.give_back(by, slot),
+        None => {}
+    }
+}
+
+/// What a removal let go, if there was one: the box goes back, and the references end.
+pub(crate) fn let_go<C: Coder>(
+    slots: &mut Slots<C>,
+    media: &mut CallerMedia,
+    by: By,
+    removed: Option<Removed<C>>,
+)
+    requires givable { IsGivable slots.old.history by (option_map box_out (box_in removed)) }
+    requires lent { AreApart media.old.pool media.old.variables (pairs_in removed) }
+    ensures slots { slots.new ≡ after_give by (option_map box_out (box_in removed)) slots.old }
+    ensures media { media.new ≡ media_without by (pairs_in removed) media.old }
+{
+    match removed {
+        Some(removed) => {
+            media.end_all(by, removed.media);
+            give(slots, by, removed.coder);
+        }
         None => {}
     }
 }

@@ -1,29 +1,37 @@
 // The steps of the callers, and the items of the order.
-ghost use Rattle.std.specs.Prelude.{◌≡◌, ◌≤◌, ◌<◌, ℕ, Bool, false, Some, OnOk, IfOk, length, slice_get, option_copied, None};
-ghost use Rattle.codec_accounts.specs.Codec.{codec_at, AreGivable};
+ghost use Rattle.std.specs.Prelude.{◌≡◌, ◌≤◌, ◌<◌, ℕ, Bool, false, true, Some, OnOk, IfOk, is_some, length, slice_get, option_copied, None};
+ghost use Rattle.codec_accounts.specs.Codec.{codec_at, state_of, AreGivable};
 ghost use Rattle.codec_accounts.specs.Owed.{at};
+ghost use Rattle.codec_core.specs.Codec.{refused_as};
+ghost use Rattle.codec_model.specs.Replay.{encode_error};
+ghost use Rattle.media_accounts.specs.Accounts.{AreLent};
+ghost use Rattle.media_variables.specs.Held.{sound_found};
+ghost use Rattle.media_variables.specs.declared.lending.SoundFound.TheVariants as found;
+ghost use Rattle.order_laws.specs.Course.{held_by_codecs};
 ghost use Rattle.trace_text.specs.Fits.{called, taken_from};
 ghost use Rattle.script_types.specs.declared.steps.Step.TheVariants as a_step;
-ghost use Rattle.media_variables.specs.Variables.{Brought, media_came, taken_came, variables_of};
-ghost use Rattle.trace_text.specs.Follow.{with_result, after_move, advance, item_entry, call_move, decode_move, handle_move, media_move, take_move, found_at, removal_move, look_of_flush, look_of_state, step_move, follow_item, steps_of, source_error};
+ghost use Rattle.media_variables.specs.Variables.{Brought, media_came, sound_at, taken_came, variables_of};
+ghost use Rattle.trace_text.specs.Follow.{with_result, after_move, advance, chunk_for, item_entry, call_move, decode_move, encode_move, hand_move, handle_move, media_move, take_move, found_at, removal_move, look_of_flush, look_of_state, step_move, follow_item, steps_of, source_error};
 ghost use Rattle.report_text.specs.declared.result.StepResult.TheVariants as came;
 ghost use Rattle.script_types.specs.declared.script.OrderItem.TheVariants as item;
-ghost use Rattle.wc_replay.specs.Player.{IsInRange, LooksInRange, IsPlayable, call_in};
+ghost use Rattle.wc_replay.specs.Player.{IsInRange, LooksInRange, IsPlayable, call_in, encode_of};
 
 use crate::copied::copied_chunk;
 use crate::desk::{Answer, Desk};
-use crate::moving::{call_at, receive_at, remove_at, take_at};
+use crate::moving::{
+    call_at, encode_at, place_at, receive_at, refusal_at, refuse_at, remove_at, take_at,
+};
 use crate::results::{Results, made_by, note, result_of};
 use codec_core::Taken;
 use codec_model::{Call, PromiseState, Removal};
 use coder_api::Coder;
-use media_variables::CallerMedia;
+use media_variables::{CallerMedia, SoundFound};
 use script_types::{ChunkSource, MediaStep, OrderItem, ScriptData, Step};
 use slot_registry::Slots;
 use std::alloc::Global;
 use std::marker::Model;
 use trace_text::{StepResult, find_chunk, steps_of};
-use wc_base::{DomError, List, NoMemory, Who};
+use wc_base::{By, DomError, List, NoMemory, Who};
 use wc_chunk::Chunk;
 
 /// The codecs, each caller's results so far, the callers' media, and the registry of the boxes.
@@ -154,6 +162,16 @@ fn taken_from(step: &MediaStep) -> Option<u32>
     }
 }
 
+/// The codec and the variable of a step that encodes, if it is one.
+fn encode_of(step: &MediaStep) -> Option<(u32, u32)>
+    ensures { result ≡ encode_of step.now }
+{
+    match step {
+        MediaStep::Encode { on, content } => Some((*on, content.step)),
+        _ => None,
+    }
+}
+
 fn step_at(steps: &[Step], number: usize) -> Option<&Step>
     ensures { option_copied result ≡ slice_get steps.now number }
 {
@@ -177,6 +195,23 @@ impl<C: Coder> Player<C> {
         ensures { OnOk result (self.new ≡ with_result who.caller came self.old) }
     {
         note(&mut self.callers, who.caller, came)
+    }
+
+    /// The chunk of a caller's variable: its step made it or took it from a chunk file, or it was taken from an encoder.
+    fn chunk(
+        &self,
+        media: &[List<Chunk>],
+        steps: &[Step],
+        caller: u32,
+        variable: u32,
+    ) -> Result<Option<Chunk>, NoMemory>
+        ensures { let vs = variables_of caller self.now.media.variables in
+            IfOk result (λ c. c ≡ chunk_for media.now steps.now vs variable) }
+    {
+        match find_chunk(media, steps, variable)? {
+            Some(chunk) => Ok(Some(chunk)),
+            None => self.media.chunk(caller, variable),
+        }
     }
 
     /// A decode of the chunk that the variable holds, unless it is absent.
@@ -221,17 +256,88 @@ impl<C: Coder> Player<C> {
     fn remove(&mut self, who: Who, codec: u32, removal: Removal) -> Result<(), NoMemory>
         requires codec { codec < length self.old.codecs }
         requires givable { AreGivable self.old.codecs self.old.slots.history }
+        requires lent { AreLent self.old.media.pool self.old.media.variables
+            (held_by_codecs self.old.codecs) }
         ensures { OnOk result
             (self.new
             ≡ after_move
             (removal_move who codec removal (codec_at codec self.old.codecs)) self.old) }
     {
-        let answer = remove_at(&mut self.desks, &mut self.slots, codec, who, removal)?;
+        let Player {
+            desks,
+            callers,
+            media,
+            slots,
+        } = self;
+        let answer = remove_at(desks, slots, media, codec, who, removal)?;
+        note(callers, who.caller, call_result(codec, answer))
+    }
+
+    /// An encode that the codec refuses, of data that is detached or is not.
+    fn refuse(&mut self, who: Who, codec: u32, detached: bool) -> Result<(), NoMemory>
+        requires codec { codec < length self.old.codecs }
+        requires refused { let control = (state_of (codec_at codec self.old.codecs)).control in
+            is_some (encode_error detached control) ≡ true }
+        ensures { let d = codec_at codec self.old.codecs in
+            OnOk result
+            (self.new ≡ after_move (hand_move who codec (refused_as detached) d) self.old) }
+    {
+        let answer = refuse_at(&mut self.desks, codec, who, detached)?;
         note(&mut self.callers, who.caller, call_result(codec, answer))
     }
 
-    /// A step on media of a caller that is no take, and its answer; `chunk` is the one that the step copies, if it copies
-    /// one. A step that encodes is not built, and makes nothing.
+    /// An encode that the codec accepts: it holds one reference more to the variable's audio data from now on.
+    fn lend(&mut self, who: Who, codec: u32, content: u32) -> Result<(), NoMemory>
+        requires codec { codec < length self.old.codecs }
+        requires accepted { let control = (state_of (codec_at codec self.old.codecs)).control in
+            encode_error false control ≡ None }
+        requires open { let vs = variables_of who.caller self.old.media.variables in
+            sound_found (sound_at vs content) ≡ found.Open }
+        ensures { let d = codec_at codec self.old.codecs in
+            let x = sound_at (variables_of who.caller self.old.media.variables) content in
+            OnOk result
+            (self.new ≡ after_move (encode_move who codec self.old.media.pool x d) self.old) }
+    {
+        let place = place_at(&self.desks, codec);
+        let cause = By::Codec { codec, place };
+        let (samples, held) = self.media.lend(cause, who.caller, content)?;
+        let answer = encode_at(&mut self.desks, codec, who, samples, held)?;
+        note(&mut self.callers, who.caller, call_result(codec, answer))
+    }
+
+    /// An encode of audio data that is not detached.
+    fn hand(&mut self, who: Who, codec: u32, content: u32) -> Result<(), NoMemory>
+        requires codec { codec < length self.old.codecs }
+        requires open { let vs = variables_of who.caller self.old.media.variables in
+            sound_found (sound_at vs content) ≡ found.Open }
+        ensures { let d = codec_at codec self.old.codecs in
+            let x = sound_at (variables_of who.caller self.old.media.variables) content in
+            OnOk result
+            (self.new ≡ after_move (encode_move who codec self.old.media.pool x d) self.old) }
+    {
+        match refusal_at(&self.desks, codec, false) {
+            Some(_) => self.refuse(who, codec, false),
+            None => self.lend(who, codec, content),
+        }
+    }
+
+    /// An encode of the audio data that the variable holds, unless it is absent.
+    fn encode(&mut self, who: Who, codec: u32, content: u32) -> Result<(), NoMemory>
+        requires { codec < length self.old.codecs }
+        ensures { let d = codec_at codec self.old.codecs in
+            let x = sound_at (variables_of who.caller self.old.media.variables) content in
+            OnOk result
+            (self.new ≡ after_move (encode_move who codec self.old.media.pool x d) self.old) }
+    {
+        match self.media.find_sound(who.caller, content) {
+            SoundFound::Absent => self.answer(who, StepResult::Absent),
+            SoundFound::Detached => self.refuse(who, codec, true),
+            SoundFound::Open => self.hand(who, codec, content),
+        }
+    }
+
+    /// A step on media of a caller that is its own, and its answer; `chunk` is the one that the step copies, if it copies
+    /// one.
     fn handle(
         &mut self,
         alloc: Global,
@@ -273,7 +379,7 @@ impl<C: Coder> Player<C> {
         note(&mut self.callers, who.caller, came)
     }
 
-    /// A step of a caller on media: a take of a codec's output, or one that no codec has a part in.
+    /// A step of a caller on media: a take of a codec's output, an encode, or one that no codec has a part in.
     fn on_media(
         &mut self,
         alloc: Global,
@@ -285,6 +391,8 @@ impl<C: Coder> Player<C> {
     ) -> Result<(), NoMemory>
         requires steps { steps_of script.now who.caller ≡ steps.now }
         requires range { LooksInRange (length self.old.codecs) (a_step.Media step.now) }
+        requires called { (k : ℕ)
+            → called (a_step.Media step.now) ≡ Some k → k < length self.old.codecs }
         requires caller { who.caller < length self.old.media.variables }
         ensures { OnOk result
             (self.new
@@ -292,10 +400,13 @@ impl<C: Coder> Player<C> {
     {
         match taken_from(step) {
             Some(codec) => self.receive(who, codec),
-            None => {
-                let chunk = copied_chunk(media, steps, step)?;
-                self.handle(alloc, who, chunk, step)
-            }
+            None => match encode_of(step) {
+                Some((codec, content)) => self.encode(who, codec, content),
+                None => {
+                    let chunk = copied_chunk(media, steps, step)?;
+                    self.handle(alloc, who, chunk, step)
+                }
+            },
         }
     }
 
@@ -314,6 +425,8 @@ impl<C: Coder> Player<C> {
         requires state { LooksInRange (length self.old.codecs) step.now }
         requires caller { who.caller < length self.old.media.variables }
         requires givable { AreGivable self.old.codecs self.old.slots.history }
+        requires lent { AreLent self.old.media.pool self.old.media.variables
+            (held_by_codecs self.old.codecs) }
         ensures { OnOk result
             (self.new
             ≡ after_move (step_move script.now media.now who step.now self.old) self.old) }
@@ -325,7 +438,7 @@ impl<C: Coder> Player<C> {
             }
             Step::Chunk { bind: _, source } => self.answer(who, local_result(source)),
             Step::Decode { on, chunk } => {
-                let chunk = find_chunk(media, steps, chunk.step)?;
+                let chunk = self.chunk(media, steps, who.caller, chunk.step)?;
                 self.decode(who, *on, chunk)
             }
             Step::Flush { on, bind: _ } => self.call(who, *on, Call::Flush),
@@ -350,6 +463,8 @@ impl<C: Coder> Player<C> {
         requires callers { length self.old.media.variables ≡ length script.now.callers }
         requires playable { IsPlayable script.now }
         requires givable { AreGivable self.old.codecs self.old.slots.history }
+        requires lent { AreLent self.old.media.pool self.old.media.variables
+            (held_by_codecs self.old.codecs) }
         ensures { OnOk result
             (self.new ≡ follow_item script.now media.now false (item.Caller caller) self.old) }
     {
@@ -371,6 +486,8 @@ impl<C: Coder> Player<C> {
     fn advance(&mut self, alloc: Global, codec: u32, item: OrderItem) -> Result<(), NoMemory>
         requires codec { codec < length self.old.codecs }
         requires givable { AreGivable self.old.codecs self.old.slots.history }
+        requires lent { AreLent self.old.media.pool self.old.media.variables
+            (held_by_codecs self.old.codecs) }
         ensures { OnOk result
             ((wants : Bool)
             ×
@@ -378,7 +495,13 @@ impl<C: Coder> Player<C> {
             ≡ after_move
             (advance codec (item_entry wants item (codec_at codec self.old.codecs))) self.old)) }
     {
-        take_at(&mut self.desks, &mut self.slots, codec, alloc, item)
+        let Player {
+            desks,
+            callers: _,
+            media,
+            slots,
+        } = self;
+        take_at(desks, slots, media, codec, alloc, item)
     }
 
     /// One item of the order.
@@ -394,6 +517,8 @@ impl<C: Coder> Player<C> {
         requires playable { IsPlayable script.now }
         requires range { IsInRange (length self.old.codecs) item }
         requires givable { AreGivable self.old.codecs self.old.slots.history }
+        requires lent { AreLent self.old.media.pool self.old.media.variables
+            (held_by_codecs self.old.codecs) }
         ensures { OnOk result
             ((wants : Bool) × (self.new ≡ follow_item script.now media.now wants item self.old)) }
     {

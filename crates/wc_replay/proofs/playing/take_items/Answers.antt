@@ -28,6 +28,10 @@ pub take-requires-clause-givable : goal.take-requires-clause-givable
 take-requires-clause-givable g c κs within =
     (c.following_stands.ensures c.args.script.now c.args.media.now c.args.player.now.slots.made (take c.loop-item.item-index (order_items c.args.script.now)) c.loop-item.player c.requires.playable.faultless c.loop-item.invariant).givable
 
+pub take-requires-clause-lent : goal.take-requires-clause-lent
+take-requires-clause-lent g c κs within =
+    (c.following_stands.ensures c.args.script.now c.args.media.now c.args.player.now.slots.made (take c.loop-item.item-index (order_items c.args.script.now)) c.loop-item.player c.requires.playable.faultless c.loop-item.invariant).lent
+
 pub loop-item-preserved : goal.loop-item-preserved
 loop-item-preserved g c =
     let s = c.args.script.now in

@@ -1,4 +1,4 @@
-use Rattle.std.proofs.Common.{rules, ◌≡◌, ◌∷◌, [], ◌++◌, ◌∙◌, ap, sym, subst, List, refl, arith, ◌+◌, ◌≤◌, vec_len, vec_capacity, deque_len}
+use Rattle.std.proofs.Common.{rules, ◌≡◌, ◌∷◌, [], ◌++◌, ◌∙◌, ap, sym, subst, List, arith, ◌+◌, ◌≤◌, vec_len, vec_capacity, deque_len}
 use Rattle.wc_pool.specs.declared.reference.MediaRef.{MediaRef}
 use Rattle.codec_media.specs.Holding.{IsHolding, pair_of}
 use Rattle.codec_media.proofs.Holds.{encode_holds}

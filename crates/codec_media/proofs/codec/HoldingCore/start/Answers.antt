@@ -1,11 +1,7 @@
-use Rattle.std.proofs.Common.{◌≡◌, ◌∙◌, ap, sym, subst, Option, is_some, Bool, List, arith}
-use Rattle.std.specs.Prelude.{Some, option_map}
-use Rattle.codec_model.specs.Control.{held_of, start_item}
-use Rattle.codec_model.specs.declared.entry.Pair.{Pair}
-use Rattle.wc_pool.specs.declared.reference.MediaRef.{MediaRef}
-use Rattle.codec_core.specs.Codec.{Codec, state_at, item_parts}
-use Rattle.codec_media.specs.Holding.{Holding, IsHolding, TakesIf, all_of}
-use Rattle.codec_media.proofs.Holds.{Starts, start_holds, starts, start_all, none_works}
+use Rattle.std.proofs.Common.{sym, subst, is_some, Bool, arith}
+use Rattle.codec_core.specs.Codec.{state_at}
+use Rattle.codec_media.specs.Holding.{TakesIf}
+use Rattle.codec_media.proofs.Holds.{Starts, start_holds, starts}
 use Rattle.codec_media.proofs.codec.HoldingCore.start.Given.{Over}
 use Rattle.codec_media.proofs.codec.HoldingCore.start.Goals as goal
 

@@ -11,5 +11,5 @@ returns g c =
     let v : Course = record { callers = p.callers.items; codecs = p.desks.items; media = p.media; slots = p.slots } in
     let k = c.args.codec in
     on_ok_weaker c.take_at.result
-    (λ made. (made.0, advance_is v k (item_entry made.0 c.args.item (codec_at k v.codecs)) c.take_at.new.desks.items c.take_at.new.slots made.1 made.2 ∙ ap (λ (u : Course). after_move (advance k (item_entry made.0 c.args.item (codec_at k u.codecs))) u) c.self.view_is))
+    (λ made. (made.0, advance_is v k (item_entry made.0 c.args.item (codec_at k v.codecs)) c.take_at.new.desks.items c.take_at.new.media c.take_at.new.slots made.1 made.2 made.3 ∙ ap (λ (u : Course). after_move (advance k (item_entry made.0 c.args.item (codec_at k u.codecs))) u) c.self.view_is))
     c.take_at.ensures

@@ -15,3 +15,6 @@ remove-requires-clause-codec g c = λ κs l. (c.requires.range c.in-Reset.on (rw
 
 pub remove-requires-in-Close-clause-codec : goal.remove-requires-in-Close-clause-codec
 remove-requires-in-Close-clause-codec g c = λ κs l. (c.requires.range c.in-Close.on (rw c.in-Close.is refl))
+
+pub on_media-requires-clause-called : goal.on_media-requires-clause-called
+on_media-requires-clause-called g c = λ κs l k is. (c.requires.range k (rw c.in-Media.is is))
