@@ -1,5 +1,5 @@
 -- The run that lines show is written without loss where the lines fit the script and are few.
-use Rattle.std.proofs.Common.{◌≡◌, ℕ, zero, suc, ◌+◌, ◌^◌, ◌<◌, ◌≤◌, Bool, true, false, cond, List, [], ◌∷◌, ◌++◌, length, drop, Option, Some, None, refl, sym, subst, arith}
+use Rattle.std.proofs.Common.{◌≡◌, ℕ, zero, suc, ◌+◌, ◌^◌, ◌<◌, ◌≤◌, Bool, true, false, cond, List, [], ◌∷◌, ◌++◌, length, drop, Option, Some, None, refl, sym, ap, subst, ◌∙◌, arith}
 use Rattle.std.specs.Prelude.{nat_lt, IfSome, flat_map, unwrap_or, option_map, option_to_list}
 use Rattle.std.specs.List.{AllByRecursion, zip, slice_get}
 use Rattle.std.proofs.lemmas.Bool.{and_parts, leb-true, ltb-true}
@@ -28,26 +28,31 @@ use Rattle.trace_text.specs.declared.run.CallerTrace.{CallerTrace}
 use Rattle.trace_text.specs.declared.run.CodecTrace.{CodecTrace}
 use Rattle.trace_text.specs.declared.run.Run.{Run}
 use Rattle.trace_text.specs.Follow.{steps_of}
+use Rattle.report_text.specs.declared.line.CallWord.TheVariants as call
 use Rattle.report_text.specs.declared.line.EntryLine.{EntryLine}
 use Rattle.report_text.specs.declared.line.EntryLine.TheVariants as entry_line
 use Rattle.report_text.specs.declared.line.EventLine.{EventLine}
 use Rattle.report_text.specs.declared.line.EventLine.TheVariants as event_line
 use Rattle.report_text.specs.declared.line.Line.{Line}
 use Rattle.report_text.specs.declared.line.Line.TheVariants as line
-use Rattle.trace_text.specs.Report.{entry_line_of, config_lines, output_lines, event_lines, lines_from, result_lines, caller_lines, entry_lines, codec_lines, pool_lines, slot_lines, end_lines}
+use Rattle.trace_text.specs.Report.{entry_line_of, config_lines, output_lines, event_lines, lines_from, result_lines, caller_lines, entry_lines, codec_lines, pool_lines, slot_lines, end_lines, lines_of, report_of}
 use Rattle.report_lines.specs.Fits.{FitsResult, FitsEntryLine, FitsEventLine, FitsBy, FitsOp, FitsPoolOp, FitsLine}
-use Rattle.report_lines.specs.Laws.{LineFits}
+use Rattle.report_lines.specs.Laws.{LineFits, LineAgain}
 use Rattle.report_reader.specs.declared.forms.Section.{Section}
 use Rattle.report_reader.specs.declared.forms.Section.TheVariants as section
 use Rattle.report_reader.specs.Form.{Reads, AreForms}
-use Rattle.report_reader.specs.Read.{results_in, behind_results, callers_in, entry_of, next_of, entry_then, entries_from, entry_lines_in, behind_entries, description_of, config_in, unit_of, outputs_in, opening_of, codec_in, codecs_in, pool_in, behind_pool, slots_in, held_in, run_of}
+use Rattle.report_reader.specs.declared.known.Known.{Known}
+use Rattle.report_reader.specs.Arguments.{entry_of}
+use Rattle.report_reader.specs.Read.{results_in, behind_results, callers_in, next_of, entry_then, entries_from, entry_lines_in, behind_entries, description_of, config_in, unit_of, outputs_in, opening_of, codec_in, codecs_in, all_outputs_in, pool_in, behind_pool, slots_in, held_in, run_of}
 use Rattle.report_reader.specs.Told.{IsPlainTrace, IsWithoutLoss, IsTold}
 use Rattle.codec_follow.specs.Outputs.{is_codec_string, IsPlainDescription, IsPlainConfig, IsOutputOf, empty_output}
 use Rattle.report_reader.specs.Fits.{FitsEvent, FitsShown, FitsTrace}
 use Rattle.report_reader.proofs.RunLaws.{all_left, all_right}
-use Rattle.report_reader.proofs.FormLaws.{form_parts}
+use Rattle.report_reader.proofs.FormLaws.{form_parts, forms_again}
+use Rattle.report_reader.proofs.PassLaws.{run_passes}
+use Rattle.report_reader.proofs.NameLaws.{sound_names}
 use Rattle.report_reader.proofs.TraceLaws.{next_entry_is}
-use Rattle.report_reader.proofs.ToldLaws.{entry_is, step_told, take_told, run_told, callers_count, codecs_count}
+use Rattle.report_reader.proofs.ToldLaws.{entry_is, step_told, encode_told, take_told, run_told, callers_count, codecs_count, run_callers, run_codecs}
 
 -- ---- lists
 
@@ -250,32 +255,47 @@ behind_entries_left script (l ∷ ls) fits = record { fits = fits; few = omega a
 abbrev FitsEntry : ScriptData → Entry → Type 0
 FitsEntry script e = (x : Shown) → FitsEntryLine script (entry_line_of e x)
 
-entry_fits : (script : ScriptData) (files : List (List Chunk)) (t : EntryLine) (e : Entry) → FitsEntryLine script t → entry_of script files t ≡ Some e → FitsEntry script e
-entry_fits script files (entry_line.Call who word error) e fits is x =
+entry_fits : (script : ScriptData) (files : List (List Chunk)) (known : Known) (k place : ℕ) (t : EntryLine) (e : Entry) → FitsEntryLine script t → entry_of script files known k place t ≡ Some e → FitsEntry script e
+entry_fits script files known k place (entry_line.Call who call.Encode error) e fits is x =
     let steps = steps_of script who.caller in
-    subst (FitsEntryLine script) (sym (step_told files steps who word (slice_get steps who.step) e x is)) fits
-entry_fits script files (entry_line.Take who n) e fits is x = subst (FitsEntryLine script) (sym (take_told who n (slice_get (steps_of script who.caller) who.step) e x is)) fits
-entry_fits script files (entry_line.Start epoch item) e fits is x = subst (λ (z : Entry). FitsEntryLine script (entry_line_of z x)) (entry_is (entry.Start epoch item) e is) fits
-entry_fits script files (entry_line.Done epoch item moment outcome) e fits is x = subst (λ (z : Entry). FitsEntryLine script (entry_line_of z x)) (entry_is (entry.Done epoch item moment outcome) e is) fits
-entry_fits script files (entry_line.Turn word) e fits is x = subst (λ (z : Entry). FitsEntryLine script (entry_line_of z x)) (entry_is entry.Turn e is) tt
-entry_fits script files (entry_line.Reclaim moment) e fits is x = subst (λ (z : Entry). FitsEntryLine script (entry_line_of z x)) (entry_is (entry.Reclaim moment) e is) fits
+    subst (FitsEntryLine script) (sym (encode_told known steps k place who error (slice_get steps who.step) e x is)) fits
+entry_fits script files known k place (entry_line.Call who call.Configure error) e fits is x =
+    let steps = steps_of script who.caller in
+    subst (FitsEntryLine script) (sym (step_told files known steps who call.Configure (slice_get steps who.step) e x is)) fits
+entry_fits script files known k place (entry_line.Call who call.Decode error) e fits is x =
+    let steps = steps_of script who.caller in
+    subst (FitsEntryLine script) (sym (step_told files known steps who call.Decode (slice_get steps who.step) e x is)) fits
+entry_fits script files known k place (entry_line.Call who call.Flush error) e fits is x =
+    let steps = steps_of script who.caller in
+    subst (FitsEntryLine script) (sym (step_told files known steps who call.Flush (slice_get steps who.step) e x is)) fits
+entry_fits script files known k place (entry_line.Call who call.Reset error) e fits is x =
+    let steps = steps_of script who.caller in
+    subst (FitsEntryLine script) (sym (step_told files known steps who call.Reset (slice_get steps who.step) e x is)) fits
+entry_fits script files known k place (entry_line.Call who call.Close error) e fits is x =
+    let steps = steps_of script who.caller in
+    subst (FitsEntryLine script) (sym (step_told files known steps who call.Close (slice_get steps who.step) e x is)) fits
+entry_fits script files known k place (entry_line.Take who n) e fits is x = subst (FitsEntryLine script) (sym (take_told who n (slice_get (steps_of script who.caller) who.step) e x is)) fits
+entry_fits script files known k place (entry_line.Start epoch item) e fits is x = subst (λ (z : Entry). FitsEntryLine script (entry_line_of z x)) (entry_is (entry.Start epoch item) e is) fits
+entry_fits script files known k place (entry_line.Done epoch item moment outcome) e fits is x = subst (λ (z : Entry). FitsEntryLine script (entry_line_of z x)) (entry_is (entry.Done epoch item moment outcome) e is) fits
+entry_fits script files known k place (entry_line.Turn word) e fits is x = subst (λ (z : Entry). FitsEntryLine script (entry_line_of z x)) (entry_is entry.Turn e is) tt
+entry_fits script files known k place (entry_line.Reclaim moment) e fits is x = subst (λ (z : Entry). FitsEntryLine script (entry_line_of z x)) (entry_is (entry.Reclaim moment) e is) fits
 
 -- entries that fit, and are no more than those that are told
 record AreEntries (script : ScriptData) (ts : List EntryLine) (es : List Entry) : Type 0 where
   fits : AllByRecursion (FitsEntry script) es
   few : length es ≤ length ts
 
-entries_then : (script : ScriptData) (files : List (List Chunk)) (t : EntryLine) (ts : List EntryLine) (s : State) → FitsEntryLine script t
-    → ((u : State) → AreEntries script ts (entries_from script files u ts))
-    → (o : Option (Entry × State)) → next_of script files s t ≡ o → AreEntries script (t ∷ ts) (entry_then (λ u. entries_from script files u ts) o)
-entries_then script files t ts s fits later None is = record { fits = tt; few = omega arith }
-entries_then script files t ts s fits later (Some (e, u)) is =
+entries_then : (script : ScriptData) (files : List (List Chunk)) (known : Known) (k place : ℕ) (t : EntryLine) (ts : List EntryLine) (s : State) → FitsEntryLine script t
+    → ((u : State) → AreEntries script ts (entries_from script files known k (place + 1) u ts))
+    → (o : Option (Entry × State)) → next_of script files known k place s t ≡ o → AreEntries script (t ∷ ts) (entry_then (λ u. entries_from script files known k (place + 1) u ts) o)
+entries_then script files known k place t ts s fits later None is = record { fits = tt; few = omega arith }
+entries_then script files known k place t ts s fits later (Some (e, u)) is =
     let more = later u in
-    record { fits = (entry_fits script files t e fits (next_entry_is script files t s e u is), more.fits); few = omega (arith, more.few) }
+    record { fits = (entry_fits script files known k place t e fits (next_entry_is script files known k place t s e u is), more.fits); few = omega (arith, more.few) }
 
-entries_fit : (script : ScriptData) (files : List (List Chunk)) (ts : List EntryLine) (s : State) → AllByRecursion (FitsEntryLine script) ts → AreEntries script ts (entries_from script files s ts)
-entries_fit script files [] s fits = record { fits = tt; few = omega arith }
-entries_fit script files (t ∷ ts) s fits = entries_then script files t ts s fits.0 (λ u. entries_fit script files ts u fits.1) (next_of script files s t) refl
+entries_fit : (script : ScriptData) (files : List (List Chunk)) (known : Known) (k place : ℕ) (ts : List EntryLine) (s : State) → AllByRecursion (FitsEntryLine script) ts → AreEntries script ts (entries_from script files known k place s ts)
+entries_fit script files known k place [] s fits = record { fits = tt; few = omega arith }
+entries_fit script files known k place (t ∷ ts) s fits = entries_then script files known k place t ts s fits.0 (λ u. entries_fit script files known k (place + 1) ts u fits.1) (next_of script files known k place s t) refl
 
 event_fits : (script : ScriptData) (k : Kind) (e : Event) → FitsEvent e → AllByRecursion (FitsUnit script k) (event_units e) → AreFit script (event_lines e)
 event_fits script k (event.Refusal x) fits units = tt
@@ -319,30 +339,30 @@ codec_left script ls fits =
     let left = behind_entries_left script (drop 1 ls) (all_behind (FitsLine script) ls fits) in
     record { fits = left.fits; few = omega (arith, left.few, few_behind ls) }
 
-codec_fits : (script : ScriptData) (files : List (List Chunk)) (ls : List Line) → length ls < 2 ^ 64 → AreFit script ls → FitsCodec script (codec_in script files ls)
-codec_fits script files ls few fits =
+codec_fits : (script : ScriptData) (files : List (List Chunk)) (known : Known) (n : ℕ) (ls : List Line) → length ls < 2 ^ 64 → AreFit script ls → FitsCodec script (codec_in script files known n ls)
+codec_fits script files known n ls few fits =
     let own = all_behind (FitsLine script) ls fits in
     let k = (opening_of ls).kind in
     let start = opening_state (opening_of ls) in
-    let made = entries_fit script files (entry_lines_in (drop 1 ls)) start (entry_lines_fit_in script (drop 1 ls) own) in
+    let made = entries_fit script files known n 0 (entry_lines_in (drop 1 ls)) start (entry_lines_fit_in script (drop 1 ls) own) in
     record {
       opening = opening_fits script ls fits;
       few = omega (arith, made.few, entry_lines_few (drop 1 ls), few_behind ls);
       entries = made.fits;
-      units = each_fits k (FitsUnit script k) (empty_fits script k) (entries_from script files start (entry_lines_in (drop 1 ls))) start (outputs_in k (drop 1 ls)) (outputs_fit script k (drop 1 ls) own);
+      units = each_fits k (FitsUnit script k) (empty_fits script k) (entries_from script files known n 0 start (entry_lines_in (drop 1 ls))) start (outputs_in k (drop 1 ls)) (outputs_fit script k (drop 1 ls) own);
     }
 
-codecs_fit : (script : ScriptData) (files : List (List Chunk)) (n : ℕ) (ls : List Line) → length ls < 2 ^ 64 → AreFit script ls → AllByRecursion (FitsCodec script) (codecs_in script files n ls).0
-codecs_fit script files zero ls few fits = tt
-codecs_fit script files (suc n) ls few fits =
+codecs_fit : (script : ScriptData) (files : List (List Chunk)) (known : Known) (k n : ℕ) (ls : List Line) → length ls < 2 ^ 64 → AreFit script ls → AllByRecursion (FitsCodec script) (codecs_in script files known k n ls)
+codecs_fit script files known k zero ls few fits = tt
+codecs_fit script files known k (suc n) ls few fits =
     let left = codec_left script ls fits in
-    (codec_fits script files ls few fits, codecs_fit script files n (behind_entries (drop 1 ls)) (omega (arith, left.few)) left.fits)
+    (codec_fits script files known k ls few fits, codecs_fit script files known (k + 1) n (behind_entries (drop 1 ls)) (omega (arith, left.few)) left.fits)
 
-codecs_left : (script : ScriptData) (files : List (List Chunk)) (n : ℕ) (ls : List Line) → AreFit script ls → IsLeft script ls (codecs_in script files n ls).1
-codecs_left script files zero ls fits = record { fits = fits; few = omega arith }
-codecs_left script files (suc n) ls fits =
+outputs_left : (script : ScriptData) (n : ℕ) (ls : List Line) → AreFit script ls → IsLeft script ls (all_outputs_in n ls).1
+outputs_left script zero ls fits = record { fits = fits; few = omega arith }
+outputs_left script (suc n) ls fits =
     let left = codec_left script ls fits in
-    let more = codecs_left script files n (behind_entries (drop 1 ls)) left.fits in
+    let more = outputs_left script n (behind_entries (drop 1 ls)) left.fits in
     record { fits = more.fits; few = omega (arith, more.few, left.few) }
 
 codec_lines_fit : (script : ScriptData) (k : ℕ) (cs : List CodecTrace) → k + length cs ≤ length script.codecs → length script.codecs < 2 ^ 32 → AllByRecursion (FitsCodec script) cs → AllByRecursion FitsTrace cs
@@ -436,12 +456,14 @@ run_fits script files ls sound few fits promises =
     let own = all_behind (FitsLine script) ls fits in
     let callers = callers_in (length script.callers) (drop 1 ls) in
     let middle = callers_left script (length script.callers) (drop 1 ls) own in
-    let codecs = codecs_in script files (length script.codecs) callers.1 in
-    let made = codecs_fit script files (length script.codecs) callers.1 (omega (arith, middle.few, few_behind ls)) middle.fits in
-    let last = codecs_left script files (length script.codecs) callers.1 middle.fits in
-    let pool = drop 1 codecs.1 in
-    let own_pool = all_behind (FitsLine script) codecs.1 last.fits in
-    let few_pool : length pool < 2 ^ 64 = omega (arith, middle.few, last.few, few_behind ls, few_behind codecs.1) in
+    let outputs = all_outputs_in (length script.codecs) callers.1 in
+    let pool = drop 1 outputs.1 in
+    let known : Known = record { callers = callers.0; outputs = outputs.0; pool = pool_in pool } in
+    let codecs = codecs_in script files known 0 (length script.codecs) callers.1 in
+    let made = codecs_fit script files known 0 (length script.codecs) callers.1 (omega (arith, middle.few, few_behind ls)) middle.fits in
+    let last = outputs_left script (length script.codecs) callers.1 middle.fits in
+    let own_pool = all_behind (FitsLine script) outputs.1 last.fits in
+    let few_pool : length pool < 2 ^ 64 = omega (arith, middle.few, last.few, few_behind ls, few_behind outputs.1) in
     let references = pool_lines_fit script 0 (pool_in pool) (omega (arith, pool_few pool)) (pool_fit script pool own_pool) in
     let left = behind_pool_left script pool own_pool in
     let slots = drop 1 (behind_pool pool) in
@@ -449,22 +471,25 @@ run_fits script files ls sound few fits promises =
     let count : length slots < 2 ^ 64 = omega (arith, few_pool, left.few, few_behind (behind_pool pool)) in
     let entries = slot_lines_fit script 0 (slots_in slots) (omega (arith, slots_few slots)) (slots_fit script slots end) in
     let back = all_both (FitsLine script) (lines_from slot_lines 0 (slots_in slots)) (end_lines (held_in slots)) entries (held_fits script slots end, (tt, tt)) in
-    let back_codecs = codec_lines_fit script 0 codecs.0 (omega (arith, codecs_count script files (length script.codecs) callers.1)) small.codecs made promises in
+    let back_codecs = codec_lines_fit script 0 codecs (omega (arith, codecs_count script files known 0 (length script.codecs) callers.1)) small.codecs made promises in
     let front = caller_lines_fit script 0 callers.0 (omega (arith, callers_count (length script.callers) (drop 1 ls))) small.callers (callers_fit script (length script.callers) (drop 1 ls) (omega (arith, few_behind ls)) own) in
     record {
-      plain = codecs_plain script codecs.0 made;
+      plain = codecs_plain script codecs made;
       fits = (
         tt,
         all_both (FitsLine script) (lines_from caller_lines 0 callers.0) _ front
-            (all_both (FitsLine script) (lines_from codec_lines 0 codecs.0) _ back_codecs
+            (all_both (FitsLine script) (lines_from codec_lines 0 codecs) _ back_codecs
             (tt, all_both (FitsLine script) (lines_from pool_lines 0 (pool_in pool)) _ references (tt, back))),
       );
     }
 
--- what lines in their forms show is told
-pub forms_told : LineFits → (script : ScriptData) (files : List (List Chunk)) (bs : List ℕ) (ls : List Line) (run : Run) → is_sound script ≡ true → AreForms script bs ls → length ls < 2 ^ 64
-    → run ≡ run_of script files ls → AllByRecursion FitsTrace run.codecs → IsTold script files run
-forms_told fits script files bs ls run sound forms few is promises =
+-- what lines in their forms show is told, where they are the report of what they show
+pub forms_told : LineFits → LineAgain → (script : ScriptData) (files : List (List Chunk)) (bs : List ℕ) (ls : List Line) (run : Run) → is_sound script ≡ true → AreForms script bs ls → length ls < 2 ^ 64
+    → run ≡ run_of script files ls → AllByRecursion FitsTrace run.codecs → bs ≡ report_of script run → IsTold script files run
+forms_told fits again script files bs ls run sound forms few is promises text =
     let own : AllByRecursion FitsTrace (run_of script files ls).codecs = subst (λ (x : Run). AllByRecursion FitsTrace x.codecs) is promises in
-    let told : IsTold script files (run_of script files ls) = record { told = run_told script files ls; whole = run_fits script files ls sound few (reads_fit fits script section.Start bs ls section.Ended [] forms) own } in
+    let whole = run_fits script files ls sound few (reads_fit fits script section.Start bs ls section.Ended [] forms) own in
+    let passes = run_passes script (run_of script files ls) (run_callers script files ls) (run_codecs script files ls) in
+    let same = forms_again again script (sound_names script sound) bs ls (lines_of (run_of script files ls)) forms passes whole.fits (text ∙ ap (report_of script) is) in
+    let told : IsTold script files (run_of script files ls) = record { told = run_told script files ls same whole.plain; whole = whole } in
     subst (λ (x : Run). IsTold script files x) (sym is) told

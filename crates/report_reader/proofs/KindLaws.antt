@@ -23,12 +23,13 @@ use Rattle.script_types.specs.Sound.{is_sound, suits}
 use Rattle.script_types.specs.SoundLaws.{step_at, codec_there}
 use Rattle.report_text.specs.declared.result.StepResult.{StepResult}
 use Rattle.report_text.specs.declared.result.StepResult.TheVariants as result
+use Rattle.media_variables.specs.Variables.{Medium}
 use Rattle.trace_text.specs.declared.run.CodecTrace.{CodecTrace}
 use Rattle.trace_text.specs.declared.run.Run.{Run}
 use Rattle.codec_accounts.specs.Owed.{at}
 use Rattle.trace_text.specs.Follow.{Recorded}
 use Rattle.trace_text.specs.FitsLaws.{made_at, calls_by_places}
-use Rattle.trace_text.specs.Fits.{CallsAreIn, ArgumentsAreIn, HasArguments, IsAnswerOf, IsResultOf, entry_in, step_in, Fits, IsLegalTrace, AreLegalTraces, IsLegalRun}
+use Rattle.trace_text.specs.Fits.{CallsAreIn, ArgumentsAreIn, HasArguments, variables_at, IsAnswerOf, IsResultOf, entry_in, step_in, Fits, IsLegalTrace, AreLegalTraces, IsLegalRun}
 use Rattle.run_ranges.specs.Counts.{caller_of_step}
 use Rattle.report_reader.specs.Told.{IsPlainTrace}
 
@@ -56,17 +57,22 @@ suits_kind config.Bad word.AudioDecoder h = tt
 suits_kind config.Bad word.AudioEncoder h = tt
 suits_kind config.Bad word.VideoDecoder h = tt
 
--- only a take is made by a step on media
-pub media_takes : (script : ScriptData) (files : List (List Chunk)) (who : Who) (e : Entry) (m : MediaStep) → HasArguments script files who e (step.Media m) → (n : ℕ) × (e ≡ entry.Take who n)
-media_takes script files who e (on_media.Take on bind kind) has = has
-media_takes script files who e (on_media.Audio bind init) has = absurd has
-media_takes script files who e (on_media.Frame bind init) has = absurd has
-media_takes script files who e (on_media.Encode on content) has = absurd has
-media_takes script files who e (on_media.Clone of bind) has = absurd has
-media_takes script files who e (on_media.Transfer of bind) has = absurd has
-media_takes script files who e (on_media.CloseData of) has = absurd has
-media_takes script files who e (on_media.Copy of options size) has = absurd has
-media_takes script files who e (on_media.Size of options) has = absurd has
+-- takes and encodes alone are made by steps on media
+abbrev pub IsMediaEntry : Entry → Type 0
+IsMediaEntry (entry.Take who n) = Unit {0}
+IsMediaEntry (entry.Encode who handed) = Unit {0}
+IsMediaEntry _ = ⊥
+
+pub of_media : (script : ScriptData) (files : List (List Chunk)) (vs : List (Option Medium)) (who : Who) (e : Entry) (m : MediaStep) → HasArguments script files vs who e (step.Media m) → IsMediaEntry e
+of_media script files vs who e (on_media.Take on bind kind) has = subst IsMediaEntry (sym has.1) tt
+of_media script files vs who e (on_media.Encode on content) has = subst IsMediaEntry (sym has.4) tt
+of_media script files vs who e (on_media.Audio bind init) has = absurd has
+of_media script files vs who e (on_media.Frame bind init) has = absurd has
+of_media script files vs who e (on_media.Clone of bind) has = absurd has
+of_media script files vs who e (on_media.Transfer of bind) has = absurd has
+of_media script files vs who e (on_media.CloseData of) has = absurd has
+of_media script files vs who e (on_media.Copy of options size) has = absurd has
+of_media script files vs who e (on_media.Size of options) has = absurd has
 
 codec_of : Option (ℕ × ℕ) → ℕ
 codec_of None = 0
@@ -89,25 +95,25 @@ same_codec script w on k p (result.Size n) kept is = absurd kept
 same_codec script w on k p result.Absent kept is = absurd cc
 
 -- the step of a configure, which names its codec, has a config of that codec's kind
-step_suits : (script : ScriptData) (files : List (List Chunk)) (w : Recorded) (who : Who) (k p : ℕ) (r : StepResult) (c : CodecItem) (given : Config) (x : Step)
-    → is_sound script ≡ true → step_in script who.caller who.step ≡ Some x → IsResultOf script w who x r → made_at r ≡ Some (k, p) → HasArguments script files who (entry.Configure who given) x
+step_suits : (script : ScriptData) (files : List (List Chunk)) (vs : List (Option Medium)) (w : Recorded) (who : Who) (k p : ℕ) (r : StepResult) (c : CodecItem) (given : Config) (x : Step)
+    → is_sound script ≡ true → step_in script who.caller who.step ≡ Some x → IsResultOf script w who x r → made_at r ≡ Some (k, p) → HasArguments script files vs who (entry.Configure who given) x
     → slice_get script.codecs k ≡ Some c → IsConfigOf c.kind given
-step_suits script files w who k p r c given (step.Configure on config) sound is kept named has at =
+step_suits script files vs w who k p r c given (step.Configure on config) sound is kept named has at =
     let caller = caller_of_step script.callers who.caller who.step (step.Configure on config) is in
     let there = codec_there script.codecs (suits config) on (step_at script who.caller who.step caller.0 (step.Configure on config) sound caller.1 caller.2) in
     let same : there.0 ≡ c = some_same there.0 c (sym there.1 ∙ ap (λ n. slice_get script.codecs n) (same_codec script w on k p r kept named) ∙ at) in
     let own = subst (λ (y : CodecItem). IsConfigOf y.kind config) same (suits_kind config there.0.kind there.2) in
     let kept_config : config ≡ given = cc in
     subst (λ (y : Config). IsConfigOf c.kind y) kept_config own
-step_suits script files w who k p r c given (step.Chunk bind source) sound is kept named has at = absurd has
-step_suits script files w who k p r c given (step.Decode on chunk) sound is kept named has at = absurd (let wrong = has.2 in cc)
-step_suits script files w who k p r c given (step.Flush on bind) sound is kept named has at = absurd cc
-step_suits script files w who k p r c given (step.Poll promise) sound is kept named has at = absurd has
-step_suits script files w who k p r c given (step.Await promise) sound is kept named has at = absurd has
-step_suits script files w who k p r c given (step.Reset on) sound is kept named has at = absurd cc
-step_suits script files w who k p r c given (step.Close on) sound is kept named has at = absurd cc
-step_suits script files w who k p r c given (step.State on) sound is kept named has at = absurd has
-step_suits script files w who k p r c given (step.Media m) sound is kept named has at = absurd (let wrong = (media_takes script files who (entry.Configure who given) m has).1 in cc)
+step_suits script files vs w who k p r c given (step.Chunk bind source) sound is kept named has at = absurd has
+step_suits script files vs w who k p r c given (step.Decode on chunk) sound is kept named has at = absurd (let wrong = has.2 in cc)
+step_suits script files vs w who k p r c given (step.Flush on bind) sound is kept named has at = absurd cc
+step_suits script files vs w who k p r c given (step.Poll promise) sound is kept named has at = absurd has
+step_suits script files vs w who k p r c given (step.Await promise) sound is kept named has at = absurd has
+step_suits script files vs w who k p r c given (step.Reset on) sound is kept named has at = absurd cc
+step_suits script files vs w who k p r c given (step.Close on) sound is kept named has at = absurd cc
+step_suits script files vs w who k p r c given (step.State on) sound is kept named has at = absurd has
+step_suits script files vs w who k p r c given (step.Media m) sound is kept named has at = absurd (of_media script files vs who (entry.Configure who given) m has)
 
 configures : (script : ScriptData) (files : List (List Chunk)) (w : Recorded) (k p : ℕ) (c : CodecItem) (e : Entry)
     → is_sound script ≡ true → CallsAreIn script w → ArgumentsAreIn script files w → entry_in w k p ≡ Some e → slice_get script.codecs k ≡ Some c → ConfiguresAs c.kind e
@@ -116,7 +122,8 @@ configures script files w k p c (entry.Configure who given) sound calls argument
     let made = calls.made who.caller who.step kept.0 kept.1 in
     let gave = arguments k p (entry.Configure who given) who is refl in
     let same : gave.0 ≡ made.0 = some_same gave.0 made.0 (sym gave.1 ∙ made.1) in
-    step_suits script files w who k p kept.0 c given made.0 sound made.1 made.2 kept.2 (subst (λ (x : Step). HasArguments script files who (entry.Configure who given) x) same gave.2) at
+    let vs = variables_at script files w who.caller who.step in
+    step_suits script files vs w who k p kept.0 c given made.0 sound made.1 made.2 kept.2 (subst (λ (x : Step). HasArguments script files vs who (entry.Configure who given) x) same gave.2) at
 configures script files w k p c (entry.Decode who chunk) sound calls arguments is at = tt
 configures script files w k p c (entry.Encode who handed) sound calls arguments is at = tt
 configures script files w k p c (entry.Flush who) sound calls arguments is at = tt

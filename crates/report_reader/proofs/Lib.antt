@@ -1,4 +1,5 @@
 pub mod RunLaws
+pub mod ArgumentLaws
 pub mod FormLaws
 pub mod PassLaws
 pub mod DifferenceLaws
@@ -12,5 +13,5 @@ pub mod ReadLaws
 pub mod LegalLaws
 pub mod FaultLaws
 pub mod RowLaws
-pub mod CodecLaws
 pub mod KindLaws
+pub mod CodecLaws

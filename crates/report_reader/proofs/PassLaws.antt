@@ -3,7 +3,6 @@ use Rattle.std.proofs.Common.{◌≡◌, ℕ, suc, ◌+◌, ◌<◌, ◌≤◌, 
 use Rattle.std.specs.Prelude.{flat_map}
 use Rattle.std.specs.List.{zip}
 use Rattle.std.proofs.lemmas.Bool.{lt-ltb}
-use Rattle.wc_chunk.specs.declared.chunk.Chunk.{Chunk}
 use Rattle.wc_pool.specs.declared.entry.PoolEntry.{PoolEntry}
 use Rattle.codec_definitions.specs.declared.unit.Unit.TheVariants as unit
 use Rattle.coder_api.specs.declared.slot.SlotEntry.{SlotEntry}
@@ -23,7 +22,6 @@ use Rattle.trace_text.specs.Report.{event_lines, lines_from, result_lines, calle
 use Rattle.report_reader.specs.declared.forms.Section.{Section}
 use Rattle.report_reader.specs.declared.forms.Section.TheVariants as section
 use Rattle.report_reader.specs.Form.{next_part, next, next_in, form_at, Passes, next_number}
-use Rattle.report_reader.specs.Told.{IsToldRun}
 use Rattle.report_reader.proofs.FormLaws.{form_parts}
 
 -- ---- numbers rise by one at most
@@ -211,18 +209,18 @@ slots_pass : (script : ScriptData) (n : ℕ) (es : List SlotEntry) (held : ℕ) 
 slots_pass script n [] held = (section.Held, refl, (section.Ended, refl, refl))
 slots_pass script n (e ∷ es) held = (section.Slots (n + 1), rw (eq-eqb n n refl) refl, slots_pass script (n + 1) es held)
 
--- the lines of a run that is told stand in their places
-pub run_passes : (script : ScriptData) (media_of : List (List Chunk)) (run : Run) → IsToldRun script media_of run → Passes script section.Start (lines_of run) section.Ended
-run_passes script media_of run told =
+-- the lines of a run with the script's callers and codecs stand in their places
+pub run_passes : (script : ScriptData) (run : Run) → length run.callers ≡ length script.callers → length run.codecs ≡ length script.codecs → Passes script section.Start (lines_of run) section.Ended
+run_passes script run callers_are codecs_are =
     let end = lines_from slot_lines 0 run.slots ++ end_lines run.held in
     let pool = lines_from pool_lines 0 run.pool ++ line.Slots ∷ end in
     let callers = lines_from caller_lines 0 run.callers in
     let codecs = lines_from codec_lines 0 run.codecs in
     let n = length script.callers in
-    let front = callers_pass script 0 0 run.callers (omega (arith, told.callers)) in
+    let front = callers_pass script 0 0 run.callers (omega (arith, callers_are)) in
     let there : Section = section.Callers n front.results in
     let ready : IsReady script there 0 = record { codec = λ i o. rw (eq-eqb n n refl) refl; pool = rw (eq-eqb n n refl) refl } in
     let back : Passes script there (codecs ++ line.Pool ∷ pool) section.Ended =
-    codecs_pass script there 0 run.codecs pool ready (omega (arith, told.codecs)) (pool_pass script 0 run.pool end (slots_pass script 0 run.slots run.held)) in
-    let first : Passes script (section.Callers 0 0) callers there = subst (λ (m : ℕ). Passes script (section.Callers 0 0) callers (section.Callers m front.results)) (omega (arith, told.callers)) front.passes in
+    codecs_pass script there 0 run.codecs pool ready (omega (arith, codecs_are)) (pool_pass script 0 run.pool end (slots_pass script 0 run.slots run.held)) in
+    let first : Passes script (section.Callers 0 0) callers there = subst (λ (m : ℕ). Passes script (section.Callers 0 0) callers (section.Callers m front.results)) (omega (arith, callers_are)) front.passes in
     (section.Callers 0 0, refl, passes_on script (section.Callers 0 0) callers (codecs ++ line.Pool ∷ pool) there section.Ended first back)

@@ -41,18 +41,18 @@ read_same script media_of bs f v run text f_is told run_is text_is same =
 pub read_again : LineAgain → (script : ScriptData) (media_of : List (List Chunk)) (bs : List ℕ) (result : Result Run ReportFault) (run : Run) → AreNames script
     → IfOk result (IsRead script media_of bs) → IfErr result (IsFault script media_of bs) → IsTold script media_of run → bs ≡ report_of script run → Gives result run
 read_again again script media_of bs (Ok x) run names ok bad told e =
-    let same = forms_again again script names bs ok.lines (lines_of run) ok.forms (run_passes script media_of run told.told) told.whole.fits e in
+    let same = forms_again again script names bs ok.lines (lines_of run) ok.forms (run_passes script run told.told.callers told.told.codecs) told.whole.fits e in
     ok.shown ∙ ap (run_of script media_of) same ∙ run_again script media_of run told.told told.whole.plain
 read_again again script media_of bs (Err fault.NoMemory) run names ok bad told e = tt
 read_again again script media_of bs (Err (fault.BadLine n)) run names ok (inl form) told e =
-    never_stuck again script names bs form.before form.at form.left (lines_of run) form.reads form.not_all form.none (run_passes script media_of run told.told) told.whole.fits e
+    never_stuck again script names bs form.before form.at form.left (lines_of run) form.reads form.not_all form.none (run_passes script run told.told.callers told.told.codecs) told.whole.fits e
 read_again again script media_of bs (Err (fault.BadLine n)) run names ok (inr d) told e =
-    let same = forms_again again script names bs d.lines (lines_of run) d.forms (run_passes script media_of run told.told) told.whole.fits e in
+    let same = forms_again again script names bs d.lines (lines_of run) d.forms (run_passes script run told.told.callers told.told.codecs) told.whole.fits e in
     d.differs (ap (report_of script) (ap (run_of script media_of) same ∙ run_again script media_of run told.told told.whole.plain) ∙ sym e)
 
--- what the lines show is told
-pub shown_told : LineFits → (script : ScriptData) (media_of : List (List Chunk)) (bs : List ℕ) (f : Forms) (v : Vec Line) (run : Run) → is_sound script ≡ true
-    → f ≡ forms.Lines v → IsForms script bs f → length v.items < 2 ^ 64 → run ≡ run_of script media_of v.items → AllByRecursion FitsTrace run.codecs → IsTold script media_of run
-shown_told fits script media_of bs f v run sound f_is told few run_is promises =
+-- what the lines show is told, where its report is the text
+pub shown_told : LineFits → LineAgain → (script : ScriptData) (media_of : List (List Chunk)) (bs : List ℕ) (f : Forms) (v : Vec Line) (run : Run) (text : List ℕ) → is_sound script ≡ true
+    → f ≡ forms.Lines v → IsForms script bs f → length v.items < 2 ^ 64 → run ≡ run_of script media_of v.items → AllByRecursion FitsTrace run.codecs → text ≡ report_of script run → text ≡ bs → IsTold script media_of run
+shown_told fits again script media_of bs f v run text sound f_is told few run_is promises text_is same =
     let own : IsForms script bs (forms.Lines v) = subst (λ (x : Forms). IsForms script bs x) f_is told in
-    forms_told fits script media_of bs v.items run sound own few run_is promises
+    forms_told fits again script media_of bs v.items run sound own few run_is promises (sym same ∙ text_is)

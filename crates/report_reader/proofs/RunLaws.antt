@@ -1,6 +1,6 @@
 -- The lines of a run that is told show that run.
 use Rattle.std.proofs.lemmas.Bool.{lt-ltb}
-use Rattle.std.proofs.Common.{◌≡◌, ℕ, zero, suc, ◌+◌, true, List, [], ◌∷◌, ◌++◌, length, map, Option, Some, None, is_some, refl, sym, ap, subst, ◌∙◌, arith, append_assoc}
+use Rattle.std.proofs.Common.{◌≡◌, ℕ, zero, suc, ◌+◌, true, List, [], ◌∷◌, ◌++◌, length, map, drop, Option, Some, None, is_some, refl, sym, ap, subst, ◌∙◌, arith, append_assoc}
 use Rattle.std.specs.Prelude.{flat_map, unwrap_or, option_and_then}
 use Rattle.std.specs.List.{AllByRecursion, zip}
 use Rattle.wc_chunk.specs.declared.chunk.Chunk.{Chunk}
@@ -26,8 +26,9 @@ use Rattle.report_text.specs.declared.line.EntryLine.{EntryLine}
 use Rattle.report_text.specs.declared.line.Line.{Line}
 use Rattle.report_text.specs.declared.line.Line.TheVariants as line
 use Rattle.trace_text.specs.Report.{entry_line_of, event_lines, lines_from, result_lines, caller_lines, entry_lines, codec_lines, pool_lines, slot_lines, end_lines, lines_of}
-use Rattle.report_reader.specs.Read.{results_in, behind_results, callers_in, entries_from, entry_lines_in, behind_entries, description_of, config_in, outputs_in, trace_of, codecs_in, pool_in, behind_pool, slots_in, held_in, run_of}
-use Rattle.report_reader.specs.Told.{HoldsArguments, IsPlainTrace, IsToldTrace, IsToldRun}
+use Rattle.report_reader.specs.declared.known.Known.{Known}
+use Rattle.report_reader.specs.Read.{results_in, behind_results, callers_in, entries_from, entry_lines_in, behind_entries, description_of, config_in, outputs_in, trace_of, codecs_in, all_outputs_in, pool_in, behind_pool, slots_in, held_in, run_of}
+use Rattle.report_reader.specs.Told.{known_of, HoldAll, IsPlainTrace, IsToldTrace, AreToldTraces, IsToldRun}
 use Rattle.codec_follow.specs.Outputs.{IsPlainDescription, IsOutputOf}
 
 -- ---- callers
@@ -208,46 +209,77 @@ filled_length k (e ∷ es) s us some =
     let next = step_of_followed e es s some in
     rw (next.step) (ap (λ (n : ℕ). suc n) (filled_length k es next.state (filled k (shows e s) us).1 next.more))
 
-entries_again : (script : ScriptData) (media_of : List (List Chunk)) (s : State) (es : List Entry) (xs : List Shown) → length xs ≡ length es → AllByRecursion (HoldsArguments script media_of) (zip es xs) → is_some (follow_from es s) ≡ true
-    → entries_from script media_of s (map entry_line_of_pair (zip es xs)) ≡ es
-entries_again script media_of s [] [] same holds some = refl
-entries_again script media_of s [] (x ∷ xs) same holds some = absurd (omega arith)
-entries_again script media_of s (e ∷ es) [] same holds some = absurd (omega arith)
-entries_again script media_of s (e ∷ es) (x ∷ xs) same holds some =
+entries_again : (script : ScriptData) (media_of : List (List Chunk)) (known : Known) (k place : ℕ) (s : State) (es : List Entry) (xs : List Shown) → length xs ≡ length es → HoldAll script media_of known k place (zip es xs) → is_some (follow_from es s) ≡ true
+    → entries_from script media_of known k place s (map entry_line_of_pair (zip es xs)) ≡ es
+entries_again script media_of known k place s [] [] same holds some = refl
+entries_again script media_of known k place s [] (x ∷ xs) same holds some = absurd (omega arith)
+entries_again script media_of known k place s (e ∷ es) [] same holds some = absurd (omega arith)
+entries_again script media_of known k place s (e ∷ es) (x ∷ xs) same holds some =
     let next = step_of_followed e es s some in
-    rw (holds.0, next.step, entries_again script media_of next.state es xs (omega arith) holds.1 next.more) refl
+    rw (holds.0, next.step, entries_again script media_of known k (place + 1) next.state es xs (omega arith) holds.1 next.more) refl
 
 -- ---- codecs
 
-trace_again : (script : ScriptData) (media_of : List (List Chunk)) (c : CodecTrace) → IsToldTrace script media_of c
-    → trace_of script media_of c.opening (map entry_line_of_pair (zip c.entries c.shown)) (units_shown (map shown_of_pair (zip c.entries c.shown))) ≡ c
-trace_again script media_of c told =
-    let same : length c.shown ≡ length c.entries = ap (λ (xs : List Shown). length xs) told.shows ∙ filled_length c.opening.kind c.entries (opening_state c.opening) (units_shown c.shown) told.follows in
-    rw (shown_again c.entries c.shown same, entries_again script media_of (opening_state c.opening) c.entries c.shown same told.arguments told.follows, ← told.shows) refl
+-- each entry has what it shows
+abbrev pub IsEven : CodecTrace → Type 0
+IsEven c = length c.shown ≡ length c.entries
+
+abbrev pub shown_units_of : CodecTrace → List media.Unit
+shown_units_of c = units_shown c.shown
+
+even_told : (script : ScriptData) (media_of : List (List Chunk)) (known : Known) (k : ℕ) (c : CodecTrace) → IsToldTrace script media_of known k c → IsEven c
+even_told script media_of known k c told = ap (λ (xs : List Shown). length xs) told.shows ∙ filled_length c.opening.kind c.entries (opening_state c.opening) (units_shown c.shown) told.follows
+
+pub all_even : (script : ScriptData) (media_of : List (List Chunk)) (known : Known) (k : ℕ) (cs : List CodecTrace) → AreToldTraces script media_of known k cs → AllByRecursion IsEven cs
+all_even script media_of known k [] told = tt
+all_even script media_of known k (c ∷ cs) told = (even_told script media_of known k c told.0, all_even script media_of known (k + 1) cs told.1)
+
+trace_again : (script : ScriptData) (media_of : List (List Chunk)) (known : Known) (k : ℕ) (c : CodecTrace) → IsToldTrace script media_of known k c
+    → trace_of script media_of known k c.opening (map entry_line_of_pair (zip c.entries c.shown)) (units_shown (map shown_of_pair (zip c.entries c.shown))) ≡ c
+trace_again script media_of known k c told =
+    let same = even_told script media_of known k c told in
+    rw (shown_again c.entries c.shown same, entries_again script media_of known k 0 (opening_state c.opening) c.entries c.shown same told.arguments told.follows, ← told.shows) refl
 
 codecs_end : (i : ℕ) (cs : List CodecTrace) (rest : List Line) → EndsEntries rest → EndsEntries (lines_from codec_lines i cs ++ rest)
 codecs_end i [] rest ends = ends
 codecs_end i (c ∷ cs) rest ends = record { told = refl; outputs = λ k. refl; behind = refl; config = refl }
 
-codecs_again : (script : ScriptData) (media_of : List (List Chunk)) (i n : ℕ) (cs : List CodecTrace) (rest : List Line) → length cs ≡ n → EndsEntries rest → AllByRecursion (IsToldTrace script media_of) cs → AllByRecursion IsPlainTrace cs
-    → codecs_in script media_of n (lines_from codec_lines i cs ++ rest) ≡ (cs, rest)
-codecs_again script media_of i zero [] rest same ends told plain = refl
-codecs_again script media_of i zero (c ∷ cs) rest same ends told plain = absurd (omega arith)
-codecs_again script media_of i (suc n) [] rest same ends told plain = absurd (omega arith)
-codecs_again script media_of i (suc n) (c ∷ cs) rest same ends told plain =
+plain_pairs : (c : CodecTrace) → IsEven c → IsPlainTrace c → AllByRecursion (IsOutputOf c.opening.kind) (units_shown (map shown_of_pair (zip c.entries c.shown)))
+plain_pairs c even plain = subst (λ (xs : List Shown). AllByRecursion (IsOutputOf c.opening.kind) (units_shown xs)) (sym (shown_again c.entries c.shown even)) plain
+
+all_outputs_again : (i n : ℕ) (cs : List CodecTrace) (rest : List Line) → length cs ≡ n → EndsEntries rest → AllByRecursion IsEven cs → AllByRecursion IsPlainTrace cs
+    → all_outputs_in n (lines_from codec_lines i cs ++ rest) ≡ (map shown_units_of cs, rest)
+all_outputs_again i zero [] rest same ends even plain = refl
+all_outputs_again i zero (c ∷ cs) rest same ends even plain = absurd (omega arith)
+all_outputs_again i (suc n) [] rest same ends even plain = absurd (omega arith)
+all_outputs_again i (suc n) (c ∷ cs) rest same ends even plain =
     let tail = lines_from codec_lines (i + 1) cs in
     let ends_more : EndsEntries (tail ++ rest) = codecs_end (i + 1) cs rest ends in
     let made = zip c.entries c.shown in
-    let own = told.0 in
-    let count : length c.shown ≡ length c.entries = ap (λ (xs : List Shown). length xs) own.shows ∙ filled_length c.opening.kind c.entries (opening_state c.opening) (units_shown c.shown) own.follows in
-    let clear : AllByRecursion (IsOutputOf c.opening.kind) (units_shown (map shown_of_pair made)) = subst (λ (xs : List Shown). AllByRecursion (IsOutputOf c.opening.kind) (units_shown xs)) (sym (shown_again c.entries c.shown count)) plain.0 in
+    rw (
+      append_assoc (lines_from entry_lines 0 made) tail rest,
+      behind_entries_again 0 made (tail ++ rest) ends_more,
+      outputs_again c.opening.kind 0 made (tail ++ rest) ends_more (plain_pairs c even.0 plain.0),
+      shown_again c.entries c.shown even.0,
+      all_outputs_again (i + 1) n cs rest (omega arith) ends even.1 plain.1,
+    ) refl
+
+codecs_again : (script : ScriptData) (media_of : List (List Chunk)) (known : Known) (i n : ℕ) (cs : List CodecTrace) (rest : List Line) → length cs ≡ n → EndsEntries rest → AreToldTraces script media_of known i cs → AllByRecursion IsPlainTrace cs
+    → codecs_in script media_of known i n (lines_from codec_lines i cs ++ rest) ≡ cs
+codecs_again script media_of known i zero [] rest same ends told plain = refl
+codecs_again script media_of known i zero (c ∷ cs) rest same ends told plain = absurd (omega arith)
+codecs_again script media_of known i (suc n) [] rest same ends told plain = absurd (omega arith)
+codecs_again script media_of known i (suc n) (c ∷ cs) rest same ends told plain =
+    let tail = lines_from codec_lines (i + 1) cs in
+    let ends_more : EndsEntries (tail ++ rest) = codecs_end (i + 1) cs rest ends in
+    let made = zip c.entries c.shown in
     rw (
       append_assoc (lines_from entry_lines 0 made) tail rest,
       behind_entries_again 0 made (tail ++ rest) ends_more,
       entry_lines_again 0 made (tail ++ rest) ends_more,
-      outputs_again c.opening.kind 0 made (tail ++ rest) ends_more clear,
-      trace_again script media_of c own,
-      codecs_again script media_of (i + 1) n cs rest (omega arith) ends told.1 plain.1,
+      outputs_again c.opening.kind 0 made (tail ++ rest) ends_more (plain_pairs c (even_told script media_of known i c told.0) plain.0),
+      trace_again script media_of known i c told.0,
+      codecs_again script media_of known (i + 1) n cs rest (omega arith) ends told.1 plain.1,
     ) refl
 
 -- ---- the run
@@ -272,6 +304,22 @@ codecs_end_results : (i : ℕ) (cs : List CodecTrace) (rest : List Line) → End
 codecs_end_results i [] rest = (refl, refl)
 codecs_end_results i (c ∷ cs) rest = (refl, refl)
 
+pool_ends : (rest : List Line) → EndsEntries (line.Pool ∷ rest)
+pool_ends rest = record { told = refl; outputs = λ k. refl; behind = refl; config = refl }
+
+-- the outputs that lines show, of so many codecs behind so many callers
+abbrev pub outputs_behind : ℕ → ℕ → List Line → List (List media.Unit)
+outputs_behind callers codecs ls = (all_outputs_in codecs (callers_in callers (drop 1 ls)).1).0
+
+-- the lines of a run show its outputs
+pub run_outputs : (run : Run) (callers codecs : ℕ) → length run.callers ≡ callers → length run.codecs ≡ codecs → AllByRecursion IsEven run.codecs → AllByRecursion IsPlainTrace run.codecs
+    → outputs_behind callers codecs (lines_of run) ≡ map shown_units_of run.codecs
+run_outputs run callers codecs callers_are codecs_are even plain =
+    let end = lines_from slot_lines 0 run.slots ++ end_lines run.held in
+    let pool = lines_from pool_lines 0 run.pool ++ line.Slots ∷ end in
+    ap (λ (x : List CallerTrace × List Line). (all_outputs_in codecs x.1).0) (callers_again 0 callers run.callers (lines_from codec_lines 0 run.codecs ++ line.Pool ∷ pool) callers_are (codecs_end_results 0 run.codecs pool))
+    ∙ ap (λ (x : List (List media.Unit) × List Line). x.0) (all_outputs_again 0 codecs run.codecs (line.Pool ∷ pool) codecs_are (pool_ends pool) even plain)
+
 -- the lines of a run that is told show that run
 pub run_again : (script : ScriptData) (media_of : List (List Chunk)) (run : Run) → IsToldRun script media_of run → AllByRecursion IsPlainTrace run.codecs → run_of script media_of (lines_of run) ≡ run
 unfolding run_of
@@ -279,10 +327,12 @@ run_again script media_of run told plain =
     let end = lines_from slot_lines 0 run.slots ++ end_lines run.held in
     let pool = lines_from pool_lines 0 run.pool ++ line.Slots ∷ end in
     let codecs = lines_from codec_lines 0 run.codecs in
+    let even = all_even script media_of (known_of run) 0 run.codecs told.traces in
     rw (
       callers_again 0 (length script.callers) run.callers (codecs ++ line.Pool ∷ pool) told.callers (codecs_end_results 0 run.codecs pool),
-      codecs_again script media_of 0 (length script.codecs) run.codecs (line.Pool ∷ pool) told.codecs (record { told = refl; outputs = λ k. refl; behind = refl; config = refl }) told.traces plain,
+      all_outputs_again 0 (length script.codecs) run.codecs (line.Pool ∷ pool) told.codecs (pool_ends pool) even plain,
       pool_again 0 run.pool end,
+      codecs_again script media_of (known_of run) 0 (length script.codecs) run.codecs (line.Pool ∷ pool) told.codecs (pool_ends pool) told.traces plain,
       behind_pool_again 0 run.pool end,
       slots_again 0 run.slots run.held,
       held_again 0 run.slots run.held,

@@ -1,5 +1,5 @@
 -- A codec is followed, entry after entry.
-use Rattle.std.proofs.Common.{◌≡◌, suc, ◌-◌, ◌<◌, take, drop, get_or, List, [], ◌∷◌, ◌++◌, length, Option, Some, None, refl, sym, ap, subst, ◌∙◌, arith, append_assoc, append-nil}
+use Rattle.std.proofs.Common.{ℕ, ◌≡◌, suc, ◌+◌, ◌-◌, ◌<◌, take, drop, get_or, List, [], ◌∷◌, ◌++◌, length, Option, Some, None, refl, sym, ap, subst, ◌∙◌, arith, append_assoc, append-nil, length-append}
 use Rattle.std.specs.Prelude.{option_map, option_and_then, unwrap_or}
 use Rattle.std.proofs.Math.Seq.{take-length}
 use Rattle.wc_chunk.specs.declared.chunk.Chunk.{Chunk}
@@ -16,7 +16,9 @@ use Rattle.codec_follow.specs.Followed.{FollowerValue, follower_of, Follows}
 use Rattle.script_types.specs.declared.script.ScriptData.{ScriptData}
 use Rattle.trace_text.specs.declared.run.CodecTrace.{CodecTrace}
 use Rattle.report_text.specs.declared.line.EntryLine.{EntryLine}
-use Rattle.report_reader.specs.Read.{entry_of, next_of, entries_from, trace_of}
+use Rattle.report_reader.specs.declared.known.Known.{Known}
+use Rattle.report_reader.specs.Arguments.{entry_of}
+use Rattle.report_reader.specs.Read.{next_of, entries_from, trace_of}
 use Rattle.report_reader.specs.Next.{shown_next, NextIs}
 
 -- ---- the next entry
@@ -53,35 +55,35 @@ next_after : (e d : Entry) (u : State) (o : Option State) (s : State) → paired
 next_after e d u None s is = absurd (not_some is)
 next_after e d u (Some t) s is = let made : Entry × State = (e, t) in ap (λ (x : Entry × State). x.1) (some_is made (d, u) is)
 
-pub entry_follows : (script : ScriptData) (media_of : List (List Chunk)) (t : EntryLine) (e : Entry) (old new : FollowerValue) (found : Option Shown) → entry_of script media_of t ≡ Some e → Follows e old found new
-    → NextIs script media_of t old (noted e found) new
-entry_follows script media_of t e old new found is follows = record {
+pub entry_follows : (script : ScriptData) (media_of : List (List Chunk)) (known : Known) (k place : ℕ) (t : EntryLine) (e : Entry) (old new : FollowerValue) (found : Option Shown) → entry_of script media_of known k place t ≡ Some e → Follows e old found new
+    → NextIs script media_of known k place t old (noted e found) new
+entry_follows script media_of known k place t e old new found is follows = record {
   answer = λ s same. rw is (shown_of e s (follow_step e s) found (follows.answer s same));
   after = λ s same d u next. let there : paired e (follow_step e s) ≡ Some (d, u) = rw is at next in
       ap follower_of (sym (next_after e d u (follow_step e s) s there)) ∙ follows.after s same;
 }
 
-pub no_arguments : (script : ScriptData) (media_of : List (List Chunk)) (t : EntryLine) (old : FollowerValue) → entry_of script media_of t ≡ None → NextIs script media_of t old None old
-no_arguments script media_of t old is = record { answer = λ s same. rw is refl; after = λ s same d u next. absurd (not_some (rw is at next)) }
+pub no_arguments : (script : ScriptData) (media_of : List (List Chunk)) (known : Known) (k place : ℕ) (t : EntryLine) (old : FollowerValue) → entry_of script media_of known k place t ≡ None → NextIs script media_of known k place t old None old
+no_arguments script media_of known k place t old is = record { answer = λ s same. rw is refl; after = λ s same d u next. absurd (not_some (rw is at next)) }
 
 -- ---- the loop
 
 -- So far these entries and what they show were made, and the rest is told after the follower's state.
-pub record IsTracing (script : ScriptData) (media_of : List (List Chunk)) (o : Opening) (told : List EntryLine) (units : List media.Unit) (follower : FollowerValue) (entries : List Entry) (shown : List Shown) (rest : List EntryLine) (left : List media.Unit) : Type 0 where
+pub record IsTracing (script : ScriptData) (media_of : List (List Chunk)) (known : Known) (k : ℕ) (o : Opening) (told : List EntryLine) (units : List media.Unit) (follower : FollowerValue) (entries : List Entry) (shown : List Shown) (rest : List EntryLine) (left : List media.Unit) : Type 0 where
   pub state : State
   pub is : follower_of state ≡ follower
-  pub entries_are : entries ++ entries_from script media_of state rest ≡ entries_from script media_of (opening_state o) told
-  pub shown_are : shown ++ each_filled_from o.kind (entries_from script media_of state rest) state left ≡ each_filled o (entries_from script media_of (opening_state o) told) units
+  pub entries_are : entries ++ entries_from script media_of known k (length entries) state rest ≡ entries_from script media_of known k 0 (opening_state o) told
+  pub shown_are : shown ++ each_filled_from o.kind (entries_from script media_of known k (length entries) state rest) state left ≡ each_filled o (entries_from script media_of known k 0 (opening_state o) told) units
 
-pub tracing_start : (script : ScriptData) (media_of : List (List Chunk)) (o : Opening) (told : List EntryLine) (units : List media.Unit) (follower : FollowerValue) → follower ≡ follower_of (opening_state o)
-    → IsTracing script media_of o told units follower [] [] told units
-tracing_start script media_of o told units follower is = record { state = opening_state o; is = sym is; entries_are = refl; shown_are = refl }
+pub tracing_start : (script : ScriptData) (media_of : List (List Chunk)) (known : Known) (k : ℕ) (o : Opening) (told : List EntryLine) (units : List media.Unit) (follower : FollowerValue) → follower ≡ follower_of (opening_state o)
+    → IsTracing script media_of known k o told units follower [] [] told units
+tracing_start script media_of known k o told units follower is = record { state = opening_state o; is = sym is; entries_are = refl; shown_are = refl }
 
 -- the entry is the next one, and this is the state after it
-record IsNext (script : ScriptData) (media_of : List (List Chunk)) (t : EntryLine) (s : State) (e : Entry) (blank : Shown) : Type 0 where
+record IsNext (script : ScriptData) (media_of : List (List Chunk)) (known : Known) (k place : ℕ) (t : EntryLine) (s : State) (e : Entry) (blank : Shown) : Type 0 where
   state : State
   step : follow_step e s ≡ Some state
-  next : next_of script media_of s t ≡ Some (e, state)
+  next : next_of script media_of known k place s t ≡ Some (e, state)
   shown : blank ≡ shown_at e s
 
 step_at : (s : State) (e : Entry) (u : State) (d : Entry) (o : Option State) → follow_step d s ≡ o → paired d o ≡ Some (e, u) → follow_step e s ≡ Some u
@@ -92,8 +94,8 @@ step_of : (s : State) (e : Entry) (u : State) (p : Option Entry) → option_and_
 step_of s e u None h = absurd (not_some h)
 step_of s e u (Some d) h = step_at s e u d (follow_step d s) refl h
 
-pub next_step_is : (script : ScriptData) (media_of : List (List Chunk)) (t : EntryLine) (s : State) (e : Entry) (u : State) → next_of script media_of s t ≡ Some (e, u) → follow_step e s ≡ Some u
-next_step_is script media_of t s e u h = step_of s e u (entry_of script media_of t) h
+pub next_step_is : (script : ScriptData) (media_of : List (List Chunk)) (known : Known) (k place : ℕ) (t : EntryLine) (s : State) (e : Entry) (u : State) → next_of script media_of known k place s t ≡ Some (e, u) → follow_step e s ≡ Some u
+next_step_is script media_of known k place t s e u h = step_of s e u (entry_of script media_of known k place t) h
 
 entry_at : (e : Entry) (u : State) (d : Entry) (o : Option State) → paired d o ≡ Some (e, u) → d ≡ e
 entry_at e u d None h = absurd (not_some h)
@@ -103,57 +105,60 @@ entry_in : (s : State) (e : Entry) (u : State) (p : Option Entry) → option_and
 entry_in s e u None h = absurd (not_some h)
 entry_in s e u (Some d) h = ap (λ (x : Entry). some x) (entry_at e u d (follow_step d s) h)
 
-pub next_entry_is : (script : ScriptData) (media_of : List (List Chunk)) (t : EntryLine) (s : State) (e : Entry) (u : State) → next_of script media_of s t ≡ Some (e, u) → entry_of script media_of t ≡ Some e
-next_entry_is script media_of t s e u h = entry_in s e u (entry_of script media_of t) h
+pub next_entry_is : (script : ScriptData) (media_of : List (List Chunk)) (known : Known) (k place : ℕ) (t : EntryLine) (s : State) (e : Entry) (u : State) → next_of script media_of known k place s t ≡ Some (e, u) → entry_of script media_of known k place t ≡ Some e
+next_entry_is script media_of known k place t s e u h = entry_in s e u (entry_of script media_of known k place t) h
 
-next_at : (script : ScriptData) (media_of : List (List Chunk)) (t : EntryLine) (s : State) (e : Entry) (blank : Shown) (o : Option (Entry × State)) → next_of script media_of s t ≡ o → showing_at s o ≡ Some (e, blank)
-    → IsNext script media_of t s e blank
-next_at script media_of t s e blank None is h = absurd (not_some h)
-next_at script media_of t s e blank (Some (d, u)) is h =
+next_at : (script : ScriptData) (media_of : List (List Chunk)) (known : Known) (k place : ℕ) (t : EntryLine) (s : State) (e : Entry) (blank : Shown) (o : Option (Entry × State)) → next_of script media_of known k place s t ≡ o → showing_at s o ≡ Some (e, blank)
+    → IsNext script media_of known k place t s e blank
+next_at script media_of known k place t s e blank None is h = absurd (not_some h)
+next_at script media_of known k place t s e blank (Some (d, u)) is h =
     let made : Entry × Shown = (d, shown_at d s) in
     let same : made ≡ (e, blank) = some_is made (e, blank) h in
     let entry : d ≡ e = ap (λ (x : Entry × Shown). x.0) same in
-    let next : next_of script media_of s t ≡ Some (e, u) = is ∙ ap (λ (x : Entry). some (x, u)) entry in
+    let next : next_of script media_of known k place s t ≡ Some (e, u) = is ∙ ap (λ (x : Entry). some (x, u)) entry in
     record {
       state = u;
-      step = step_of s e u (entry_of script media_of t) next;
+      step = step_of s e u (entry_of script media_of known k place t) next;
       next = next;
       shown = sym (ap (λ (x : Entry × Shown). x.1) same) ∙ ap (λ (x : Entry). shown_at x s) entry;
     }
 
-next_in : (script : ScriptData) (media_of : List (List Chunk)) (t : EntryLine) (s : State) (e : Entry) (blank : Shown) → shown_next script media_of s t ≡ Some (e, blank) → IsNext script media_of t s e blank
-next_in script media_of t s e blank h = next_at script media_of t s e blank (next_of script media_of s t) refl h
+next_in : (script : ScriptData) (media_of : List (List Chunk)) (known : Known) (k place : ℕ) (t : EntryLine) (s : State) (e : Entry) (blank : Shown) → shown_next script media_of known k place s t ≡ Some (e, blank) → IsNext script media_of known k place t s e blank
+next_in script media_of known k place t s e blank h = next_at script media_of known k place t s e blank (next_of script media_of known k place s t) refl h
 
 abbrev pub filled_with : Kind → Shown → List media.Unit → Shown
-filled_with k blank left = record { turn = blank.turn; events = (filled k blank.events left).0 }
+filled_with kind blank left = record { turn = blank.turn; events = (filled kind blank.events left).0 }
 
-more_with : (script : ScriptData) (media_of : List (List Chunk)) (o : Opening) (told : List EntryLine) (units : List media.Unit) (new : FollowerValue) (entries : List Entry) (shown : List Shown) (t : EntryLine) (more : List EntryLine) (left : List media.Unit) (e : Entry) (blank : Shown) (s u : State)
-    → follow_step e s ≡ Some u → next_of script media_of s t ≡ Some (e, u) → blank ≡ shown_at e s → follower_of u ≡ new
-    → entries ++ entries_from script media_of s (t ∷ more) ≡ entries_from script media_of (opening_state o) told
-    → shown ++ each_filled_from o.kind (entries_from script media_of s (t ∷ more)) s left ≡ each_filled o (entries_from script media_of (opening_state o) told) units
-    → IsTracing script media_of o told units new (entries ++ (e ∷ [])) (shown ++ (filled_with o.kind blank left ∷ [])) more (filled o.kind blank.events left).1
-more_with script media_of o told units new entries shown t more left e blank s u step next is follower entries_are shown_are = record {
+one_more : (es : List Entry) (e : Entry) → length (es ++ (e ∷ [])) ≡ length es + 1
+one_more es e = length-append es (e ∷ [])
+
+more_with : (script : ScriptData) (media_of : List (List Chunk)) (known : Known) (k : ℕ) (o : Opening) (told : List EntryLine) (units : List media.Unit) (new : FollowerValue) (entries : List Entry) (shown : List Shown) (t : EntryLine) (more : List EntryLine) (left : List media.Unit) (e : Entry) (blank : Shown) (s u : State)
+    → follow_step e s ≡ Some u → next_of script media_of known k (length entries) s t ≡ Some (e, u) → blank ≡ shown_at e s → follower_of u ≡ new
+    → entries ++ entries_from script media_of known k (length entries) s (t ∷ more) ≡ entries_from script media_of known k 0 (opening_state o) told
+    → shown ++ each_filled_from o.kind (entries_from script media_of known k (length entries) s (t ∷ more)) s left ≡ each_filled o (entries_from script media_of known k 0 (opening_state o) told) units
+    → IsTracing script media_of known k o told units new (entries ++ (e ∷ [])) (shown ++ (filled_with o.kind blank left ∷ [])) more (filled o.kind blank.events left).1
+more_with script media_of known k o told units new entries shown t more left e blank s u step next is follower entries_are shown_are = record {
   state = u;
   is = follower;
-  entries_are = append_assoc entries (e ∷ []) (entries_from script media_of u more) ∙ rw next at entries_are;
-  shown_are = rw is (append_assoc shown (filled_at o.kind e s left ∷ []) (each_filled_from o.kind (entries_from script media_of u more) u (filled o.kind (shows e s) left).1) ∙ rw (next, step) at shown_are);
+  entries_are = rw (one_more entries e) (append_assoc entries (e ∷ []) (entries_from script media_of known k (length entries + 1) u more) ∙ rw next at entries_are);
+  shown_are = rw (one_more entries e, is) (append_assoc shown (filled_at o.kind e s left ∷ []) (each_filled_from o.kind (entries_from script media_of known k (length entries + 1) u more) u (filled o.kind (shows e s) left).1) ∙ rw (next, step) at shown_are);
 }
 
-more_at : (script : ScriptData) (media_of : List (List Chunk)) (o : Opening) (told : List EntryLine) (units : List media.Unit) (follower new : FollowerValue) (entries : List Entry) (shown : List Shown) (t : EntryLine) (more : List EntryLine) (left : List media.Unit) (e : Entry) (blank : Shown)
-    → IsTracing script media_of o told units follower entries shown (t ∷ more) left → NextIs script media_of t follower (Some (e, blank)) new
-    → IsTracing script media_of o told units new (entries ++ (e ∷ [])) (shown ++ (filled_with o.kind blank left ∷ [])) more (filled o.kind blank.events left).1
-more_at script media_of o told units follower new entries shown t more left e blank tracing next =
+more_at : (script : ScriptData) (media_of : List (List Chunk)) (known : Known) (k : ℕ) (o : Opening) (told : List EntryLine) (units : List media.Unit) (follower new : FollowerValue) (entries : List Entry) (shown : List Shown) (t : EntryLine) (more : List EntryLine) (left : List media.Unit) (e : Entry) (blank : Shown)
+    → IsTracing script media_of known k o told units follower entries shown (t ∷ more) left → NextIs script media_of known k (length entries) t follower (Some (e, blank)) new
+    → IsTracing script media_of known k o told units new (entries ++ (e ∷ [])) (shown ++ (filled_with o.kind blank left ∷ [])) more (filled o.kind blank.events left).1
+more_at script media_of known k o told units follower new entries shown t more left e blank tracing next =
     let s = tracing.state in
-    let n = next_in script media_of t s e blank (next.answer s tracing.is) in
-    more_with script media_of o told units new entries shown t more left e blank s n.state n.step n.next n.shown (next.after s tracing.is e n.state n.next) tracing.entries_are tracing.shown_are
+    let n = next_in script media_of known k (length entries) t s e blank (next.answer s tracing.is) in
+    more_with script media_of known k o told units new entries shown t more left e blank s n.state n.step n.next n.shown (next.after s tracing.is e n.state n.next) tracing.entries_are tracing.shown_are
 
-pub record IsTraced (script : ScriptData) (media_of : List (List Chunk)) (o : Opening) (told : List EntryLine) (units : List media.Unit) (entries : List Entry) (shown : List Shown) : Type 0 where
-  pub entries_are : entries ≡ entries_from script media_of (opening_state o) told
-  pub shown_are : shown ≡ each_filled o (entries_from script media_of (opening_state o) told) units
+pub record IsTraced (script : ScriptData) (media_of : List (List Chunk)) (known : Known) (k : ℕ) (o : Opening) (told : List EntryLine) (units : List media.Unit) (entries : List Entry) (shown : List Shown) : Type 0 where
+  pub entries_are : entries ≡ entries_from script media_of known k 0 (opening_state o) told
+  pub shown_are : shown ≡ each_filled o (entries_from script media_of known k 0 (opening_state o) told) units
 
-end_at : (script : ScriptData) (media_of : List (List Chunk)) (o : Opening) (told : List EntryLine) (units : List media.Unit) (follower : FollowerValue) (entries : List Entry) (shown : List Shown) (left : List media.Unit)
-    → IsTracing script media_of o told units follower entries shown [] left → IsTraced script media_of o told units entries shown
-end_at script media_of o told units follower entries shown left tracing = record {
+end_at : (script : ScriptData) (media_of : List (List Chunk)) (known : Known) (k : ℕ) (o : Opening) (told : List EntryLine) (units : List media.Unit) (follower : FollowerValue) (entries : List Entry) (shown : List Shown) (left : List media.Unit)
+    → IsTracing script media_of known k o told units follower entries shown [] left → IsTraced script media_of known k o told units entries shown
+end_at script media_of known k o told units follower entries shown left tracing = record {
   entries_are = sym (append-nil entries) ∙ tracing.entries_are;
   shown_are = sym (append-nil shown) ∙ tracing.shown_are;
 }
@@ -162,10 +167,10 @@ none_next : (s : State) (o : Option (Entry × State)) → showing_at s o ≡ Non
 none_next s None h = refl
 none_next s (Some x) h = absurd cc
 
-stop_at : (script : ScriptData) (media_of : List (List Chunk)) (o : Opening) (told : List EntryLine) (units : List media.Unit) (follower new : FollowerValue) (entries : List Entry) (shown : List Shown) (t : EntryLine) (more : List EntryLine) (left : List media.Unit)
-    → IsTracing script media_of o told units follower entries shown (t ∷ more) left → NextIs script media_of t follower None new → IsTraced script media_of o told units entries shown
-stop_at script media_of o told units follower new entries shown t more left tracing next =
-    let n : next_of script media_of tracing.state t ≡ None = none_next tracing.state (next_of script media_of tracing.state t) (next.answer tracing.state tracing.is) in
+stop_at : (script : ScriptData) (media_of : List (List Chunk)) (known : Known) (k : ℕ) (o : Opening) (told : List EntryLine) (units : List media.Unit) (follower new : FollowerValue) (entries : List Entry) (shown : List Shown) (t : EntryLine) (more : List EntryLine) (left : List media.Unit)
+    → IsTracing script media_of known k o told units follower entries shown (t ∷ more) left → NextIs script media_of known k (length entries) t follower None new → IsTraced script media_of known k o told units entries shown
+stop_at script media_of known k o told units follower new entries shown t more left tracing next =
+    let n : next_of script media_of known k (length entries) tracing.state t ≡ None = none_next tracing.state (next_of script media_of known k (length entries) tracing.state t) (next.answer tracing.state tracing.is) in
     record {
       entries_are = sym (append-nil entries) ∙ rw n at tracing.entries_are;
       shown_are = sym (append-nil shown) ∙ rw n at tracing.shown_are;
@@ -179,33 +184,33 @@ rest_split [] t lt is = absurd (omega arith)
 rest_split (x ∷ xs) t lt is = rw (whole_tail x xs, is) refl
 
 -- the loop goes on with what was pushed
-pub tracing_more : (script : ScriptData) (media_of : List (List Chunk)) (o : Opening) (told : List EntryLine) (units : List media.Unit) (follower new : FollowerValue) (entries made : List Entry) (shown showing : List Shown) (t : EntryLine) (rest : List EntryLine) (left behind : List media.Unit) (e : Entry) (blank x : Shown) (events : List Event)
+pub tracing_more : (script : ScriptData) (media_of : List (List Chunk)) (known : Known) (k : ℕ) (o : Opening) (told : List EntryLine) (units : List media.Unit) (follower new : FollowerValue) (entries made : List Entry) (shown showing : List Shown) (t : EntryLine) (rest : List EntryLine) (left behind : List media.Unit) (e : Entry) (blank x : Shown) (events : List Event)
     → 0 < length rest → t ≡ get_or rest 0 t
-    → IsTracing script media_of o told units follower entries shown rest left → NextIs script media_of t follower (Some (e, blank)) new
+    → IsTracing script media_of known k o told units follower entries shown rest left → NextIs script media_of known k (length entries) t follower (Some (e, blank)) new
     → events ≡ (filled o.kind blank.events left).0 → behind ≡ (filled o.kind blank.events left).1 → x ≡ record { turn = blank.turn; events = events } → made ≡ entries ++ (e ∷ []) → showing ≡ shown ++ (x ∷ [])
-    → IsTracing script media_of o told units new made showing (take (length rest - 1) (drop 1 rest)) behind
-tracing_more script media_of o told units follower new entries made shown showing t rest left behind e blank x events lt is tracing next events_are behind_is x_is made_is showing_is =
-    rw (made_is, showing_is, x_is, events_are, behind_is) (more_at script media_of o told units follower new entries shown t (take (length rest - 1) (drop 1 rest)) left e blank
-    (subst (λ (ts : List EntryLine). IsTracing script media_of o told units follower entries shown ts left) (rest_split rest t lt is) tracing) next)
+    → IsTracing script media_of known k o told units new made showing (take (length rest - 1) (drop 1 rest)) behind
+tracing_more script media_of known k o told units follower new entries made shown showing t rest left behind e blank x events lt is tracing next events_are behind_is x_is made_is showing_is =
+    rw (made_is, showing_is, x_is, events_are, behind_is) (more_at script media_of known k o told units follower new entries shown t (take (length rest - 1) (drop 1 rest)) left e blank
+    (subst (λ (ts : List EntryLine). IsTracing script media_of known k o told units follower entries shown ts left) (rest_split rest t lt is) tracing) next)
 
-traced_is : (script : ScriptData) (media_of : List (List Chunk)) (o : Opening) (told : List EntryLine) (units : List media.Unit) (entries : List Entry) (shown : List Shown) (trace : CodecTrace)
-    → IsTraced script media_of o told units entries shown → trace ≡ record { opening = o; entries = entries; shown = shown } → trace ≡ trace_of script media_of o told units
-traced_is script media_of o told units entries shown trace traced is = is ∙ rw (traced.entries_are, traced.shown_are) refl
+traced_is : (script : ScriptData) (media_of : List (List Chunk)) (known : Known) (k : ℕ) (o : Opening) (told : List EntryLine) (units : List media.Unit) (entries : List Entry) (shown : List Shown) (trace : CodecTrace)
+    → IsTraced script media_of known k o told units entries shown → trace ≡ record { opening = o; entries = entries; shown = shown } → trace ≡ trace_of script media_of known k o told units
+traced_is script media_of known k o told units entries shown trace traced is = is ∙ rw (traced.entries_are, traced.shown_are) refl
 
 -- the loop stops at an entry that is not to be had
-pub tracing_stop : (script : ScriptData) (media_of : List (List Chunk)) (o : Opening) (told : List EntryLine) (units : List media.Unit) (follower new : FollowerValue) (entries : List Entry) (shown : List Shown) (t : EntryLine) (rest : List EntryLine) (left : List media.Unit) (trace : CodecTrace)
+pub tracing_stop : (script : ScriptData) (media_of : List (List Chunk)) (known : Known) (k : ℕ) (o : Opening) (told : List EntryLine) (units : List media.Unit) (follower new : FollowerValue) (entries : List Entry) (shown : List Shown) (t : EntryLine) (rest : List EntryLine) (left : List media.Unit) (trace : CodecTrace)
     → 0 < length rest → t ≡ get_or rest 0 t
-    → IsTracing script media_of o told units follower entries shown rest left → NextIs script media_of t follower None new → trace ≡ record { opening = o; entries = entries; shown = shown }
-    → trace ≡ trace_of script media_of o told units
-tracing_stop script media_of o told units follower new entries shown t rest left trace lt is tracing next made =
-    traced_is script media_of o told units entries shown trace (stop_at script media_of o told units follower new entries shown t (take (length rest - 1) (drop 1 rest)) left
-    (subst (λ (ts : List EntryLine). IsTracing script media_of o told units follower entries shown ts left) (rest_split rest t lt is) tracing) next) made
+    → IsTracing script media_of known k o told units follower entries shown rest left → NextIs script media_of known k (length entries) t follower None new → trace ≡ record { opening = o; entries = entries; shown = shown }
+    → trace ≡ trace_of script media_of known k o told units
+tracing_stop script media_of known k o told units follower new entries shown t rest left trace lt is tracing next made =
+    traced_is script media_of known k o told units entries shown trace (stop_at script media_of known k o told units follower new entries shown t (take (length rest - 1) (drop 1 rest)) left
+    (subst (λ (ts : List EntryLine). IsTracing script media_of known k o told units follower entries shown ts left) (rest_split rest t lt is) tracing) next) made
 
 -- nothing more is told
-pub tracing_end : (script : ScriptData) (media_of : List (List Chunk)) (o : Opening) (told : List EntryLine) (units : List media.Unit) (follower : FollowerValue) (entries : List Entry) (shown : List Shown) (rest : List EntryLine) (left : List media.Unit) (trace : CodecTrace)
-    → length rest < 1 → IsTracing script media_of o told units follower entries shown rest left → trace ≡ record { opening = o; entries = entries; shown = shown } → trace ≡ trace_of script media_of o told units
-tracing_end script media_of o told units follower entries shown [] left trace few tracing made = traced_is script media_of o told units entries shown trace (end_at script media_of o told units follower entries shown left tracing) made
-tracing_end script media_of o told units follower entries shown (t ∷ rest) left trace few tracing made = absurd (omega arith)
+pub tracing_end : (script : ScriptData) (media_of : List (List Chunk)) (known : Known) (k : ℕ) (o : Opening) (told : List EntryLine) (units : List media.Unit) (follower : FollowerValue) (entries : List Entry) (shown : List Shown) (rest : List EntryLine) (left : List media.Unit) (trace : CodecTrace)
+    → length rest < 1 → IsTracing script media_of known k o told units follower entries shown rest left → trace ≡ record { opening = o; entries = entries; shown = shown } → trace ≡ trace_of script media_of known k o told units
+tracing_end script media_of known k o told units follower entries shown [] left trace few tracing made = traced_is script media_of known k o told units entries shown trace (end_at script media_of known k o told units follower entries shown left tracing) made
+tracing_end script media_of known k o told units follower entries shown (t ∷ rest) left trace few tracing made = absurd (omega arith)
 
 -- the first item, whatever stands for one where there is none
 pub head_is : {X : Type 0} (rest : List X) (d : X) → 0 < length rest → get_or rest 0 d ≡ get_or rest 0 (get_or rest 0 d)

@@ -1,4 +1,5 @@
 pub mod Form
+pub mod Arguments
 pub mod Read
 pub mod Told
 pub mod Fits

@@ -1,6 +1,5 @@
 -- The run that the lines of a report show, whatever they are.
-use Rattle.std.specs.Prelude.{ℕ, zero, suc, nat_lt, if◌then◌else◌, List, [], ◌∷◌, ◌++◌, length, drop, slice_get, Option, Some, None, option_map, option_and_then, option_to_list}
-use Rattle.wc_base.specs.declared.who.Who.{Who}
+use Rattle.std.specs.Prelude.{ℕ, zero, suc, ◌+◌, nat_lt, if◌then◌else◌, List, [], ◌∷◌, ◌++◌, length, drop, Option, Some, None, option_map, option_and_then, option_to_list}
 use Rattle.wc_config.specs.declared.config.AudioDecoderConfig.{AudioDecoderConfig}
 use Rattle.wc_chunk.specs.declared.chunk.Chunk.{Chunk}
 use Rattle.wc_pool.specs.declared.entry.PoolEntry.{PoolEntry}
@@ -11,27 +10,21 @@ use Rattle.wc_config.specs.declared.kind.Kind.{Kind}
 use Rattle.wc_config.specs.declared.kind.Kind.TheVariants as kind
 use Rattle.codec_model.specs.declared.entry.Opening.{Opening}
 use Rattle.codec_model.specs.declared.entry.Entry.{Entry}
-use Rattle.codec_model.specs.declared.entry.Entry.TheVariants as entry
 use Rattle.codec_model.specs.Replay.{State, opening_state}
 use Rattle.codec_follow.specs.Follow.{follow_step, each_filled}
 use Rattle.codec_follow.specs.Outputs.{is_codec_string}
 use Rattle.script_types.specs.declared.script.ScriptData.{ScriptData}
-use Rattle.script_types.specs.declared.steps.Step.{Step}
-use Rattle.script_types.specs.declared.steps.Step.TheVariants as step
-use Rattle.script_types.specs.declared.steps.MediaStep.TheVariants as on_media
 use Rattle.report_text.specs.declared.result.StepResult.{StepResult}
 use Rattle.trace_text.specs.declared.run.CallerTrace.{CallerTrace}
 use Rattle.trace_text.specs.declared.run.CodecTrace.{CodecTrace}
 use Rattle.trace_text.specs.declared.run.Run.{Run}
-use Rattle.trace_text.specs.Follow.{steps_of, chunk_at}
-use Rattle.report_text.specs.declared.line.CallWord.{CallWord}
-use Rattle.report_text.specs.declared.line.CallWord.TheVariants as call
 use Rattle.report_text.specs.declared.line.EntryLine.{EntryLine}
-use Rattle.report_text.specs.declared.line.EntryLine.TheVariants as entry_line
 use Rattle.report_text.specs.declared.line.EventLine.{EventLine}
 use Rattle.report_text.specs.declared.line.EventLine.TheVariants as event_line
 use Rattle.report_text.specs.declared.line.Line.{Line}
 use Rattle.report_text.specs.declared.line.Line.TheVariants as line
+use Rattle.report_reader.specs.declared.known.Known.{Known}
+use Rattle.report_reader.specs.Arguments.{entry_of}
 
 -- ---- callers
 
@@ -55,49 +48,20 @@ callers_in (suc k) ls =
 
 -- ---- the entries of a codec
 
--- the entry of this call with the arguments of a step of its caller's steps, if the step makes such a call. `media` has the
--- chunks of each of the script's chunk files
-abbrev pub call_of : List (List Chunk) → List Step → Who → CallWord → Step → Option Entry
-call_of media steps who call.Configure (step.Configure on config) = Some (entry.Configure who config)
-call_of media steps who call.Decode (step.Decode on chunk) = option_map (λ c. entry.Decode who c) (chunk_at media steps chunk.step)
-call_of media steps who call.Flush (step.Flush on bind) = Some (entry.Flush who)
-call_of media steps who call.Reset (step.Reset on) = Some (entry.Reset who)
-call_of media steps who call.Close (step.Close on) = Some (entry.Close who)
-call_of media steps who _ _ = None
-
-abbrev pub call_entry : ScriptData → List (List Chunk) → Who → CallWord → Option Entry
-call_entry script media who word = let steps = steps_of script who.caller in option_and_then (call_of media steps who word) (slice_get steps who.step)
-
--- the entry of a take of the output with this number, if the step takes one
-abbrev pub take_of : Who → ℕ → Step → Option Entry
-take_of who n (step.Media (on_media.Take on bind kind)) = Some (entry.Take who n)
-take_of who n _ = None
-
-abbrev pub take_entry : ScriptData → Who → ℕ → Option Entry
-take_entry script who n = option_and_then (take_of who n) (slice_get (steps_of script who.caller) who.step)
-
--- the entry that is told, with the arguments of its step
-abbrev pub entry_of : ScriptData → List (List Chunk) → EntryLine → Option Entry
-entry_of script media (entry_line.Call who word error) = call_entry script media who word
-entry_of script media (entry_line.Take who n) = take_entry script who n
-entry_of script media (entry_line.Start epoch item) = Some (entry.Start epoch item)
-entry_of script media (entry_line.Done epoch item moment outcome) = Some (entry.Done epoch item moment outcome)
-entry_of script media (entry_line.Turn word) = Some entry.Turn
-entry_of script media (entry_line.Reclaim moment) = Some (entry.Reclaim moment)
-
--- the entry that is told, where it has its arguments and follows, and the state after it
-abbrev pub next_of : ScriptData → List (List Chunk) → State → EntryLine → Option (Entry × State)
-next_of script media s t = option_and_then (λ e. option_map (λ u. (e, u)) (follow_step e s)) (entry_of script media t)
+-- the entry that is told at this place of the codec with this number, where it has its arguments and follows, and the state
+-- after it
+abbrev pub next_of : ScriptData → List (List Chunk) → Known → ℕ → ℕ → State → EntryLine → Option (Entry × State)
+next_of script media known k place s t = option_and_then (λ e. option_map (λ u. (e, u)) (follow_step e s)) (entry_of script media known k place t)
 
 -- an entry, and those that come behind it
 abbrev pub entry_then : (State → List Entry) → Option (Entry × State) → List Entry
 entry_then rest None = []
 entry_then rest (Some x) = x.0 ∷ rest x.1
 
--- the entries that are told, up to the first that has no arguments or does not follow
-abbrev pub entries_from : ScriptData → List (List Chunk) → State → List EntryLine → List Entry
-entries_from script media s [] = []
-entries_from script media s (t ∷ ts) = entry_then (λ u. entries_from script media u ts) (next_of script media s t)
+-- the entries that are told from this place on, up to the first that has no arguments or does not follow
+abbrev pub entries_from : ScriptData → List (List Chunk) → Known → ℕ → ℕ → State → List EntryLine → List Entry
+entries_from script media known k place s [] = []
+entries_from script media known k place s (t ∷ ts) = entry_then (λ u. entries_from script media known k (place + 1) u ts) (next_of script media known k place s t)
 
 -- the entries that are told in front, among the lines of what they show, and the lines behind
 abbrev pub entry_lines_in : List Line → List EntryLine
@@ -151,20 +115,30 @@ opening_of (line.Codec n opening ∷ ls) = opening
 opening_of _ = record { kind = kind.AudioDecoder; saturation = 1 }
 
 -- a codec opened so, with the entries that are told, and these outputs
-abbrev pub trace_of : ScriptData → List (List Chunk) → Opening → List EntryLine → List media.Unit → CodecTrace
-trace_of script media o ts us =
-    let entries = entries_from script media (opening_state o) ts in
+abbrev pub trace_of : ScriptData → List (List Chunk) → Known → ℕ → Opening → List EntryLine → List media.Unit → CodecTrace
+trace_of script media known k o ts us =
+    let entries = entries_from script media known k 0 (opening_state o) ts in
     record { opening = o; entries = entries; shown = each_filled o entries us }
 
-abbrev pub codec_in : ScriptData → List (List Chunk) → List Line → CodecTrace
-codec_in script media ls = trace_of script media (opening_of ls) (entry_lines_in (drop 1 ls)) (outputs_in (opening_of ls).kind (drop 1 ls))
+-- the outputs of the codec whose line is in front
+abbrev pub own_outputs : List Line → List media.Unit
+own_outputs ls = outputs_in (opening_of ls).kind (drop 1 ls)
 
--- so many codecs, each with its line and its entries, and the lines behind them
-abbrev pub codecs_in : ScriptData → List (List Chunk) → ℕ → List Line → List CodecTrace × List Line
-codecs_in script media zero ls = ([], ls)
-codecs_in script media (suc k) ls =
-    let rest = codecs_in script media k (behind_entries (drop 1 ls)) in
-    (codec_in script media ls ∷ rest.0, rest.1)
+-- the codec with this number, whose line is in front
+abbrev pub codec_in : ScriptData → List (List Chunk) → Known → ℕ → List Line → CodecTrace
+codec_in script media known k ls = trace_of script media known k (opening_of ls) (entry_lines_in (drop 1 ls)) (own_outputs ls)
+
+-- so many codecs from this number on, each with its line and its entries
+abbrev pub codecs_in : ScriptData → List (List Chunk) → Known → ℕ → ℕ → List Line → List CodecTrace
+codecs_in script media known k zero ls = []
+codecs_in script media known k (suc n) ls = codec_in script media known k ls ∷ codecs_in script media known (k + 1) n (behind_entries (drop 1 ls))
+
+-- the outputs of so many codecs, whatever their entries are, and the lines behind them
+abbrev pub all_outputs_in : ℕ → List Line → List (List media.Unit) × List Line
+all_outputs_in zero ls = ([], ls)
+all_outputs_in (suc n) ls =
+    let rest = all_outputs_in n (behind_entries (drop 1 ls)) in
+    (own_outputs ls ∷ rest.0, rest.1)
 
 -- ---- the pool of media
 
@@ -198,7 +172,9 @@ held_in (l ∷ ls) = 0
 unfoldable pub run_of : ScriptData → List (List Chunk) → List Line → Run
 run_of script media ls =
     let callers = callers_in (length script.callers) (drop 1 ls) in
-    let codecs = codecs_in script media (length script.codecs) callers.1 in
-    let pool = drop 1 codecs.1 in
+    let outputs = all_outputs_in (length script.codecs) callers.1 in
+    let pool = drop 1 outputs.1 in
+    let known : Known = record { callers = callers.0; outputs = outputs.0; pool = pool_in pool } in
+    let codecs = codecs_in script media known 0 (length script.codecs) callers.1 in
     let slots = drop 1 (behind_pool pool) in
-    record { callers = callers.0; codecs = codecs.0; pool = pool_in pool; slots = slots_in slots; held = held_in slots }
+    record { callers = callers.0; codecs = codecs; pool = pool_in pool; slots = slots_in slots; held = held_in slots }

@@ -1,6 +1,7 @@
 -- The ordinary run and its report.
 use Rattle.std.specs.Prelude.{◌≡◌, [], ◌∷◌, codes}
 use Rattle.trace_text.specs.Rows.{ordinary_script, file_script, two_chunks, ordinary_run, taking_script, taking_run}
+use Rattle.trace_text.specs.EncodingRows.{encoding_script, encoding_run}
 use Rattle.trace_text.specs.Report.{lines_of}
 use Rattle.report_reader.specs.Read.{run_of}
 use Rattle.report_reader.specs.Told.{IsTold}
@@ -16,6 +17,10 @@ FileAgain = run_of file_script (two_chunks ∷ []) (lines_of ordinary_run) ≡ o
 -- and so do those of the run whose caller takes the output
 abbrev pub TakingAgain : Type 0
 TakingAgain = run_of taking_script [] (lines_of taking_run) ≡ taking_run
+
+-- and those of the run whose caller encodes, and takes the chunk
+abbrev pub EncodingAgain : Type 0
+EncodingAgain = run_of encoding_script [] (lines_of encoding_run) ≡ encoding_run
 
 -- the run is told by its report
 abbrev pub OrdinaryTold : Type 0

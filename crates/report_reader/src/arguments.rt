@@ -1,12 +1,17 @@
 // Entries get the arguments of their steps.
-ghost use Rattle.std.specs.Prelude.{◌≡◌, IfOk, Some, None, option_map};
-ghost use Rattle.report_reader.specs.Read as spec;
+ghost use Rattle.std.specs.Prelude.{◌≡◌, IfOk, Some, None, option_and_then, option_map};
+ghost use Rattle.media_accounts.specs.Samples.{chunk_of_unit, samples_before};
+ghost use Rattle.trace_text.specs.Follow.{steps_of};
+ghost use Rattle.report_reader.specs.Arguments as spec;
 
-use codec_model::Entry;
+use crate::clones::{find_pair, find_samples};
+use crate::known::{Known, taken_in};
+use codec_model::{Entry, Handed, HeldSound, Pair};
+use coder_api::Unit;
 use report_text::{CallWord, EntryLine};
 use script_types::{MediaStep, ScriptData, Step};
 use trace_text::{find_chunk, steps_of};
-use wc_base::{List, NoMemory, Who};
+use wc_base::{DomError, List, NoMemory, Samples, Who};
 use wc_chunk::Chunk;
 
 // A decode of this chunk, if there is one.
@@ -19,15 +24,55 @@ fn decode_of(who: Who, chunk: Option<Chunk>) -> Option<Entry>
     }
 }
 
-// The entry of a call with the arguments of this step of the caller's steps.
+// The chunk of an output, if it is one.
+fn chunk_of_unit(unit: &Unit) -> Result<Option<Chunk>, NoMemory>
+    ensures { IfOk result (λ o. o ≡ chunk_of_unit unit.now) }
+{
+    match unit {
+        Unit::Coded { chunk, config: _ } => Ok(Some(chunk.copy()?)),
+        _ => Ok(None),
+    }
+}
+
+// The chunk of the output that a step took, if it took one.
+fn chunk_taken(known: &Known, caller: u32, step: u32) -> Result<Option<Chunk>, NoMemory>
+    ensures { IfOk result
+        (λ o. o ≡ option_and_then chunk_of_unit (spec.taken_in known.now caller step)) }
+{
+    match taken_in(known, caller, step) {
+        Some(unit) => chunk_of_unit(unit),
+        None => Ok(None),
+    }
+}
+
+// The chunk of the variable that the step with this number of a caller defines.
+fn chunk_found(
+    media: &[List<Chunk>],
+    known: &Known,
+    steps: &[Step],
+    caller: u32,
+    step: u32,
+) -> Result<Option<Chunk>, NoMemory>
+    ensures { IfOk result (λ o. o
+        ≡ spec.chunk_found media.now steps.now (spec.taken_in known.now caller) step) }
+{
+    match find_chunk(media, steps, step)? {
+        Some(chunk) => Ok(Some(chunk)),
+        None => chunk_taken(known, caller, step),
+    }
+}
+
+// The entry of a call other than an encode, with the arguments of this step of the caller's steps.
 fn call_of(
     media: &[List<Chunk>],
+    known: &Known,
     steps: &[Step],
     who: Who,
     call: CallWord,
     step: &Step,
 ) -> Result<Option<Entry>, NoMemory>
-    ensures { IfOk result (λ o. o ≡ spec.call_of media.now steps.now who call step.now) }
+    ensures { IfOk result
+        (λ o. o ≡ spec.call_of media.now known.now steps.now who call step.now) }
 {
     match (call, step) {
         (CallWord::Configure, Step::Configure { on: _, config }) => Ok(Some(Entry::Configure {
@@ -35,7 +80,7 @@ fn call_of(
             config: config.copy()?,
         })),
         (CallWord::Decode, Step::Decode { on: _, chunk }) => {
-            let chunk = find_chunk(media, steps, chunk.step)?;
+            let chunk = chunk_found(media, known, steps, who.caller, chunk.step)?;
             Ok(decode_of(who, chunk))
         }
         (CallWord::Flush, Step::Flush { on: _, bind: _ }) => Ok(Some(Entry::Flush { who })),
@@ -45,18 +90,107 @@ fn call_of(
     }
 }
 
-// The entry of a call with the arguments of its step.
+// The entry of a call other than an encode, with the arguments of its step.
 fn call_entry(
     script: &ScriptData,
     media: &[List<Chunk>],
+    known: &Known,
     who: Who,
     call: CallWord,
 ) -> Result<Option<Entry>, NoMemory>
-    ensures { IfOk result (λ o. o ≡ spec.call_entry script.now media.now who call) }
+    ensures { IfOk result (λ o. o ≡ spec.by_step script.now who
+        (spec.call_of media.now known.now (steps_of script.now who.caller) who call)) }
 {
     let steps = steps_of(script, who.caller);
     match steps.get(who.step as usize) {
-        Some(step) => call_of(media, steps, who, call, step),
+        Some(step) => call_of(media, known, steps, who, call, step),
+        None => Ok(None),
+    }
+}
+
+// A clone of these samples, if both are there.
+fn clone_of(samples: Option<Samples>, pair: Option<Pair>) -> Option<Handed>
+    ensures { result ≡ spec.clone_of samples pair }
+{
+    match (samples, pair) {
+        (Some(samples), Some(pair)) => Some(Handed::Cloned(HeldSound { samples, pair })),
+        _ => None,
+    }
+}
+
+// What became of the data of the variable that the step with this number defines, by the exception of its encode.
+fn handed_of(
+    known: &Known,
+    steps: &[Step],
+    codec: usize,
+    place: u64,
+    who: Who,
+    error: Option<DomError>,
+    content: u32,
+) -> Result<Option<Handed>, NoMemory>
+    ensures { let samples = samples_before steps.now (spec.taken_in known.now who.caller) in
+        let pair = spec.pair_for codec place known.now.pool in
+        IfOk result
+        (λ o. o ≡ spec.handed_for error (spec.clone_of (samples who.step content) pair)) }
+{
+    match error {
+        None => {
+            let samples = find_samples(known, steps, who.caller, who.step, content)?;
+            Ok(clone_of(samples, find_pair(codec, place, known.pool.as_slice())))
+        }
+        Some(DomError::TypeErr) => Ok(Some(Handed::Gone)),
+        Some(DomError::InvalidState) => Ok(Some(Handed::Kept)),
+        Some(_) => Ok(None),
+    }
+}
+
+// An encode with which this became of its data, if that is known.
+fn encode_with(who: Who, handed: Option<Handed>) -> Option<Entry>
+    ensures { result ≡ option_map (λ h. Entry.Encode who h) handed }
+{
+    match handed {
+        Some(handed) => Some(Entry::Encode { who, handed }),
+        None => None,
+    }
+}
+
+// The entry of an encode with this exception, if the step makes one.
+fn encode_of(
+    known: &Known,
+    steps: &[Step],
+    codec: usize,
+    place: u64,
+    who: Who,
+    error: Option<DomError>,
+    step: &Step,
+) -> Result<Option<Entry>, NoMemory>
+    ensures { IfOk result (λ o. o
+        ≡ spec.encode_of known.now steps.now codec place who error step.now) }
+{
+    match step {
+        Step::Media(MediaStep::Encode { on: _, content }) => {
+            let handed = handed_of(known, steps, codec, place, who, error, content.step)?;
+            Ok(encode_with(who, handed))
+        }
+        _ => Ok(None),
+    }
+}
+
+// The entry of an encode with this exception, with the arguments of its step.
+fn encode_entry(
+    script: &ScriptData,
+    known: &Known,
+    codec: usize,
+    place: u64,
+    who: Who,
+    error: Option<DomError>,
+) -> Result<Option<Entry>, NoMemory>
+    ensures { IfOk result (λ o. o ≡ spec.by_step script.now who (spec.encode_of known.now
+        (steps_of script.now who.caller) codec place who error)) }
+{
+    let steps = steps_of(script, who.caller);
+    match steps.get(who.step as usize) {
+        Some(step) => encode_of(known, steps, codec, place, who, error, step),
         None => Ok(None),
     }
 }
@@ -73,7 +207,7 @@ fn take_of(who: Who, unit: u64, step: &Step) -> Option<Entry>
 
 // The entry of a take, where its step is one.
 fn take_entry(script: &ScriptData, who: Who, unit: u64) -> Option<Entry>
-    ensures { result ≡ spec.take_entry script.now who unit }
+    ensures { result ≡ spec.by_step script.now who (spec.take_of who unit) }
 {
     match steps_of(script, who.caller).get(who.step as usize) {
         Some(step) => take_of(who, unit, step),
@@ -81,21 +215,25 @@ fn take_entry(script: &ScriptData, who: Who, unit: u64) -> Option<Entry>
     }
 }
 
-/// The entry of a line, with the arguments of its step. `None` where its step makes no such call and no take, or decodes a
-/// chunk that is absent.
+/// The entry of a line at this place of the codec with this number, with the arguments of its step. `None` where its step
+/// makes no such call and no take, decodes a chunk that is absent, or encodes with another exception than an encode has, or
+/// data or a clone that the report does not show.
 pub fn entry_of(
     script: &ScriptData,
     media: &[List<Chunk>],
+    known: &Known,
+    codec: usize,
+    place: u64,
     line: EntryLine,
 ) -> Result<Option<Entry>, NoMemory>
-    ensures { IfOk result (λ o. o ≡ spec.entry_of script.now media.now line) }
+    ensures { IfOk result
+        (λ o. o ≡ spec.entry_of script.now media.now known.now codec place line) }
 {
     match line {
-        EntryLine::Call {
-            who,
-            call,
-            error: _,
-        } => call_entry(script, media, who, call),
+        EntryLine::Call { who, call, error } => match call {
+            CallWord::Encode => encode_entry(script, known, codec, place, who, error),
+            _ => call_entry(script, media, known, who, call),
+        },
         EntryLine::Take { who, unit } => Ok(take_entry(script, who, unit)),
         EntryLine::Start { epoch, item } => Ok(Some(Entry::Start { epoch, item })),
         EntryLine::Done {

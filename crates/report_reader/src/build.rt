@@ -105,6 +105,21 @@ pub fn entry_lines_of<'a>(
     Ok((entries, rest))
 }
 
+// The lines behind the entries in front and what they show.
+fn behind_entries(lines: &[Line]) -> &[Line]
+    ensures { result.now ≡ spec.behind_entries lines.now }
+{
+    let mut rest = lines;
+    while let [
+        Line::Entry { place: _, entry: _ } | Line::Event(_),
+        more @ ..,
+    ] = rest
+    {
+        rest = more;
+    }
+    rest
+}
+
 // The text of these bytes, where they are a codec string.
 #[tactic(auto, using(crate::proofs::CodecLaws::string_none, crate::proofs::CodecLaws::string_some))]
 fn codec_string(bytes: &[u8]) -> Option<&str>
@@ -222,8 +237,8 @@ fn push_unit(units: &mut Vec<Unit>, unit: Option<Unit>) -> Result<(), AllocError
     }
 }
 
-/// The outputs in front of a codec of this kind, among the lines of entries.
-pub fn outputs_of(alloc: Global, kind: Kind, lines: &[Line]) -> Result<Vec<Unit>, AllocError>
+// The outputs in front of a codec of this kind, among the lines of entries.
+fn outputs_of(alloc: Global, kind: Kind, lines: &[Line]) -> Result<Vec<Unit>, AllocError>
     ensures { IfOk result (λ v. v.items ≡ spec.outputs_in kind lines.now) }
 {
     let mut units = Vec::new(alloc);
@@ -253,6 +268,31 @@ pub fn opening_of(lines: &[Line]) -> Opening
             saturation: 1,
         },
     }
+}
+
+/// The outputs of the codec whose line is in front.
+pub fn own_outputs(alloc: Global, lines: &[Line]) -> Result<Vec<Unit>, AllocError>
+    ensures { IfOk result (λ v. v.items ≡ spec.own_outputs lines.now) }
+{
+    outputs_of(alloc, opening_of(lines).kind, behind_first(lines))
+}
+
+/// The outputs of so many codecs, whatever their entries are, and the lines behind them.
+pub fn all_outputs_of<'a>(
+    alloc: Global,
+    count: usize,
+    lines: &'a [Line],
+) -> Result<(Vec<List<Unit>>, &'a [Line]), NoMemory>
+    ensures { IfOk result (λ x. spec.all_outputs_in count lines.now ≡ (x.0.items, x.1.now)) }
+{
+    let mut outputs = Vec::new(alloc);
+    let mut rest = lines;
+    for _ in 0..count {
+        let own = own_outputs(alloc, rest)?;
+        push(&mut outputs, List::of(own))?;
+        rest = behind_entries(behind_first(rest));
+    }
+    Ok((outputs, rest))
 }
 
 /// The pool's entries in front, and the lines behind them.

@@ -3,9 +3,11 @@
 
 mod arguments;
 mod build;
+mod clones;
 mod compare;
 mod fault;
 mod forms;
+mod known;
 mod laws;
 mod page;
 mod read;
@@ -16,6 +18,7 @@ mod trace;
 
 pub use fault::ReportFault;
 pub use forms::{Forms, Section};
+pub use known::Known;
 pub use laws::{
     faults_are_one, legal_runs_are_told, names_of_sound_scripts, reports_determine_runs,
 };

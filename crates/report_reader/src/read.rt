@@ -31,6 +31,7 @@ fn run_or_fault(
     ensures sound { IsTrue (is_sound script.now) }
 {
     lines_that_are_read_fit();
+    lines_are_read_again();
     match read_forms(alloc, script.data(), bytes)? {
         Forms::Bad(line) => Err(ReportFault::BadLine { line }),
         Forms::Lines(lines) => {

@@ -4,7 +4,8 @@ ghost use Rattle.std.specs.List.{AllByRecursion};
 ghost use Rattle.report_reader.specs.Fits.{FitsTrace};
 ghost use Rattle.report_reader.specs.Read as spec;
 
-use crate::build::{behind_first, callers_of, held_of, pool_of, slots_of};
+use crate::build::{all_outputs_of, behind_first, callers_of, held_of, pool_of, slots_of};
+use crate::known::Known;
 use crate::trace::codecs_of;
 use report_text::Line;
 use script_types::ScriptData;
@@ -25,15 +26,27 @@ pub fn run_of(
     // The promises whose ends it shows have numbers of 64 bits.
     ensures fits { IfOk result (λ run. AllByRecursion FitsTrace run.codecs) }
 {
-    let (callers, rest) = callers_of(alloc, script.callers.len(), behind_first(lines))?;
-    let (codecs, rest) = codecs_of(alloc, script, media, script.codecs.len(), rest)?;
+    let (callers, codec_lines) = callers_of(alloc, script.callers.len(), behind_first(lines))?;
+    let count = script.codecs.len();
+    let (outputs, rest) = all_outputs_of(alloc, count, codec_lines)?;
     let (pool, rest) = pool_of(alloc, behind_first(rest))?;
+    let known = Known {
+        callers: List::of(callers),
+        outputs: List::of(outputs),
+        pool: List::of(pool),
+    };
+    let codecs = codecs_of(alloc, script, media, &known, count, codec_lines)?;
     let rest = behind_first(rest);
     let slots = slots_of(alloc, rest)?;
+    let Known {
+        callers,
+        outputs: _,
+        pool,
+    } = known;
     Ok(Run {
-        callers: List::of(callers),
+        callers,
         codecs: List::of(codecs),
-        pool: List::of(pool),
+        pool,
         slots: List::of(slots),
         held: held_of(rest),
     })

@@ -1,5 +1,5 @@
 // The history of a codec, as its lines tell it.
-ghost use Rattle.std.specs.Prelude.{◌≡◌, ◌++◌, ◌∷◌, [], IfOk, OnOk, drop, option_map};
+ghost use Rattle.std.specs.Prelude.{◌≡◌, ◌++◌, ◌∷◌, [], IfOk, OnOk, drop, length, option_map};
 ghost use Rattle.std.specs.List.{AllByRecursion};
 ghost use Rattle.codec_follow.specs.Follow.{filled, with_unit, units_after};
 ghost use Rattle.report_reader.specs.Fits.{FitsEvent, FitsTrace};
@@ -7,7 +7,8 @@ ghost use Rattle.report_reader.specs.Next.{NextIs};
 ghost use Rattle.report_reader.specs.Read as spec;
 
 use crate::arguments::entry_of;
-use crate::build::{behind_first, entry_lines_of, opening_of, outputs_of, push};
+use crate::build::{behind_first, entry_lines_of, opening_of, own_outputs, push};
+use crate::known::Known;
 use codec_follow::{Follower, empty_output};
 use codec_model::{Entry, Event, Kind, Opening, Shown, TurnWord};
 use coder_api::Unit;
@@ -81,17 +82,21 @@ fn filled<'a>(
     Ok((made, left))
 }
 
-// The entry of a line, with what it shows, where it has its arguments and follows.
+// The entry of a line at this place of the codec with this number, with what it shows, where it has its arguments and
+// follows.
 fn next_entry(
     follower: &mut Follower,
     script: &ScriptData,
     media: &[List<Chunk>],
+    known: &Known,
+    codec: usize,
+    place: u64,
     line: EntryLine,
 ) -> Result<Option<(Entry, Shown)>, NoMemory>
-    ensures { IfOk result
-        (λ found. NextIs script.now media.now line follower.old found follower.new) }
+    ensures { let next = NextIs script.now media.now known.now codec place line in
+        IfOk result (λ found. next follower.old found follower.new) }
 {
-    let Some(entry) = entry_of(script, media, line)? else {
+    let Some(entry) = entry_of(script, media, known, codec, place, line)? else {
         return Ok(None);
     };
     let shown = follower.follow(&entry)?;
@@ -108,18 +113,27 @@ fn with_shown(entry: Entry, shown: Option<Shown>) -> Option<(Entry, Shown)>
     }
 }
 
-// A codec opened so, with the entries of these lines, up to the first that has no arguments or does not follow, and these
-// outputs.
+// The place of the entry behind these.
+fn place_behind(entries: &Vec<Entry>) -> u64
+    ensures { result ≡ length entries.now.items }
+{
+    entries.len() as u64
+}
+
+// The codec with this number, opened so, with the entries of these lines, up to the first that has no arguments or does not
+// follow, and these outputs.
 fn trace_of(
     alloc: Global,
     script: &ScriptData,
     media: &[List<Chunk>],
+    known: &Known,
+    codec: usize,
     opening: Opening,
     lines: &[EntryLine],
     units: &[Unit],
 ) -> Result<CodecTrace, NoMemory>
-    ensures trace { IfOk result
-        (λ trace. trace ≡ spec.trace_of script.now media.now opening lines.now units.now) }
+    ensures trace { let trace_of = spec.trace_of script.now media.now known.now codec in
+        IfOk result (λ trace. trace ≡ trace_of opening lines.now units.now) }
     ensures fits { IfOk result FitsTrace }
 {
     let mut follower = Follower::open(alloc, opening)?;
@@ -128,7 +142,8 @@ fn trace_of(
     let mut left = units;
     let mut rest = lines;
     while let [line, more @ ..] = rest {
-        match next_entry(&mut follower, script, media, *line)? {
+        let place = place_behind(&entries);
+        match next_entry(&mut follower, script, media, known, codec, place, *line)? {
             None => return Ok(trace_with(opening, entries, shown)),
             Some((entry, blank)) => {
                 let (events, behind) = filled(alloc, opening.kind, blank.events.as_slice(), left)?;
@@ -161,44 +176,49 @@ fn trace_with(opening: Opening, entries: Vec<Entry>, shown: Vec<Shown>) -> Codec
     }
 }
 
-// The codec whose lines are in front, and the lines behind them.
+// The codec with this number, whose lines are in front, and the lines behind them.
 fn codec_of<'a>(
     alloc: Global,
     script: &ScriptData,
     media: &[List<Chunk>],
+    known: &Known,
+    codec: usize,
     lines: &'a [Line],
 ) -> Result<(CodecTrace, &'a [Line]), NoMemory>
-    ensures codec { IfOk result (λ x. x.0 ≡ spec.codec_in script.now media.now lines.now) }
+    ensures codec { IfOk result
+        (λ x. x.0 ≡ spec.codec_in script.now media.now known.now codec lines.now) }
     ensures fits { IfOk result (λ x. FitsTrace x.0) }
     ensures behind { IfOk result (λ x. x.1.now ≡ spec.behind_entries (drop 1 lines.now)) }
 {
-    let own = behind_first(lines);
-    let (entries, behind) = entry_lines_of(alloc, own)?;
+    let (entries, behind) = entry_lines_of(alloc, behind_first(lines))?;
+    let units = own_outputs(alloc, lines)?;
     let opening = opening_of(lines);
-    let units = outputs_of(alloc, opening.kind, own)?;
-    let trace = trace_of(alloc, script, media, opening, &entries, &units)?;
+    let trace = trace_of(
+        alloc, script, media, known, codec, opening, &entries, &units,
+    )?;
     Ok((trace, behind))
 }
 
-/// So many codecs, each with its line and its entries, and the lines behind them.
-pub fn codecs_of<'a>(
+/// So many codecs, each with its line and its entries.
+pub fn codecs_of(
     alloc: Global,
     script: &ScriptData,
     media: &[List<Chunk>],
+    known: &Known,
     count: usize,
-    lines: &'a [Line],
-) -> Result<(Vec<CodecTrace>, &'a [Line]), NoMemory>
+    lines: &[Line],
+) -> Result<Vec<CodecTrace>, NoMemory>
     ensures codecs { IfOk result
-        (λ x. spec.codecs_in script.now media.now count lines.now ≡ (x.0.items, x.1.now)) }
+        (λ v. v.items ≡ spec.codecs_in script.now media.now known.now 0 count lines.now) }
     // The promises whose ends they show have numbers of 64 bits.
-    ensures fits { IfOk result (λ x. AllByRecursion FitsTrace x.0.items) }
+    ensures fits { IfOk result (λ v. AllByRecursion FitsTrace v.items) }
 {
     let mut codecs = Vec::new(alloc);
     let mut rest = lines;
-    for _ in 0..count {
-        let (codec, behind) = codec_of(alloc, script, media, rest)?;
-        push(&mut codecs, codec)?;
+    for codec in 0..count {
+        let (trace, behind) = codec_of(alloc, script, media, known, codec, rest)?;
+        push(&mut codecs, trace)?;
         rest = behind;
     }
-    Ok((codecs, rest))
+    Ok(codecs)
 }

@@ -2,6 +2,8 @@
 #![tactic(auto)]
 
 #[cfg(test)]
+mod encode_reports_tests;
+#[cfg(test)]
 mod fields_tests;
 #[cfg(test)]
 mod report_lines_tests;

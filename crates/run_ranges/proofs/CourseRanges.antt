@@ -1,21 +1,34 @@
--- A course that follows a script's order has no more of anything than the order has items.
-use Rattle.std.proofs.Common.{ℕ, zero, suc, ◌≡◌, ◌<◌, ◌≤◌, ◌+◌, ◌*◌, ◌^◌, ◌⊎◌, inl, inr, not, Bool, true, false, cond, List, [], ◌∷◌, ◌++◌, length, length-append, Option, Some, None, refl, ap, sym, subst, ◌∙◌, arith}
-use Rattle.std.specs.Prelude.{slice_get, slice_set, option_map, map}
-use Rattle.std.specs.List.{find, range_with_len}
+-- A course that follows a script's order has no more of anything than the order has items, and what its variables hold and its
+-- codecs were given is within its types.
+use Rattle.std.proofs.Common.{ℕ, zero, suc, ◌≡◌, ◌<◌, ◌≤◌, ◌+◌, ◌*◌, ◌^◌, ◌⊎◌, inl, inr, not, Bool, true, false, cond, List, [], ◌∷◌, ◌++◌, length, length-append, Option, Some, None, refl, ap, sym, subst, ◌∙◌, add-mul, arith}
+use Rattle.std.specs.Prelude.{slice_get, slice_set, option_map, option_and_then, unwrap_or, map}
+use Rattle.std.specs.List.{AllByRecursion, find, range_with_len}
+use Rattle.std.proofs.Math.Nat.{mul-add, mul-one, one-mul}
+use Rattle.std.proofs.lemmas.List.{length-map}
 use Rattle.std.proofs.lemmas.List.Sums.{count_by-le-length}
+use Rattle.wc_base.specs.declared.media.SoundShape.{SoundShape}
 use Rattle.wc_base.specs.declared.who.Who.{Who}
 use Rattle.wc_base.specs.declared.who.By.{By}
 use Rattle.wc_base.specs.declared.who.By.TheVariants as by
+use Rattle.wc_config.specs.Configs.{is_valid}
 use Rattle.wc_config.specs.declared.codec.CoderId.{CoderId}
 use Rattle.wc_chunk.specs.declared.chunk.Chunk.{Chunk}
+use Rattle.wc_pool.specs.declared.entry.PoolEntry.{PoolEntry}
+use Rattle.wc_pool.specs.declared.entry.PoolOp.{PoolOp}
+use Rattle.wc_pool.specs.declared.entry.PoolOp.TheVariants as pool_op
+use Rattle.wc_pool.specs.declared.reference.MediaRef.{MediaRef}
+use Rattle.wc_pool.specs.Bag.{references_made}
+use Rattle.wc_audio.specs.Sound.{Sound}
 use Rattle.coder_api.specs.Meaning.{is_id}
 use Rattle.coder_api.specs.declared.slot.SlotEntry.{SlotEntry}
 use Rattle.coder_api.specs.declared.slot.SlotOp.{SlotOp}
 use Rattle.coder_api.specs.declared.slot.SlotOp.TheVariants as slot
 use Rattle.slot_registry.specs.Boxes.{is_out, made_of, out_of, least_free}
 use Rattle.slot_registry.specs.Slots.{SlotsValue, acquire_op, acquire_entry}
-use Rattle.codec_model.specs.declared.entry.Call.{Call}
-use Rattle.codec_model.specs.declared.entry.Call.TheVariants as call
+use Rattle.codec_definitions.specs.declared.unit.Unit as output
+use Rattle.codec_model.specs.declared.entry.Opening.{Opening}
+use Rattle.codec_model.specs.declared.entry.Pair.{Pair}
+use Rattle.codec_model.specs.declared.entry.Handed.TheVariants as handed
 use Rattle.codec_model.specs.declared.entry.Entry.{Entry}
 use Rattle.codec_model.specs.declared.entry.Entry.TheVariants as entry
 use Rattle.codec_model.specs.declared.entry.Item.{Item}
@@ -24,12 +37,15 @@ use Rattle.codec_model.specs.declared.entry.Removal.TheVariants as removal
 use Rattle.codec_model.specs.declared.entry.Running.{Running}
 use Rattle.codec_model.specs.declared.entry.Task.{Task}
 use Rattle.codec_model.specs.Control.{start_item, may_reclaim}
-use Rattle.codec_model.specs.Replay.{entry_of, removal_entry}
+use Rattle.codec_model.specs.Replay.{State, opening_state, step as legal_step, replay, replay_from, is_configured, removal_entry}
+use Rattle.codec_model.specs.Held.{running_pairs, waiting_held, held_in, is_removal, is_done, lets_go, leaves_held, adds_held, HeldStays}
+use Rattle.codec_model.specs.Shown.{shown, outputs_of}
 use Rattle.codec_accounts.specs.Owed.{at, append_at}
 use Rattle.codec_accounts.specs.ListLaws.{Same, Longer, growth, get_more, at_empty}
 use Rattle.codec_accounts.specs.Registry.{BoxOut}
-use Rattle.codec_accounts.specs.Codec.{CodecValue, Holding, new_codec, BoxStep, Keep, Give, Renew, give_of, after_give, holding_by, slots_after, holding_after, step_by, next_by, state_of, after_entry, codec_at, histories}
+use Rattle.codec_accounts.specs.Codec.{CodecValue, Holding, new_codec, BoxStep, Keep, Give, Renew, give_of, after_give, holding_by, slots_after, holding_after, step_by, next_by, state_after, state_of, after_entry, codec_at, histories}
 use Rattle.codec_accounts.specs.AccountLaws.{history_at, histories_more}
+use Rattle.script_types.specs.declared.script.CallerItem.{CallerItem}
 use Rattle.script_types.specs.declared.script.CodecItem.{CodecItem}
 use Rattle.script_types.specs.declared.script.OrderItem.{OrderItem}
 use Rattle.script_types.specs.declared.script.OrderItem.TheVariants as item
@@ -39,18 +55,29 @@ use Rattle.script_types.specs.declared.steps.MediaStep.TheVariants as on_media
 use Rattle.script_types.specs.declared.steps.Step.{Step}
 use Rattle.script_types.specs.declared.steps.Step.TheVariants as step
 use Rattle.report_text.specs.declared.result.StepResult.{StepResult}
-use Rattle.wc_pool.specs.declared.entry.PoolOp.{PoolOp}
-use Rattle.media_variables.specs.Variables.{Came, Brought, entries_of, media_came, variables_of}
-use Rattle.trace_text.specs.Follow.{Course, opening_of, steps_of, chunk_at, Move, Idle, Answer, Advance, Ask, Handle, Receive, with_result, with_entry, with_media, after_move, turn_on, advance, decode_move, found_at, handle_move, take_move, media_move, copied_chunk, step_move, next_move, item_move, follow_item, Follows, nothing_yet}
-use Rattle.run_ranges.specs.Ranges.{IsMoment}
+use Rattle.report_text.specs.declared.result.StepResult.TheVariants as result
+use Rattle.media_variables.specs.Variables.{Medium, Came, Brought, sound_at, handed_by, entries_of, media_came, variables_of}
+use Rattle.media_variables.specs.Held.{ends_behind, clones_of}
+use Rattle.media_accounts.specs.Accounts.{pool_by}
+use Rattle.trace_text.specs.Follow.{Course, opening_of, steps_of, output_at, chunk_by, chunk_at, chunk_for, Move, Idle, Answer, Advance, Ask, Handle, Receive, with_result, with_entry, with_media, after_move, turn_on, advance, decode_move, encode_move, found_at, handle_move, take_move, media_move, copied_chunk, step_move, next_move, item_move, follow_item, Follows, nothing_yet, order_items}
+use Rattle.history_laws.specs.Outputs.{HoldsOwn}
+use Rattle.history_laws.specs.OutputLaws.{outputs_are}
+use Rattle.history_laws.specs.CountLaws.{outputs_each}
+use Rattle.run_ranges.specs.Ranges.{IsMoment, IsConfigWithin, IsChunkWithin, IsShapeWithin, AreWithin}
+use Rattle.run_ranges.proofs.CodeRanges.{CodesAreBytes}
+use Rattle.run_ranges.proofs.UnitRanges.{AreSamplesWithin, IsUnitWithin, judge}
+use Rattle.run_ranges.proofs.MediaRanges.{AreVariables, IsChunkThere, chunk_found, IsRefWithin, IsSoundThere, sound_found, IsCameWithin, IsContentWithin, IsOutputWithin, came_within}
 
 -- ---- what stands of a course
 
--- a moment of an entry, if it has one
-abbrev pub IsMomentOf : Entry → Type 0
-IsMomentOf (entry.Done epoch number moment o) = moment < 2 ^ 64
-IsMomentOf (entry.Reclaim moment) = moment < 2 ^ 64
-IsMomentOf e = Unit {0}
+-- what an entry was given, and its moment, are within their types; a config that is not valid is not looked at
+abbrev pub IsOwnEntry : Entry → Type 0
+IsOwnEntry (entry.Configure who config) = is_valid config ≡ true → IsConfigWithin config
+IsOwnEntry (entry.Decode who chunk) = IsChunkWithin chunk
+IsOwnEntry (entry.Encode who (handed.Cloned sound)) = AreSamplesWithin sound.samples
+IsOwnEntry (entry.Done epoch number moment o) = moment < 2 ^ 64
+IsOwnEntry (entry.Reclaim moment) = moment < 2 ^ 64
+IsOwnEntry e = Unit {0}
 
 abbrev pub IsByUpTo : ℕ → By → Type 0
 IsByUpTo n (by.Caller who) = Unit {0}
@@ -65,13 +92,19 @@ abbrev IsBoxUpTo : ℕ → Option BoxOut → Type 0
 IsBoxUpTo most None = Unit {0}
 IsBoxUpTo most (Some b) = b.number ≤ most
 
--- after so many items, with so many boxes made
+-- what its codecs were given, and what its callers' variables hold, are within their types
+pub record IsCourseOwn (v : Course) : Type 0 where
+  pub entries : (k p : ℕ) (e : Entry) → slice_get (at k (histories v.codecs)) p ≡ Some e → IsOwnEntry e
+  pub variables : (c : ℕ) → AreVariables (variables_of c v.media.variables)
+
+-- After so many items, with so many boxes made. Each item adds to the pool what its codec lets go, which is at most one reference
+-- for each of the codec's entries, and two entries more.
 pub record IsCourseUpTo (n most : ℕ) (v : Course) : Type 0 where
   pub callers : (c : ℕ) → length (at c v.callers) ≤ n
   pub codecs : (k : ℕ) → length (at k (histories v.codecs)) ≤ n
-  pub pool : length v.media.pool ≤ n
+  pub pool : length v.media.pool ≤ n * n + 2 * n
   pub slots : length v.slots.history ≤ 2 * n
-  pub moments : (k p : ℕ) (e : Entry) → slice_get (at k (histories v.codecs)) p ≡ Some e → IsMomentOf e
+  pub own : IsCourseOwn v
   pub made : length v.slots.made ≤ most
   pub ops : (i : ℕ) (e : SlotEntry) → slice_get v.slots.history i ≡ Some e → IsByUpTo n e.by × IsOpUpTo most e.op
   pub boxes : (k : ℕ) → IsBoxUpTo most (codec_at k v.codecs).holding.box
@@ -80,13 +113,17 @@ by_up : (n : ℕ) (b : By) → IsByUpTo n b → IsByUpTo (n + 1) b
 by_up n (by.Caller who) h = tt
 by_up n (by.Codec k place) h = omega (arith, h)
 
+-- what an item adds to the pool
+more_pool : (n old new : ℕ) → new ≤ old + n + 2 → old ≤ n * n + 2 * n → new ≤ (n + 1) * (n + 1) + 2 * (n + 1)
+more_pool n old new more h = omega (arith, more, h, mul-add (n + 1) n 1, mul-one (n + 1), add-mul n 1 n, one-mul n)
+
 up : (n most : ℕ) (v : Course) → IsCourseUpTo n most v → IsCourseUpTo (n + 1) most v
 up n most v h = record {
   callers = λ c. omega (arith, h.callers c);
   codecs = λ k. omega (arith, h.codecs k);
-  pool = omega (arith, h.pool);
+  pool = more_pool n _ _ (omega arith) h.pool;
   slots = omega (arith, h.slots);
-  moments = h.moments;
+  own = h.own;
   made = h.made;
   ops = λ i e is. (by_up n e.by (h.ops i e is).0, (h.ops i e is).1);
   boxes = h.boxes;
@@ -106,7 +143,7 @@ result_up n most c r v h = let more = up n most v h in record {
   codecs = more.codecs;
   pool = more.pool;
   slots = more.slots;
-  moments = more.moments;
+  own = record { entries = h.own.entries; variables = h.own.variables };
   made = more.made;
   ops = more.ops;
   boxes = more.boxes;
@@ -114,21 +151,76 @@ result_up n most c r v h = let more = up n most v h in record {
 
 -- ---- media
 
+variables_set : (c k : ℕ) (vs : List (Option Medium)) (all : List (List (Option Medium))) → AreVariables vs → ((i : ℕ) → AreVariables (variables_of i all)) → AreVariables (variables_of c (slice_set all k vs))
+variables_set c k vs [] own h = tt
+variables_set zero zero vs (ws ∷ all) own h = own
+variables_set (suc c) zero vs (ws ∷ all) own h = h (suc c)
+variables_set zero (suc k) vs (ws ∷ all) own h = h 0
+variables_set (suc c) (suc k) vs (ws ∷ all) own h = variables_set c k vs all own (λ i. h (suc i))
+
 entries_few : (who : Who) (o : Option PoolOp) → length (entries_of who o) ≤ 1
 entries_few who None = omega arith
 entries_few who (Some o) = omega arith
 
-media_up : (n most : ℕ) (who : Who) (y : Came) (v : Course) → IsCourseUpTo n most v → IsCourseUpTo (n + 1) most (with_result who.caller y.answer (with_media who y v))
-media_up n most who y v h = let more = up n most v h in record {
+media_up : (n most : ℕ) (who : Who) (y : Came) (v : Course) → AreVariables y.variables → IsCourseUpTo n most v → IsCourseUpTo (n + 1) most (with_result who.caller y.answer (with_media who y v))
+media_up n most who y v own h = let more = up n most v h in record {
   callers = λ k. longer k who.caller n y.answer v.callers h.callers;
   codecs = more.codecs;
-  pool = omega (arith, length-append v.media.pool (entries_of who y.does), entries_few who y.does, h.pool);
+  pool = more_pool n _ _ (omega (arith, length-append v.media.pool (entries_of who y.does), entries_few who y.does)) h.pool;
   slots = more.slots;
-  moments = more.moments;
+  own = record { entries = h.own.entries; variables = λ c. variables_set c who.caller y.variables v.media.variables own h.own.variables };
   made = more.made;
   ops = more.ops;
   boxes = more.boxes;
 }
+
+-- ---- references that codecs hold
+
+cond_few : {X : Type 0} (b : Bool) (xs ys : List X) (n : ℕ) → length xs ≤ n → length ys ≤ n → length (cond b xs ys) ≤ n
+cond_few true xs ys n one other = one
+cond_few false xs ys n one other = other
+
+parts_few : (s : State) → (length (running_pairs s) ≤ length (held_in s)) × (length (waiting_held s.control) ≤ length (held_in s))
+parts_few s = let both = length-append (running_pairs s) (waiting_held s.control) in (omega (arith, both), omega (arith, both))
+
+lets_few : (e : Entry) (s : State) → length (lets_go e s) ≤ length (held_in s)
+lets_few e s = cond_few (is_done e) (running_pairs s) _ _ (parts_few s).0 (cond_few (is_removal e s) (waiting_held s.control) [] _ (parts_few s).1 (omega arith))
+
+leaves_few : (e : Entry) (s : State) → length (leaves_held e s) ≤ length (held_in s)
+leaves_few e s = cond_few (is_done e) (waiting_held s.control) _ _ (parts_few s).1 (cond_few (is_removal e s) (running_pairs s) (held_in s) _ (parts_few s).0 (omega arith))
+
+adds_few : (e : Entry) → length (adds_held e) ≤ 1
+adds_few (entry.Encode who handed.Gone) = omega arith
+adds_few (entry.Encode who handed.Kept) = omega arith
+adds_few (entry.Encode who (handed.Cloned sound)) = omega arith
+adds_few e = omega arith
+
+replay_few : HeldStays → (h : List Entry) (s t : State) → replay_from h s ≡ Some t → length (held_in t) ≤ length (held_in s) + length h
+replay_few stays [] s t is = let same : s ≡ t = cc in omega (arith, ap (λ (x : State). length (held_in x)) same)
+replay_few stays (e ∷ es) s t is = by (legal_step e s) refl is (λ u made rest. replay_few stays es u t rest)
+  where
+    by : (o : Option State) → legal_step e s ≡ o → option_and_then (replay_from es) o ≡ Some t → ((u : State) → legal_step e s ≡ Some u → replay_from es u ≡ Some t → length (held_in t) ≤ length (held_in u) + length es) → length (held_in t) ≤ length (held_in s) + suc (length es)
+    by None made rest more = absurd cc
+    by (Some u) made rest more = omega (arith, more u made rest, ap length (stays e s u made), length-append (leaves_held e s) (adds_held e), leaves_few e s, adds_few e)
+
+-- a codec holds at most one reference for each of its entries
+held_few : HeldStays → (o : Opening) (h : List Entry) → length (held_in (state_after o h)) ≤ length h
+held_few stays o h = by (replay o h) refl
+  where
+    by : (r : Option State) → replay o h ≡ r → length (held_in (unwrap_or r (opening_state o))) ≤ length h
+    by None is = omega arith
+    by (Some t) is = omega (arith, replay_few stays h (opening_state o) t is)
+
+ends_count : (cause : By) (ps : List Pair) (pool : List PoolEntry) → length (ends_behind cause pool ps) ≡ length ps
+ends_count cause [] pool = refl
+ends_count cause (p ∷ ps) pool = ap suc (ends_count cause ps _)
+
+-- so an entry adds at most one more to the pool than its codec has
+pool_few : HeldStays → (cause : By) (e : Entry) (d : CodecValue) (pool : List PoolEntry) (n : ℕ) → length d.history ≤ n → length (pool ++ pool_by cause e (state_of d) pool) ≤ length pool + n + 1
+pool_few stays cause e d pool n few =
+    let clones = clones_of cause (adds_held e) in
+    let ends = ends_behind cause pool (lets_go e (state_of d)) in
+    omega (arith, few, length-append pool (clones ++ ends), length-append clones ends, length-map (adds_held e) (λ p. let x : PoolEntry = record { by = cause; op = pool_op.Clone p.resource p.reference } in x), adds_few e, ends_count cause (lets_go e (state_of d)) pool, lets_few e (state_of d), held_few stays d.opening d.history)
 
 -- ---- the registry
 
@@ -209,27 +301,36 @@ set_either zero (suc k) d (c ∷ ds) = inl refl
 set_either (suc j) zero d (c ∷ ds) = inl refl
 set_either (suc j) (suc k) d (c ∷ ds) = set_either j k d ds
 
-moments_more : (k : ℕ) (e : Entry) (hs : List (List Entry)) → ((j p : ℕ) (x : Entry) → slice_get (at j hs) p ≡ Some x → IsMomentOf x) → IsMomentOf e → (j p : ℕ) (x : Entry) → slice_get (at j (append_at k e hs)) p ≡ Some x → IsMomentOf x
-moments_more k e hs all own j p x is = elim (growth j k e hs) [
+own_more : (k : ℕ) (e : Entry) (hs : List (List Entry)) → ((j p : ℕ) (x : Entry) → slice_get (at j hs) p ≡ Some x → IsOwnEntry x) → IsOwnEntry e → (j p : ℕ) (x : Entry) → slice_get (at j (append_at k e hs)) p ≡ Some x → IsOwnEntry x
+own_more k e hs all own j p x is = elim (growth j k e hs) [
   | Same same ↦ all j p x (ap (λ (l : List Entry). slice_get l p) (sym same) ∙ is)
   | Longer here more ↦ elim (get_more (at j hs) e p x (ap (λ (l : List Entry). slice_get l p) (sym more) ∙ is)) [
     | inl old ↦ all j p x old
-    | inr new ↦ subst IsMomentOf (sym new.1) own
+    | inr new ↦ subst IsOwnEntry (sym new.1) own
   ]
 ]
 
-entry_up : (n most k : ℕ) (e : Entry) (v : Course) → IsMomentOf e → IsCourseUpTo n most v → IsCourseUpTo (n + 1) most (with_entry k e v)
-entry_up n most k e v own h =
+-- what one entry more makes of all but the callers' results and variables; beside it a caller's step may add to the pool once more
+record IsEntryUpTo (n most k : ℕ) (e : Entry) (v : Course) : Type 0 where
+  codecs : (j : ℕ) → length (at j (histories (with_entry k e v).codecs)) ≤ n + 1
+  pool : length (with_entry k e v).media.pool ≤ length v.media.pool + n + 1
+  slots : length (with_entry k e v).slots.history ≤ 2 * (n + 1)
+  entries : (j p : ℕ) (x : Entry) → slice_get (at j (histories (with_entry k e v).codecs)) p ≡ Some x → IsOwnEntry x
+  made : length (with_entry k e v).slots.made ≤ most
+  ops : (i : ℕ) (x : SlotEntry) → slice_get (with_entry k e v).slots.history i ≡ Some x → IsByUpTo (n + 1) x.by × IsOpUpTo most x.op
+  boxes : (j : ℕ) → IsBoxUpTo most (codec_at j (with_entry k e v).codecs).holding.box
+
+entry_up : HeldStays → (n most k : ℕ) (e : Entry) (v : Course) → IsOwnEntry e → IsCourseUpTo n most v → IsEntryUpTo n most k e v
+entry_up stays n most k e v own h =
     let d = codec_at k v.codecs in
     let more = up n most v h in
-    let place : length d.history ≤ n + 1 = omega (arith, h.codecs k, ap length (history_at k v.codecs)) in
-    let registry = slots_up (n + 1) most (2 * n) (next_by k d) (step_by e d) d.holding.box v.slots place (h.boxes k) (record { slots = h.slots; made = h.made; ops = more.ops }) in
+    let few : length d.history ≤ n = omega (arith, h.codecs k, ap length (history_at k v.codecs)) in
+    let registry = slots_up (n + 1) most (2 * n) (next_by k d) (step_by e d) d.holding.box v.slots (omega (arith, few)) (h.boxes k) (record { slots = h.slots; made = h.made; ops = more.ops }) in
     record {
-      callers = more.callers;
-      pool = more.pool;
       codecs = λ j. subst (λ (hs : List (List Entry)). length (at j hs) ≤ n + 1) (sym (histories_more k e v.slots v.codecs)) (longer j k n e (histories v.codecs) h.codecs);
+      pool = pool_few stays (by.Codec k (length d.history)) e d v.media.pool n few;
       slots = omega (arith, registry.slots);
-      moments = subst (λ (hs : List (List Entry)). (j p : ℕ) (x : Entry) → slice_get (at j hs) p ≡ Some x → IsMomentOf x) (sym (histories_more k e v.slots v.codecs)) (moments_more k e (histories v.codecs) h.moments own);
+      entries = subst (λ (hs : List (List Entry)). (j p : ℕ) (x : Entry) → slice_get (at j hs) p ≡ Some x → IsOwnEntry x) (sym (histories_more k e v.slots v.codecs)) (own_more k e (histories v.codecs) h.own.entries own);
       made = registry.made;
       ops = registry.ops;
       boxes = λ j. elim (set_either j k (after_entry k e v.slots d) v.codecs) [
@@ -243,93 +344,179 @@ entry_up n most k e v own h =
 abbrev MoveHolds : Move → Type 0
 MoveHolds Idle = Unit {0}
 MoveHolds (Answer c r) = Unit {0}
-MoveHolds (Advance k e) = IsMomentOf e
-MoveHolds (Ask c k e error) = IsMomentOf e
-MoveHolds (Handle who y) = Unit {0}
-MoveHolds (Receive who k e y) = IsMomentOf e
+MoveHolds (Advance k e) = IsOwnEntry e
+MoveHolds (Ask c k e error) = IsOwnEntry e
+MoveHolds (Handle who y) = AreVariables y.variables
+MoveHolds (Receive who k e y) = IsOwnEntry e × AreVariables y.variables
 
-move_up : (n most : ℕ) (m : Move) (v : Course) → MoveHolds m → IsCourseUpTo n most v → IsCourseUpTo (n + 1) most (after_move m v)
-move_up n most Idle v own h = up n most v h
-move_up n most (Answer c r) v own h = result_up n most c r v h
-move_up n most (Advance k e) v own h = entry_up n most k e v own h
-move_up n most (Ask c k e error) v own h = both (entry_up n most k e v own h)
+move_up : HeldStays → (n most : ℕ) (m : Move) (v : Course) → MoveHolds m → IsCourseUpTo n most v → IsCourseUpTo (n + 1) most (after_move m v)
+move_up stays n most Idle v own h = up n most v h
+move_up stays n most (Answer c r) v own h = result_up n most c r v h
+move_up stays n most (Advance k e) v own h = let more = entry_up stays n most k e v own h in record {
+  callers = (up n most v h).callers;
+  codecs = more.codecs;
+  pool = more_pool n _ _ (omega (arith, more.pool)) h.pool;
+  slots = more.slots;
+  own = record { entries = more.entries; variables = h.own.variables };
+  made = more.made;
+  ops = more.ops;
+  boxes = more.boxes;
+}
+move_up stays n most (Ask c k e error) v own h = let more = entry_up stays n most k e v own h in record {
+  callers = λ j. longer j c n _ v.callers h.callers;
+  codecs = more.codecs;
+  pool = more_pool n _ _ (omega (arith, more.pool)) h.pool;
+  slots = more.slots;
+  own = record { entries = more.entries; variables = h.own.variables };
+  made = more.made;
+  ops = more.ops;
+  boxes = more.boxes;
+}
+move_up stays n most (Handle who y) v own h = media_up n most who y v own h
+move_up stays n most (Receive who k e y) v own h = let more = entry_up stays n most k e v own.0 h in record {
+  callers = λ j. longer j who.caller n y.answer v.callers h.callers;
+  codecs = more.codecs;
+  pool = more_pool n _ _ (omega (arith, length-append (with_entry k e v).media.pool (entries_of who y.does), entries_few who y.does, more.pool)) h.pool;
+  slots = more.slots;
+  own = record { entries = more.entries; variables = λ c. variables_set c who.caller y.variables v.media.variables own.1 h.own.variables };
+  made = more.made;
+  ops = more.ops;
+  boxes = more.boxes;
+}
+
+-- ---- what steps are given
+
+-- a chunk of a step
+chunk_step : (media : List (List Chunk)) (steps : List Step) (j : ℕ) (o : Option Step) (chunk : Chunk) → slice_get steps j ≡ o → option_and_then (chunk_by media) o ≡ Some chunk → (x : Step) × (slice_get steps j ≡ Some x) × (chunk_by media x ≡ Some chunk)
+chunk_step media steps j None chunk is made = absurd cc
+chunk_step media steps j (Some x) chunk is made = (x, is, made)
+
+pub chunk_made : (s : ScriptData) (media : List (List Chunk)) (made : List CoderId) → AreWithin s media made → (c j : ℕ) → IsChunkThere (chunk_at media (steps_of s c) j)
+chunk_made s media made within c j = one (chunk_at media (steps_of s c) j) refl
   where
-    both : IsCourseUpTo (n + 1) most (with_entry k e v) → IsCourseUpTo (n + 1) most (after_move (Ask c k e error) v)
-    both more = record {
-      callers = λ j. longer j c n _ v.callers h.callers;
-      codecs = more.codecs;
-      pool = more.pool;
-      slots = more.slots;
-      moments = more.moments;
-      made = more.made;
-      ops = more.ops;
-      boxes = more.boxes;
-    }
-move_up n most (Handle who y) v own h = media_up n most who y v h
-move_up n most (Receive who k e y) v own h = both (entry_up n most k e v own h)
+    one : (o : Option Chunk) → chunk_at media (steps_of s c) j ≡ o → IsChunkThere o
+    one None is = tt
+    one (Some chunk) is =
+        let found = chunk_step media (steps_of s c) j (slice_get (steps_of s c) j) chunk refl is in within.chunks c j found.0 chunk found.1 found.2
+
+pub contents_within : (s : ScriptData) (media : List (List Chunk)) (made : List CoderId) (c j : ℕ) (x : MediaStep) → AreWithin s media made → slice_get (steps_of s c) j ≡ Some (step.Media x) → IsContentWithin x
+contents_within s media made c j (on_media.Audio bind (Some init)) within is = within.sounds c j bind init is
+contents_within s media made c j (on_media.Frame bind (Some init)) within is = within.frames c j bind init is
+contents_within s media made c j x within is = tt
+
+-- what an encode hands over
+handed_own : (who : Who) (number : ℕ) (accepts : Bool) (shape : SoundShape) (held : Option MediaRef) → IsShapeWithin shape → IsRefWithin held → IsOwnEntry (entry.Encode who (handed_by number accepts shape held))
+handed_own who number accepts shape None own small = tt
+handed_own who number true shape (Some r) own small = (own, small)
+handed_own who number false shape (Some r) own small = tt
+
+-- ---- outputs
+
+pub all_from : {X : Type 0} (P : X → Type 0) (xs : List X) → ((i : ℕ) (x : X) → slice_get xs i ≡ Some x → P x) → AllByRecursion P xs
+all_from P [] h = tt
+all_from P (x ∷ xs) h = (h 0 x refl, all_from P xs (λ i y is. h (suc i) y is))
+
+all_at : {X : Type 0} (P : X → Type 0) (xs : List X) (i : ℕ) (x : X) → AllByRecursion P xs → slice_get xs i ≡ Some x → P x
+all_at P [] i x h is = absurd cc
+all_at P (y ∷ ys) zero x h is = let same : y ≡ x = cc in subst P same h.0
+all_at P (y ∷ ys) (suc i) x h is = all_at P ys i x h.1 is
+
+-- so an entry passes with the judge of outputs
+pub holds_own : (laws : CodesAreBytes) (e : Entry) → IsOwnEntry e → HoldsOwn (judge laws) e
+holds_own laws (entry.Configure who config) own = own
+holds_own laws (entry.Decode who chunk) own = own
+holds_own laws (entry.Encode who handed.Gone) own = tt
+holds_own laws (entry.Encode who handed.Kept) own = tt
+holds_own laws (entry.Encode who (handed.Cloned sound)) own = own
+holds_own laws (entry.Flush who) own = tt
+holds_own laws (entry.Reset who) own = tt
+holds_own laws (entry.Close who) own = tt
+holds_own laws (entry.Take who unit) own = tt
+holds_own laws (entry.Start epoch number) own = tt
+holds_own laws (entry.Done epoch number moment o) own = tt
+holds_own laws entry.Turn own = tt
+holds_own laws (entry.Reclaim moment) own = tt
+
+-- each output of a history
+pub output_own : CodesAreBytes → (o : Opening) (h : List Entry) → ((p : ℕ) (e : Entry) → slice_get h p ≡ Some e → IsOwnEntry e) → (n : ℕ) (u : output.Unit) → output_at o h n ≡ Some u → IsUnitWithin u
+output_own laws o h each n u is =
+    let own = all_from (HoldsOwn (judge laws)) h (λ p e there. holds_own laws e (each p e there)) in
+    all_at IsUnitWithin (outputs_of (shown o h)) n u (outputs_each IsUnitWithin o h (outputs_are (judge laws) o h own)) is
+
+found_own : CodesAreBytes → (k : ℕ) (v : Course) → IsCourseOwn v → IsOutputWithin (found_at k (codec_at k v.codecs))
+found_own laws k v h = one (output_at d.opening d.history (state_of d).control.taken) refl
   where
-    both : IsCourseUpTo (n + 1) most (with_entry k e v) → IsCourseUpTo (n + 1) most (after_move (Receive who k e y) v)
-    both more = record {
-      callers = λ j. longer j who.caller n y.answer v.callers h.callers;
-      codecs = more.codecs;
-      pool = omega (arith, length-append v.media.pool (entries_of who y.does), entries_few who y.does, h.pool);
-      slots = more.slots;
-      moments = more.moments;
-      made = more.made;
-      ops = more.ops;
-      boxes = more.boxes;
-    }
+    d : CodecValue
+    d = codec_at k v.codecs
 
-call_holds : (who : Who) (x : Call) → IsMomentOf (entry_of who x)
-call_holds who (call.Configure config) = tt
-call_holds who (call.Decode chunk) = tt
-call_holds who call.Flush = tt
+    each : (p : ℕ) (e : Entry) → slice_get d.history p ≡ Some e → IsOwnEntry e
+    each p e is = h.entries k p e (ap (λ (l : List Entry). slice_get l p) (history_at k v.codecs) ∙ is)
 
-removal_holds : (who : Who) (r : Removal) → IsMomentOf (removal_entry who r)
+    one : (o : Option output.Unit) → output_at d.opening d.history (state_of d).control.taken ≡ o → IsOutputWithin (option_map (λ u. record { unit = u; answer = result.Unit k (length d.history) (state_of d).control.taken }) o)
+    one None is = tt
+    one (Some u) is = output_own laws d.opening d.history each (state_of d).control.taken u is
+
+-- ---- steps
+
+removal_holds : (who : Who) (r : Removal) → IsOwnEntry (removal_entry who r)
 removal_holds who removal.Reset = tt
 removal_holds who removal.Close = tt
 
-decode_holds : (who : Who) (k : ℕ) (o : Option Chunk) (d : CodecValue) → MoveHolds (decode_move who k o d)
-decode_holds who k None d = tt
-decode_holds who k (Some chunk) d = tt
+decode_holds : (who : Who) (k : ℕ) (o : Option Chunk) (d : CodecValue) → IsChunkThere o → MoveHolds (decode_move who k o d)
+decode_holds who k None d own = tt
+decode_holds who k (Some chunk) d own = own
 
-handle_holds : (who : Who) (o : Option Came) → MoveHolds (handle_move who o)
-handle_holds who None = tt
-handle_holds who (Some y) = tt
+encode_holds : (who : Who) (k : ℕ) (pool : List PoolEntry) (o : Option Sound) (d : CodecValue) → IsSoundThere o → MoveHolds (encode_move who k pool o d)
+encode_holds who k pool None d own = tt
+encode_holds who k pool (Some x) d own = handed_own who (references_made pool) (is_configured (state_of d).control) x.shape x.held own.0 own.1
 
-take_holds : (who : Who) (k : ℕ) (d : CodecValue) (o : Option Came) → MoveHolds (take_move who k d o)
-take_holds who k d None = tt
-take_holds who k d (Some y) = tt
+handle_holds : (who : Who) (o : Option Came) → IsCameWithin o → MoveHolds (handle_move who o)
+handle_holds who None own = tt
+handle_holds who (Some y) own = own
 
-media_holds : (s : ScriptData) (media : List (List Chunk)) (who : Who) (x : MediaStep) (v : Course) → MoveHolds (media_move s media who x v)
-media_holds s media who (on_media.Take on bind kind) v =
+take_holds : (who : Who) (k : ℕ) (d : CodecValue) (o : Option Came) → IsCameWithin o → MoveHolds (take_move who k d o)
+take_holds who k d None own = tt
+take_holds who k d (Some y) own = (tt, own)
+
+media_holds : CodesAreBytes → (s : ScriptData) (media : List (List Chunk)) (who : Who) (x : MediaStep) (v : Course) → IsContentWithin x → IsCourseOwn v → MoveHolds (media_move s media who x v)
+media_holds laws s media who (on_media.Take on bind kind) v content h =
     let b : Brought = record { chunk = None; taken = found_at on (codec_at on v.codecs) } in
-    take_holds who on (codec_at on v.codecs) (media_came v.media.pool who b (on_media.Take on bind kind) (variables_of who.caller v.media.variables))
-media_holds s media who x v =
+    let vs = variables_of who.caller v.media.variables in
+    take_holds who on (codec_at on v.codecs) (media_came v.media.pool who b (on_media.Take on bind kind) vs) (came_within v.media.pool who b (on_media.Take on bind kind) vs content (found_own laws on v h) (h.variables who.caller))
+media_holds laws s media who (on_media.Encode on sound) v content h =
+    let vs = variables_of who.caller v.media.variables in
+    encode_holds who on v.media.pool (sound_at vs sound.step) (codec_at on v.codecs) (sound_found vs sound.step (h.variables who.caller))
+media_holds laws s media who x v content h =
     let b : Brought = record { chunk = copied_chunk media (steps_of s who.caller) x; taken = None } in
-    handle_holds who (media_came v.media.pool who b x (variables_of who.caller v.media.variables))
+    let vs = variables_of who.caller v.media.variables in
+    handle_holds who (media_came v.media.pool who b x vs) (came_within v.media.pool who b x vs content tt (h.variables who.caller))
 
-step_holds : (s : ScriptData) (media : List (List Chunk)) (who : Who) (x : Step) (v : Course) → MoveHolds (step_move s media who x v)
-step_holds s media who (step.Configure on config) v = tt
-step_holds s media who (step.Chunk bind source) v = tt
-step_holds s media who (step.Decode on chunk) v = decode_holds who on (chunk_at media (steps_of s who.caller) chunk.step) (codec_at on v.codecs)
-step_holds s media who (step.Flush on bind) v = tt
-step_holds s media who (step.Poll promise) v = tt
-step_holds s media who (step.Await promise) v = tt
-step_holds s media who (step.Reset on) v = tt
-step_holds s media who (step.Close on) v = tt
-step_holds s media who (step.State on) v = tt
-step_holds s media who (step.Media x) v = media_holds s media who x v
+step_holds : CodesAreBytes → (s : ScriptData) (media : List (List Chunk)) (made : List CoderId) (who : Who) (x : Step) (v : Course) → AreWithin s media made → slice_get (steps_of s who.caller) who.step ≡ Some x → IsCourseOwn v → MoveHolds (step_move s media who x v)
+step_holds laws s media made who (step.Configure on config) v within is h = λ valid. within.configs who.caller who.step on config is
+step_holds laws s media made who (step.Chunk bind source) v within is h = tt
+step_holds laws s media made who (step.Decode on chunk) v within is h =
+    let vs = variables_of who.caller v.media.variables in
+    let steps = steps_of s who.caller in
+    decode_holds who on (chunk_for media steps vs chunk.step) (codec_at on v.codecs) (chunk_found (chunk_at media steps chunk.step) vs chunk.step (chunk_made s media made within who.caller chunk.step) (h.variables who.caller))
+step_holds laws s media made who (step.Flush on bind) v within is h = tt
+step_holds laws s media made who (step.Poll promise) v within is h = tt
+step_holds laws s media made who (step.Await promise) v within is h = tt
+step_holds laws s media made who (step.Reset on) v within is h = tt
+step_holds laws s media made who (step.Close on) v within is h = tt
+step_holds laws s media made who (step.State on) v within is h = tt
+step_holds laws s media made who (step.Media x) v within is h = media_holds laws s media who x v (contents_within s media made who.caller who.step x within is) h
 
-next_holds : (s : ScriptData) (media : List (List Chunk)) (who : Who) (o : Option Step) (v : Course) → MoveHolds (next_move s media who o v)
-next_holds s media who None v = tt
-next_holds s media who (Some x) v = step_holds s media who x v
+next_holds : CodesAreBytes → (s : ScriptData) (media : List (List Chunk)) (made : List CoderId) (who : Who) (o : Option Step) (v : Course) → AreWithin s media made → slice_get (steps_of s who.caller) who.step ≡ o → IsCourseOwn v → MoveHolds (next_move s media who o v)
+next_holds laws s media made who None v within is h = tt
+next_holds laws s media made who (Some x) v within is h = step_holds laws s media made who x v within is h
+
+-- ---- items
 
 start_holds : (k epoch : ℕ) (o : Option Item) → MoveHolds (advance k (option_map (λ i. entry.Start epoch i.number) o))
 start_holds k epoch None = tt
 start_holds k epoch (Some i) = tt
 
-done_holds : (k moment : ℕ) (o : Option Running) (f : Running → Entry) → ((r : Running) → IsMomentOf (f r)) → MoveHolds (advance k (option_map f o))
+done_holds : (k moment : ℕ) (o : Option Running) (f : Running → Entry) → ((r : Running) → IsOwnEntry (f r)) → MoveHolds (advance k (option_map f o))
 done_holds k moment None f h = tt
 done_holds k moment (Some r) f h = h r
 
@@ -341,20 +528,22 @@ reclaim_holds : (k moment : ℕ) (b : Bool) → moment < 2 ^ 64 → MoveHolds (a
 reclaim_holds k moment true own = own
 reclaim_holds k moment false own = tt
 
-item_holds : (s : ScriptData) (media : List (List Chunk)) (wants : Bool) (x : OrderItem) (v : Course) → IsMoment x → MoveHolds (item_move s media wants x v)
-item_holds s media wants (item.Caller c) v own = next_holds s media (record { caller = c; step = length (at c v.callers) }) (slice_get (steps_of s c) (length (at c v.callers))) v
-item_holds s media wants (item.Start k) v own = start_holds k (state_of (codec_at k v.codecs)).control.epoch (start_item (state_of (codec_at k v.codecs)).control)
-item_holds s media wants (item.Done k moment) v own = done_holds k moment (state_of (codec_at k v.codecs)).control.running _ (λ r. own)
-item_holds s media wants (item.Turn k) v own = turn_holds k (state_of (codec_at k v.codecs)).control.tasks
-item_holds s media wants (item.Reclaim k moment) v own = reclaim_holds k moment (may_reclaim moment (state_of (codec_at k v.codecs)).control) own
+item_holds : CodesAreBytes → (s : ScriptData) (media : List (List Chunk)) (made : List CoderId) (wants : Bool) (x : OrderItem) (v : Course) → AreWithin s media made → IsMoment x → IsCourseOwn v → MoveHolds (item_move s media wants x v)
+item_holds laws s media made wants (item.Caller c) v within own h =
+    let j = length (at c v.callers) in next_holds laws s media made (record { caller = c; step = j }) (slice_get (steps_of s c) j) v within refl h
+item_holds laws s media made wants (item.Start k) v within own h = start_holds k (state_of (codec_at k v.codecs)).control.epoch (start_item (state_of (codec_at k v.codecs)).control)
+item_holds laws s media made wants (item.Done k moment) v within own h = done_holds k moment (state_of (codec_at k v.codecs)).control.running _ (λ r. own)
+item_holds laws s media made wants (item.Turn k) v within own h = turn_holds k (state_of (codec_at k v.codecs)).control.tasks
+item_holds laws s media made wants (item.Reclaim k moment) v within own h = reclaim_holds k moment (may_reclaim moment (state_of (codec_at k v.codecs)).control) own
 
 -- ---- the order
 
-follows_up : (s : ScriptData) (media : List (List Chunk)) (most : ℕ) (xs : List OrderItem) (v u : Course) (n : ℕ) → ((i : ℕ) (x : OrderItem) → slice_get xs i ≡ Some x → IsMoment x) → IsCourseUpTo n most v → Follows s media xs v u → IsCourseUpTo (n + length xs) most u
-follows_up s media most [] v u n all h follows = subst (λ (w : Course). IsCourseUpTo (n + 0) most w) (sym follows) (subst (λ (m : ℕ). IsCourseUpTo m most v) (omega arith) h)
-follows_up s media most (x ∷ xs) v u n all h follows =
-    let next = move_up n most (item_move s media follows.0 x v) v (item_holds s media follows.0 x v (all 0 x refl)) h in
-    subst (λ (m : ℕ). IsCourseUpTo m most u) (omega arith) (follows_up s media most xs (follow_item s media follows.0 x v) u (n + 1) (λ i y is. all (suc i) y is) next follows.1)
+follows_up : CodesAreBytes → HeldStays → (s : ScriptData) (media : List (List Chunk)) (made : List CoderId) (most : ℕ) (xs : List OrderItem) (v u : Course) (n : ℕ) → AreWithin s media made → ((i : ℕ) (x : OrderItem) → slice_get xs i ≡ Some x → IsMoment x)
+    → IsCourseUpTo n most v → Follows s media xs v u → IsCourseUpTo (n + length xs) most u
+follows_up laws stays s media made most [] v u n within all h follows = subst (λ (w : Course). IsCourseUpTo (n + 0) most w) (sym follows) (subst (λ (m : ℕ). IsCourseUpTo m most v) (omega arith) h)
+follows_up laws stays s media made most (x ∷ xs) v u n within all h follows =
+    let next = move_up stays n most (item_move s media follows.0 x v) v (item_holds laws s media made follows.0 x v within (all 0 x refl) h.own) h in
+    subst (λ (m : ℕ). IsCourseUpTo m most u) (omega arith) (follows_up laws stays s media made most xs (follow_item s media follows.0 x v) u (n + 1) within (λ i y is. all (suc i) y is) next follows.1)
 
 no_history : (cs : List CodecItem) (k : ℕ) → at k (histories (map (λ c. new_codec (opening_of c)) cs)) ≡ []
 no_history [] k = refl
@@ -366,8 +555,14 @@ no_box most [] k = tt
 no_box most (c ∷ cs) zero = tt
 no_box most (c ∷ cs) (suc k) = no_box most cs k
 
-pub course_up : (s : ScriptData) (media : List (List Chunk)) (made : List CoderId) (xs : List OrderItem) (u : Course) → ((i : ℕ) (x : OrderItem) → slice_get xs i ≡ Some x → IsMoment x) → Follows s media xs (nothing_yet s made) u → IsCourseUpTo (length xs) (length made) u
-course_up s media made xs u all follows = subst (λ (m : ℕ). IsCourseUpTo m (length made) u) (omega arith) (follows_up s media (length made) xs (nothing_yet s made) u 0 all begun follows)
+no_variables : (cs : List CallerItem) (c : ℕ) → AreVariables (variables_of c (map (λ x. []) cs))
+no_variables [] c = tt
+no_variables (x ∷ cs) zero = tt
+no_variables (x ∷ cs) (suc c) = no_variables cs c
+
+pub course_up : CodesAreBytes → HeldStays → (s : ScriptData) (media : List (List Chunk)) (made : List CoderId) (u : Course) → AreWithin s media made → Follows s media (order_items s) (nothing_yet s made) u → IsCourseUpTo (length (order_items s)) (length made) u
+course_up laws stays s media made u within follows =
+    subst (λ (m : ℕ). IsCourseUpTo m (length made) u) (omega arith) (follows_up laws stays s media made (length made) (order_items s) (nothing_yet s made) u 0 within within.moments begun follows)
   where
     begun : IsCourseUpTo 0 (length made) (nothing_yet s made)
     begun = record {
@@ -375,7 +570,7 @@ course_up s media made xs u all follows = subst (λ (m : ℕ). IsCourseUpTo m (l
       codecs = λ k. omega (arith, ap length (no_history s.codecs k));
       pool = omega arith;
       slots = omega arith;
-      moments = λ k p e is. absurd (let none : None ≡ Some e = sym (ap (λ (l : List Entry). slice_get l p) (no_history s.codecs k)) ∙ is in cc);
+      own = record { entries = λ k p e is. absurd (let none : None ≡ Some e = sym (ap (λ (l : List Entry). slice_get l p) (no_history s.codecs k)) ∙ is in cc); variables = no_variables s.callers };
       made = omega arith;
       ops = λ i e is. absurd cc;
       boxes = λ k. no_box (length made) s.codecs k;

@@ -32,13 +32,13 @@ use Rattle.codec_model.specs.ShownLaws.{replay_append}
 use Rattle.codec_model.specs.Facts.{NamesEarlier, IsNeverStuck, Always}
 use Rattle.codec_model.specs.Earlier.{pending_below, resolved_below}
 use Rattle.script_types.specs.declared.script.ScriptData.{ScriptData}
-use Rattle.trace_text.specs.Report.{entry_line_of, output_lines, event_lines, lines_from, entry_lines}
+use Rattle.trace_text.specs.Report.{entry_line_of, config_lines, output_lines, event_lines, lines_from, entry_lines}
 use Rattle.report_lines.specs.Fits.{FitsWho, FitsOutcome, FitsEntryLine, FitsLine}
 use Rattle.history_laws.specs.Answers.{answer_where}
 use Rattle.history_laws.specs.Numbers.{AreItemsUpTo, IsUpTo}
 use Rattle.history_laws.specs.NumberLaws.{step_up}
 use Rattle.history_laws.specs.OutputLaws.{all_append}
-use Rattle.run_ranges.proofs.UnitRanges.{IsUnitWithin, are_given}
+use Rattle.run_ranges.proofs.UnitRanges.{IsCarriedWithin, IsUnitWithin, are_given}
 
 -- ---- what a history does not tell
 
@@ -180,10 +180,15 @@ shown_promises n (entry.Done epoch number moment x) s h few names = tt
 shown_promises n entry.Turn s h few names = turned_within s.control.tasks s.control refl (omega (arith, h.place, few)) names
 shown_promises n (entry.Reclaim moment) s h few names = closed_within s.control.place dom.QuotaExceeded dom.QuotaExceeded s.control.pending (omega (arith, h.place, few)) (pending_below s.control names)
 
+-- the config that stands behind a chunk
+config_fits : (script : ScriptData) (o : Option AudioDecoderConfig) → IsCarriedWithin o → AllByRecursion (FitsLine script) (config_lines o)
+config_fits script None own = tt
+config_fits script (Some d) own = ((own.word.0, own.word.1, own.rate, own.channels, own.description), tt)
+
 output_fits : (script : ScriptData) (u : media.Unit) → IsUnitWithin u → AllByRecursion (FitsLine script) (output_lines u)
 output_fits script (unit.Sound samples) own = (own, tt)
 output_fits script (unit.Image picture) own = (own, tt)
-output_fits script (unit.Coded chunk config) own = absurd own
+output_fits script (unit.Coded chunk config) own = (own.0, config_fits script config own.1)
 
 events_fit : (script : ScriptData) (xs : List Event) → ArePromises xs → AllByRecursion IsUnitWithin (units_in xs) → AllByRecursion (FitsLine script) (flat_map event_lines xs)
 events_fit script [] promises units = tt

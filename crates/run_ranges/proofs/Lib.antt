@@ -1,5 +1,6 @@
 mod ByteRanges
 mod FlacRanges
+mod CodeRanges
 mod UnitRanges
 mod EntryRanges
 mod TakenRanges

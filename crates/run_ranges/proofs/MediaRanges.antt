@@ -13,7 +13,7 @@ use Rattle.codec_definitions.specs.declared.unit.Unit as output
 use Rattle.codec_definitions.specs.declared.unit.Unit.TheVariants as unit
 use Rattle.picture_planes.specs.Planes.{picture_size}
 use Rattle.wc_pool.specs.declared.entry.PoolEntry.{PoolEntry}
-use Rattle.wc_pool.specs.Bag.{references_made}
+use Rattle.wc_pool.specs.declared.reference.MediaRef.{MediaRef}
 use Rattle.wc_audio.specs.Sound as audio
 use Rattle.wc_audio.specs.Copies as sound
 use Rattle.wc_video.specs.Frames as frames
@@ -31,25 +31,31 @@ use Rattle.script_types.specs.declared.steps.Step.TheVariants as step
 use Rattle.script_types.specs.Names.{is_copied}
 use Rattle.script_types.specs.Sound.{is_variable, are_options_of, is_sound_media, most_chunk}
 use Rattle.report_text.specs.declared.result.StepResult.{StepResult}
-use Rattle.media_variables.specs.Variables.{Reference, Shape, SoundOf, PictureOf, Medium, Came, Taken, Brought, medium_at, with_medium, detached, only_answers, refused, makes, audio_came, frame_came, clone_held, transfer_held, close_held, if_there, zeros, sound_of, frame_of, copy_options, rect_of, layouts_in, copy_chunk, copy_sound, copy_frame, size_of_sound, size_of_frame, copy_medium, size_of_medium, copy_came, unit_came, taken_came, media_came}
+use Rattle.media_variables.specs.Variables.{Reference, Shape, SoundOf, PictureOf, ChunkOf, Medium, Came, Taken, Brought, medium_at, with_medium, detached, only_answers, refused, makes, audio_came, frame_came, clone_held, transfer_held, close_held, if_there, zeros, media_ref, sound_of, frame_of, copy_options, rect_of, layouts_in, copy_chunk, copy_sound, copy_frame, size_of_sound, size_of_frame, copy_medium, size_of_medium, chunk_in_medium, chunk_of_variable, copy_came, chunk_medium, sound_in, sound_at, unit_came, taken_came, media_came}
 use Rattle.media_accounts.specs.Accounts.{step_by, before_step, media_of, variables_by, came_on, variables_in, came_in}
 use Rattle.trace_text.specs.Fits.{IsMediaAnswer}
 use Rattle.report_lines.specs.Fits.{FitsResult}
+use Rattle.run_ranges.specs.Ranges.{IsChunkWithin, IsShapeWithin}
 use Rattle.run_ranges.proofs.ByteRanges.{nothing_small, take_small, zeros_small}
 use Rattle.run_ranges.proofs.UnitRanges.{IsUnitWithin}
 use Rattle.run_ranges.proofs.CopyRanges.{sound_copy_fits, sound_size_fits, chunk_copy_fits, plan_within, frame_copy_fits, frame_size_fits}
 
 -- ---- what a variable holds
 
--- a frame has bytes; what audio data has is spelled anew where it is copied
-abbrev pub IsHeldWithin : Option Reference → Shape → Type 0
-IsHeldWithin None shape = Unit {0}
-IsHeldWithin (Some r) (SoundOf shape) = Unit {0}
-IsHeldWithin (Some r) (PictureOf shape) = IsBytes r.bytes
+-- the shape of audio data is within its types, and so is a chunk
+abbrev pub IsKindWithin : Shape → Type 0
+IsKindWithin (SoundOf shape) = IsShapeWithin shape
+IsKindWithin (PictureOf shape) = Unit {0}
+IsKindWithin (ChunkOf chunk) = IsChunkWithin chunk
+
+-- what is held is bytes
+abbrev pub IsHeldWithin : Option Reference → Type 0
+IsHeldWithin None = Unit {0}
+IsHeldWithin (Some r) = IsBytes r.bytes
 
 abbrev pub IsVariableWithin : Option Medium → Type 0
 IsVariableWithin None = Unit {0}
-IsVariableWithin (Some m) = IsHeldWithin m.held m.shape
+IsVariableWithin (Some m) = IsKindWithin m.shape × IsHeldWithin m.held
 
 abbrev pub AreVariables : List (Option Medium) → Type 0
 AreVariables vs = AllByRecursion IsVariableWithin vs
@@ -65,52 +71,90 @@ with_within zero m (v ∷ vs) own h = (own, h.1)
 with_within (suc j) m [] own h = (tt, with_within j m [] own tt)
 with_within (suc j) m (v ∷ vs) own h = (h.0, with_within j m vs own h.1)
 
--- another reference to the same resource
-renumbered : (r : Reference) (n : ℕ) (shape : Shape) → IsHeldWithin (Some r) shape → IsHeldWithin (Some (record r { number = n })) shape
-renumbered r n (SoundOf shape) h = tt
-renumbered r n (PictureOf shape) h = h
+-- ---- the chunk and the audio data of a variable
+
+abbrev pub IsChunkThere : Option Chunk → Type 0
+IsChunkThere None = Unit {0}
+IsChunkThere (Some c) = IsChunkWithin c
+
+chunk_in_shape : (shape : Shape) (held : Option Reference) → IsKindWithin shape → IsChunkThere (chunk_in_medium (record { shape = shape; held = held }))
+chunk_in_shape (SoundOf shape) held own = tt
+chunk_in_shape (PictureOf shape) held own = tt
+chunk_in_shape (ChunkOf chunk) held own = own
+
+chunk_in_variable : (o : Option Medium) → IsVariableWithin o → IsChunkThere (option_and_then chunk_in_medium o)
+chunk_in_variable None own = tt
+chunk_in_variable (Some m) own = chunk_in_shape m.shape m.held own.0
+
+pub chunk_found : (made : Option Chunk) (vs : List (Option Medium)) (j : ℕ) → IsChunkThere made → AreVariables vs → IsChunkThere (chunk_of_variable made vs j)
+chunk_found None vs j own h = chunk_in_variable (medium_at vs j) (medium_within vs j h)
+chunk_found (Some c) vs j own h = own
+
+abbrev pub IsRefWithin : Option MediaRef → Type 0
+IsRefWithin None = Unit {0}
+IsRefWithin (Some r) = IsBytes r.bytes
+
+abbrev pub IsSoundThere : Option audio.Sound → Type 0
+IsSoundThere None = Unit {0}
+IsSoundThere (Some x) = IsShapeWithin x.shape × IsRefWithin x.held
+
+ref_within : (held : Option Reference) → IsHeldWithin held → IsRefWithin (option_map media_ref held)
+ref_within None h = tt
+ref_within (Some r) h = h
+
+sound_in_shape : (shape : Shape) (held : Option Reference) → IsKindWithin shape → IsHeldWithin held → IsSoundThere (sound_in (record { shape = shape; held = held }))
+sound_in_shape (SoundOf shape) held own h = (own, ref_within held h)
+sound_in_shape (PictureOf shape) held own h = tt
+sound_in_shape (ChunkOf chunk) held own h = tt
+
+sound_in_variable : (o : Option Medium) → IsVariableWithin o → IsSoundThere (option_and_then sound_in o)
+sound_in_variable None own = tt
+sound_in_variable (Some m) own = sound_in_shape m.shape m.held own.0 own.1
+
+pub sound_found : (vs : List (Option Medium)) (j : ℕ) → AreVariables vs → IsSoundThere (sound_at vs j)
+sound_found vs j h = sound_in_variable (medium_at vs j) (medium_within vs j h)
 
 -- ---- what steps leave in variables
 
-abbrev IsCameWithin : Option Came → Type 0
+abbrev pub IsCameWithin : Option Came → Type 0
 IsCameWithin None = Unit {0}
 IsCameWithin (Some y) = AreVariables y.variables
 
--- the content of a frame's init is bytes
+-- the content of an init is bytes, and the shape of audio data is within its types
 abbrev pub IsContentWithin : MediaStep → Type 0
+IsContentWithin (media.Audio bind (Some init)) = IsShapeWithin init.shape × IsBytes init.content
 IsContentWithin (media.Frame bind (Some init)) = IsBytes init.content
 IsContentWithin x = Unit {0}
 
-audio_within : (pool : List PoolEntry) (j : ℕ) (o : Option SoundInit) (vs : List (Option Medium)) → AreVariables vs → AreVariables (audio_came pool j o vs).variables
-audio_within pool j None vs h = h
-audio_within pool j (Some i) vs h = one (audio.is_invalid i.shape (length i.content))
+audio_within : (pool : List PoolEntry) (j : ℕ) (i : SoundInit) (vs : List (Option Medium)) → IsShapeWithin i.shape → IsBytes i.content → AreVariables vs → AreVariables (audio_came pool j (Some i) vs).variables
+audio_within pool j i vs own small h = one (audio.is_invalid i.shape (length i.content))
   where
     one : (b : Bool) → AreVariables (cond b (only_answers (refused dom.TypeErr) vs) (makes pool j (SoundOf i.shape) (take (audio.needed i.shape) i.content) vs)).variables
     one true = h
-    one false = with_within j _ vs tt h
+    one false = with_within j _ vs (own, take_small (audio.needed i.shape) i.content small) h
 
 frame_within : (pool : List PoolEntry) (j : ℕ) (i : PictureInit) (vs : List (Option Medium)) → IsBytes i.content → AreVariables vs → AreVariables (frame_came pool j (Some i) vs).variables
 frame_within pool j i vs small h = one (frames.is_invalid i.shape (length i.content))
   where
     one : (b : Bool) → AreVariables (cond b (only_answers (refused dom.TypeErr) vs) (makes pool j (PictureOf i.shape) (take (picture_size i.shape) i.content) vs)).variables
     one true = h
-    one false = with_within j _ vs (take_small (picture_size i.shape) i.content small) h
+    one false = with_within j _ vs (tt, take_small (picture_size i.shape) i.content small) h
 
 there_within : (o : Option Medium) (vs : List (Option Medium)) (f : Medium → Came) → IsVariableWithin o → AreVariables vs → ((m : Medium) → IsVariableWithin (Some m) → AreVariables (f m).variables) → AreVariables (if_there o vs f).variables
 there_within None vs f own h each = h
 there_within (Some m) vs f own h each = each m own
 
-clone_within : (pool : List PoolEntry) (j : ℕ) (shape : Shape) (held : Option Reference) (vs : List (Option Medium)) → IsHeldWithin held shape → AreVariables vs → AreVariables (clone_held pool j shape held vs).variables
-clone_within pool j shape None vs own h = h
-clone_within pool j shape (Some r) vs own h = with_within j _ vs (renumbered r (references_made pool) shape own) h
+clone_within : (pool : List PoolEntry) (j : ℕ) (shape : Shape) (held : Option Reference) (vs : List (Option Medium)) → IsKindWithin shape → IsHeldWithin held → AreVariables vs → AreVariables (clone_held pool j shape held vs).variables
+clone_within pool j shape None vs own small h = h
+clone_within pool j shape (Some r) vs own small h = with_within j _ vs (own, small) h
 
 transfer_within : (j of : ℕ) (m : Medium) (held : Option Reference) (vs : List (Option Medium)) → IsVariableWithin (Some m) → AreVariables vs → AreVariables (transfer_held j of m held vs).variables
 transfer_within j of m None vs own h = h
-transfer_within j of m (Some r) vs own h = with_within j m (with_medium of (detached m) vs) own (with_within of (detached m) vs tt h)
+transfer_within j of m (Some r) vs own h = with_within j m (with_medium of (detached m) vs) own (with_within of (detached m) vs (own.0, tt) h)
 
-close_within : (pool : List PoolEntry) (who : Who) (of : ℕ) (m : Medium) (held : Option Reference) (vs : List (Option Medium)) → AreVariables vs → AreVariables (close_held pool who of m held vs).variables
-close_within pool who of m None vs h = h
-close_within pool who of m (Some r) vs h = with_within of (detached m) vs tt h
+close_within : (pool : List PoolEntry) (who : Who) (of : ℕ) (m : Medium) (held : Option Reference) (vs : List (Option Medium)) → IsVariableWithin (Some m) → AreVariables vs → AreVariables (close_held pool who of m held vs).variables
+close_within pool who of m None vs own h = h
+close_within pool who of m (Some r) vs own h = with_within of (detached m) vs (own.0, tt) h
 
 copy_within : (chunk : Option Chunk) (of : ℕ) (o : Options) (size : ℕ) (vs : List (Option Medium)) → AreVariables vs → AreVariables (copy_came chunk of o size vs).variables
 copy_within chunk of options.Nothing size vs h = h
@@ -123,23 +167,24 @@ IsOutputWithin None = Unit {0}
 IsOutputWithin (Some t) = IsUnitWithin t.unit
 
 unit_within : (pool : List PoolEntry) (j : ℕ) (answer : StepResult) (u : output.Unit) (vs : List (Option Medium)) → IsUnitWithin u → AreVariables vs → AreVariables (unit_came pool j answer u vs).variables
-unit_within pool j answer (unit.Sound samples) vs own h = with_within j _ vs tt h
-unit_within pool j answer (unit.Image picture) vs own h = with_within j _ vs own.are_bytes h
-unit_within pool j answer (unit.Coded chunk config) vs own h = h
+unit_within pool j answer (unit.Sound samples) vs own h = with_within j _ vs ((own.frames, own.timestamp), own.are_bytes) h
+unit_within pool j answer (unit.Image picture) vs own h = with_within j _ vs (tt, own.are_bytes) h
+unit_within pool j answer (unit.Coded chunk config) vs own h = with_within j (chunk_medium chunk) vs (own.0, tt) h
 
 output_within : (pool : List PoolEntry) (j : ℕ) (o : Option Taken) (vs : List (Option Medium)) → IsOutputWithin o → AreVariables vs → IsCameWithin (taken_came pool j o vs)
 output_within pool j None vs own h = tt
 output_within pool j (Some t) vs own h = unit_within pool j t.answer t.unit vs own h
 
-came_within : (pool : List PoolEntry) (who : Who) (b : Brought) (x : MediaStep) (vs : List (Option Medium)) → IsContentWithin x → IsOutputWithin b.taken → AreVariables vs → IsCameWithin (media_came pool who b x vs)
-came_within pool who b (media.Audio bind init) vs small own h = audio_within pool who.step init vs h
+pub came_within : (pool : List PoolEntry) (who : Who) (b : Brought) (x : MediaStep) (vs : List (Option Medium)) → IsContentWithin x → IsOutputWithin b.taken → AreVariables vs → IsCameWithin (media_came pool who b x vs)
+came_within pool who b (media.Audio bind None) vs small own h = h
+came_within pool who b (media.Audio bind (Some init)) vs small own h = audio_within pool who.step init vs small.0 small.1 h
 came_within pool who b (media.Frame bind None) vs small own h = h
 came_within pool who b (media.Frame bind (Some init)) vs small own h = frame_within pool who.step init vs small h
 came_within pool who b (media.Encode on content) vs small own h = tt
 came_within pool who b (media.Take on bind kind) vs small own h = output_within pool who.step b.taken vs own h
-came_within pool who b (media.Clone of bind) vs small own h = there_within (medium_at vs of.step) vs _ (medium_within vs of.step h) h (λ m its. clone_within pool who.step m.shape m.held vs its h)
+came_within pool who b (media.Clone of bind) vs small own h = there_within (medium_at vs of.step) vs _ (medium_within vs of.step h) h (λ m its. clone_within pool who.step m.shape m.held vs its.0 its.1 h)
 came_within pool who b (media.Transfer of bind) vs small own h = there_within (medium_at vs of.step) vs _ (medium_within vs of.step h) h (λ m its. transfer_within who.step of.step m m.held vs its h)
-came_within pool who b (media.CloseData of) vs small own h = there_within (medium_at vs of.step) vs _ (medium_within vs of.step h) h (λ m its. close_within pool who of.step m m.held vs h)
+came_within pool who b (media.CloseData of) vs small own h = there_within (medium_at vs of.step) vs _ (medium_within vs of.step h) h (λ m its. close_within pool who of.step m m.held vs its h)
 came_within pool who b (media.Copy of o size) vs small own h = copy_within b.chunk of.step o size vs h
 came_within pool who b (media.Size of o) vs small own h = there_within (medium_at vs of.step) vs _ (medium_within vs of.step h) h (λ m its. h)
 
@@ -148,11 +193,6 @@ came_within pool who b (media.Size of o) vs small own h = there_within (medium_a
 abbrev pub IsAnswerWithin : ScriptData → Option Came → Type 0
 IsAnswerWithin s None = Unit {0}
 IsAnswerWithin s (Some y) = FitsResult s y.answer
-
--- a chunk that is copied has bytes
-abbrev pub IsChunkOfBytes : Option Chunk → Type 0
-IsChunkOfBytes None = Unit {0}
-IsChunkOfBytes (Some c) = IsBytes c.bytes
 
 -- a destination's size is at most what a script may ask for
 abbrev pub IsSizeSmall : MediaStep → Type 0
@@ -165,12 +205,12 @@ size_small_of codecs before (media.Copy of o size) sound =
     leb-true size most_chunk (and_parts (are_options_of o of.kind) (nat_le size most_chunk) named.1).1
 size_small_of codecs before x sound = tt
 
-chunk_answers : (s : ScriptData) (o : Option Chunk) (size : ℕ) → size ≤ most_chunk → IsChunkOfBytes o → FitsResult s (copy_chunk o size)
-chunk_answers s None size few small = tt
-chunk_answers s (Some c) size few small = chunk_copy_fits s size c.bytes (omega (arith, few)) small
+chunk_answers : (s : ScriptData) (o : Option Chunk) (size : ℕ) → size ≤ most_chunk → IsChunkThere o → FitsResult s (copy_chunk o size)
+chunk_answers s None size few own = tt
+chunk_answers s (Some c) size few own = chunk_copy_fits s size c.bytes (omega (arith, few)) own.2
 
 -- the bytes of a frame that its shape needs
-frame_small : (shape : PictureShape) (held : Option Reference) → IsHeldWithin held (PictureOf shape) → IsBytes (unwrap_or (frames.content_of (frame_of shape held)) [])
+frame_small : (shape : PictureShape) (held : Option Reference) → IsHeldWithin held → IsBytes (unwrap_or (frames.content_of (frame_of shape held)) [])
 frame_small shape None h = nothing_small
 frame_small shape (Some r) h = take_small (picture_size shape) r.bytes h
 
@@ -180,7 +220,7 @@ sound_answers s shape held (options.Audio None) size few = tt
 sound_answers s shape held (options.Frame o) size few = tt
 sound_answers s shape held options.Nothing size few = tt
 
-frame_answers : (s : ScriptData) (shape : PictureShape) (held : Option Reference) (o : Options) (size : ℕ) → IsHeldWithin held (PictureOf shape) → FitsResult s (copy_frame (frame_of shape held) o size)
+frame_answers : (s : ScriptData) (shape : PictureShape) (held : Option Reference) (o : Options) (size : ℕ) → IsHeldWithin held → FitsResult s (copy_frame (frame_of shape held) o size)
 frame_answers s shape held (options.Frame (Some o)) size own =
     let f = frame_of shape held in
     frame_copy_fits s (unwrap_or (frames.content_of f) []) (zeros size) (video.plan_for f (option_map rect_of o.rect) (layouts_in o)) (frame_small shape held own) (zeros_small size) (plan_within f (option_map rect_of o.rect) (layouts_in o))
@@ -200,13 +240,15 @@ frame_sizes s shape held (options.Frame None) = tt
 frame_sizes s shape held (options.Audio o) = tt
 frame_sizes s shape held options.Nothing = tt
 
-copies_fit : (s : ScriptData) (shape : Shape) (held : Option Reference) (o : Options) (size : ℕ) → size ≤ most_chunk → IsHeldWithin held shape → FitsResult s (copy_medium (record { shape = shape; held = held }) o size)
+copies_fit : (s : ScriptData) (shape : Shape) (held : Option Reference) (o : Options) (size : ℕ) → size ≤ most_chunk → IsHeldWithin held → FitsResult s (copy_medium (record { shape = shape; held = held }) o size)
 copies_fit s (SoundOf shape) held o size few own = sound_answers s shape held o size few
 copies_fit s (PictureOf shape) held o size few own = frame_answers s shape held o size own
+copies_fit s (ChunkOf chunk) held o size few own = tt
 
 sizes_fit : (s : ScriptData) (shape : Shape) (held : Option Reference) (o : Options) → FitsResult s (size_of_medium (record { shape = shape; held = held }) o)
 sizes_fit s (SoundOf shape) held o = sound_sizes s shape held o
 sizes_fit s (PictureOf shape) held o = frame_sizes s shape held o
+sizes_fit s (ChunkOf chunk) held o = tt
 
 there_answers : (s : ScriptData) (o : Option Medium) (vs : List (Option Medium)) (f : Medium → Came) → IsVariableWithin o → ((m : Medium) → IsVariableWithin (Some m) → FitsResult s (f m).answer) → FitsResult s (if_there o vs f).answer
 there_answers s None vs f own each = tt
@@ -240,10 +282,10 @@ close_answers : (s : ScriptData) (pool : List PoolEntry) (who : Who) (of : ℕ) 
 close_answers s pool who of m None vs = tt
 close_answers s pool who of m (Some r) vs = tt
 
-copy_answers : (s : ScriptData) (chunk : Option Chunk) (of : ℕ) (o : Options) (size : ℕ) (vs : List (Option Medium)) → IsChunkOfBytes chunk → size ≤ most_chunk → AreVariables vs → FitsResult s (copy_came chunk of o size vs).answer
-copy_answers s chunk of options.Nothing size vs small few h = chunk_answers s chunk size few small
-copy_answers s chunk of (options.Audio o) size vs small few h = there_answers s (medium_at vs of) vs _ (medium_within vs of h) (λ m own. copies_fit s m.shape m.held (options.Audio o) size few own)
-copy_answers s chunk of (options.Frame o) size vs small few h = there_answers s (medium_at vs of) vs _ (medium_within vs of h) (λ m own. copies_fit s m.shape m.held (options.Frame o) size few own)
+copy_answers : (s : ScriptData) (chunk : Option Chunk) (of : ℕ) (o : Options) (size : ℕ) (vs : List (Option Medium)) → IsChunkThere chunk → size ≤ most_chunk → AreVariables vs → FitsResult s (copy_came chunk of o size vs).answer
+copy_answers s chunk of options.Nothing size vs small few h = chunk_answers s (chunk_of_variable chunk vs of) size few (chunk_found chunk vs of small h)
+copy_answers s chunk of (options.Audio o) size vs small few h = there_answers s (medium_at vs of) vs _ (medium_within vs of h) (λ m own. copies_fit s m.shape m.held (options.Audio o) size few own.1)
+copy_answers s chunk of (options.Frame o) size vs small few h = there_answers s (medium_at vs of) vs _ (medium_within vs of h) (λ m own. copies_fit s m.shape m.held (options.Frame o) size few own.1)
 
 -- what a take that found an output answers
 abbrev pub FitsTaken : ScriptData → Option Taken → Type 0
@@ -259,7 +301,7 @@ taken_answers : (s : ScriptData) (pool : List PoolEntry) (j : ℕ) (o : Option T
 taken_answers s pool j None vs told = tt
 taken_answers s pool j (Some t) vs told = unit_answers s pool j t.answer t.unit vs told
 
-media_answers : (s : ScriptData) (pool : List PoolEntry) (who : Who) (b : Brought) (x : MediaStep) (vs : List (Option Medium)) → IsChunkOfBytes b.chunk → FitsTaken s b.taken → IsSizeSmall x → AreVariables vs → IsAnswerWithin s (media_came pool who b x vs)
+media_answers : (s : ScriptData) (pool : List PoolEntry) (who : Who) (b : Brought) (x : MediaStep) (vs : List (Option Medium)) → IsChunkThere b.chunk → FitsTaken s b.taken → IsSizeSmall x → AreVariables vs → IsAnswerWithin s (media_came pool who b x vs)
 media_answers s pool who b (media.Audio bind init) vs small told few h = audio_answers s pool who.step init vs
 media_answers s pool who b (media.Frame bind init) vs small told few h = picture_answers s pool who.step init vs
 media_answers s pool who b (media.Encode on content) vs small told few h = tt
@@ -272,11 +314,10 @@ media_answers s pool who b (media.Size of o) vs small told few h = there_answers
 
 -- ---- a caller's steps
 
--- what has to be known of the steps on media: their frames' contents, the chunks that they copy, the outputs that they take,
--- and their sizes
+-- what has to be known of the steps on media: their inits, the chunks that they copy, the outputs that they take, and their sizes
 pub record AreSteps (s : ScriptData) (steps : ℕ → List Step) (brought : ℕ → ℕ → MediaStep → Brought) : Type 0 where
   pub contents : (c j : ℕ) (x : MediaStep) → slice_get (steps c) j ≡ Some (step.Media x) → IsContentWithin x
-  pub copied : (c j : ℕ) (x : MediaStep) → IsChunkOfBytes (brought c j x).chunk
+  pub copied : (c j : ℕ) (x : MediaStep) → IsChunkThere (brought c j x).chunk
   pub outputs : (c j : ℕ) (x : MediaStep) → IsOutputWithin (brought c j x).taken
   pub told : (c j : ℕ) (x : MediaStep) → FitsTaken s (brought c j x).taken
   pub sizes : (c j : ℕ) (x : MediaStep) → slice_get (steps c) j ≡ Some (step.Media x) → IsSizeSmall x

@@ -1,6 +1,6 @@
--- What the history of a pool that callers' steps account for holds is within its types.
+-- What the history of a pool that callers' steps and codecs' entries account for holds is within its types.
 use Rattle.std.proofs.Common.{ℕ, zero, suc, ◌≡◌, ◌<◌, ◌≤◌, ◌+◌, ◌^◌, not, Bool, true, false, cond, List, [], ◌∷◌, ◌++◌, length, length-append, Option, Some, None, refl, ap, sym, subst, ◌∙◌, arith, append_assoc, append-nil, eq-eqb}
-use Rattle.std.specs.Prelude.{nat_lt, slice_get, ◌==◌}
+use Rattle.std.specs.Prelude.{nat_lt, slice_get, map, ◌==◌, ◌&&◌}
 use Rattle.std.specs.List.{AllByRecursion}
 use Rattle.std.proofs.lemmas.Bool.{and_parts, and_from, eqb-true, ltb-true}
 use Rattle.std.proofs.lemmas.List.Sums.{count_by-le-length}
@@ -15,7 +15,7 @@ use Rattle.script_types.specs.declared.script.ScriptData.{ScriptData}
 use Rattle.script_types.specs.declared.steps.MediaStep.{MediaStep}
 use Rattle.script_types.specs.declared.steps.Step.{Step}
 use Rattle.media_variables.specs.Variables.{Came, Brought}
-use Rattle.media_accounts.specs.Accounts.{is_by_step, ops_by, owes, IsOfCaller, MediaAreIn, came_in}
+use Rattle.media_accounts.specs.Accounts.{is_by_step, is_by_entry, ops_where, without_last, owes, MediaAreIn, came_in}
 use Rattle.trace_text.specs.Report.{lines_from, pool_lines}
 use Rattle.report_lines.specs.Fits.{FitsBy, FitsPoolOp, FitsLine}
 
@@ -99,17 +99,17 @@ held_up_to pool = omega (arith, count_small (λ r. is_held r pool) (resources_ma
 
 -- ---- whose entries they are
 
--- a step that has an entry did something
-ops_some : (c j n : ℕ) (pool : List PoolEntry) (e : PoolEntry) → slice_get pool n ≡ Some e → is_by_step c j e.by ≡ true → ops_by c j pool ≡ [] → ⊥
-ops_some c j n [] e is own none = absurd cc
-ops_some c j zero (d ∷ ds) e is own none =
+-- causes that pass a test and have an entry did something
+ops_some : (test : By → Bool) (n : ℕ) (pool : List PoolEntry) (e : PoolEntry) → slice_get pool n ≡ Some e → test e.by ≡ true → ops_where test pool ≡ [] → ⊥
+ops_some test n [] e is own none = absurd cc
+ops_some test zero (d ∷ ds) e is own none =
     let same : d ≡ e = cc in
-    let its : is_by_step c j d.by ≡ true = ap (λ (x : PoolEntry). is_by_step c j x.by) same ∙ own in
-    let bad : d.op ∷ ops_by c j ds ≡ [] = sym (ap (λ (b : Bool). cond b (d.op ∷ ops_by c j ds) (ops_by c j ds)) its) ∙ none in
+    let its : test d.by ≡ true = ap (λ (x : PoolEntry). test x.by) same ∙ own in
+    let bad : d.op ∷ ops_where test ds ≡ [] = sym (ap (λ (b : Bool). cond b (d.op ∷ ops_where test ds) (ops_where test ds)) its) ∙ none in
     absurd cc
-ops_some c j (suc n) (d ∷ ds) e is own none = next (is_by_step c j d.by) none (λ rest. ops_some c j n ds e is own rest)
+ops_some test (suc n) (d ∷ ds) e is own none = next (test d.by) none (λ rest. ops_some test n ds e is own rest)
   where
-    next : (b : Bool) → cond b (d.op ∷ ops_by c j ds) (ops_by c j ds) ≡ [] → (ops_by c j ds ≡ [] → ⊥) → ⊥
+    next : (b : Bool) → cond b (d.op ∷ ops_where test ds) (ops_where test ds) ≡ [] → (ops_where test ds ≡ [] → ⊥) → ⊥
     next true some more = absurd cc
     next false rest more = more rest
 
@@ -117,21 +117,29 @@ owing : (b : Bool) (y : Option Came) → (owes b y ≡ [] → ⊥) → b ≡ tru
 owing true y some = refl
 owing false y some = absurd (some refl)
 
--- a caller's step that was made
-abbrev pub IsMadeStep : (ℕ → ℕ) → By → Type 0
-IsMadeStep made (by.Caller who) = who.step < made who.caller
-IsMadeStep made (by.Codec k place) = ⊥
+unmapped : (ops : List PoolOp) → map without_last ops ≡ [] → ops ≡ []
+unmapped [] none = refl
+unmapped (o ∷ os) none = absurd cc
 
-pub entry_made : (steps : ℕ → List Step) (brought : ℕ → ℕ → MediaStep → Brought) (made : ℕ → ℕ) (pool : List PoolEntry) → MediaAreIn steps brought made pool → (n : ℕ) (e : PoolEntry) → slice_get pool n ≡ Some e → IsMadeStep made e.by
-entry_made steps brought made pool h n e is = of (e.by) refl (h.callers n e is)
+-- a caller's step that was made, or an entry of a codec that calls for something
+abbrev pub IsMadeBy : (ℕ → ℕ → List PoolOp) → (ℕ → ℕ) → By → Type 0
+IsMadeBy lends made (by.Caller who) = who.step < made who.caller
+IsMadeBy lends made (by.Codec k place) = lends k place ≡ [] → ⊥
+
+pub entry_made : (steps : ℕ → List Step) (brought : ℕ → ℕ → MediaStep → Brought) (lends : ℕ → ℕ → List PoolOp) (made : ℕ → ℕ) (pool : List PoolEntry) → MediaAreIn steps brought lends made pool → (n : ℕ) (e : PoolEntry) → slice_get pool n ≡ Some e → IsMadeBy lends made e.by
+entry_made steps brought lends made pool h n e is = of (e.by) refl
   where
-    of : (b : By) → e.by ≡ b → IsOfCaller b → IsMadeStep made b
-    of (by.Caller who) its caller =
-        let own : is_by_step who.caller who.step e.by ≡ true =
-        ap (λ (b : By). is_by_step who.caller who.step b) its ∙ and_from (who.caller == who.caller) (who.step == who.step) (eq-eqb who.caller who.caller refl) (eq-eqb who.step who.step refl) in
+    same : (a b : ℕ) → (a == a) && (b == b) ≡ true
+    same a b = and_from (a == a) (b == b) (eq-eqb a a refl) (eq-eqb b b refl)
+
+    of : (b : By) → e.by ≡ b → IsMadeBy lends made b
+    of (by.Caller who) its =
+        let own : is_by_step who.caller who.step e.by ≡ true = ap (is_by_step who.caller who.step) its ∙ same who.caller who.step in
         ltb-true who.step (made who.caller)
-        (owing (nat_lt who.step (made who.caller)) (came_in steps brought pool who.caller who.step) (λ none. ops_some who.caller who.step n pool e is own (h.owed who.caller who.step ∙ none)))
-    of (by.Codec k place) its caller = absurd caller
+        (owing (nat_lt who.step (made who.caller)) (came_in steps brought pool who.caller who.step) (λ none. ops_some (is_by_step who.caller who.step) n pool e is own (h.owed who.caller who.step ∙ none)))
+    of (by.Codec k place) its =
+        let own : is_by_entry k place e.by ≡ true = ap (is_by_entry k place) its ∙ same k place in
+        λ none. ops_some (is_by_entry k place) n pool e is own (unmapped (ops_where (is_by_entry k place) pool) (h.codecs k place ∙ none))
 
 -- ---- the lines
 

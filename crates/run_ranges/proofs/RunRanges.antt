@@ -2,6 +2,7 @@
 use Rattle.std.proofs.Common.{◌≡◌, ℕ, zero, suc, ◌+◌, ◌*◌, ◌<◌, ◌≤◌, ◌^◌, ◌&&◌, true, List, [], ◌∷◌, length, map, take, Option, Some, None, refl, sym, subst, ◌∙◌, arith}
 use Rattle.std.specs.Prelude.{nat_le, option_map, option_and_then, unwrap_or}
 use Rattle.std.specs.List.{AllByRecursion, zip, slice_get, sum_by}
+use Rattle.std.proofs.Math.Nat.{mul-le-mul}
 use Rattle.std.proofs.lemmas.Bool.{and_parts, leb-true}
 use Rattle.std.proofs.lemmas.List.{length-map}
 use Rattle.std.proofs.lemmas.Option.{slice_get_within}
@@ -10,7 +11,6 @@ use Rattle.wc_base.specs.declared.who.Who.{Who}
 use Rattle.wc_base.specs.declared.who.By.{By}
 use Rattle.wc_base.specs.declared.who.By.TheVariants as by
 use Rattle.wc_config.specs.declared.codec.CoderId.{CoderId}
-use Rattle.wc_config.specs.declared.config.Config.{Config}
 use Rattle.wc_chunk.specs.declared.chunk.Chunk.{Chunk}
 use Rattle.wc_pool.specs.Laws.{LiveAreNumbered}
 use Rattle.wc_video.specs.declared.layout.Layouts.{Layouts}
@@ -23,18 +23,16 @@ use Rattle.codec_model.specs.declared.entry.Opening.{Opening}
 use Rattle.codec_model.specs.declared.entry.PromiseState.{PromiseState}
 use Rattle.codec_model.specs.declared.entry.Entry.{Entry}
 use Rattle.codec_model.specs.declared.entry.Entry.TheVariants as entry
-use Rattle.codec_model.specs.declared.entry.Handed.{Handed}
 use Rattle.codec_model.specs.declared.entry.Outcome.{Outcome}
 use Rattle.codec_model.specs.declared.entry.Outcome.TheVariants as outcome
 use Rattle.codec_model.specs.declared.entry.Shown.{Shown}
 use Rattle.codec_model.specs.Replay.{State, opening_state, step as legal_step, replay, replay_from}
-use Rattle.codec_model.specs.Shown.{shown, outputs_of}
+use Rattle.codec_model.specs.Held.{HeldStays}
 use Rattle.codec_model.specs.Facts.{IsNeverStuck, Always}
 use Rattle.script_types.specs.declared.script.ScriptData.{ScriptData}
 use Rattle.script_types.specs.declared.script.CodecItem.{CodecItem}
 use Rattle.script_types.specs.declared.script.CallerItem.{CallerItem}
 use Rattle.script_types.specs.declared.script.OrderItem.{OrderItem}
-use Rattle.script_types.specs.declared.steps.MediaStep.{MediaStep}
 use Rattle.script_types.specs.declared.steps.MediaStep.TheVariants as media_step
 use Rattle.script_types.specs.declared.steps.Step.{Step}
 use Rattle.script_types.specs.declared.steps.Step.TheVariants as step
@@ -47,10 +45,11 @@ use Rattle.trace_text.specs.declared.run.CallerTrace.{CallerTrace}
 use Rattle.trace_text.specs.declared.run.CodecTrace.{CodecTrace}
 use Rattle.trace_text.specs.declared.run.Run.{Run}
 use Rattle.trace_text.specs.Report.{lines_from, result_lines, caller_lines, entry_lines, codec_lines, pool_lines, slot_lines, lines_of}
-use Rattle.media_variables.specs.Variables.{Came, chunk_in}
-use Rattle.trace_text.specs.Follow.{Recorded, record_of, opening_at, output_at, steps_of, chunk_by, chunk_at, order_items}
+use Rattle.media_variables.specs.Variables.{Medium, Came, chunk_in}
+use Rattle.media_accounts.specs.Accounts.{called_at, lent_at}
+use Rattle.trace_text.specs.Follow.{Recorded, record_of, opening_at, output_at, steps_of, chunk_at, order_items}
 use Rattle.trace_text.specs.FitsLaws.{calls_by_places, order_by_places}
-use Rattle.trace_text.specs.Fits.{recorded_of, result_in, entry_in, step_in, CallsAreIn, LookShows, LooksAreIn, IsLocalAnswer, LocalsAreIn, IsResultOf, taken_by, came_at, brought_to, made_steps, HasArguments, ArgumentsAreIn, Fits, IsLegalTrace, AreLegalTraces, IsLegalRun}
+use Rattle.trace_text.specs.Fits.{recorded_of, result_in, entry_in, step_in, CallsAreIn, LookShows, LooksAreIn, IsLocalAnswer, LocalsAreIn, IsResultOf, taken_by, variables_at, came_at, brought_to, made_steps, lends_in, Fits, IsLegalTrace, AreLegalTraces, IsLegalRun}
 use Rattle.codec_accounts.specs.Owed.{at}
 use Rattle.codec_accounts.specs.Calls.{who_of}
 use Rattle.codec_accounts.specs.Codec.{state_after}
@@ -61,15 +60,15 @@ use Rattle.history_laws.specs.Outputs.{HoldsOwn}
 use Rattle.history_laws.specs.Numbers.{IsUpTo}
 use Rattle.history_laws.specs.NumberLaws.{step_up, opening_up}
 use Rattle.history_laws.specs.OutputLaws.{all_append, outputs_are}
-use Rattle.history_laws.specs.CountLaws.{outputs_each}
 use Rattle.run_ranges.specs.Counts.{traces_count, caller_of_step}
-use Rattle.run_ranges.specs.Ranges.{IsConfigWithin, IsChunkWithin, AreWithin}
-use Rattle.run_ranges.proofs.UnitRanges.{IsUnitWithin, judge}
+use Rattle.run_ranges.specs.Ranges.{AreWithin}
+use Rattle.run_ranges.proofs.CodeRanges.{CodesAreBytes}
+use Rattle.run_ranges.proofs.UnitRanges.{judge}
 use Rattle.run_ranges.proofs.TakenRanges.{takes_small}
-use Rattle.run_ranges.proofs.PoolRanges.{held_up_to, pool_ops_fit, pool_lines_fit, IsMadeStep, entry_made}
-use Rattle.run_ranges.proofs.MediaRanges.{IsContentWithin, IsOutputWithin, IsAnswerWithin, FitsTaken, IsChunkOfBytes, size_small_of, AreSteps, came_answers, media_fits}
+use Rattle.run_ranges.proofs.PoolRanges.{held_up_to, pool_ops_fit, pool_lines_fit, IsMadeBy, entry_made}
+use Rattle.run_ranges.proofs.MediaRanges.{IsChunkThere, IsOutputWithin, IsAnswerWithin, FitsTaken, size_small_of, AreSteps, came_answers, media_fits}
 use Rattle.run_ranges.proofs.EntryRanges.{IsOutcomeWithin, IsEntryWithin, lines_within}
-use Rattle.run_ranges.proofs.CourseRanges.{IsMomentOf, IsByUpTo, IsOpUpTo, IsCourseUpTo, course_up}
+use Rattle.run_ranges.proofs.CourseRanges.{IsOwnEntry, IsByUpTo, IsOpUpTo, IsCourseUpTo, chunk_made, contents_within, all_from, holds_own, output_own, course_up}
 
 -- ---- a script's counts
 
@@ -94,7 +93,8 @@ are_few_in s sound =
 
 -- ---- what was recorded
 
--- what was recorded has the script's callers and codecs, and no more of anything than the order has items
+-- what was recorded has the script's callers and codecs, no more of anything than the order has items, and no more in the pool than
+-- each item adds
 pub record IsKnown (s : ScriptData) (media : List (List Chunk)) (made : List CoderId) (w : Recorded) : Type 0 where
   callers : length w.callers ≡ length s.callers
   codecs : length w.codecs ≡ length s.codecs
@@ -102,8 +102,8 @@ pub record IsKnown (s : ScriptData) (media : List (List Chunk)) (made : List Cod
   results : (c : ℕ) → length (at c w.callers) ≤ most_order
   entries : (k : ℕ) → length (at k w.codecs) ≤ most_order
   slots : length w.slots ≤ 2 * most_order
-  pool : length w.pool ≤ most_order
-  moments : (k p : ℕ) (e : Entry) → entry_in w k p ≡ Some e → IsMomentOf e
+  pool : length w.pool < 2 ^ 64
+  own : (k p : ℕ) (e : Entry) → entry_in w k p ≡ Some e → IsOwnEntry e
   takes : (k p : ℕ) (who : Who) (unit : ℕ) → entry_in w k p ≡ Some (entry.Take who unit) → unit ≤ p
   ops : (i : ℕ) (e : SlotEntry) → slice_get w.slots i ≡ Some e → IsByUpTo most_order e.by × IsOpUpTo (length made) e.op
 
@@ -111,25 +111,29 @@ by_most : (n m : ℕ) (b : By) → n ≤ m → IsByUpTo n b → IsByUpTo m b
 by_most n m (by.Caller who) le h = tt
 by_most n m (by.Codec k place) le h = omega (arith, le, h)
 
-known : (s : ScriptData) (media : List (List Chunk)) (made : List CoderId) (run : Run) → is_sound s ≡ true → AreWithin s media made → IsLegalRun s run → Fits s media made run → IsKnown s media made (recorded_of run)
-known s media made run sound within legal fits =
+-- each item adds at most two more to the pool than there are items before it
+pool_small : (n pool : ℕ) → n ≤ most_order → pool ≤ n * n + 2 * n → pool < 2 ^ 64
+pool_small n pool few h = omega (arith, h, few, mul-le-mul few few)
+
+known : CodesAreBytes → HeldStays → (s : ScriptData) (media : List (List Chunk)) (made : List CoderId) (run : Run) → is_sound s ≡ true → AreWithin s media made → IsLegalRun s run → Fits s media made run → IsKnown s media made (recorded_of run)
+known laws stays s media made run sound within legal fits =
     let few = are_few_in s sound in
     let v = fits.follows.course in
-    let up : IsCourseUpTo (length (order_items s)) (length made) v = course_up s media made (order_items s) v within.moments fits.follows.follows in
+    let up : IsCourseUpTo (length (order_items s)) (length made) v = course_up laws stays s media made v within fits.follows.follows in
     let of_course : Recorded = record_of v in
     let facts : ((c : ℕ) → length (at c of_course.callers) ≤ most_order) × ((k : ℕ) → length (at k of_course.codecs) ≤ most_order) × (length of_course.slots ≤ 2 * most_order)
-    × ((k p : ℕ) (e : Entry) → entry_in of_course k p ≡ Some e → IsMomentOf e)
-    × ((i : ℕ) (e : SlotEntry) → slice_get of_course.slots i ≡ Some e → IsByUpTo most_order e.by × IsOpUpTo (length made) e.op) × (length of_course.pool ≤ most_order) = (
+    × ((k p : ℕ) (e : Entry) → entry_in of_course k p ≡ Some e → IsOwnEntry e)
+    × ((i : ℕ) (e : SlotEntry) → slice_get of_course.slots i ≡ Some e → IsByUpTo most_order e.by × IsOpUpTo (length made) e.op) × (length of_course.pool < 2 ^ 64) = (
       λ c. omega (arith, up.callers c, few.order),
       λ k. omega (arith, up.codecs k, few.order),
       omega (arith, up.slots, few.order),
-      up.moments,
+      up.own.entries,
       λ i e is. (by_most (length (order_items s)) most_order e.by few.order (up.ops i e is).0, (up.ops i e is).1),
-      omega (arith, up.pool, few.order),
+      pool_small (length (order_items s)) (length of_course.pool) few.order up.pool,
     ) in
     let here = subst (λ (w : Recorded). ((c : ℕ) → length (at c w.callers) ≤ most_order) × ((k : ℕ) → length (at k w.codecs) ≤ most_order) × (length w.slots ≤ 2 * most_order)
-    × ((k p : ℕ) (e : Entry) → entry_in w k p ≡ Some e → IsMomentOf e)
-    × ((i : ℕ) (e : SlotEntry) → slice_get w.slots i ≡ Some e → IsByUpTo most_order e.by × IsOpUpTo (length made) e.op) × (length w.pool ≤ most_order)) (sym fits.follows.is_recorded) facts in
+    × ((k p : ℕ) (e : Entry) → entry_in w k p ≡ Some e → IsOwnEntry e)
+    × ((i : ℕ) (e : SlotEntry) → slice_get w.slots i ≡ Some e → IsByUpTo most_order e.by × IsOpUpTo (length made) e.op) × (length w.pool < 2 ^ 64)) (sym fits.follows.is_recorded) facts in
     record {
       callers = length-map run.callers _ ∙ legal.callers;
       codecs = length-map run.codecs _ ∙ traces_count s.codecs run.codecs legal.codecs;
@@ -137,7 +141,7 @@ known s media made run sound within legal fits =
       results = here.0;
       entries = here.1;
       slots = here.2;
-      moments = here.3;
+      own = here.3;
       takes = takes_small s.codecs run.codecs legal.codecs;
       ops = here.4;
       pool = here.5;
@@ -243,92 +247,14 @@ state_fits s media made w c j k n state size (step.Close on) sound h is shows = 
 state_fits s media made w c j k n state size (step.Media (media_step.Take on bind kind)) sound h is shows = absurd shows
 state_fits s media made w c j k n state size (step.Media m) sound h is shows = absurd shows
 
--- a chunk of a step
-chunk_step : (media : List (List Chunk)) (steps : List Step) (j : ℕ) (o : Option Step) (chunk : Chunk) → slice_get steps j ≡ o → option_and_then (chunk_by media) o ≡ Some chunk → (x : Step) × (slice_get steps j ≡ Some x) × (chunk_by media x ≡ Some chunk)
-chunk_step media steps j None chunk is made = absurd cc
-chunk_step media steps j (Some x) chunk is made = (x, is, made)
-
--- the config and the chunk of an entry are the script's
-config_within : (s : ScriptData) (media : List (List Chunk)) (made : List CoderId) (who : Who) (given : Config) (x : Step) → AreWithin s media made → step_in s who.caller who.step ≡ Some x → HasArguments s media who (entry.Configure who given) x → IsConfigWithin given
-config_within s media made who given (step.Configure on config) within is has =
-    let same : config ≡ given = cc in subst IsConfigWithin same (within.configs who.caller who.step on config is)
-config_within s media made who given (step.Chunk bind source) within is has = absurd has
-config_within s media made who given (step.Decode on chunk) within is has = absurd (let wrong = has.2 in cc)
-config_within s media made who given (step.Flush on bind) within is has = absurd cc
-config_within s media made who given (step.Poll promise) within is has = absurd has
-config_within s media made who given (step.Await promise) within is has = absurd has
-config_within s media made who given (step.Reset on) within is has = absurd cc
-config_within s media made who given (step.Close on) within is has = absurd cc
-config_within s media made who given (step.State on) within is has = absurd has
-config_within s media made who given (step.Media (media_step.Take on bind kind)) within is has = absurd (let wrong = has.1 in cc)
-config_within s media made who given (step.Media m) within is has = absurd has
-
-chunk_within : (s : ScriptData) (media : List (List Chunk)) (made : List CoderId) (who : Who) (given : Chunk) (x : Step) → AreWithin s media made → HasArguments s media who (entry.Decode who given) x → IsChunkWithin given
-chunk_within s media made who given (step.Decode on chunk) within has =
-    let same : has.0 ≡ given = (let e = has.2 in cc) in
-    let found = chunk_step media (steps_of s who.caller) chunk.step (slice_get (steps_of s who.caller) chunk.step) has.0 refl has.1 in
-    subst IsChunkWithin same (within.chunks who.caller chunk.step found.0 has.0 found.1 found.2)
-chunk_within s media made who given (step.Configure on config) within has = absurd cc
-chunk_within s media made who given (step.Chunk bind source) within has = absurd has
-chunk_within s media made who given (step.Flush on bind) within has = absurd cc
-chunk_within s media made who given (step.Poll promise) within has = absurd has
-chunk_within s media made who given (step.Await promise) within has = absurd has
-chunk_within s media made who given (step.Reset on) within has = absurd cc
-chunk_within s media made who given (step.Close on) within has = absurd cc
-chunk_within s media made who given (step.State on) within has = absurd has
-chunk_within s media made who given (step.Media (media_step.Take on bind kind)) within has = absurd (let wrong = has.1 in cc)
-chunk_within s media made who given (step.Media m) within has = absurd has
-
--- no step encodes
-no_encode : (s : ScriptData) (media : List (List Chunk)) (who : Who) (given : Handed) (x : Step) → HasArguments s media who (entry.Encode who given) x → ⊥
-no_encode s media who given (step.Configure on config) has = absurd cc
-no_encode s media who given (step.Chunk bind source) has = has
-no_encode s media who given (step.Decode on chunk) has = absurd (let wrong = has.2 in cc)
-no_encode s media who given (step.Flush on bind) has = absurd cc
-no_encode s media who given (step.Poll promise) has = has
-no_encode s media who given (step.Await promise) has = has
-no_encode s media who given (step.Reset on) has = absurd cc
-no_encode s media who given (step.Close on) has = absurd cc
-no_encode s media who given (step.State on) has = has
-no_encode s media who given (step.Media (media_step.Take on bind kind)) has = absurd (let wrong = has.1 in cc)
-no_encode s media who given (step.Media m) has = has
-
-entry_own : (s : ScriptData) (media : List (List Chunk)) (made : List CoderId) (w : Recorded) → AreWithin s media made → ArgumentsAreIn s media w → (k p : ℕ) (e : Entry) → entry_in w k p ≡ Some e → HoldsOwn judge e
-entry_own s media made w within arguments k p (entry.Configure who config) is = λ valid. (let has = arguments k p (entry.Configure who config) who is refl in config_within s media made who config has.0 within has.1 has.2)
-entry_own s media made w within arguments k p (entry.Decode who chunk) is = let has = arguments k p (entry.Decode who chunk) who is refl in chunk_within s media made who chunk has.0 within has.2
-entry_own s media made w within arguments k p (entry.Encode who given) is = absurd (let has = arguments k p (entry.Encode who given) who is refl in no_encode s media who given has.0 has.2)
-entry_own s media made w within arguments k p (entry.Flush who) is = tt
-entry_own s media made w within arguments k p (entry.Reset who) is = tt
-entry_own s media made w within arguments k p (entry.Close who) is = tt
-entry_own s media made w within arguments k p (entry.Take who unit) is = tt
-entry_own s media made w within arguments k p (entry.Start epoch item) is = tt
-entry_own s media made w within arguments k p (entry.Done epoch item moment o) is = tt
-entry_own s media made w within arguments k p entry.Turn is = tt
-entry_own s media made w within arguments k p (entry.Reclaim moment) is = tt
-
-all_from : {X : Type 0} (P : X → Type 0) (xs : List X) → ((i : ℕ) (x : X) → slice_get xs i ≡ Some x → P x) → AllByRecursion P xs
-all_from P [] h = tt
-all_from P (x ∷ xs) h = (h 0 x refl, all_from P xs (λ i y is. h (suc i) y is))
-
-all_at : {X : Type 0} (P : X → Type 0) (xs : List X) (i : ℕ) (x : X) → AllByRecursion P xs → slice_get xs i ≡ Some x → P x
-all_at P [] i x h is = absurd cc
-all_at P (y ∷ ys) zero x h is = let same : y ≡ x = cc in subst P same h.0
-all_at P (y ∷ ys) (suc i) x h is = all_at P ys i x h.1 is
-
--- each output of a history
-output_within : (s : ScriptData) (media : List (List Chunk)) (made : List CoderId) (w : Recorded) → AreWithin s media made → ArgumentsAreIn s media w → (k n : ℕ) (u : output.Unit) → output_at (opening_at s k) (at k w.codecs) n ≡ Some u → IsUnitWithin u
-output_within s media made w within arguments k n u is =
-    let own = all_from (HoldsOwn judge) (at k w.codecs) (λ p e at. entry_own s media made w within arguments k p e at) in
-    all_at IsUnitWithin (outputs_of (shown (opening_at s k) (at k w.codecs))) n u (outputs_each IsUnitWithin (opening_at s k) (at k w.codecs) (outputs_are judge (opening_at s k) (at k w.codecs) own)) is
-
 -- what a caller's step took
-taken_within : (s : ScriptData) (media : List (List Chunk)) (made : List CoderId) (w : Recorded) → AreWithin s media made → ArgumentsAreIn s media w → (o : Option StepResult) → IsOutputWithin (taken_by s w o)
-taken_within s media made w within arguments (Some (result.Unit k p n)) = one (output_at (opening_at s k) (at k w.codecs) n) refl
+taken_within : CodesAreBytes → (s : ScriptData) (media : List (List Chunk)) (made : List CoderId) (w : Recorded) → IsKnown s media made w → (o : Option StepResult) → IsOutputWithin (taken_by s w o)
+taken_within laws s media made w h (Some (result.Unit k p n)) = one (output_at (opening_at s k) (at k w.codecs) n) refl
   where
     one : (o : Option output.Unit) → output_at (opening_at s k) (at k w.codecs) n ≡ o → IsOutputWithin (option_map (λ u. record { unit = u; answer = result.Unit k p n }) o)
     one None is = tt
-    one (Some u) is = output_within s media made w within arguments k n u is
-taken_within s media made w within arguments o = tt
+    one (Some u) is = output_own laws (opening_at s k) (at k w.codecs) (λ q e there. h.own k q e there) n u is
+taken_within laws s media made w h o = tt
 
 taken_fits : (s : ScriptData) (media : List (List Chunk)) (made : List CoderId) (w : Recorded) → IsKnown s media made w → CallsAreIn s w → (c j : ℕ) (o : Option StepResult) → result_in w c j ≡ o → FitsTaken s (taken_by s w o)
 taken_fits s media made w h calls c j (Some (result.Unit k p n)) is = one (output_at (opening_at s k) (at k w.codecs) n)
@@ -339,75 +265,68 @@ taken_fits s media made w h calls c j (Some (result.Unit k p n)) is = one (outpu
 taken_fits s media made w h calls c j o is = tt
 
 -- what is known of a script's steps on media
-chunk_bytes : (s : ScriptData) (media : List (List Chunk)) (made : List CoderId) → AreWithin s media made → (c : ℕ) (o : Option ℕ) → IsChunkOfBytes (option_and_then (chunk_at media (steps_of s c)) o)
-chunk_bytes s media made within c None = tt
-chunk_bytes s media made within c (Some j) = one (chunk_at media (steps_of s c) j) refl
-  where
-    one : (o : Option Chunk) → chunk_at media (steps_of s c) j ≡ o → IsChunkOfBytes o
-    one None is = tt
-    one (Some chunk) is =
-        let found = chunk_step media (steps_of s c) j (slice_get (steps_of s c) j) chunk refl is in
-        (within.chunks c j found.0 chunk found.1 found.2).2
+chunk_copied : (s : ScriptData) (media : List (List Chunk)) (made : List CoderId) → AreWithin s media made → (c : ℕ) (o : Option ℕ) → IsChunkThere (option_and_then (chunk_at media (steps_of s c)) o)
+chunk_copied s media made within c None = tt
+chunk_copied s media made within c (Some j) = chunk_made s media made within c j
 
-contents_within : (s : ScriptData) (media : List (List Chunk)) (made : List CoderId) (c j : ℕ) (x : MediaStep) → AreWithin s media made → step_in s c j ≡ Some (step.Media x) → IsContentWithin x
-contents_within s media made c j (media_step.Frame bind (Some init)) within is = within.frames c j bind init is
-contents_within s media made c j x within is = tt
-
-steps_within : (s : ScriptData) (media : List (List Chunk)) (made : List CoderId) (w : Recorded) → is_sound s ≡ true → AreWithin s media made → IsKnown s media made w → CallsAreIn s w → ArgumentsAreIn s media w → AreSteps s (steps_of s) (brought_to s media w)
-steps_within s media made w sound within h calls arguments = record {
+steps_within : CodesAreBytes → (s : ScriptData) (media : List (List Chunk)) (made : List CoderId) (w : Recorded) → is_sound s ≡ true → AreWithin s media made → IsKnown s media made w → CallsAreIn s w → AreSteps s (steps_of s) (brought_to s media w)
+steps_within laws s media made w sound within h calls = record {
   contents = λ c j x is. contents_within s media made c j x within is;
-  copied = λ c j x. chunk_bytes s media made within c (chunk_in x);
-  outputs = λ c j x. taken_within s media made w within arguments (result_in w c j);
+  copied = λ c j x. chunk_copied s media made within c (chunk_in x);
+  outputs = λ c j x. taken_within laws s media made w h (result_in w c j);
   told = λ c j x. taken_fits s media made w h calls c j (result_in w c j) refl;
   sizes = λ c j x is. (let caller = caller_of_step s.callers c j (step.Media x) is in size_small_of s.codecs (take j caller.0.steps) x (step_at s c j caller.0 (step.Media x) sound caller.1 caller.2));
 }
 
 -- copies and sizes are answers of steps on media alone
-copy_fits : (s : ScriptData) (media : List (List Chunk)) (w : Recorded) (came : Option Came) (who : Who) (x : Step) (n : ℕ) (bytes : List ℕ) → IsAnswerWithin s came → IsResultOf s w who x (result.Copied n bytes) → IsLocalAnswer s media came who.caller x (result.Copied n bytes) → FitsResult s (result.Copied n bytes)
-copy_fits s media w came who (step.Chunk bind source) n bytes within of h = absurd cc
-copy_fits s media w came who (step.Media (media_step.Take on bind kind)) n bytes within of h = absurd of
-copy_fits s media w came who (step.Media m) n bytes within of h = media_fits s came (result.Copied n bytes) within h
-copy_fits s media w came who x n bytes within of h = absurd h
+copy_fits : (s : ScriptData) (media : List (List Chunk)) (w : Recorded) (vs : List (Option Medium)) (came : Option Came) (who : Who) (x : Step) (n : ℕ) (bytes : List ℕ) → IsAnswerWithin s came → IsResultOf s w who x (result.Copied n bytes) → IsLocalAnswer s media vs came who.caller x (result.Copied n bytes) → FitsResult s (result.Copied n bytes)
+copy_fits s media w vs came who (step.Chunk bind source) n bytes within of h = absurd cc
+copy_fits s media w vs came who (step.Media (media_step.Take on bind kind)) n bytes within of h = absurd of
+copy_fits s media w vs came who (step.Media (media_step.Encode on content)) n bytes within of h = absurd of
+copy_fits s media w vs came who (step.Media m) n bytes within of h = media_fits s came (result.Copied n bytes) within h
+copy_fits s media w vs came who x n bytes within of h = absurd h
 
-frame_copy_fits : (s : ScriptData) (media : List (List Chunk)) (w : Recorded) (came : Option Came) (who : Who) (x : Step) (n : ℕ) (layouts : Layouts) (bytes : List ℕ) → IsAnswerWithin s came → IsResultOf s w who x (result.CopiedFrame n layouts bytes) → IsLocalAnswer s media came who.caller x (result.CopiedFrame n layouts bytes) → FitsResult s (result.CopiedFrame n layouts bytes)
-frame_copy_fits s media w came who (step.Chunk bind source) n layouts bytes within of h = absurd cc
-frame_copy_fits s media w came who (step.Media (media_step.Take on bind kind)) n layouts bytes within of h = absurd of
-frame_copy_fits s media w came who (step.Media m) n layouts bytes within of h = media_fits s came (result.CopiedFrame n layouts bytes) within h
-frame_copy_fits s media w came who x n layouts bytes within of h = absurd h
+frame_copy_fits : (s : ScriptData) (media : List (List Chunk)) (w : Recorded) (vs : List (Option Medium)) (came : Option Came) (who : Who) (x : Step) (n : ℕ) (layouts : Layouts) (bytes : List ℕ) → IsAnswerWithin s came → IsResultOf s w who x (result.CopiedFrame n layouts bytes) → IsLocalAnswer s media vs came who.caller x (result.CopiedFrame n layouts bytes) → FitsResult s (result.CopiedFrame n layouts bytes)
+frame_copy_fits s media w vs came who (step.Chunk bind source) n layouts bytes within of h = absurd cc
+frame_copy_fits s media w vs came who (step.Media (media_step.Take on bind kind)) n layouts bytes within of h = absurd of
+frame_copy_fits s media w vs came who (step.Media (media_step.Encode on content)) n layouts bytes within of h = absurd of
+frame_copy_fits s media w vs came who (step.Media m) n layouts bytes within of h = media_fits s came (result.CopiedFrame n layouts bytes) within h
+frame_copy_fits s media w vs came who x n layouts bytes within of h = absurd h
 
-size_fits : (s : ScriptData) (media : List (List Chunk)) (w : Recorded) (came : Option Came) (who : Who) (x : Step) (n : ℕ) → IsAnswerWithin s came → IsResultOf s w who x (result.Size n) → IsLocalAnswer s media came who.caller x (result.Size n) → FitsResult s (result.Size n)
-size_fits s media w came who (step.Chunk bind source) n within of h = absurd cc
-size_fits s media w came who (step.Media (media_step.Take on bind kind)) n within of h = absurd of
-size_fits s media w came who (step.Media m) n within of h = media_fits s came (result.Size n) within h
-size_fits s media w came who x n within of h = absurd h
+size_fits : (s : ScriptData) (media : List (List Chunk)) (w : Recorded) (vs : List (Option Medium)) (came : Option Came) (who : Who) (x : Step) (n : ℕ) → IsAnswerWithin s came → IsResultOf s w who x (result.Size n) → IsLocalAnswer s media vs came who.caller x (result.Size n) → FitsResult s (result.Size n)
+size_fits s media w vs came who (step.Chunk bind source) n within of h = absurd cc
+size_fits s media w vs came who (step.Media (media_step.Take on bind kind)) n within of h = absurd of
+size_fits s media w vs came who (step.Media (media_step.Encode on content)) n within of h = absurd of
+size_fits s media w vs came who (step.Media m) n within of h = media_fits s came (result.Size n) within h
+size_fits s media w vs came who x n within of h = absurd h
 
-results_fit : (s : ScriptData) (media : List (List Chunk)) (made : List CoderId) (w : Recorded) → is_sound s ≡ true → AreWithin s media made → IsKnown s media made w → CallsAreIn s w → LooksAreIn s w → ArgumentsAreIn s media w → LocalsAreIn s media w → (c j : ℕ) (r : StepResult) → result_in w c j ≡ Some r → FitsResult s r
-results_fit s media made w sound within h calls looks arguments locals c j (result.Call k p error) is = call_fits s media made w h calls c j k p error is
-results_fit s media made w sound within h calls looks arguments locals c j (result.Local error) is = tt
-results_fit s media made w sound within h calls looks arguments locals c j (result.Look k n end) is =
+results_fit : CodesAreBytes → (s : ScriptData) (media : List (List Chunk)) (made : List CoderId) (w : Recorded) → is_sound s ≡ true → AreWithin s media made → IsKnown s media made w → CallsAreIn s w → LooksAreIn s w → LocalsAreIn s media w → (c j : ℕ) (r : StepResult) → result_in w c j ≡ Some r → FitsResult s r
+results_fit laws s media made w sound within h calls looks locals c j (result.Call k p error) is = call_fits s media made w h calls c j k p error is
+results_fit laws s media made w sound within h calls looks locals c j (result.Local error) is = tt
+results_fit laws s media made w sound within h calls looks locals c j (result.Look k n end) is =
     let step = calls.made c j (result.Look k n end) is in
     let seen = (order_by_places w looks.climbs).within c j k n (result.Look k n end) is refl in
     (look_there s media made w c k n end step.0 h calls (looks.shows c j step.0 (result.Look k n end) step.1 is), omega (arith, seen, h.entries k))
-results_fit s media made w sound within h calls looks arguments locals c j (result.State k n state size) is =
+results_fit laws s media made w sound within h calls looks locals c j (result.State k n state size) is =
     let step = calls.made c j (result.State k n state size) is in
     let seen = (order_by_places w looks.climbs).within c j k n (result.State k n state size) is refl in
     let shown = state_fits s media made w c j k n state size step.0 sound h step.1 (looks.shows c j step.0 (result.State k n state size) step.1 is) in
     (shown.0, omega (arith, seen, h.entries k), shown.1)
-results_fit s media made w sound within h calls looks arguments locals c j (result.Unit k p n) is = take_fits s media made w h calls c j k p n is
-results_fit s media made w sound within h calls looks arguments locals c j (result.NoUnit k n) is =
+results_fit laws s media made w sound within h calls looks locals c j (result.Unit k p n) is = take_fits s media made w h calls c j k p n is
+results_fit laws s media made w sound within h calls looks locals c j (result.NoUnit k n) is =
     let step = calls.made c j (result.NoUnit k n) is in
     let seen = (order_by_places w looks.climbs).within c j k n (result.NoUnit k n) is refl in
     (none_fits s media made w c j k n step.0 sound h step.1 (looks.shows c j step.0 (result.NoUnit k n) step.1 is), omega (arith, seen, h.entries k))
-results_fit s media made w sound within h calls looks arguments locals c j (result.Copied n bytes) is =
+results_fit laws s media made w sound within h calls looks locals c j (result.Copied n bytes) is =
     let step = calls.made c j (result.Copied n bytes) is in
-    copy_fits s media w (came_at s media w c j) (record { caller = c; step = j }) step.0 n bytes (came_answers s (steps_of s) (brought_to s media w) w.pool c j (steps_within s media made w sound within h calls arguments)) step.2 (locals c j step.0 (result.Copied n bytes) step.1 is)
-results_fit s media made w sound within h calls looks arguments locals c j (result.CopiedFrame n layouts bytes) is =
+    copy_fits s media w (variables_at s media w c j) (came_at s media w c j) (record { caller = c; step = j }) step.0 n bytes (came_answers s (steps_of s) (brought_to s media w) w.pool c j (steps_within laws s media made w sound within h calls)) step.2 (locals c j step.0 (result.Copied n bytes) step.1 is)
+results_fit laws s media made w sound within h calls looks locals c j (result.CopiedFrame n layouts bytes) is =
     let step = calls.made c j (result.CopiedFrame n layouts bytes) is in
-    frame_copy_fits s media w (came_at s media w c j) (record { caller = c; step = j }) step.0 n layouts bytes (came_answers s (steps_of s) (brought_to s media w) w.pool c j (steps_within s media made w sound within h calls arguments)) step.2 (locals c j step.0 (result.CopiedFrame n layouts bytes) step.1 is)
-results_fit s media made w sound within h calls looks arguments locals c j (result.Size n) is =
+    frame_copy_fits s media w (variables_at s media w c j) (came_at s media w c j) (record { caller = c; step = j }) step.0 n layouts bytes (came_answers s (steps_of s) (brought_to s media w) w.pool c j (steps_within laws s media made w sound within h calls)) step.2 (locals c j step.0 (result.CopiedFrame n layouts bytes) step.1 is)
+results_fit laws s media made w sound within h calls looks locals c j (result.Size n) is =
     let step = calls.made c j (result.Size n) is in
-    size_fits s media w (came_at s media w c j) (record { caller = c; step = j }) step.0 n (came_answers s (steps_of s) (brought_to s media w) w.pool c j (steps_within s media made w sound within h calls arguments)) step.2 (locals c j step.0 (result.Size n) step.1 is)
-results_fit s media made w sound within h calls looks arguments locals c j result.Absent is = tt
+    size_fits s media w (variables_at s media w c j) (came_at s media w c j) (record { caller = c; step = j }) step.0 n (came_answers s (steps_of s) (brought_to s media w) w.pool c j (steps_within laws s media made w sound within h calls)) step.2 (locals c j step.0 (result.Size n) step.1 is)
+results_fit laws s media made w sound within h calls looks locals c j result.Absent is = tt
 
 -- ---- entries
 
@@ -432,9 +351,9 @@ entry_within s media made w h calls boxes k p e is = by e is
     by (entry.Close name) at = who (entry.Close name) name at refl
     by (entry.Take name unit) there = (who (entry.Take name unit) name there refl, omega (arith, h.takes k p name unit there, slice_get_within (at k w.codecs) p (entry.Take name unit) there, h.entries k))
     by (entry.Start epoch item) at = tt
-    by (entry.Done epoch item moment o) at = (h.moments k p (entry.Done epoch item moment o) at, let end = boxes.ends k p epoch item moment o at in outcome_within s media made w _ o h end.says)
+    by (entry.Done epoch item moment o) at = (h.own k p (entry.Done epoch item moment o) at, let end = boxes.ends k p epoch item moment o at in outcome_within s media made w _ o h end.says)
     by entry.Turn at = tt
-    by (entry.Reclaim moment) at = h.moments k p (entry.Reclaim moment) at
+    by (entry.Reclaim moment) at = h.own k p (entry.Reclaim moment) at
 
 -- ---- the registry
 
@@ -454,8 +373,18 @@ at_some k j [] lt = absurd (omega (arith, lt))
 at_some zero j (l ∷ ls) lt = omega arith
 at_some (suc k) j (l ∷ ls) lt = omega (arith, at_some k j ls lt)
 
-pool_by_fits : (s : ScriptData) (media : List (List Chunk)) (made : List CoderId) (w : Recorded) (b : By) → IsKnown s media made w → IsMadeStep (made_steps w) b → FitsBy s b
-pool_by_fits s media made w (by.Codec k place) h step = absurd step
+-- an entry that calls for something is there
+lent_there : (o : Opening) (h : List Entry) (place : ℕ) → (lent_at o h place ≡ [] → ⊥) → (e : Entry) × (slice_get h place ≡ Some e)
+lent_there o h place some = one (slice_get h place) refl some
+  where
+    one : (x : Option Entry) → slice_get h place ≡ x → (called_at o h place x ≡ [] → ⊥) → (e : Entry) × (slice_get h place ≡ Some e)
+    one None is lent = absurd (lent refl)
+    one (Some e) is lent = (e, is)
+
+pool_by_fits : (s : ScriptData) (media : List (List Chunk)) (made : List CoderId) (w : Recorded) (b : By) → IsKnown s media made w → IsMadeBy (lends_in s w) (made_steps w) b → FitsBy s b
+pool_by_fits s media made w (by.Codec k place) h some =
+    let there = lent_there (opening_at s k) (at k w.codecs) place some in
+    (codec_known s media made w k h (at_there k place w.codecs there.0 there.1), omega (arith, slice_get_within (at k w.codecs) place there.0 there.1, h.entries k))
 pool_by_fits s media made w (by.Caller who) h step =
     let caller = at_some who.caller who.step w.callers step in
     ((omega (arith, caller, h.callers), omega (arith, caller, h.callers, h.few.callers)), omega (arith, step, h.results who.caller))
@@ -475,26 +404,26 @@ caller_lines_fit s k (c ∷ cs) le few long h = (
       (result_lines_fit s 0 c.results (omega (arith, long 0)) (λ j r is. h 0 j r is)) (caller_lines_fit s (k + 1) cs (omega (arith, le)) few (λ i. long (suc i)) (λ i j r is. h (suc i) j r is)),
 )
 
-trace_lines_fit : (s : ScriptData) (c : CodecItem) (t : CodecTrace) → Always IsNeverStuck → IsLegalTrace c t → (1 ≤ c.saturation) × (c.saturation ≤ 64) → length t.entries ≤ most_order
-    → ((p : ℕ) (e : Entry) → slice_get t.entries p ≡ Some e → IsEntryWithin s e × HoldsOwn judge e) → AllByRecursion (FitsLine s) (lines_from entry_lines 0 (zip t.entries t.shown))
-trace_lines_fit s c t always legal some long h =
-    let own : AllByRecursion (HoldsOwn judge) t.entries = all_from (HoldsOwn judge) t.entries (λ p e is. (h p e is).1) in
-    let units = outputs_are judge t.opening t.entries own in
+trace_lines_fit : (laws : CodesAreBytes) (s : ScriptData) (c : CodecItem) (t : CodecTrace) → Always IsNeverStuck → IsLegalTrace c t → (1 ≤ c.saturation) × (c.saturation ≤ 64) → length t.entries ≤ most_order
+    → ((p : ℕ) (e : Entry) → slice_get t.entries p ≡ Some e → IsEntryWithin s e × HoldsOwn (judge laws) e) → AllByRecursion (FitsLine s) (lines_from entry_lines 0 (zip t.entries t.shown))
+trace_lines_fit laws s c t always legal some long h =
+    let own : AllByRecursion (HoldsOwn (judge laws)) t.entries = all_from (HoldsOwn (judge laws)) t.entries (λ p e is. (h p e is).1) in
+    let units = outputs_are (judge laws) t.opening t.entries own in
     let open_for : 1 ≤ t.opening.saturation = subst (λ (o : Opening). 1 ≤ o.saturation) (sym legal.opening) some.0 in
     subst (λ (xs : List Shown). AllByRecursion (FitsLine s) (lines_from entry_lines 0 (zip t.entries xs))) (sym legal.shown)
     (lines_within s t.opening always open_for [] t.entries (opening_state t.opening) 0 refl legal.legal (opening_up t.opening) (omega (arith, long)) (all_from (IsEntryWithin s) t.entries (λ p e is. (h p e is).0)) units)
 
-codec_lines_fit : (s : ScriptData) (k : ℕ) (cs : List CodecItem) (ts : List CodecTrace) → Always IsNeverStuck → AreLegalTraces cs ts → k + length ts ≤ length s.codecs → length s.codecs ≤ most_codecs
+codec_lines_fit : (laws : CodesAreBytes) (s : ScriptData) (k : ℕ) (cs : List CodecItem) (ts : List CodecTrace) → Always IsNeverStuck → AreLegalTraces cs ts → k + length ts ≤ length s.codecs → length s.codecs ≤ most_codecs
     → ((i : ℕ) (c : CodecItem) → slice_get cs i ≡ Some c → (1 ≤ c.saturation) × (c.saturation ≤ 64)) → ((i : ℕ) → length (at i (map (λ t. t.entries) ts)) ≤ most_order)
-    → ((i p : ℕ) (e : Entry) → slice_get (at i (map (λ t. t.entries) ts)) p ≡ Some e → IsEntryWithin s e × HoldsOwn judge e) → AllByRecursion (FitsLine s) (lines_from codec_lines k ts)
-codec_lines_fit s k [] [] always legal le few some long h = tt
-codec_lines_fit s k [] (t ∷ ts) always legal le few some long h = absurd legal
-codec_lines_fit s k (c ∷ cs) [] always legal le few some long h = tt
-codec_lines_fit s k (c ∷ cs) (t ∷ ts) always legal le few some long h = (
+    → ((i p : ℕ) (e : Entry) → slice_get (at i (map (λ t. t.entries) ts)) p ≡ Some e → IsEntryWithin s e × HoldsOwn (judge laws) e) → AllByRecursion (FitsLine s) (lines_from codec_lines k ts)
+codec_lines_fit laws s k [] [] always legal le few some long h = tt
+codec_lines_fit laws s k [] (t ∷ ts) always legal le few some long h = absurd legal
+codec_lines_fit laws s k (c ∷ cs) [] always legal le few some long h = tt
+codec_lines_fit laws s k (c ∷ cs) (t ∷ ts) always legal le few some long h = (
   ((omega (arith, le), omega (arith, le, few)), subst (λ (o : Opening). o.saturation < 2 ^ 32) (sym legal.0.opening) (omega (arith, (some 0 c refl).1))),
   all_append (FitsLine s) (lines_from entry_lines 0 (zip t.entries t.shown)) (lines_from codec_lines (k + 1) ts)
-      (trace_lines_fit s c t always legal.0 (some 0 c refl) (long 0) (λ p e is. h 0 p e is))
-      (codec_lines_fit s (k + 1) cs ts always legal.1 (omega (arith, le)) few (λ i d is. some (suc i) d is) (λ i. long (suc i)) (λ i p e is. h (suc i) p e is)),
+      (trace_lines_fit laws s c t always legal.0 (some 0 c refl) (long 0) (λ p e is. h 0 p e is))
+      (codec_lines_fit laws s (k + 1) cs ts always legal.1 (omega (arith, le)) few (λ i d is. some (suc i) d is) (λ i. long (suc i)) (λ i p e is. h (suc i) p e is)),
 )
 
 slot_lines_fit : (s : ScriptData) (n : ℕ) (es : List SlotEntry) → n + length es < 2 ^ 64 → ((i : ℕ) (e : SlotEntry) → slice_get es i ≡ Some e → FitsBy s e.by × FitsOp e.op) → AllByRecursion (FitsLine s) (lines_from slot_lines n es)
@@ -509,16 +438,16 @@ saturations s sound i c is =
     let range = and_parts (nat_le 1 c.saturation) (nat_le c.saturation 64) apart.1 in
     (leb-true 1 c.saturation range.0, leb-true c.saturation 64 range.1)
 
-pub lines_fit : Always IsNeverStuck → LiveAreNumbered → (s : ScriptData) (media : List (List Chunk)) (made : List CoderId) (run : Run) → is_sound s ≡ true → AreWithin s media made → IsLegalRun s run → Fits s media made run → AllByRecursion (FitsLine s) (lines_of run)
-lines_fit always numbered s media made run sound within legal fits =
+pub lines_fit : CodesAreBytes → HeldStays → Always IsNeverStuck → LiveAreNumbered → (s : ScriptData) (media : List (List Chunk)) (made : List CoderId) (run : Run) → is_sound s ≡ true → AreWithin s media made → IsLegalRun s run → Fits s media made run → AllByRecursion (FitsLine s) (lines_of run)
+lines_fit laws stays always numbered s media made run sound within legal fits =
     let w = recorded_of run in
-    let h = known s media made run sound within legal fits in
+    let h = known laws stays s media made run sound within legal fits in
     let count = traces_count s.codecs run.codecs legal.codecs in
-    let callers = caller_lines_fit s 0 run.callers (omega (arith, legal.callers)) h.few.callers h.results (λ c j r is. results_fit s media made w sound within h fits.calls fits.looks fits.arguments fits.locals c j r is) in
-    let codecs = codec_lines_fit s 0 s.codecs run.codecs always legal.codecs (omega (arith, count)) h.few.codecs (saturations s sound) h.entries
-    (λ k p e is. (entry_within s media made w h fits.calls fits.boxes k p e is, entry_own s media made w within fits.arguments k p e is)) in
+    let callers = caller_lines_fit s 0 run.callers (omega (arith, legal.callers)) h.few.callers h.results (λ c j r is. results_fit laws s media made w sound within h fits.calls fits.looks fits.locals c j r is) in
+    let codecs = codec_lines_fit laws s 0 s.codecs run.codecs always legal.codecs (omega (arith, count)) h.few.codecs (saturations s sound) h.entries
+    (λ k p e is. (entry_within s media made w h fits.calls fits.boxes k p e is, holds_own laws e (h.own k p e is))) in
     let pool = pool_lines_fit s 0 run.pool (omega (arith, h.pool)) (λ n e is. (
-      pool_by_fits s media made w e.by h (entry_made (steps_of s) (brought_to s media w) (made_steps w) w.pool fits.accounted n e is),
+      pool_by_fits s media made w e.by h (entry_made (steps_of s) (brought_to s media w) (lends_in s w) (made_steps w) w.pool fits.accounted n e is),
       pool_ops_fit numbered run.pool (omega (arith, h.pool)) fits.accounted.legal n e is,
     )) in
     let slots = slot_lines_fit s 0 run.slots (omega (arith, h.slots)) (λ i e is. (let op = h.ops i e is in

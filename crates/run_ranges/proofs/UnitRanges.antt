@@ -2,6 +2,7 @@
 use Rattle.std.proofs.Common.{ℕ, ℤ, ◌≡◌, ◌<◌, ◌≤◌, ◌+◌, ◌-◌, ◌*◌, ◌/◌, ◌%◌, ◌^◌, ◌&&◌, not, Bool, true, false, cond, List, [], ◌∷◌, ◌++◌, length, take, drop, bytes_eq, codes, Option, Some, None, refl, subst, arith}
 use Rattle.std.specs.Prelude.{slice_index_or as get_or, nat_lt, nat_le, ◌==◌, pos, ◌*ℤ◌}
 use Rattle.std.specs.List.{AllByRecursion, list_any}
+use Rattle.std.proofs.Math.Nat.{div-le_self}
 use Rattle.std.proofs.lemmas.Bool.{and_parts, ltb-true}
 use Rattle.hex.specs.Hex.{IsBytes}
 use Rattle.wc_base.specs.Options.{cond_is, some_same}
@@ -31,9 +32,11 @@ use Rattle.codec_definitions.specs.Answers.{undefined_answer, sample_decoder_by,
 use Rattle.flac_definitions.specs.Frame.{frame_of}
 use Rattle.flac_definitions.specs.Header.{channels_of}
 use Rattle.flac_definitions.specs.declared.header.FrameHeader.{FrameHeader}
+use Rattle.report_lines.specs.FieldLaws.{FitsOrAbsent}
 use Rattle.report_lines.specs.Fits.{FitsSound, FitsImage}
-use Rattle.history_laws.specs.Outputs.{IsOwnCommand, Judge}
-use Rattle.run_ranges.specs.Ranges.{IsSizeWithin, IsConfigWithin, IsChunkWithin}
+use Rattle.history_laws.specs.Outputs.{IsOwnCommand, MayCarry, Judge}
+use Rattle.run_ranges.specs.Ranges.{IsSizeWithin, IsConfigWithin, IsChunkWithin, IsShapeWithin}
+use Rattle.run_ranges.proofs.CodeRanges.{CodesAreBytes, CodesBytes, codes_bytes, coded_small, IsLabelWithin, label_within}
 use Rattle.run_ranges.proofs.ByteRanges.{spelled_small, flat_small, range_small}
 use Rattle.run_ranges.proofs.FlacRanges.{block_within}
 
@@ -52,26 +55,30 @@ frame_bytes_small h samples =
 
 -- ---- units
 
--- no codec is given samples, since no step of a script encodes yet
-abbrev pub AreNoSamples : Samples → Type 0
-AreNoSamples samples = ⊥
+-- samples whose shape is within its types, of bytes
+abbrev pub AreSamplesWithin : Samples → Type 0
+AreSamplesWithin samples = IsShapeWithin samples.shape × IsBytes samples.bytes
 
--- samples and pictures that are within their types; no codec gives another output for chunks
+abbrev pub IsCarriedWithin : Option AudioDecoderConfig → Type 0
+IsCarriedWithin None = Unit {0}
+IsCarriedWithin (Some d) = IsLabelWithin d
+
+-- samples, pictures and chunks that are within their types
 abbrev pub IsUnitWithin : media.Unit → Type 0
 IsUnitWithin (unit.Sound samples) = FitsSound samples.shape samples.bytes
 IsUnitWithin (unit.Image picture) = FitsImage picture.shape picture.bytes
-IsUnitWithin u = ⊥
+IsUnitWithin (unit.Coded chunk config) = IsChunkWithin chunk × IsCarriedWithin config
 
--- The units that a command gives: one at most, and within its type where the config and the command's chunk are.
+-- The units that a command gives: one at most, and within its type where the config and the command's chunk or samples are.
 pub record AreGiven (c : Config) (x : Command) (us : List media.Unit) : Type 0 where
   pub few : length us ≤ 1
-  pub within : IsConfigWithin c → IsOwnCommand IsChunkWithin AreNoSamples x → AllByRecursion IsUnitWithin us
+  pub within : CodesAreBytes → IsConfigWithin c → IsOwnCommand IsChunkWithin AreSamplesWithin x → AllByRecursion IsUnitWithin us
 
 none_given : (c : Config) (x : Command) (us : List media.Unit) → ◌≡◌ {A = Option (List media.Unit)} (Some []) (Some us) → AreGiven c x us
-none_given c x us h = subst (AreGiven c x) (some_same [] us h) (record { few = omega arith; within = λ config chunk. tt })
+none_given c x us h = subst (AreGiven c x) (some_same [] us h) (record { few = omega arith; within = λ laws config own. tt })
 
-one_given : (c : Config) (x : Command) (u : media.Unit) (us : List media.Unit) → (IsConfigWithin c → IsOwnCommand IsChunkWithin AreNoSamples x → IsUnitWithin u) → Some (u ∷ []) ≡ Some us → AreGiven c x us
-one_given c x u us within h = subst (AreGiven c x) (some_same (u ∷ []) us h) (record { few = omega arith; within = λ config chunk. (within config chunk, tt) })
+one_given : (c : Config) (x : Command) (u : media.Unit) (us : List media.Unit) → (CodesAreBytes → IsConfigWithin c → IsOwnCommand IsChunkWithin AreSamplesWithin x → IsUnitWithin u) → Some (u ∷ []) ≡ Some us → AreGiven c x us
+one_given c x u us within h = subst (AreGiven c x) (some_same (u ∷ []) us h) (record { few = omega arith; within = λ laws config own. (within laws config own, tt) })
 
 -- a codec without a definition yet
 undefined_given : (c : Config) (x : Command) (us : List media.Unit) → undefined_answer x ≡ Some us → AreGiven c x us
@@ -82,7 +89,7 @@ undefined_given c command.Drain us h = none_given c command.Drain us h
 
 -- ---- codecs that code each sample by itself
 
-sound_or : (a b : Bool) (c : Config) (x : Command) (u : media.Unit) (us : List media.Unit) → (b ≡ true → IsConfigWithin c → IsOwnCommand IsChunkWithin AreNoSamples x → IsUnitWithin u) → cond a (Some []) (cond b (Some (u ∷ [])) None) ≡ Some us → AreGiven c x us
+sound_or : (a b : Bool) (c : Config) (x : Command) (u : media.Unit) (us : List media.Unit) → (b ≡ true → CodesAreBytes → IsConfigWithin c → IsOwnCommand IsChunkWithin AreSamplesWithin x → IsUnitWithin u) → cond a (Some []) (cond b (Some (u ∷ [])) None) ≡ Some us → AreGiven c x us
 sound_or true b c x u us within h = none_given c x us h
 sound_or false true c x u us within h = one_given c x u us (within refl) h
 sound_or false false c x u us within h = absurd cc
@@ -93,7 +100,7 @@ sample_decoded s c (command.Chunk chunk) us h =
     let whole = length chunk.bytes % frame == 0 in
     let few = nat_lt (length chunk.bytes / frame) (2 ^ 32) in
     sound_or (length chunk.bytes == 0) (whole && few) (config.AudioDecoder c) (command.Chunk chunk) _ us
-    (λ fine own fits. record {
+    (λ fine laws own fits. record {
       rate = own.0;
       channels = own.1;
       frames = ltb-true (length chunk.bytes / frame) (2 ^ 32) (and_parts whole few fine).1;
@@ -105,23 +112,29 @@ sample_decoded s c (command.Sound samples) us h = absurd cc
 sample_decoded s c (command.Image picture) us h = absurd cc
 sample_decoded s c command.Drain us h = none_given (config.AudioDecoder c) command.Drain us h
 
-chunk_or : (b : Bool) (c : Config) (samples : Samples) (u : media.Unit) (us : List media.Unit) → cond b (Some (u ∷ [])) None ≡ Some us → AreGiven c (command.Sound samples) us
-chunk_or true c samples u us h = one_given c (command.Sound samples) u us (λ config own. absurd own) h
-chunk_or false c samples u us h = absurd cc
+-- a duration is at most as many microseconds as frames have at one frame a second
+duration_small : (frames rate : ℕ) → frames < 2 ^ 32 → FitsOrAbsent (Some (frames * 1000000 / rate))
+duration_small frames rate few k is = omega (arith, few, div-le_self (frames * 1000000) rate, some_same (frames * 1000000 / rate) k is)
 
-sample_encoded : (s : SampleCodec) (c : AudioEncoderConfig) (x : Command) (us : List media.Unit) → sample_encoder s c x ≡ Some us → AreGiven (config.AudioEncoder c) x us
-sample_encoded s c (command.Chunk chunk) us h = absurd cc
-sample_encoded s c (command.Sound samples) us h = chunk_or _ (config.AudioEncoder c) samples _ us h
-sample_encoded s c (command.Image picture) us h = absurd cc
-sample_encoded s c command.Drain us h = none_given (config.AudioEncoder c) command.Drain us h
+chunk_or : (b : Bool) (c : Config) (x : Command) (u : media.Unit) (us : List media.Unit) → (CodesAreBytes → IsConfigWithin c → IsOwnCommand IsChunkWithin AreSamplesWithin x → IsUnitWithin u) → cond b (Some (u ∷ [])) None ≡ Some us → AreGiven c x us
+chunk_or true c x u us within h = one_given c x u us within h
+chunk_or false c x u us within h = absurd cc
+
+sample_encoded : (id : CodecId) (s : SampleCodec) (c : AudioEncoderConfig) (x : Command) (us : List media.Unit) → sample_codec id ≡ Some s → sample_encoder s c x ≡ Some us → AreGiven (config.AudioEncoder c) x us
+sample_encoded id s c (command.Chunk chunk) us is h = absurd cc
+sample_encoded id s c (command.Sound samples) us is h =
+    chunk_or _ (config.AudioEncoder c) (command.Sound samples) _ us
+    (λ laws config own. ((own.0.1, duration_small samples.shape.frames samples.shape.rate own.0.0, coded_small s samples.shape samples.bytes (subst CodesBytes is (codes_bytes laws id)) own.1), tt)) h
+sample_encoded id s c (command.Image picture) us is h = absurd cc
+sample_encoded id s c command.Drain us is h = none_given (config.AudioEncoder c) command.Drain us h
 
 decoded_by : (o : Option SampleCodec) (c : AudioDecoderConfig) (x : Command) (us : List media.Unit) → sample_decoder_by o c x ≡ Some us → AreGiven (config.AudioDecoder c) x us
 decoded_by None c x us h = undefined_given (config.AudioDecoder c) x us h
 decoded_by (Some s) c x us h = sample_decoded s c x us h
 
-encoded_by : (o : Option SampleCodec) (c : AudioEncoderConfig) (x : Command) (us : List media.Unit) → sample_encoder_by o c x ≡ Some us → AreGiven (config.AudioEncoder c) x us
-encoded_by None c x us h = undefined_given (config.AudioEncoder c) x us h
-encoded_by (Some s) c x us h = sample_encoded s c x us h
+encoded_by : (id : CodecId) (o : Option SampleCodec) (c : AudioEncoderConfig) (x : Command) (us : List media.Unit) → sample_codec id ≡ o → sample_encoder_by o c x ≡ Some us → AreGiven (config.AudioEncoder c) x us
+encoded_by id None c x us is h = undefined_given (config.AudioEncoder c) x us h
+encoded_by id (Some s) c x us is h = sample_encoded id s c x us is h
 
 -- ---- FLAC
 
@@ -140,7 +153,7 @@ frame_decoded : (info : StreamInfo) (c : Config) (chunk : Chunk) (o : Option (Fr
 frame_decoded info c chunk None us own is h = absurd cc
 frame_decoded info c chunk (Some f) us own is h =
     one_given c (command.Chunk chunk) (flac_sound info chunk f.0 f.1) us
-    (λ config fits. record { rate = own.0; channels = own.1; frames = block_within info chunk.bytes f is; timestamp = fits.0; are_bytes = frame_bytes_small f.0 f.1 }) h
+    (λ laws config fits. record { rate = own.0; channels = own.1; frames = block_within info chunk.bytes f is; timestamp = fits.0; are_bytes = frame_bytes_small f.0 f.1 }) h
 
 chunk_decoded : (o : Option StreamInfo) (c : Config) (chunk : Chunk) (us : List media.Unit) → ((info : StreamInfo) → o ≡ Some info → IsStreamWithin info) → flac_units o chunk ≡ Some us → AreGiven c (command.Chunk chunk) us
 chunk_decoded None c chunk us own h = absurd cc
@@ -169,7 +182,7 @@ picture_given c shape chunk size chunks us own h = by (list_any is_key chunks) h
 
     by : (b : Bool) → picture_unit shape chunk (cond b (Some (picture_of size (from_last_key chunks))) None) ≡ Some us → AreGiven c (command.Chunk chunk) us
     by true e = one_given c (command.Chunk chunk) _ us
-        (λ config fits. record { width = (own config).0; height = (own config).1; timestamp = fits.0; duration = fits.1; are_bytes = range_small (picture_byte (from_last_key chunks)) small 0 size }) e
+        (λ laws config fits. record { width = (own config).0; height = (own config).1; timestamp = fits.0; duration = fits.1; are_bytes = range_small (picture_byte (from_last_key chunks)) small 0 size }) e
     by false e = absurd cc
 
 raw_given : (o : Option PictureShape) (c : Config) (before : List Command) (x : Command) (us : List media.Unit) → ((shape : PictureShape) → o ≡ Some shape → IsConfigWithin c → (shape.width < 2 ^ 32) × (shape.height < 2 ^ 32)) → raw_decoder o before x ≡ Some us → AreGiven c x us
@@ -190,7 +203,7 @@ decoded_within codec.Flac c x us h = flac_decoded c x us h
 decoded_within id c x us h = decoded_by (sample_codec id) c x us h
 
 encoded_within : (id : CodecId) (c : AudioEncoderConfig) (x : Command) (us : List media.Unit) → audio_encoder_answer id c x ≡ Some us → AreGiven (config.AudioEncoder c) x us
-encoded_within id c x us h = encoded_by (sample_codec id) c x us h
+encoded_within id c x us h = encoded_by id (sample_codec id) c x us refl h
 
 pub are_given : (id : CoderId) (c : Config) (before : List Command) (x : Command) (us : List media.Unit) → answer_after id c before x ≡ Some us → AreGiven c x us
 are_given id (config.AudioDecoder c) before x us h = decoded_within id.codec c x us h
@@ -198,13 +211,17 @@ are_given id (config.AudioEncoder c) before x us h = encoded_within id.codec c x
 are_given id (config.VideoDecoder c) before x us h = raw_given (raw_shape id.codec c) (config.VideoDecoder c) before x us (λ shape is own. shape_within (picture_format id.codec) c.width c.height shape own.0 own.1 is) h
 are_given id config.Bad before x us h = undefined_given config.Bad x us h
 
-abbrev pub judge : Judge
-judge = record {
+pub carried_within : (o : Option AudioDecoderConfig) → MayCarry IsConfigWithin o → IsCarriedWithin o
+carried_within None may = tt
+carried_within (Some d) may = label_within d may
+
+abbrev pub judge : CodesAreBytes → Judge
+judge laws = record {
   config = IsConfigWithin;
   chunk = IsChunkWithin;
-  sound = AreNoSamples;
+  sound = AreSamplesWithin;
   output = IsUnitWithin;
   nothing = tt;
-  gives = λ id c before x us own input h. (are_given id c before x us h).within own input;
-  relabel = λ c old new carried own. absurd own;
+  gives = λ id c before x us own input h. (are_given id c before x us h).within laws own input;
+  relabel = λ c old new may own. (own.0, carried_within new may);
 }

@@ -4,6 +4,7 @@ use Rattle.std.specs.Prelude.{ℕ, ◌≡◌, ◌<◌, ◌^◌, List, length, Op
 use Rattle.std.specs.List.{AllByRecursion, slice_get}
 use Rattle.std.specs.Int.Signed.{mag}
 use Rattle.hex.specs.Hex.{IsBytes}
+use Rattle.wc_base.specs.declared.media.SoundShape.{SoundShape}
 use Rattle.wc_config.specs.declared.codec.CoderId.{CoderId}
 use Rattle.wc_config.specs.declared.config.Config.{Config}
 use Rattle.wc_config.specs.declared.config.Config.TheVariants as config
@@ -12,6 +13,7 @@ use Rattle.script_types.specs.declared.script.OrderItem.{OrderItem}
 use Rattle.script_types.specs.declared.script.OrderItem.TheVariants as item
 use Rattle.script_types.specs.declared.script.ScriptData.{ScriptData}
 use Rattle.script_types.specs.declared.steps.PictureInit.{PictureInit}
+use Rattle.script_types.specs.declared.steps.SoundInit.{SoundInit}
 use Rattle.script_types.specs.declared.steps.MediaStep.TheVariants as media_step
 use Rattle.script_types.specs.declared.steps.Step.{Step}
 use Rattle.script_types.specs.declared.steps.Step.TheVariants as step
@@ -33,9 +35,10 @@ abbrev pub IsSizeWithin : Option ℕ → Type 0
 IsSizeWithin None = Unit {0}
 IsSizeWithin (Some n) = n < 2 ^ 32
 
--- a decoder's rate and channels, or its width and height, have 32 bits
+-- a codec's rate and channels, or its width and height, have 32 bits
 abbrev pub IsConfigWithin : Config → Type 0
 IsConfigWithin (config.AudioDecoder c) = (c.rate < 2 ^ 32) × (c.channels < 2 ^ 32)
+IsConfigWithin (config.AudioEncoder c) = (c.rate < 2 ^ 32) × (c.channels < 2 ^ 32)
 IsConfigWithin (config.VideoDecoder c) = IsSizeWithin c.width × IsSizeWithin c.height
 IsConfigWithin x = Unit {0}
 
@@ -43,12 +46,17 @@ IsConfigWithin x = Unit {0}
 abbrev pub IsChunkWithin : Chunk → Type 0
 IsChunkWithin c = (mag c.timestamp < 2 ^ 63) × FitsOrAbsent c.duration × IsBytes c.bytes
 
--- The script's moments, configs and chunks are within their types, those of its chunk files are, its frames hold bytes, and
--- there are no more boxes than a number of 64 bits counts.
+-- as many frames as 32 bits count, and a timestamp of 64 bits with its sign
+abbrev pub IsShapeWithin : SoundShape → Type 0
+IsShapeWithin s = (s.frames < 2 ^ 32) × (mag s.timestamp < 2 ^ 63)
+
+-- The script's moments, configs, audio data and chunks are within their types, those of its chunk files are, its audio data and
+-- its frames hold bytes, and there are no more boxes than a number of 64 bits counts.
 pub record AreWithin (s : ScriptData) (media : List (List Chunk)) (made : List CoderId) : Type 0 where
   pub moments : (i : ℕ) (x : OrderItem) → slice_get (order_items s) i ≡ Some x → IsMoment x
   pub configs : (c j on : ℕ) (config : Config) → slice_get (steps_of s c) j ≡ Some (step.Configure on config) → IsConfigWithin config
   pub chunks : (c j : ℕ) (x : Step) (chunk : Chunk) → slice_get (steps_of s c) j ≡ Some x → chunk_by media x ≡ Some chunk → IsChunkWithin chunk
+  pub sounds : (c j : ℕ) (bind : List ℕ) (init : SoundInit) → slice_get (steps_of s c) j ≡ Some (step.Media (media_step.Audio bind (Some init))) → IsShapeWithin init.shape × IsBytes init.content
   pub frames : (c j : ℕ) (bind : List ℕ) (init : PictureInit) → slice_get (steps_of s c) j ≡ Some (step.Media (media_step.Frame bind (Some init))) → IsBytes init.content
   pub boxes : length made < 2 ^ 64
 

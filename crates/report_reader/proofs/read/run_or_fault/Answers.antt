@@ -19,4 +19,4 @@ returns-clause-told c =
     let told = rw c.data.ensures.data at c.in_ok-line.ensures in
     let run = rw (c.data-in-Lines.ensures.data, c.deref.ensures.value) at c.in_ok-run-in-Lines.ensures.run in
     let few : length c.in-Lines.lines.items < 2 ^ 64 = omega arith in
-    shown_told c.lines_that_are_read_fit.ensures c.args.script.now c.args.media.now c.args.bytes.now _ c.in-Lines.lines _ c.data.ensures.sound c.in-Lines.is told few run c.in_ok-run-in-Lines.ensures.fits
+    shown_told c.lines_that_are_read_fit.ensures c.lines_are_read_again.ensures.again c.args.script.now c.args.media.now c.args.bytes.now _ c.in-Lines.lines _ _ c.data.ensures.sound c.in-Lines.is told few run c.in_ok-run-in-Lines.ensures.fits (c.deref-in-Lines.ensures.value ∙ c.in_ok-again-in-Lines.ensures) c.in-None.ensures.none

@@ -5,4 +5,4 @@ use Rattle.report_reader.proofs.rows.ordinary_run_again.Goals as goal
 
 pub returns : goal.returns
 unfolding run_of
-returns c = record { made = refl; file = refl; takes = refl; told = ordinary_told; second = refl; third = refl }
+returns c = record { made = refl; file = refl; takes = refl; encodes = refl; told = ordinary_told; second = refl; third = refl }

@@ -3,10 +3,10 @@ use Rattle.report_reader.proofs.BuildLaws.{codec_more}
 use Rattle.report_reader.proofs.FitLaws.{all_more}
 use Rattle.report_reader.proofs.trace.codecs_of.Goals as goal
 
-pub loop-preserved : goal.loop-preserved
-loop-preserved c =
-    let more = codec_more c.args.script.now c.args.media.now _ c.loop.codecs.items c.args.count c.loop.counter c.loop.rest.now c.loop-test.true c.loop.invariant.codecs in
+pub loop-codec-preserved : goal.loop-codec-preserved
+loop-codec-preserved c =
+    let more = codec_more c.args.script.now c.args.media.now c.args.known.now _ c.loop-codec.codecs.items c.args.count c.loop-codec.codec c.loop-codec.rest.now c.loop-codec-test.true c.loop-codec.invariant.codecs in
     record {
-      codecs = rw (c.in_ok-push.ensures, c.in_ok-codec.ensures.codec, c.in_ok-codec.ensures.behind) more;
-      fits = rw c.in_ok-push.ensures (all_more FitsTrace c.loop.codecs.items _ c.loop.invariant.fits c.in_ok-codec.ensures.fits);
+      codecs = rw (c.in_ok-push.ensures, c.in_ok-trace.ensures.codec, c.in_ok-trace.ensures.behind) more;
+      fits = rw c.in_ok-push.ensures (all_more FitsTrace c.loop-codec.codecs.items _ c.loop-codec.invariant.fits c.in_ok-trace.ensures.fits);
     }

@@ -4,8 +4,8 @@ use Rattle.report_reader.specs.Read.{codecs_in}
 use Rattle.report_reader.specs.Fits.{FitsTrace}
 use Rattle.report_reader.proofs.trace.codecs_of.Given as goal
 
-abbrev pub invariant-loop : goal.invariant-loop
-invariant-loop l = record {
-  codecs : let more = codecs_in l.script l.media (l.count - l.counter) l.rest in codecs_in l.script l.media l.count l.lines ≡ (l.codecs.items ++ more.0, more.1);
+abbrev pub invariant-loop-codec : goal.invariant-loop-codec
+invariant-loop-codec l = record {
+  codecs : codecs_in l.script l.media l.known 0 l.count l.lines ≡ l.codecs.items ++ codecs_in l.script l.media l.known l.codec (l.count - l.codec) l.rest;
   fits : AllByRecursion FitsTrace l.codecs.items;
 }

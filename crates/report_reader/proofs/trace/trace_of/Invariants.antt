@@ -6,7 +6,7 @@ use Rattle.report_reader.proofs.trace.trace_of.Given as goal
 
 abbrev pub invariant-loop-rest : goal.invariant-loop-rest
 invariant-loop-rest l = record {
-  tracing : IsTracing l.script l.media l.opening l.lines l.units l.follower l.entries.items l.shown.items l.rest l.left;
+  tracing : IsTracing l.script l.media l.known l.codec l.opening l.lines l.units l.follower l.entries.items l.shown.items l.rest l.left;
   fits : AllByRecursion FitsShown l.shown.items;
 }
 

@@ -1,0 +1,121 @@
+-- The arguments of the entries that a report tells: those of the callers' steps.
+use Rattle.std.specs.Prelude.{ℕ, zero, suc, List, [], ◌∷◌, slice_get, Option, Some, None, option_map, option_and_then, if◌then◌else◌}
+use Rattle.std.specs.Option.{option_or}
+use Rattle.wc_base.specs.declared.error.DomError.{DomError}
+use Rattle.wc_base.specs.declared.error.DomError.TheVariants as dom
+use Rattle.wc_base.specs.declared.media.Samples.{Samples}
+use Rattle.wc_base.specs.declared.who.Who.{Who}
+use Rattle.wc_chunk.specs.declared.chunk.Chunk.{Chunk}
+use Rattle.wc_pool.specs.declared.entry.PoolEntry.{PoolEntry}
+use Rattle.wc_pool.specs.declared.entry.PoolOp.{PoolOp}
+use Rattle.wc_pool.specs.declared.entry.PoolOp.TheVariants as op
+use Rattle.codec_definitions.specs.declared.unit.Unit as media
+use Rattle.codec_model.specs.declared.entry.Pair.{Pair}
+use Rattle.codec_model.specs.declared.entry.Handed.{Handed}
+use Rattle.codec_model.specs.declared.entry.Handed.TheVariants as handed
+use Rattle.codec_model.specs.declared.entry.Entry.{Entry}
+use Rattle.codec_model.specs.declared.entry.Entry.TheVariants as entry
+use Rattle.codec_accounts.specs.Owed.{at}
+use Rattle.script_types.specs.declared.script.ScriptData.{ScriptData}
+use Rattle.script_types.specs.declared.steps.Step.{Step}
+use Rattle.script_types.specs.declared.steps.Step.TheVariants as step
+use Rattle.script_types.specs.declared.steps.MediaStep.TheVariants as on_media
+use Rattle.report_text.specs.declared.result.StepResult.{StepResult}
+use Rattle.report_text.specs.declared.result.StepResult.TheVariants as result
+use Rattle.report_text.specs.declared.line.CallWord.{CallWord}
+use Rattle.report_text.specs.declared.line.CallWord.TheVariants as call
+use Rattle.report_text.specs.declared.line.EntryLine.{EntryLine}
+use Rattle.report_text.specs.declared.line.EntryLine.TheVariants as entry_line
+use Rattle.media_accounts.specs.Accounts.{is_by_entry}
+use Rattle.media_accounts.specs.Samples.{chunk_of_unit, samples_before}
+use Rattle.trace_text.specs.declared.run.CallerTrace.{CallerTrace}
+use Rattle.trace_text.specs.Follow.{steps_of, chunk_at}
+use Rattle.report_reader.specs.declared.known.Known.{Known}
+
+-- ---- outputs that were taken
+
+-- the results of the caller with this number
+abbrev pub results_of : List CallerTrace → ℕ → List StepResult
+results_of [] c = []
+results_of (t ∷ ts) zero = t.results
+results_of (t ∷ ts) (suc c) = results_of ts c
+
+-- the output that a step with this result took, if it took one
+abbrev pub output_of : List (List media.Unit) → Option StepResult → Option media.Unit
+output_of outputs (Some (result.Unit k place n)) = slice_get (at k outputs) n
+output_of outputs _ = None
+
+-- the output that this step of a caller took, if it took one
+abbrev pub taken_in : Known → ℕ → ℕ → Option media.Unit
+taken_in known c j = output_of known.outputs (slice_get (results_of known.callers c) j)
+
+-- ---- arguments
+
+-- the chunk of the variable that the step with this number defines: made, taken from a chunk file, or taken from an encoder
+abbrev pub chunk_found : List (List Chunk) → List Step → (ℕ → Option media.Unit) → ℕ → Option Chunk
+chunk_found media steps taken j = option_or (chunk_at media steps j) (option_and_then chunk_of_unit (taken j))
+
+-- the resource and the reference of a clone
+abbrev pub cloned : PoolOp → Option Pair
+cloned (op.Make r f) = None
+cloned (op.Clone r f) = Some (record { resource = r; reference = f })
+cloned (op.End r f last) = None
+
+-- those of the clone that the codec with this number made by its entry at this place, if the pool's entry is one
+abbrev pub cloned_by : ℕ → ℕ → PoolEntry → Option Pair
+cloned_by k place e = if is_by_entry k place e.by then cloned e.op else None
+
+-- those of the first such clone
+abbrev pub pair_for : ℕ → ℕ → List PoolEntry → Option Pair
+pair_for k place [] = None
+pair_for k place (e ∷ es) = option_or (cloned_by k place e) (pair_for k place es)
+
+abbrev pub clone_of : Option Samples → Option Pair → Option Handed
+clone_of (Some s) (Some p) = Some (handed.Cloned (record { samples = s; pair = p }))
+clone_of _ _ = None
+
+-- What became of an encode's data, by its exception: detached data is refused first, then a codec that is not configured; else
+-- the codec made a clone.
+abbrev pub handed_for : Option DomError → Option Handed → Option Handed
+handed_for None clone = clone
+handed_for (Some dom.TypeErr) clone = Some handed.Gone
+handed_for (Some dom.InvalidState) clone = Some handed.Kept
+handed_for (Some error) clone = None
+
+-- the entry of an encode with this exception, at this place of the codec with this number, if the step makes one
+abbrev pub encode_of : Known → List Step → ℕ → ℕ → Who → Option DomError → Step → Option Entry
+encode_of known steps k place who error (step.Media (on_media.Encode on content)) =
+    let clone = clone_of (samples_before steps (taken_in known who.caller) who.step content.step) (pair_for k place known.pool) in
+    option_map (λ h. entry.Encode who h) (handed_for error clone)
+encode_of known steps k place who error _ = None
+
+-- the entry of another call with the arguments of a step of its caller's steps, if the step makes such a call. `media` has the
+-- chunks of each of the script's chunk files
+abbrev pub call_of : List (List Chunk) → Known → List Step → Who → CallWord → Step → Option Entry
+call_of media known steps who call.Configure (step.Configure on config) = Some (entry.Configure who config)
+call_of media known steps who call.Decode (step.Decode on chunk) =
+    option_map (λ c. entry.Decode who c) (chunk_found media steps (taken_in known who.caller) chunk.step)
+call_of media known steps who call.Flush (step.Flush on bind) = Some (entry.Flush who)
+call_of media known steps who call.Reset (step.Reset on) = Some (entry.Reset who)
+call_of media known steps who call.Close (step.Close on) = Some (entry.Close who)
+call_of media known steps who _ _ = None
+
+-- the entry of a take of the output with this number, if the step takes one
+abbrev pub take_of : Who → ℕ → Step → Option Entry
+take_of who n (step.Media (on_media.Take on bind kind)) = Some (entry.Take who n)
+take_of who n _ = None
+
+-- what a step of a caller gives
+abbrev pub by_step : ScriptData → Who → (Step → Option Entry) → Option Entry
+by_step script who given = option_and_then given (slice_get (steps_of script who.caller) who.step)
+
+-- the entry that is told at this place of the codec with this number, with the arguments of its step
+abbrev pub entry_of : ScriptData → List (List Chunk) → Known → ℕ → ℕ → EntryLine → Option Entry
+entry_of script media known k place (entry_line.Call who call.Encode error) =
+    by_step script who (encode_of known (steps_of script who.caller) k place who error)
+entry_of script media known k place (entry_line.Call who word error) = by_step script who (call_of media known (steps_of script who.caller) who word)
+entry_of script media known k place (entry_line.Take who n) = by_step script who (take_of who n)
+entry_of script media known k place (entry_line.Start epoch item) = Some (entry.Start epoch item)
+entry_of script media known k place (entry_line.Done epoch item moment outcome) = Some (entry.Done epoch item moment outcome)
+entry_of script media known k place (entry_line.Turn word) = Some entry.Turn
+entry_of script media known k place (entry_line.Reclaim moment) = Some (entry.Reclaim moment)
