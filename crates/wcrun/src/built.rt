@@ -1,45 +1,41 @@
-// The first codec kind or step of a script that is not built.
+// The first step of a script that is not built.
 ghost use Rattle.std.specs.Prelude.{◌≡◌, ◌≤◌, length, Some, slice_get, ℕ};
 ghost use Rattle.script_types.specs.Built.{unbuilt_in};
 ghost use Rattle.script_types.specs.Built as spec;
 ghost use Rattle.script_types.specs.declared.script.CallerItem.{CallerItem};
 
-use script_types::{CallerItem, CodecItem, Kind, MediaStep, Place, Script, Step};
+use script_types::{CallerItem, Place, Script, Step};
+use wc_config::{CodecId, CoderId, Role};
 
-fn is_built_kind(kind: Kind) -> bool
-    ensures { result ≡ spec.is_built_kind kind }
-{
-    match kind {
-        Kind::AudioDecoder | Kind::VideoDecoder => true,
-        Kind::AudioEncoder => false,
-    }
-}
-
-fn is_built_media(step: &MediaStep) -> bool
-    ensures { result ≡ spec.is_built_media step.now }
-{
-    !matches!(step, MediaStep::Encode { .. })
-}
-
+/// A step that configures an encoder of FLAC is not built.
 fn is_built_step(step: &Step) -> bool
     ensures { result ≡ spec.is_built_step step.now }
 {
     match step {
-        Step::Media(media) => is_built_media(media),
+        Step::Configure { on: _, config } => !encodes_flac(config.coder_id()),
         _ => true,
     }
 }
 
-fn unbuilt_codec(codecs: &[CodecItem]) -> Option<Place>
-    requires { length codecs.now ≤ 64 }
-    ensures { result ≡ spec.unbuilt_codec 0 codecs.now }
+fn encodes_flac(id: Option<CoderId>) -> bool
+    ensures { result ≡ spec.encodes_flac id }
 {
-    for (i, codec) in codecs.iter().enumerate() {
-        if !is_built_kind(codec.kind) {
-            return Some(Place::Codec(i as u32));
-        }
+    match id {
+        Some(id) => is_encoder(id.role) && is_flac(id.codec),
+        None => false,
     }
-    None
+}
+
+fn is_encoder(role: Role) -> bool
+    ensures { result ≡ spec.is_encoder role }
+{
+    matches!(role, Role::Encode)
+}
+
+fn is_flac(codec: CodecId) -> bool
+    ensures { result ≡ spec.is_flac codec }
+{
+    matches!(codec, CodecId::Flac)
 }
 
 fn unbuilt_step(caller: u32, steps: &[Step]) -> Option<Place>
@@ -68,14 +64,10 @@ fn unbuilt_caller(callers: &[CallerItem]) -> Option<Place>
     None
 }
 
-/// The place of the first codec whose kind is not built, or else of the first step, caller by caller; none where the
-/// whole script is built.
+/// The place of the first step that is not built, caller by caller; none where the whole script is built.
 pub fn unbuilt(script: &Script) -> Option<Place>
     ensures { result ≡ unbuilt_in script.now }
 {
     let data = script.data();
-    match unbuilt_codec(data.codecs.as_slice()) {
-        Some(place) => Some(place),
-        None => unbuilt_caller(data.callers.as_slice()),
-    }
+    unbuilt_caller(data.callers.as_slice())
 }

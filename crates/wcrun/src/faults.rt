@@ -153,11 +153,6 @@ fn faults_of_the_whole_are_named(rt: HostRuntime) -> Result<(), Fail> {
             "script: shape at top\n",
         ),
         (
-            "{\"codecs\":[{\"name\":\"e\",\"kind\":\"audio-encoder\"}],\"callers\":[],\"order\":[]}",
-            3,
-            "script: unbuilt at codec 0\n",
-        ),
-        (
             "{\"codecs\":[{\"name\":\"e\",\"kind\":\"audio-encoder\"}],\"callers\":[]}",
             3,
             "script: shape at top\n",

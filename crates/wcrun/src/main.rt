@@ -5,6 +5,8 @@ mod built;
 mod calls;
 mod command;
 #[cfg(test)]
+mod encode_rows;
+#[cfg(test)]
 mod faults;
 #[cfg(test)]
 mod flac_rows;

@@ -245,16 +245,6 @@ held 1
 end
 ";
 
-// An encoder is not built, nor is a step that encodes; the first of them is named, and codecs come first.
-const ENCODES: &str =
-    r#"{"codecs":[{"name":"d","kind":"audio-decoder"},{"name":"e","kind":"audio-encoder"}],
-"callers":[{"name":"a","steps":[
-{"do":"take","on":"d","as":"t"},
-{"do":"audio","as":"x","init":{"format":"u8","sampleRate":8000,"numberOfFrames":1,"numberOfChannels":1,
-"timestamp":0,"data":"80"}},
-{"do":"encode","on":"e","data":"x"}]}],
-"order":["a","a","a"]}"#;
-
 #[test]
 fn media_of_callers_go_as_the_order_says(rt: HostRuntime) -> Result<(), Fail> {
     let rows = [
@@ -262,7 +252,6 @@ fn media_of_callers_go_as_the_order_says(rt: HostRuntime) -> Result<(), Fail> {
         (AUDIO, 0, AUDIO_REPORT),
         (FRAME, 0, FRAME_REPORT),
         (BESIDE_A_DECODER, 0, BESIDE_A_DECODER_REPORT),
-        (ENCODES, 3, "script: unbuilt at codec 1\n"),
     ];
     each_ends(&rt, rt.alloc(), &rows)
 }

@@ -109,7 +109,7 @@ held 0
 end
 ";
 
-// Ends a call on files that hold one script, with these reads and writes failing, and with seven coders.
+// Ends a call on files that hold one script, with these reads and writes failing, and with eleven coders.
 pub(crate) fn call(
     alloc: Global,
     file: Vec<u8>,
@@ -136,9 +136,15 @@ pub(crate) fn call_on(
     let mut files = MemFiles::open(alloc, entries, reads);
     let mut sink = MemSink::open(alloc, 4096, writes)?;
     let mut coders = Vec::new(alloc);
-    for coding in [Coding::Pcm(SampleSize::Two), Coding::G711(Law::Ulaw)] {
-        let coder = Box::new(alloc, SampleCoder::new(Role::Decode, coding))?;
-        coders.push(CoderBox::of(coder))?;
+    for role in [Role::Decode, Role::Encode] {
+        for coding in [
+            Coding::Pcm(SampleSize::One),
+            Coding::Pcm(SampleSize::Two),
+            Coding::G711(Law::Ulaw),
+        ] {
+            let coder = Box::new(alloc, SampleCoder::new(role, coding))?;
+            coders.push(CoderBox::of(coder))?;
+        }
     }
     coders.push(CoderBox::of(Box::new(alloc, FlacDecoder::new(alloc))?))?;
     for format in [
