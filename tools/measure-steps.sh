@@ -2,7 +2,7 @@
 # Replays scripts of many steps, and prints what each costs: tools/measure-steps.sh [PROGRAM]
 # shown: each chunk is decoded and shown before the next comes. queued: all decodes are called before any work begins.
 # flushes: all steps flush, and no work begins before. taken: half of the steps decode, each shown before the next, and the
-# others then take what was shown. Wants /usr/bin/time and valgrind.
+# others then take what was shown. encoded: all encodes of one sound are called before any work begins. Wants /usr/bin/time and valgrind.
 cd "$(dirname "$0")/.." || exit 2
 program=$(realpath "${1:-crates/wcrun/out/wcrun}") || exit 2
 work=$(mktemp -d) || exit 2
@@ -32,9 +32,24 @@ script() {
   }'
 }
 
+# encodes STEPS
+encodes() {
+  awk -v n="$1" 'BEGIN {
+    printf "{\"codecs\":[{\"name\":\"d\",\"kind\":\"audio-encoder\"}],\"callers\":[{\"name\":\"a\",\"steps\":["
+    printf "{\"do\":\"configure\",\"on\":\"d\",\"config\":{\"codec\":\"pcm-s16\",\"sampleRate\":8000,\"numberOfChannels\":1}},"
+    printf "{\"do\":\"audio\",\"as\":\"x\",\"init\":{\"format\":\"s16\",\"sampleRate\":8000,\"numberOfFrames\":1,"
+    printf "\"numberOfChannels\":1,\"timestamp\":0,\"data\":\"0100\"}}"
+    for (i = 2; i < n; i++) printf ",{\"do\":\"encode\",\"on\":\"d\",\"data\":\"x\"}"
+    printf "]}],\"order\":[\"a\",{\"start\":\"d\"},{\"done\":\"d\",\"at\":1},{\"turn\":\"d\"},{\"turn\":\"d\"},\"a\""
+    for (i = 2; i < n; i++) printf ",\"a\""
+    for (i = 2; i < n; i++) printf ",{\"start\":\"d\"},{\"done\":\"d\",\"at\":%d},{\"turn\":\"d\"},{\"turn\":\"d\"}", i
+    printf "]}\n"
+  }'
+}
+
 # measure KIND STEPS
 measure() {
-  script "$1" "$2" > "$work/script.json"
+  if [ "$1" = encoded ]; then encodes "$2"; else script "$1" "$2"; fi > "$work/script.json"
   cost=$(/usr/bin/time -f '%e s, %M KB' "$program" replay "$work/script.json" 2>&1 > "$work/report")
   count=$(valgrind --tool=callgrind --callgrind-out-file="$work/out" "$program" replay "$work/script.json" 2>&1 > /dev/null | awk '/Collected/ {print $4}')
   printf '%-8s %7d steps: %s, %s instructions, report of %d bytes\n' "$1" "$2" "$cost" "$count" "$(stat -c %s "$work/report")"
@@ -44,3 +59,4 @@ for steps in 25000 50000 100000; do measure shown "$steps"; done
 for steps in 2500 5000 10000; do measure queued "$steps"; done
 for steps in 2500 5000 10000; do measure flushes "$steps"; done
 for steps in 25000 50000 100000; do measure taken "$steps"; done
+for steps in 25000 50000 100000; do measure encoded "$steps"; done
