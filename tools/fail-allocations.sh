@@ -1,6 +1,6 @@
 #!/usr/bin/env bash
-# Makes each allocation of the built program fail in turn while it replays demo/ordinary.json, and compares the status
-# and what was written: 0 with the whole report, or with one in which a work item ended for want of memory and closed the
+# Makes each allocation of the built program fail in turn while it replays demo/ordinary.json, and then a script in which an
+# encoder holds a clone of what was closed until a reset lets it go, and compares the status and what was written: 0 with the whole report, or with one in which a work item ended for want of memory and closed the
 # codec; 6 with a beginning of a report and `out of memory`; 4 with `read fault: NAME`, where the system's own reading
 # wanted memory. Needs gcc. tools/fail-allocations.sh [PROGRAM]
 cd "$(dirname "$0")/.." || exit 2
@@ -39,33 +39,54 @@ int posix_memalign(void **to, size_t align, size_t size) {
 }
 C
 gcc -shared -fPIC -O1 -o "$work/fail.so" "$work/fail.c" -ldl || exit 2
-whole=$(cat demo/ordinary.report)
+cat > "$work/given-back.json" <<'JSON'
+{"codecs":[{"name":"e","kind":"audio-encoder"}],"callers":[{"name":"a","steps":[
+{"do":"audio","as":"x","init":{"format":"s16","sampleRate":8000,"numberOfFrames":1,"numberOfChannels":1,
+"timestamp":0,"data":"0100"}},
+{"do":"configure","on":"e","config":{"codec":"pcm-s16","sampleRate":8000,"numberOfChannels":1}},
+{"do":"encode","on":"e","data":"x"},
+{"do":"close-data","of":"x"},
+{"do":"reset","on":"e"},
+{"do":"transfer","of":"x","as":"y"}]}],
+"order":["a","a","a","a","a","a"]}
+JSON
+"$program" replay "$work/given-back.json" > "$work/given-back.report" || exit 2
+grep -q "^3 e.2 end 0 1 gone$" "$work/given-back.report" || { echo "the clone was not given back by the reset"; exit 1; }
 
 # a whole report in which an item ended for want of memory, and the codec was then closed
 wants_memory() {
   [[ $1 == "wcrun report 1"*" no-memory"*"turn close OutOfMemory"*"  error OutOfMemory"*$'\n'end ]]
 }
 
-bad=0 failed=0 quiet=0
-for n in $(seq 1 2000); do
-  FAIL_ALLOC=$n LD_PRELOAD=$work/fail.so timeout 20 "$program" replay demo/ordinary.json > "$work/out"
-  status=$?
-  written=$(cat "$work/out")
-  case $status in
-    0) [ "$written" = "$whole" ] || wants_memory "$written" || { echo "$n: status 0, another text"; bad=1; }
-       # After ten in a row that were whole, there are no more allocations.
-       quiet=$((quiet + 1)); [ "$quiet" -lt 10 ] || break ;;
-    6) quiet=0 failed=$((failed + 1))
-       beginning=${written%out of memory}
-       case "$whole" in
-         "${beginning%$'\n'}"*) ;;
-         *) echo "$n: status 6, no beginning of the report"; bad=1 ;;
-       esac
-       [ "$beginning" != "$written" ] || { echo "$n: status 6 without its line"; bad=1; } ;;
-    4) quiet=0 failed=$((failed + 1))
-       [ "$written" = "read fault: demo/ordinary.json" ] || { echo "$n: status 4, another text"; bad=1; } ;;
-    *) quiet=0; echo "$n: status $status"; bad=1 ;;
-  esac
-done
-echo "$failed allocations failed in turn; bad: $bad"
+bad=0
+# each SCRIPT REPORT
+each() {
+  local script=$1 whole failed=0 quiet=0 n status written beginning
+  whole=$(cat "$2")
+  for n in $(seq 1 2000); do
+    FAIL_ALLOC=$n LD_PRELOAD=$work/fail.so timeout 20 "$program" replay "$script" > "$work/out"
+    status=$?
+    written=$(cat "$work/out")
+    case $status in
+      0) [ "$written" = "$whole" ] || wants_memory "$written" || { echo "$n: status 0, another text"; bad=1; }
+         # After ten in a row that were whole, there are no more allocations.
+         quiet=$((quiet + 1)); [ "$quiet" -lt 10 ] || break ;;
+      6) quiet=0 failed=$((failed + 1))
+         beginning=${written%out of memory}
+         case "$whole" in
+           "${beginning%$'\n'}"*) ;;
+           *) echo "$n: status 6, no beginning of the report"; bad=1 ;;
+         esac
+         [ "$beginning" != "$written" ] || { echo "$n: status 6 without its line"; bad=1; } ;;
+      4) quiet=0 failed=$((failed + 1))
+         [ "$written" = "read fault: $script" ] || { echo "$n: status 4, another text"; bad=1; } ;;
+      *) quiet=0; echo "$n: status $status"; bad=1 ;;
+    esac
+  done
+  echo "$(basename "$script"): $failed allocations failed in turn"
+}
+
+each demo/ordinary.json demo/ordinary.report
+each "$work/given-back.json" "$work/given-back.report"
+echo "bad: $bad"
 exit "$bad"

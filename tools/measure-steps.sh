@@ -2,7 +2,8 @@
 # Replays scripts of many steps, and prints what each costs: tools/measure-steps.sh [PROGRAM]
 # shown: each chunk is decoded and shown before the next comes. queued: all decodes are called before any work begins.
 # flushes: all steps flush, and no work begins before. taken: half of the steps decode, each shown before the next, and the
-# others then take what was shown. encoded: all encodes of one sound are called before any work begins. Wants /usr/bin/time and valgrind.
+# others then take what was shown. encoded: all encodes of one sound are called before any work begins.
+# Wants /usr/bin/time and valgrind.
 cd "$(dirname "$0")/.." || exit 2
 program=$(realpath "${1:-crates/wcrun/out/wcrun}") || exit 2
 work=$(mktemp -d) || exit 2
