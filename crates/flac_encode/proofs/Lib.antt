@@ -1,5 +1,6 @@
 pub mod Counts
 pub mod Filled
 pub mod Meets
+pub mod Runs
 pub mod Served
 pub mod Steps

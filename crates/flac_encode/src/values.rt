@@ -1,11 +1,12 @@
 // Samples at a config's depth.
-ghost use Rattle.std.specs.Prelude.{◌≡◌, ◌<◌, ◌≤◌, ◌*◌, ◌+◌, ◌-◌, ◌^◌, ◌++◌, ◌∷◌, [], true, length, take, drop, map, OnOk, pos, neg_ℤ, ◌≤ℤ◌, ◌<ℤ◌};
+ghost use Rattle.std.specs.Prelude.{◌≡◌, ◌<◌, ◌≤◌, ◌*◌, ◌+◌, ◌-◌, ◌^◌, ◌++◌, ◌∷◌, [], true, false, length, take, drop, map, OnOk, pos, neg_ℤ, ◌≤ℤ◌, ◌<ℤ◌};
 ghost use Rattle.std.specs.List.{range_with_len};
 ghost use Rattle.wc_config.specs.Configs.{is_depth};
-ghost use Rattle.codec_definitions.specs.Pcm.{format_size, place_of, is_whole, converted, sample_of};
+ghost use Rattle.codec_definitions.specs.Pcm.{format_size, place_of, is_planar, is_whole, converted, sample_of};
 ghost use Rattle.sample_conversion.specs.Sizes.{is_format_size};
 ghost use Rattle.flac_subframes.specs.Spelling.{HasDepth, HaveDepth};
 ghost use Rattle.flac_encode.specs.Blocks.{value_at, frame_values, values_in};
+ghost use Rattle.flac_encode.specs.Runs.{run_value};
 
 use sample_conversion::{format_size, is_planar};
 use wc_base::{NoMemory, SoundShape};
@@ -28,10 +29,101 @@ pub fn push_values(
     ensures fit { OnOk result (HaveDepth config.now.depth out.new.items) }
 {
     out.reserve(shape.frames as usize * shape.channels as usize)?;
+    if is_planar(shape.format) {
+        push_frames(config, shape, bytes, out)
+    } else {
+        push_in_turn(config, shape, bytes, out)
+    }
+}
+
+/// The same, frame by frame.
+fn push_frames(
+    config: &AudioEncoderConfig,
+    shape: &SoundShape,
+    bytes: &[u8],
+    out: &mut Vec<i32>,
+) -> Result<(), NoMemory>
+    requires channels { shape.now.channels ≤ 8 }
+    requires same { config.now.channels ≡ shape.now.channels }
+    requires depth { is_depth config.now.depth ≡ true }
+    requires whole { is_whole shape.now bytes.now ≡ true }
+    requires fit { HaveDepth config.now.depth out.old.items }
+    ensures values { OnOk result (out.new.items ≡ out.old.items
+        ++ values_in config.now (record { shape = shape.now; bytes = bytes.now })) }
+    ensures fit { OnOk result (HaveDepth config.now.depth out.new.items) }
+{
     for frame in 0..shape.frames {
         push_frame(config, shape, bytes, frame, out)?;
     }
     Ok(())
+}
+
+/// The same of samples that already stand in this order.
+fn push_in_turn(
+    config: &AudioEncoderConfig,
+    shape: &SoundShape,
+    bytes: &[u8],
+    out: &mut Vec<i32>,
+) -> Result<(), NoMemory>
+    requires same { config.now.channels ≡ shape.now.channels }
+    requires depth { is_depth config.now.depth ≡ true }
+    requires whole { is_whole shape.now bytes.now ≡ true }
+    requires in_turn { is_planar shape.now.format ≡ false }
+    requires fit { HaveDepth config.now.depth out.old.items }
+    ensures values { OnOk result (out.new.items ≡ out.old.items
+        ++ values_in config.now (record { shape = shape.now; bytes = bytes.now })) }
+    ensures fit { OnOk result (HaveDepth config.now.depth out.new.items) }
+{
+    let size = format_size(shape.format);
+    let count = shape.frames as usize * shape.channels as usize;
+    push_run(size, config.depth, count, bytes, out)
+}
+
+/// Appends so many samples at a depth.
+fn push_run(
+    size: usize,
+    depth: u32,
+    count: usize,
+    bytes: &[u8],
+    out: &mut Vec<i32>,
+) -> Result<(), NoMemory>
+    requires size { is_format_size size ≡ true }
+    requires depth { is_depth depth ≡ true }
+    requires whole { count * size ≡ length bytes.now }
+    requires fit { HaveDepth depth out.old.items }
+    ensures values { OnOk result (out.new.items ≡ out.old.items
+        ++ map (run_value size depth bytes.now) (range_with_len 0 count)) }
+    ensures fit { OnOk result (HaveDepth depth out.new.items) }
+{
+    for i in 0..count {
+        let value = run_value(size, depth, bytes, i);
+        push_value(value, out)?;
+    }
+    Ok(())
+}
+
+/// One of samples that stand one after another, at a depth.
+#[inline]
+fn run_value(size: usize, depth: u32, bytes: &[u8], i: usize) -> i32
+    requires size { is_format_size size ≡ true }
+    requires depth { is_depth depth ≡ true }
+    requires within { size * i + size ≤ length bytes.now }
+    ensures value { result ≡ run_value size depth bytes.now i }
+    ensures fit { HasDepth depth result }
+{
+    let sample = run_sample(size, bytes, i);
+    converted(spelled_value(sample), 8 * sample.len() as u32, depth)
+}
+
+/// The bytes of one of samples that stand one after another.
+#[inline]
+fn run_sample(size: usize, bytes: &[u8], i: usize) -> &[u8]
+    requires size { is_format_size size ≡ true }
+    requires within { size * i + size ≤ length bytes.now }
+    ensures value { result.now ≡ take size (drop (size * i) bytes.now) }
+    ensures size { length result.now ≡ size }
+{
+    &bytes[size * i..size * i + size]
 }
 
 /// Appends the samples of a frame.

@@ -114,11 +114,21 @@ fn least_of(residual: &[i32], size: usize, order: usize, parts: usize) -> u64
     ensures least { result ≤ leasts size order (map folded_value residual.now) parts }
     ensures small { result ≤ 2 ^ 63 + 2 ^ 31 }
 {
+    let most = most_of(size);
     let mut sum = 0u64;
     for j in 0..parts {
-        sum += bound_for(part_of(residual, size, order, j));
+        sum += bound_for(part_of(residual, size, order, j), most);
     }
     sum
+}
+
+/// As much as so many values may be for their sum to fit 32 bits.
+fn most_of(size: usize) -> u32
+    requires some { 0 < size }
+    requires few { size ≤ 65535 }
+    ensures { result * size < 2 ^ 32 }
+{
+    0xffff_ffff / size as u32
 }
 
 /// The first plan with the fewest bits, by a search from the finest on.

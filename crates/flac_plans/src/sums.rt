@@ -298,38 +298,48 @@ fn sum_at(
     left_sums[c] + right_sums[c]
 }
 
-/// Bits that no parameter goes below, for so many values with this sum.
-fn bound_of(count: u64, sum: u64) -> u64
+/// Bits that no parameter goes below, for so many values of which twice their sum without signs is at least this.
+fn bound_of(count: u64, twice: u64) -> u64
     requires count { count ≤ 65535 }
-    requires sum { sum ≤ 2 ^ 48 }
-    ensures below { (k : ℕ) → k ≤ 14 → result ≤ count * k + (sum + count) / 2 ^ k }
+    requires twice { twice ≤ 2 ^ 48 }
+    ensures below { (k : ℕ) → k ≤ 14 → result ≤ count * k + twice / 2 ^ k }
     ensures small { result ≤ 2 ^ 48 + 2 ^ 16 }
 {
-    let mut bound = sum + count;
+    let mut bound = twice;
     for k in 1u32..15 {
-        bound = bound.min(count * k as u64 + ((sum + count) >> k));
+        bound = bound.min(count * k as u64 + (twice >> k));
     }
     bound
 }
 
-/// Bits that no parameter goes below, for a part of a residual.
-pub fn bound_for(values: &[i32]) -> u64
-    requires { length values.now ≤ 65535 }
+/// Bits that no parameter goes below, for a part of a residual, whose values count as at most `most` each.
+pub fn bound_for(values: &[i32], most: u32) -> u64
+    requires count { length values.now ≤ 65535 }
+    requires small { length values.now * most < 2 ^ 32 }
     ensures below { result ≤ least (map folded_value values.now) }
     ensures small { result ≤ 2 ^ 48 + 2 ^ 16 }
 {
-    bound_of(values.len() as u64, folded_sum(values))
+    bound_of(values.len() as u64, 2 * size_of(values, most) as u64)
 }
 
-/// The sum of folded values, which are kept nowhere.
-fn folded_sum(values: &[i32]) -> u64
-    requires { length values.now ≤ 65535 }
-    ensures value { result ≡ total (map folded_value values.now) }
-    ensures bound { result ≤ length values.now * 2 ^ 32 }
+/// The sum of values without signs, each at most `most`: 32 bits are enough, of which the processor adds several at
+/// once.
+fn size_of(values: &[i32], most: u32) -> u32
+    requires { length values.now * most < 2 ^ 32 }
+    ensures { 2 * result ≤ total (map folded_value values.now) + length values.now }
 {
-    let mut sum = 0u64;
+    let mut sum = 0u32;
     for value in values {
-        sum += folded_value(*value) as u64;
+        sum += size_at(*value, most);
     }
     sum
+}
+
+/// A value without its sign, but at most `most`.
+#[inline]
+fn size_at(value: i32, most: u32) -> u32
+    ensures most { result ≤ most }
+    ensures value { 2 * result ≤ folded_value value + 1 }
+{
+    value.unsigned_abs().min(most)
 }

@@ -1,7 +1,11 @@
-use Rattle.std.proofs.Common.{map, arith}
+use Rattle.std.proofs.Common.{length, map, arith}
 use Rattle.flac_definitions.specs.ResidualSpelling.{folded_value}
 use Rattle.flac_plans.proofs.Least.{leasts_more}
+use Rattle.flac_plans.proofs.Sizes.{fewer_fit}
 use Rattle.flac_plans.proofs.plan.least_of.Goals as goal
+
+pub bound_for-sum-requires-clause-small : goal.bound_for-sum-requires-clause-small
+bound_for-sum-requires-clause-small c = fewer_fit (length c.part_of.result.now) c.args.size c.most_of-most.result c.part_of.ensures.count c.most_of-most.ensures
 
 pub loop-j-preserved : goal.loop-j-preserved
 loop-j-preserved c =

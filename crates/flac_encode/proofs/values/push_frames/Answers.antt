@@ -2,7 +2,7 @@ use Rattle.std.proofs.Common.{ap, sym, ◌∙◌, ◌++◌, List, ℕ, ℤ, appe
 use Rattle.std.specs.List.{range_with_len, flat_map}
 use Rattle.flac_encode.specs.Blocks.{frame_values}
 use Rattle.flac_encode.proofs.Filled.{one_more}
-use Rattle.flac_encode.proofs.values.push_values.Goals as goal
+use Rattle.flac_encode.proofs.values.push_frames.Goals as goal
 
 pub loop-frame-preserved : goal.loop-frame-preserved
 loop-frame-preserved c =
