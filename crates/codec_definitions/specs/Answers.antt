@@ -12,9 +12,10 @@ use Rattle.codec_definitions.specs.declared.command.Command.{Command}
 use Rattle.codec_definitions.specs.declared.command.Command.TheVariants as command
 use Rattle.codec_definitions.specs.SampleCodecs.{SampleCodec, sample_codec, sample_decoder, sample_encoder}
 use Rattle.codec_definitions.specs.Flac.{described, flac_decoder}
+use Rattle.codec_definitions.specs.FlacEncoder.{blocks_answer}
 use Rattle.codec_definitions.specs.RawVideo.{raw_shape, raw_decoder}
 
--- a codec without a definition yet: a drain gives nothing, since nothing was taken, and any other command is refused
+-- no codec: a drain gives nothing, since nothing was taken, and any other command is refused
 abbrev pub undefined_answer : Command → Option (List unit.Unit)
 undefined_answer command.Drain = Some []
 undefined_answer x = None
@@ -31,13 +32,14 @@ abbrev pub audio_decoder_answer : CodecId → AudioDecoderConfig → Command →
 audio_decoder_answer codec.Flac c x = flac_decoder (described c.description) x
 audio_decoder_answer k c x = sample_decoder_by (sample_codec k) c x
 
-abbrev pub audio_encoder_answer : CodecId → AudioEncoderConfig → Command → Option (List unit.Unit)
-audio_encoder_answer k c x = sample_encoder_by (sample_codec k) c x
+abbrev pub audio_encoder_answer : CodecId → AudioEncoderConfig → List Command → Command → Option (List unit.Unit)
+audio_encoder_answer codec.Flac c before x = blocks_answer c before x
+audio_encoder_answer k c before x = sample_encoder_by (sample_codec k) c x
 
 -- the units that a command gives after those before it, of which none was refused; none where it is refused. A drain never is.
 abbrev pub answer_after : CoderId → Config → List Command → Command → Option (List unit.Unit)
 answer_after id (config.AudioDecoder c) before x = audio_decoder_answer id.codec c x
-answer_after id (config.AudioEncoder c) before x = audio_encoder_answer id.codec c x
+answer_after id (config.AudioEncoder c) before x = audio_encoder_answer id.codec c before x
 answer_after id (config.VideoDecoder c) before x = raw_decoder (raw_shape id.codec c) before x
 answer_after id config.Bad before x = undefined_answer x
 

@@ -1,24 +1,16 @@
--- A codec that codes blocks of frames: an input gives the blocks that are complete with it and not without it, a drain
--- gives the rest, and numbering begins anew after it.
+-- FLAC's encoder (W3C WebCodecs, registration for FLAC) codes blocks of frames: an input gives the blocks that are complete
+-- with it and not without it, a drain gives the rest, and numbering begins anew after it.
 use Rattle.std.specs.Prelude.{ℕ, ℤ, pos, ◌+ℤ◌, ◌-◌, ◌*◌, ◌/◌, ◌%◌, ◌^◌, ◌==◌, ◌&&◌, nat_lt, Bool, true, List, [], ◌∷◌, ◌++◌, length, take, drop, map, fold, Option, Some, None, if◌then◌else◌}
 use Rattle.std.specs.List.{flat_map, range_with_len}
 use Rattle.std.specs.Int.{w64, saturate_signed}
 use Rattle.wc_base.specs.declared.media.Samples.{Samples}
 use Rattle.wc_config.specs.declared.config.AudioEncoderConfig.{AudioEncoderConfig}
 use Rattle.codec_definitions.specs.Pcm.{converted, sample_at, format_size, place_of, is_whole}
-use Rattle.flac_encode.specs.Code.{flac_code}
+use Rattle.codec_definitions.specs.FlacCode.{block_frames, block_samples, flac_code}
 use Rattle.codec_definitions.specs.declared.unit.Unit as unit
 use Rattle.codec_definitions.specs.declared.unit.Unit.TheVariants as unit_of
 use Rattle.codec_definitions.specs.declared.command.Command.{Command}
 use Rattle.codec_definitions.specs.declared.command.Command.TheVariants as command
-use Rattle.flac_encode.specs.State.{Kept}
-
--- frames a block (0 leaves it to the encoder: 4096), and samples a block, over all channels
-abbrev pub block_frames : AudioEncoderConfig → ℕ
-block_frames c = if c.block_size == 0 then 4096 else c.block_size
-
-abbrev pub block_samples : AudioEncoderConfig → ℕ
-block_samples c = block_frames c * c.channels
 
 -- the inputs since the last drain
 abbrev pub kept_with : List Samples → Command → List Samples
@@ -87,6 +79,18 @@ abbrev pub blocks_answer : AudioEncoderConfig → List Command → Command → O
 blocks_answer c before (command.Sound s) = if is_taken c s then Some (units_with c (inputs_since before) s) else None
 blocks_answer c before command.Drain = Some (unit_of_rest (rest_of c (inputs_since before)) (unit_at c (inputs_since before) (whole_blocks c (inputs_since before))))
 blocks_answer c before x = None
+
+-- What an encoder keeps between commands: the samples that no block has yet, frame by frame; the timestamp of the input that
+-- holds the first of them, and its frame there; and the number of the next block.
+pub record Kept : Type 0 where
+  pub rest : List ℤ
+  pub origin : ℤ
+  pub offset : ℕ
+  pub number : ℕ
+
+-- nothing
+abbrev pub nothing_kept : Kept
+nothing_kept = record { rest = []; origin = pos 0; offset = 0; number = 0 }
 
 -- what is kept after inputs since a drain
 abbrev pub kept_after : AudioEncoderConfig → List Samples → Kept
