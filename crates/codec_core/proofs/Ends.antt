@@ -1,23 +1,20 @@
 -- The end of an item is the last answer to the whole list of what was given.
 use Rattle.std.proofs.Common.{◌≡◌, ◌&&◌, not, Bool, true, false, cond, List, [], ◌∷◌, ◌++◌, length, Option, Some, None, is_some, Result, Ok, Err, refl, ap, sym, subst, eq-eqb, ◌∙◌, append_assoc, append-nil}
+use Rattle.std.proofs.lemmas.Bool.{and_parts}
 use Rattle.wc_config.specs.declared.codec.CoderId.{CoderId}
-use Rattle.wc_config.specs.declared.codec.CodecId.{CodecId}
-use Rattle.wc_config.specs.declared.codec.CodecId.TheVariants as codec
-use Rattle.wc_config.specs.declared.codec.Role.{Role}
-use Rattle.wc_config.specs.declared.codec.Role.TheVariants as role
 use Rattle.wc_config.specs.declared.config.AudioDecoderConfig.{AudioDecoderConfig}
 use Rattle.wc_config.specs.declared.config.Config.{Config}
 use Rattle.wc_config.specs.declared.config.Config.TheVariants as config_of
 use Rattle.wc_config.specs.Configs.{is_valid, is_within, is_supported, coder_id_of}
 use Rattle.codec_definitions.specs.declared.unit.Unit as media
-use Rattle.codec_definitions.specs.declared.unit.Unit.TheVariants as unit_of
 use Rattle.codec_definitions.specs.declared.command.Command.{Command}
 use Rattle.codec_definitions.specs.declared.command.Command.TheVariants as command
 use Rattle.coder_api.specs.declared.coder.CoderFault.{CoderFault}
 use Rattle.coder_api.specs.declared.coder.CoderFault.TheVariants as fault
 use Rattle.codec_definitions.specs.Answers.{answer_after, answers_from, until_refused, last_answer}
-use Rattle.coder_api.specs.Meaning.{Meaning, CoderState, Configured, Answers, Goes, Takes, IsAt, IsReadyAfter, serves, setup_of, asks_for, is_id, is_role, is_codec}
+use Rattle.coder_api.specs.Meaning.{CoderState, Configured, Takes, IsAt, serves, setup_of, asks_for}
 use Rattle.coder_api.specs.Lent.{Lent, stopped_lent}
+use Rattle.slot_registry.specs.IdLaws.{id_is}
 use Rattle.codec_model.specs.declared.entry.Coded.{Coded}
 use Rattle.codec_model.specs.declared.entry.Work.{Work}
 use Rattle.codec_model.specs.declared.entry.Work.TheVariants as work
@@ -26,39 +23,7 @@ use Rattle.codec_model.specs.declared.entry.Ended.{Ended}
 use Rattle.codec_model.specs.declared.entry.Ended.TheVariants as ended
 use Rattle.codec_model.specs.Control.{kind_of}
 use Rattle.codec_model.specs.Replay.{Given, State, given_more, answer_to, answers_to, ended_of, command_of, decoder_config, labelled, labelled_answer}
-use Rattle.codec_core.specs.Job.{JobValue, DoneValue, IsJob, IsJobOf, IsEnd, IsEndOf, none_refused_from, WasGiven, CoderAt, CoderFor, StillAt, StaysAt, EndsBy, EndsCommand, EndsWork, IsReadyEnd, IsReadyStill, IsOrWants, labelled_end, starts_coded, end_by, outcome_of, stopped_box}
-
--- the same ids are one id
-role_is : (a b : Role) → is_role a b ≡ true → a ≡ b
-role_is role.Decode role.Decode h = refl
-role_is role.Encode role.Encode h = refl
-role_is role.Decode role.Encode h = absurd cc
-role_is role.Encode role.Decode h = absurd cc
-
-codec_is : (a b : CodecId) → is_codec a b ≡ true → a ≡ b
-codec_is codec.PcmU8 codec.PcmU8 h = refl
-codec_is codec.PcmS16 codec.PcmS16 h = refl
-codec_is codec.PcmS24 codec.PcmS24 h = refl
-codec_is codec.PcmS32 codec.PcmS32 h = refl
-codec_is codec.Alaw codec.Alaw h = refl
-codec_is codec.Ulaw codec.Ulaw h = refl
-codec_is codec.Flac codec.Flac h = refl
-codec_is codec.RawI420 codec.RawI420 h = refl
-codec_is codec.RawI422 codec.RawI422 h = refl
-codec_is codec.RawI444 codec.RawI444 h = refl
-codec_is codec.RawNv12 codec.RawNv12 h = refl
-codec_is _ _ h = absurd cc
-
-pub both : (a b : Bool) → (a && b) ≡ true → (a ≡ true) × (b ≡ true)
-both true b h = (refl, h)
-both false b h = absurd cc
-
-id_is : (a b : CoderId) → is_id a b ≡ true → a ≡ b
-id_is a b h =
-    let parts = both (is_role a.role b.role) (is_codec a.codec b.codec) h in
-    let r = role_is a.role b.role parts.0 in
-    let c = codec_is a.codec b.codec parts.1 in
-    ap (λ (x : Role). record { role = x; codec = a.codec }) r ∙ ap (λ (x : CodecId). record { role = b.role; codec = x }) c
+use Rattle.codec_core.specs.Job.{JobValue, DoneValue, IsJob, IsJobOf, IsEnd, IsEndOf, none_refused_from, WasGiven, CoderAt, CoderFor, StillAt, StaysAt, EndsBy, EndsCommand, EndsWork, IsOrWants, labelled_end, end_by, outcome_of, stopped_box}
 
 asked_id : (id : CoderId) (wanted : Option CoderId) → asks_for id wanted ≡ true → wanted ≡ Some id
 asked_id id None h = absurd cc
@@ -66,7 +31,7 @@ asked_id id (Some wanted) h = ap Some (sym (id_is id wanted h))
 
 -- a box that serves a config is of the id that it asks for
 pub serves_asked : (id : CoderId) (config : Config) → serves id config ≡ true → coder_id_of config ≡ Some id
-serves_asked id config h = asked_id id (coder_id_of config) (both (is_supported config) (asks_for id (coder_id_of config)) h).1
+serves_asked id config h = asked_id id (coder_id_of config) (and_parts (is_supported config) (asks_for id (coder_id_of config)) h).1
 
 -- a supported config asks for some id, so a box that is not missing serves it
 none_missing : (supported serving : Bool) (wanted : Option CoderId) → cond (supported && not serving) wanted None ≡ None → supported ≡ true → is_some wanted ≡ true → serving ≡ true
@@ -77,8 +42,8 @@ none_missing false serving wanted h s w = absurd cc
 
 pub serves_there : (id : CoderId) (config : Config) → cond (is_supported config && not (serves id config)) (coder_id_of config) None ≡ None → is_supported config ≡ true → serves id config ≡ true
 serves_there id config h s =
-    let front = both (is_valid config && is_some (coder_id_of config)) (is_within config) s in
-    none_missing (is_supported config) (serves id config) (coder_id_of config) h s (both (is_valid config) (is_some (coder_id_of config)) front.0).1
+    let front = and_parts (is_valid config && is_some (coder_id_of config)) (is_within config) s in
+    none_missing (is_supported config) (serves id config) (coder_id_of config) h s (and_parts (is_valid config) (is_some (coder_id_of config)) front.0).1
 
 some_is : {X : Type 0} (o : Option X) → is_some o ≡ true → (x : X) × (o ≡ Some x)
 some_is None h = absurd cc
@@ -101,7 +66,7 @@ last_of_one (Some units) = refl
 last_more : (id : CoderId) (c : Config) (before xs : List Command) (x : Command) → none_refused_from id c before xs ≡ true → last_answer (answers_from id c before (xs ++ x ∷ [])) ≡ answer_after id c (before ++ xs) x
 last_more id c before [] x h = last_of_one (answer_after id c before x) ∙ ap (λ b. answer_after id c b x) (sym (append-nil before))
 last_more id c before (y ∷ ys) x h =
-    let parts = both (is_some (answer_after id c before y)) (none_refused_from id c (before ++ y ∷ []) ys) h in
+    let parts = and_parts (is_some (answer_after id c before y)) (none_refused_from id c (before ++ y ∷ []) ys) h in
     let u = some_is (answer_after id c before y) parts.0 in
     let rest = last_more id c (before ++ y ∷ []) ys x parts.1 in
     let more = answers_some id c (before ++ y ∷ []) ys x in
@@ -111,7 +76,7 @@ last_more id c before (y ∷ ys) x h =
 none_refused_more : (id : CoderId) (c : Config) (before xs : List Command) (x : Command) → none_refused_from id c before xs ≡ true → is_some (answer_after id c (before ++ xs) x) ≡ true → none_refused_from id c before (xs ++ x ∷ []) ≡ true
 none_refused_more id c before [] x h s = let here : is_some (answer_after id c before x) ≡ true = ap (λ b. is_some (answer_after id c b x)) (sym (append-nil before)) ∙ s in rw here refl
 none_refused_more id c before (y ∷ ys) x h s =
-    let parts = both (is_some (answer_after id c before y)) (none_refused_from id c (before ++ y ∷ []) ys) h in
+    let parts = and_parts (is_some (answer_after id c before y)) (none_refused_from id c (before ++ y ∷ []) ys) h in
     let same : is_some (answer_after id c ((before ++ y ∷ []) ++ ys) x) ≡ true = ap (λ b. is_some (answer_after id c b x)) (append_assoc before (y ∷ []) ys) ∙ s in
     let rest = none_refused_more id c (before ++ y ∷ []) ys x parts.1 same in
     rw (parts.0, rest) refl
@@ -223,21 +188,6 @@ ends_or_wants old new w end e ends by = record {
   same = ends.same;
 }
 
--- outputs that are no encoder's carry no config
-pub plain_labelled : (c : Option AudioDecoderConfig) (us : List media.Unit) → starts_coded us ≡ false → labelled c us ≡ us
-plain_labelled None us h = refl
-plain_labelled (Some c) [] h = refl
-plain_labelled (Some c) (unit_of.Sound s ∷ us) h = refl
-plain_labelled (Some c) (unit_of.Image p ∷ us) h = refl
-plain_labelled (Some c) (unit_of.Coded chunk config ∷ us) h = absurd cc
-
--- after a command that ran, its box may be asked for the config
-pub ready_still : (end : Ended) (lent : Lent) → IsReadyEnd end lent.meaning → IsReadyStill end (Some lent)
-ready_still (ended.Ran units) lent h = h
-ready_still ended.Refused lent h = tt
-ready_still (ended.NoSlot n) lent h = tt
-ready_still ended.NoMemory lent h = tt
-
 pub configure_ends : (old new : Lent) (config : Config) (units : List media.Unit) → units ≡ [] → is_supported config ≡ true → serves old.id config ≡ true → IsAt old.id config [] new.meaning → stopped_lent new ≡ stopped_lent old → EndsWork (Some old) (work.Configure config) (ended.Ran units) (Some new)
 configure_ends old new config units none supported serving meant same =
     let id : new.id ≡ old.id = ap (λ (l : Lent). l.id) same in
@@ -252,29 +202,16 @@ configure_ends old new config units none supported serving meant same =
       same = same_box old new same;
     }
 
-answered : (a : Option (List media.Unit)) (r : Result (Unit {0}) CoderFault) (us : List media.Unit) → Answers a r [] us → EndsBy a (end_by r us)
-answered a (Ok t) us h = h.1 ∙ ap Some (sym h.2)
-answered a (Err fault.Refused) us h = h.0
-answered a (Err fault.NoMemory) us h = tt
-
-went : (id : CoderId) (c : Config) (before : List Command) (x : Command) (r : Result (Unit {0}) CoderFault) (us : List media.Unit) (new : Lent) → Goes id c before x r new.meaning → StaysAt (end_by r us) id c (before ++ x ∷ []) new
-went id c before x (Ok t) us new h = h
-went id c before x (Err fault.Refused) us new h = tt
-went id c before x (Err fault.NoMemory) us new h = tt
-
-ready_by : (r : Result (Unit {0}) CoderFault) (us : List media.Unit) (m : Meaning) → IsReadyAfter r m → IsReadyEnd (end_by r us) m
-ready_by (Ok t) us m h = h
-ready_by (Err fault.Refused) us m h = tt
-ready_by (Err fault.NoMemory) us m h = tt
-
 -- what a coder takes ends the command so
 pub taken : (old new : Lent) (x : Command) (r : Result (Unit {0}) CoderFault) (us : List media.Unit) → stopped_lent new ≡ stopped_lent old → Takes old.id old.meaning x r [] us new.meaning → EndsCommand old x (end_by r us) new
-taken old new x r us same takes = record {
-  answer = λ c before asked meant. answered (answer_after old.id c before x) r us (takes.answer c before meant);
-  goes = λ c before meant. went old.id c before x r us new (takes.goes c before meant);
-  ready = ready_by r us new.meaning takes.ready;
+taken old new x (Ok t) us same takes = record {
+  answer = λ c before asked meant. (let a = takes.answer c before meant in a.1 ∙ ap (λ (vs : List media.Unit). Some vs) (sym a.2));
+  goes = takes.goes;
+  ready = takes.ready;
   same = same;
 }
+taken old new x (Err fault.Refused) us same takes = record { answer = λ c before asked meant. (takes.answer c before meant).0; goes = λ c before meant. tt; ready = tt; same = same }
+taken old new x (Err fault.NoMemory) us same takes = record { answer = λ c before asked meant. tt; goes = λ c before meant. tt; ready = tt; same = same }
 
 -- the end of a job by its box is the end of the running item
 pub job_ends : (s : State) (job : JobValue) (d : DoneValue) → IsJobOf s job → d.epoch ≡ job.epoch → d.number ≡ job.number → d.kind ≡ kind_of job.work → EndsWork job.coder job.work d.ended d.coder → IsEndOf s d

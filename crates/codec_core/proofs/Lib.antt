@@ -3,5 +3,4 @@ pub mod Ends
 pub mod Outputs
 pub mod Steps
 pub mod Recorded
-pub mod Laws
 pub mod Owning

@@ -1,7 +1,7 @@
 -- The outputs that wait to be taken, as entries are added and outputs are passed.
 use Rattle.std.proofs.Common.{ℕ, zero, suc, ◌≡◌, ◌+◌, ◌-◌, ◌≤◌, ◌<◌, List, [], ◌∷◌, ◌++◌, drop, length, length-append, append-nil, slice_get, Option, Some, None, refl, ap, sym, ◌∙◌, arith}
 use Rattle.std.specs.Prelude.{option_map, unwrap_or}
-use Rattle.std.proofs.lemmas.List.{drop-drop, drop-append-le, length-drop, drop_all}
+use Rattle.std.proofs.lemmas.List.{drop-drop, drop-append-le, drop_all}
 use Rattle.std.proofs.lemmas.List.Concat.{flat_map-append}
 use Rattle.wc_base.specs.declared.error.DomError.{DomError}
 use Rattle.codec_definitions.specs.declared.unit.Unit as media
@@ -14,24 +14,24 @@ use Rattle.codec_model.specs.declared.entry.Task.{Task}
 use Rattle.codec_model.specs.declared.entry.Task.TheVariants as task
 use Rattle.codec_model.specs.Control.{front}
 use Rattle.codec_model.specs.Replay.{State, step, opening_state}
-use Rattle.codec_model.specs.Shown.{shows, shown, shown_from, each_shown, each_shown_from, outputs_of, units_in, rejections, close_shows, outputs_from, task_shows}
+use Rattle.codec_model.specs.Shown.{shows, shown, shown_from, each_shown, each_shown_from, outputs_of, units_in, units_shown, rejections, close_shows, outputs_from, task_shows}
 use Rattle.history_laws.specs.CountLaws.{outputs_tagged}
-use Rattle.codec_core.specs.Trace.{outputs_in, outputs_behind, task_outputs}
+use Rattle.codec_core.specs.Trace.{outputs_behind, task_outputs}
 
 -- the outputs of a history are those that its entries show
-outputs_rest : (es : List Entry) (o : Option State) → ((t : State) → outputs_of (shown_from es t) ≡ outputs_in (each_shown_from es t)) → outputs_of (unwrap_or (option_map (shown_from es) o) []) ≡ outputs_in (unwrap_or (option_map (each_shown_from es) o) [])
+outputs_rest : (es : List Entry) (o : Option State) → ((t : State) → outputs_of (shown_from es t) ≡ units_shown (each_shown_from es t)) → outputs_of (unwrap_or (option_map (shown_from es) o) []) ≡ units_shown (unwrap_or (option_map (each_shown_from es) o) [])
 outputs_rest es None more = refl
 outputs_rest es (Some t) more = more t
 
-outputs_from_state : (h : List Entry) (s : State) → outputs_of (shown_from h s) ≡ outputs_in (each_shown_from h s)
+outputs_from_state : (h : List Entry) (s : State) → outputs_of (shown_from h s) ≡ units_shown (each_shown_from h s)
 outputs_from_state [] s = refl
 outputs_from_state (e ∷ es) s = outputs_tagged s.control.place (shows e s) _ ∙ ap (λ us. units_in (shows e s) ++ us) (outputs_rest es (step e s) (outputs_from_state es))
 
-pub outputs_shown : (o : Opening) (h : List Entry) → outputs_of (shown o h) ≡ outputs_in (each_shown o h)
+pub outputs_shown : (o : Opening) (h : List Entry) → outputs_of (shown o h) ≡ units_shown (each_shown o h)
 outputs_shown o h = outputs_from_state h (opening_state o)
 
-pub outputs_more : (xs : List Shown) (x : Shown) → outputs_in (xs ++ x ∷ []) ≡ outputs_in xs ++ units_in x.events
-outputs_more xs x = flat_map-append (λ y. units_in y.events) xs (x ∷ []) ∙ ap (λ us. outputs_in xs ++ us) (append-nil (units_in x.events))
+pub outputs_more : (xs : List Shown) (x : Shown) → units_shown (xs ++ x ∷ []) ≡ units_shown xs ++ units_in x.events
+outputs_more xs x = flat_map-append (λ y. units_in y.events) xs (x ∷ []) ∙ ap (λ us. units_shown xs ++ us) (append-nil (units_in x.events))
 
 -- ---- what is kept of an entry's showing
 
@@ -60,17 +60,10 @@ task_shown (task.Close x) n = refl
 
 -- ---- the outputs from a place on
 
--- one entry more shows its outputs behind those that wait
-pub behind_more : (entry unit : ℕ) (xs : List Shown) (x : Shown) → entry ≤ length xs → unit ≤ length (outputs_in (drop entry xs)) → outputs_behind entry unit (xs ++ x ∷ []) ≡ outputs_behind entry unit xs ++ units_in x.events
-behind_more entry unit xs x place within =
-    ap (λ ys. drop unit (outputs_in ys)) (drop-append-le entry xs (x ∷ []) place)
-    ∙ (ap (drop unit) (outputs_more (drop entry xs) x)
-    ∙ drop-append-le unit (outputs_in (drop entry xs)) (units_in x.events) within)
-
-pub within_more : (entry unit : ℕ) (xs : List Shown) (x : Shown) → entry ≤ length xs → unit ≤ length (outputs_in (drop entry xs)) → unit ≤ length (outputs_in (drop entry (xs ++ x ∷ [])))
+pub within_more : (entry unit : ℕ) (xs : List Shown) (x : Shown) → entry ≤ length xs → unit ≤ length (units_shown (drop entry xs)) → unit ≤ length (units_shown (drop entry (xs ++ x ∷ [])))
 within_more entry unit xs x place within =
-    let more = ap (λ ys. length (outputs_in ys)) (drop-append-le entry xs (x ∷ []) place) ∙ ap length (outputs_more (drop entry xs) x) in
-    omega (arith, within, more, length-append (outputs_in (drop entry xs)) (units_in x.events))
+    let more = ap (λ ys. length (units_shown ys)) (drop-append-le entry xs (x ∷ []) place) ∙ ap length (outputs_more (drop entry xs) x) in
+    omega (arith, within, more, length-append (units_shown (drop entry xs)) (units_in x.events))
 
 drop_past : {X : Type 0} (n : ℕ) (xs ys : List X) → length xs ≤ n → drop n (xs ++ ys) ≡ drop (n - length xs) ys
 drop_past n [] ys le = ap (λ m. drop m ys) (omega arith)
@@ -88,12 +81,12 @@ drop_next (suc n) (y ∷ xs) x is =
 -- an entry is passed whose outputs were all taken
 pub behind_next : (entry unit : ℕ) (xs : List Shown) (x : Shown) → slice_get xs entry ≡ Some x → length (units_in x.events) ≤ unit → outputs_behind (entry + 1) (unit - length (units_in x.events)) xs ≡ outputs_behind entry unit xs
 behind_next entry unit xs x is past =
-    sym (ap (λ ys. drop unit (outputs_in ys)) (drop_next entry xs x is) ∙ drop_past unit (units_in x.events) (outputs_in (drop (entry + 1) xs)) past)
+    sym (ap (λ ys. drop unit (units_shown ys)) (drop_next entry xs x is) ∙ drop_past unit (units_in x.events) (units_shown (drop (entry + 1) xs)) past)
 
-pub within_next : (entry unit : ℕ) (xs : List Shown) (x : Shown) → slice_get xs entry ≡ Some x → unit ≤ length (outputs_in (drop entry xs)) → unit - length (units_in x.events) ≤ length (outputs_in (drop (entry + 1) xs))
+pub within_next : (entry unit : ℕ) (xs : List Shown) (x : Shown) → slice_get xs entry ≡ Some x → unit ≤ length (units_shown (drop entry xs)) → unit - length (units_in x.events) ≤ length (units_shown (drop (entry + 1) xs))
 within_next entry unit xs x is within =
-    let here = ap (λ ys. length (outputs_in ys)) (drop_next entry xs x is) in
-    omega (arith, within, here, length-append (units_in x.events) (outputs_in (drop (entry + 1) xs)))
+    let here = ap (λ ys. length (units_shown ys)) (drop_next entry xs x is) in
+    omega (arith, within, here, length-append (units_in x.events) (units_shown (drop (entry + 1) xs)))
 
 front_within : {X : Type 0} (n : ℕ) (xs ys : List X) → n < length xs → front (drop n (xs ++ ys)) ≡ slice_get xs n
 front_within n [] ys lt = absurd (omega (arith, lt))
@@ -103,11 +96,11 @@ front_within (suc n) (x ∷ xs) ys lt = front_within n xs ys (omega (arith, lt))
 -- the first output that waits is the entry's own
 pub front_at : (entry unit : ℕ) (xs : List Shown) (x : Shown) → slice_get xs entry ≡ Some x → unit < length (units_in x.events) → front (outputs_behind entry unit xs) ≡ slice_get (units_in x.events) unit
 front_at entry unit xs x is lt =
-    ap (λ ys. front (drop unit (outputs_in ys))) (drop_next entry xs x is) ∙ front_within unit (units_in x.events) (outputs_in (drop (entry + 1) xs)) lt
+    ap (λ ys. front (drop unit (units_shown ys))) (drop_next entry xs x is) ∙ front_within unit (units_in x.events) (units_shown (drop (entry + 1) xs)) lt
 
 -- behind all entries none waits
 pub front_past : (entry unit : ℕ) (xs : List Shown) → length xs ≤ entry → front (outputs_behind entry unit xs) ≡ None
-front_past entry unit xs le = ap (λ ys. front (drop unit (outputs_in ys))) (drop_all entry xs le) ∙ none unit
+front_past entry unit xs le = ap (λ ys. front (drop unit (units_shown ys))) (drop_all entry xs le) ∙ none unit
   where
     none : (n : ℕ) → front {X = media.Unit} (drop n []) ≡ None
     none zero = refl
@@ -115,10 +108,7 @@ front_past entry unit xs le = ap (λ ys. front (drop unit (outputs_in ys))) (dro
 
 -- the first output that waits is passed
 pub behind_passed : (entry unit : ℕ) (xs : List Shown) → outputs_behind entry (unit + 1) xs ≡ drop 1 (outputs_behind entry unit xs)
-behind_passed entry unit xs = sym (drop-drop 1 unit (outputs_in (drop entry xs)))
-
-pub within_passed : (entry unit : ℕ) (xs : List Shown) → 1 ≤ length (outputs_behind entry unit xs) → unit + 1 ≤ length (outputs_in (drop entry xs))
-within_passed entry unit xs some = omega (arith, some, length-drop unit (outputs_in (drop entry xs)))
+behind_passed entry unit xs = sym (drop-drop 1 unit (units_shown (drop entry xs)))
 
 pub front_drop : {X : Type 0} (n : ℕ) (xs : List X) → front (drop n xs) ≡ slice_get xs n
 front_drop zero [] = refl

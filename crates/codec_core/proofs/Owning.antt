@@ -1,6 +1,6 @@
 -- Whose box a codec's box is, entry after entry.
 use Rattle.std.proofs.Common.{ℕ, ◌≡◌, not, Bool, true, false, eqb, cond, List, [], ◌∷◌, ◌++◌, length, Option, Some, None, is_some, is_none, refl, ap, sym, subst, ◌∙◌}
-use Rattle.std.specs.Prelude.{option_and_then, unwrap_or, IfSome}
+use Rattle.std.specs.Prelude.{unwrap_or, IfSome}
 use Rattle.wc_base.specs.declared.who.By.{By}
 use Rattle.wc_base.specs.declared.who.By.TheVariants as by
 use Rattle.wc_base.specs.declared.who.Who.{Who}
@@ -22,26 +22,28 @@ use Rattle.codec_accounts.specs.Boxes.{Act, Asks, Begins, Ends, Removes, Other, 
 use Rattle.codec_model.specs.Held.{closes_codec}
 use Rattle.codec_accounts.specs.Codec.{is_old}
 use Rattle.codec_accounts.specs.Asked.{Asked, asked_by, asked_in, asked_at}
-use Rattle.codec_accounts.specs.AskedLaws.{IsAsked, asked_is, asked_more, lets_now, LetsGo}
+use Rattle.codec_accounts.specs.ActLaws.{ActMakes, act_makes}
+use Rattle.codec_accounts.specs.AskedLaws.{IsAsked, step_of, asked_is, asked_more, lets_now, LetsGo}
 use Rattle.codec_core.specs.Job.{JobValue, DoneValue, missing_id, stopped_box, IsEndOf, outcome_of}
-use Rattle.codec_core.specs.Codec.{Codec, state_at, Makes, IsBy, IsAskedAt, IsKept, IsCore, RemovedValue, kept_box, handed_back, removed_if}
+use Rattle.codec_core.specs.Codec.{Codec, state_at, Makes, KeepsRunning, IsBy, IsAskedAt, IsKept, IsCore, RemovedValue, kept_box, handed_back, removed_if}
 use Rattle.codec_core.specs.Trace.{TraceValue}
 use Rattle.codec_core.proofs.Steps.{Moved, state_is, makes_more}
 use Rattle.codec_core.specs.Owning.{asked_of, IsOwnJob, GoesBack, KeepsAsked}
 
--- ---- the state before an entry
-
-before_step : (e : Entry) (o : Option State) (t : State) → option_and_then (step e) o ≡ Some t → (u : State) × (o ≡ Some u)
-before_step e None t h = absurd cc
-before_step e (Some u) t h = (u, refl)
-
 -- the history before an entry that was made replays to its state
-pub legal_before : (old new : Codec) (e : Entry) → Makes old new e → replay old.opening old.history ≡ Some (state_at old)
+legal_before : (old new : Codec) (e : Entry) → Makes old new e → replay old.opening old.history ≡ Some (state_at old)
 legal_before old new e makes =
     let again : replay old.opening (old.history ++ e ∷ []) ≡ Some (state_at new) = subst (λ (o : Opening). replay o (old.history ++ e ∷ []) ≡ Some (state_at new)) makes.same_opening (subst (λ (h : List Entry). replay new.opening h ≡ Some (state_at new)) makes.longer makes.legal) in
-    let before = before_step e (replay old.opening old.history) (state_at new) (sym (replay_more old.history (opening_state old.opening) e) ∙ again) in
-    let here : state_at old ≡ before.0 = ap (λ (o : Option State). unwrap_or o (opening_state old.opening)) before.1 in
-    before.1 ∙ ap (λ (s : State). Some s) (sym here)
+    let before = step_of (step e) (replay old.opening old.history) (state_at new) (sym (replay_more old.history (opening_state old.opening) e) ∙ again) in
+    before.1 ∙ ap (λ (o : Option State). Some (unwrap_or o (opening_state old.opening))) (sym before.1)
+
+-- an entry that is neither the start nor the end of an item keeps the running item and what it was given
+pub keeps_running : {old new : Codec} {e : Entry} (b : Bool) → Makes old new e → act_of e (state_at old) ≡ removal_act b → KeepsRunning (state_at old) (state_at new)
+keeps_running {old = old} {new = new} {e = e} b makes act = by b (subst (λ (a : Act). ActMakes a (state_at old) (state_at new)) act (act_makes e (state_at old) (state_at new) makes.steps))
+  where
+    by : (b : Bool) → ActMakes (removal_act b) (state_at old) (state_at new) → KeepsRunning (state_at old) (state_at new)
+    by true m = record { same_running = m.0.running; same_given = m.0.given }
+    by false m = record { same_running = m.0.running; same_given = m.0.given }
 
 -- ---- what entries are to the box
 
@@ -78,8 +80,8 @@ removal_since true runs n x r is = ap (λ (q : Bool). cond q x.since None) (is �
 removal_since false runs n x r is = refl
 
 -- a removal or an entry that lets no box go leaves the box of the item at work
-pub asked_stays : (old new : Codec) (e : Entry) (b : Bool) → Makes old new e → act_of e (state_at old) ≡ removal_act b → KeepsAsked old new
-asked_stays old new e b makes act = λ runs.
+pub asked_stays : {old new : Codec} {e : Entry} (b : Bool) → Makes old new e → act_of e (state_at old) ≡ removal_act b → KeepsAsked old new
+asked_stays {old = old} {new = new} {e = e} b makes act = λ runs.
     asked_next old new e (removal_act b) makes act
     ∙ removal_since b (is_some (state_at old).control.running) (length old.history) (asked_in (acts_of old.opening old.history)) runs (known old new e makes).runs
 
@@ -133,41 +135,37 @@ back_turn old new b at coder x makes closes home is same answer =
 
 -- ---- of what is kept
 
-module _ (t : TraceValue) (slot : Option Lent) (k : Control) (spare : ℕ) (is : IsCore t slot k spare) where
+module _ {t : TraceValue} {slot : Option Lent} {k : Control} {spare : ℕ} (is : IsCore t slot k spare) where
   abbrev pub seen : Codec
   seen = record { opening = k.opening; history = t.entries; spare = spare; slot = slot }
 
-  pub control_is : (state_at seen).control ≡ k
-  control_is = ap (λ (s : State). s.control) (state_is t.entries slot k spare is.kept) ∙ is.kept.is_control
+  -- the control state of the codec that is seen
+  pub control_at : {v : Codec} → seen ≡ v → (state_at v).control ≡ k
+  control_at same = ap (λ (v : Codec). (state_at v).control) (sym same) ∙ (ap (λ (s : State). s.control) (state_is is.kept spare) ∙ is.kept.is_control)
 
-  pub at_home : AtHome seen
-  at_home = record {
+  pub at_home : {v : Codec} → seen ≡ v → AtHome v
+  at_home same = subst AtHome same (record {
     own = is.own;
-    out = λ r e. is.kept.home.out r (ap (λ (s : State). s.control.running) (sym (state_is t.entries slot k spare is.kept)) ∙ e);
-  }
+    out = λ r e. is.kept.home.out r (ap (λ (s : State). s.control.running) (sym (state_is is.kept spare)) ∙ e);
+  })
 
 not_none : {X : Type 0} (o : Option X) → not (is_none o) ≡ is_some o
 not_none None = refl
 not_none (Some x) = refl
 
 -- the box at home after an entry that moves the history on
-pub own_more : (h : List Entry) (slot next : Option Lent) (k k' : Control) (e : Entry) (kept : IsKept h slot k) (b : Bool) → Moved next e kept.state k' → act_of e kept.state ≡ removal_act b → next ≡ kept_box (not b) slot
+pub own_more : {h : List Entry} {slot next : Option Lent} {k k' : Control} {e : Entry} (kept : IsKept h slot k) (b : Bool) → Moved next e kept.state k' → act_of e kept.state ≡ removal_act b → next ≡ kept_box (not b) slot
     → IsAskedAt (asked_at k.opening h) slot → IsAskedAt (asked_at k'.opening (h ++ e ∷ [])) next
-own_more h slot next k k' e kept b moved act is own =
+own_more {h = h} {slot = slot} {next = next} {k = k} {k' = k'} {e = e} kept b moved act is own =
     let old : Codec = record { opening = k.opening; history = h; spare = 0; slot = slot } in
     let new : Codec = record { opening = k'.opening; history = h ++ e ∷ []; spare = 0; slot = next } in
-    let here = ap (act_of e) (state_is h slot k 0 kept) ∙ act in
-    subst (IsAskedAt (asked_of new)) (sym is) (own_removal old new e b (makes_more h slot next k k' e kept moved 0 0) here own)
+    let here = ap (act_of e) (state_is kept 0) ∙ act in
+    subst (IsAskedAt (asked_of new)) (sym is) (own_removal old new e b (makes_more kept moved 0 0) here own)
 
-pub removal_box : (o : Option Lent) (slot : Option Lent) (b : Bool) → o ≡ kept_box b slot → (c : Bool) → c ≡ b → o ≡ kept_box c slot
-removal_box o slot b is c same = is ∙ ap (λ (x : Bool). kept_box x slot) (sym same)
-
-pub own_removed : (h : List Entry) (slot next : Option Lent) (k k' : Control) (who : Who) (r : Removal) (kept : IsKept h slot k) → Moved next (removal_entry who r) kept.state k' → next ≡ kept_box (is_some (removal_error k)) slot
-    → IsAskedAt (asked_at k.opening h) slot → IsAskedAt (asked_at k'.opening (h ++ removal_entry who r ∷ [])) next
-own_removed h slot next k k' who r kept moved is own =
-    let b = is_none (removal_error kept.state.control) in
-    let same : not b ≡ is_some (removal_error k) = not_none (removal_error kept.state.control) ∙ ap (λ (c : Control). is_some (removal_error c)) kept.is_control in
-    own_more h slot next k k' (removal_entry who r) kept b moved (removal_is who r kept.state) (removal_box next slot (is_some (removal_error k)) is (not b) same) own
+-- the box that a reset or close leaves
+pub removal_box : {h : List Entry} {slot : Option Lent} {k : Control} (kept : IsKept h slot k) (next : Option Lent) → next ≡ kept_box (is_some (removal_error k)) slot → next ≡ kept_box (not (is_none (removal_error kept.state.control))) slot
+removal_box {slot = slot} kept next is =
+    is ∙ ap (λ (c : Control). kept_box (is_some (removal_error c)) slot) (sym kept.is_control) ∙ ap (λ (x : Bool). kept_box x slot) (sym (not_none (removal_error kept.state.control)))
 
 pub back_removed : (old new : Codec) (who : Who) (r : Removal) (at : ℕ) (coder : Option Lent) → Makes old new (removal_entry who r) → AtHome old → at ≡ length old.history → coder ≡ handed_back (is_some (removal_error (state_at old).control)) old.slot
     → GoesBack new at coder

@@ -96,9 +96,6 @@ one_pending states ends h = record { each = λ p. same states p ∙ h.each p }
       ]
     ]
 
-pub none_yet : AreStates [] []
-none_yet = record { each = λ p. refl }
-
 -- ---- the ends that entries show
 
 pub ends_append : (xs ys : List Event) → ends_of (xs ++ ys) ≡ ends_of xs ++ ends_of ys

@@ -20,12 +20,12 @@ use Rattle.codec_model.specs.declared.entry.Running.{Running}
 use Rattle.codec_model.specs.declared.entry.Shown.{Shown}
 use Rattle.codec_model.specs.Control.{Control, turn_closes, left}
 use Rattle.codec_model.specs.Replay.{State, opening_state, replay, nothing_given, step, entry_of, call_error}
-use Rattle.codec_model.specs.Shown.{each_shown, exception_of}
+use Rattle.codec_model.specs.Shown.{each_shown, exception_of, units_shown}
 use Rattle.codec_core.specs.declared.reply.CallFault.{CallFault}
 use Rattle.codec_core.specs.declared.reply.CallFault.TheVariants as fault
 use Rattle.codec_core.specs.Job.{CoderAt, stopped_box}
 use Rattle.codec_accounts.specs.Asked.{asked_at}
-use Rattle.codec_core.specs.Trace.{TraceValue, outputs_in}
+use Rattle.codec_core.specs.Trace.{TraceValue}
 
 pub record Codec : Type 0 where
   pub opening : Opening
@@ -86,9 +86,9 @@ reclaims Closed = 0
 
 -- the outputs that wait are those that were shown but for those that were taken
 pub record OutputsWait (shown : List Shown) (waiting : List media.Unit) (k : Control) : Type 0 where
-  pub counted : k.shown ≡ length (outputs_in shown)
+  pub counted : k.shown ≡ length (units_shown shown)
   pub took : k.taken ≤ k.shown
-  pub others : waiting ≡ drop k.taken (outputs_in shown)
+  pub others : waiting ≡ drop k.taken (units_shown shown)
 
 -- the entries are the history of the machine's state, each with what it showed, and there is a place for each entry that
 -- is left and for those that are kept

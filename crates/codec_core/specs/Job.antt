@@ -10,7 +10,7 @@ use Rattle.codec_definitions.specs.declared.command.Command.{Command}
 use Rattle.coder_api.specs.declared.coder.CoderFault.{CoderFault}
 use Rattle.coder_api.specs.declared.coder.CoderFault.TheVariants as fault
 use Rattle.codec_definitions.specs.Answers.{answer_after}
-use Rattle.coder_api.specs.Meaning.{Meaning, IsAt, IsConfigured, serves, setup_of}
+use Rattle.coder_api.specs.Meaning.{Meaning, IsAt, IsConfigured, serves}
 use Rattle.coder_api.specs.Lent.{Lent, stopped_lent}
 use Rattle.codec_model.specs.declared.entry.Work.{Work}
 use Rattle.codec_model.specs.declared.entry.Work.TheVariants as work
@@ -172,16 +172,6 @@ abbrev pub end_by : Result (Unit {0}) CoderFault → List media.Unit → Ended
 end_by (Ok t) units = ended.Ran units
 end_by (Err fault.Refused) units = ended.Refused
 end_by (Err fault.NoMemory) units = ended.NoMemory
-
--- after an item that ran, the box may be asked for more
-abbrev pub IsReadyStill : Ended → Option Lent → Type 0
-IsReadyStill (ended.Ran units) coder = IsReadyBox coder
-IsReadyStill _ coder = Unit {0}
-
--- the config with which the outputs of a box are decoded, if it is an encoder's
-abbrev pub box_setup : Option Lent → Option AudioDecoderConfig
-box_setup None = None
-box_setup (Some lent) = setup_of lent.meaning
 
 -- the first of an end's outputs carries this config, if it is an encoder's
 abbrev pub labelled_end : Option AudioDecoderConfig → Ended → Ended

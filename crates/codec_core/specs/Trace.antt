@@ -1,6 +1,6 @@
 -- What is kept of a codec's entries.
 use Rattle.std.specs.Prelude.{ℕ, ◌≡◌, ◌≤◌, ◌<◌, ◌+◌, List, [], ◌∷◌, Some, None, get_or, map, drop, length, vec_len, vec_capacity}
-use Rattle.std.specs.List.{AllByRecursion, flat_map}
+use Rattle.std.specs.List.{AllByRecursion}
 use Rattle.codec_definitions.specs.declared.unit.Unit as media
 use Rattle.codec_model.specs.declared.entry.Entry.{Entry}
 use Rattle.codec_model.specs.declared.entry.Shown.{Shown}
@@ -11,7 +11,7 @@ use Rattle.codec_model.specs.declared.entry.PromiseState.TheVariants.{Pending}
 use Rattle.codec_model.specs.declared.entry.Task.{Task}
 use Rattle.codec_model.specs.declared.entry.Task.TheVariants as task
 use Rattle.wc_base.specs.declared.error.DomError.{DomError}
-use Rattle.codec_model.specs.Shown.{promise_state, units_in, ends_of, ends_shown, shown_of}
+use Rattle.codec_model.specs.Shown.{promise_state, units_shown, ends_of, ends_shown, shown_of}
 use Rattle.codec_core.specs.declared.trace.Trace.TheInside.{Inside}
 
 pub record TraceValue : Type 0 where
@@ -23,13 +23,9 @@ pub record TraceValue : Type 0 where
   -- so many more have a place
   pub free : ℕ
 
--- the outputs that entries showed, in order
-abbrev pub outputs_in : List Shown → List media.Unit
-outputs_in xs = flat_map (λ x. units_in x.events) xs
-
 -- the outputs from an entry on, but for so many
 abbrev pub outputs_behind : ℕ → ℕ → List Shown → List media.Unit
-outputs_behind entry unit xs = drop unit (outputs_in (drop entry xs))
+outputs_behind entry unit xs = drop unit (units_shown (drop entry xs))
 
 -- the states of the promises with these numbers from 0 on, after these ends; none with a higher number has ended
 pub record AreStates (states : List PromiseState) (ends : List PromiseEnd) : Type 0 where
@@ -63,4 +59,4 @@ pub record IsTrace (t : Inside) : Type 0 where
   pub promises_fit : vec_len t.promises + t.free ≤ vec_capacity t.promises
   pub states : AreStates t.promises.items (ends_shown (map shown_of t.shown.items))
   pub next_entry : t.next_entry ≤ vec_len t.shown
-  pub next_unit : t.next_unit ≤ length (outputs_in (drop t.next_entry (map shown_of t.shown.items)))
+  pub next_unit : t.next_unit ≤ length (units_shown (drop t.next_entry (map shown_of t.shown.items)))

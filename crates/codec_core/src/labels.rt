@@ -1,7 +1,8 @@
 // The config that the outputs of encoders carry: that of the decoder which takes them (W3C WebCodecs,
 // EncodedAudioChunkMetadata).
 ghost use Rattle.std.specs.Prelude.{◌≡◌, ◌∷◌, [], Some, IfOk};
-ghost use Rattle.codec_core.specs.Job.{IsReadyBox, IsReadyStill, IsOrWants, box_setup, labelled_end, starts_coded};
+ghost use Rattle.coder_api.specs.Meaning.{IsConfigured, setup_of};
+ghost use Rattle.codec_core.specs.Job.{IsReadyEnd, IsOrWants, labelled_end, starts_coded};
 ghost use Rattle.codec_model.specs.declared.entry.Ended.TheVariants as ended;
 ghost use Rattle.codec_model.specs.Replay.{labelled};
 ghost use Rattle.codec_queues.specs.Labels.{first_config, label_of};
@@ -11,25 +12,6 @@ use coder_api::{Coder, SlotBox, Unit};
 use std::alloc::Global;
 use wc_base::{List, NoMemory};
 use wc_config::AudioDecoderConfig;
-
-/// The config with which the outputs of a configured box are decoded, if it is an encoder's.
-fn setup_of_box<C: Coder>(
-    alloc: Global,
-    slot: &mut Option<SlotBox<C>>,
-) -> Result<Option<AudioDecoderConfig>, NoMemory>
-    requires { IsReadyBox slot.old }
-    ensures setup { IfOk result (λ config. config ≡ box_setup slot.old) }
-    ensures same { slot.new ≡ slot.old }
-{
-    let Some(lent) = slot.take() else {
-        return Ok(None);
-    };
-    let (number, by) = (lent.number(), lent.by());
-    let coder = lent.into_coder();
-    let setup = coder.setup(alloc);
-    *slot = Some(SlotBox::new(coder, number, by));
-    setup
-}
 
 fn starts_coded(units: &[Unit]) -> bool
     ensures { result ≡ starts_coded units.now }
@@ -68,28 +50,26 @@ fn labelled(units: List<Unit>, config: Option<AudioDecoderConfig>) -> List<Unit>
     List::of(units)
 }
 
-fn label_units<C: Coder>(alloc: Global, units: List<Unit>, slot: &mut Option<SlotBox<C>>) -> Ended
-    requires { IsReadyBox slot.old }
-    ensures end { IsOrWants (ended.Ran (labelled (box_setup slot.old) units)) result }
-    ensures same { slot.new ≡ slot.old }
+fn label_units<C: Coder>(alloc: Global, units: List<Unit>, coder: &SlotBox<C>) -> Ended
+    requires { IsConfigured coder.now.meaning }
+    ensures { IsOrWants (ended.Ran (labelled (setup_of coder.now.meaning) units)) result }
 {
     if !starts_coded(units.as_slice()) {
         return Ended::Ran(units);
     }
-    match setup_of_box(alloc, slot) {
+    match coder.setup(alloc) {
         Ok(config) => Ended::Ran(labelled(units, config)),
         Err(NoMemory) => Ended::NoMemory,
     }
 }
 
 /// The first output of an end carries the config with which it is decoded, if it is an encoder's; or memory was wanted.
-pub(crate) fn label_end<C: Coder>(alloc: Global, end: Ended, slot: &mut Option<SlotBox<C>>) -> Ended
-    requires { IsReadyStill end slot.old }
-    ensures end { IsOrWants (labelled_end (box_setup slot.old) end) result }
-    ensures same { slot.new ≡ slot.old }
+pub(crate) fn label_end<C: Coder>(alloc: Global, end: Ended, coder: &SlotBox<C>) -> Ended
+    requires { IsReadyEnd end coder.now.meaning }
+    ensures { IsOrWants (labelled_end (setup_of coder.now.meaning) end) result }
 {
     match end {
-        Ended::Ran(units) => label_units(alloc, units, slot),
+        Ended::Ran(units) => label_units(alloc, units, coder),
         Ended::Refused => Ended::Refused,
         Ended::NoSlot(entry) => Ended::NoSlot(entry),
         Ended::NoMemory => Ended::NoMemory,

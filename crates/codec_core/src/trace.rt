@@ -3,8 +3,8 @@ ghost use Rattle.std.specs.Prelude.{ℕ, ◌≡◌, ◌≤◌, ◌<◌, ◌+◌,
 ghost use Rattle.std.specs.List.{All, AllByRecursion};
 ghost use Rattle.codec_model.specs.declared.entry.PromiseEnd.{PromiseEnd};
 ghost use Rattle.codec_model.specs.Control.{front};
-ghost use Rattle.codec_model.specs.Shown.{shown_of, units_in, ends_of, ends_shown, promise_ended, promise_state};
-ghost use Rattle.codec_core.specs.Trace.{AreStates, EndsBelow, outputs_in, outputs_behind, rejected, resolved_by, task_outputs};
+ghost use Rattle.codec_model.specs.Shown.{shown_of, units_in, units_shown, ends_of, ends_shown, promise_ended, promise_state};
+ghost use Rattle.codec_core.specs.Trace.{AreStates, EndsBelow, outputs_behind, rejected, resolved_by, task_outputs};
 
 use codec_model::{Entry, PromiseState, Showing, Task};
 use coder_api::Unit;
@@ -198,9 +198,9 @@ fn output_at(shown: &[Showing], entry: usize, unit: usize) -> Result<Option<Unit
 /// the next output, or the end, and how many of its outputs come before that.
 fn seek(shown: &[Showing], mut entry: usize, mut unit: usize) -> (usize, usize)
     requires entry { entry ≤ length shown.now }
-    requires unit { unit ≤ length (outputs_in (drop entry (map shown_of shown.now))) }
+    requires unit { unit ≤ length (units_shown (drop entry (map shown_of shown.now))) }
     ensures entry { result.0 ≤ length shown.now }
-    ensures unit { result.1 ≤ length (outputs_in (drop result.0 (map shown_of shown.now))) }
+    ensures unit { result.1 ≤ length (units_shown (drop result.0 (map shown_of shown.now))) }
     ensures same { outputs_behind result.0 result.1 (map shown_of shown.now)
         ≡ outputs_behind entry unit (map shown_of shown.now) }
     ensures own { IfSome (slice_get shown.now result.0)

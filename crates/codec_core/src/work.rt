@@ -151,7 +151,7 @@ fn coded_end<C: Coder>(alloc: Global, input: &Coded, coder: &mut Option<SlotBox<
     match coder {
         Some(b) => {
             let end = input_end(alloc, input, b);
-            label_end(alloc, end, coder)
+            label_end(alloc, end, b)
         }
         None => Ended::Refused,
     }
@@ -164,7 +164,7 @@ fn flush_end<C: Coder>(alloc: Global, coder: &mut Option<SlotBox<C>>) -> Ended
     match coder {
         Some(b) => {
             let end = drain_end(alloc, b);
-            label_end(alloc, end, coder)
+            label_end(alloc, end, b)
         }
         None => Ended::Refused,
     }

@@ -1,7 +1,7 @@
 -- After a legal history the running flush item is answered.
 use Rattle.std.proofs.Common.{ℕ, ◌≡◌, ◌+◌, ◌≤◌, ◌&&◌, not, Bool, true, false, eqb, eq-eqb, cond, List, [], ◌∷◌, ◌++◌, append_assoc, append-nil, map, Option, Some, None, is_some, is_none, refl, ap, sym, subst, ◌∙◌, arith}
 use Rattle.std.specs.Prelude.{unwrap_or, max}
-use Rattle.std.proofs.lemmas.Bool.{eqb-true}
+use Rattle.std.proofs.lemmas.Bool.{and_parts, eqb-true}
 use Rattle.std.proofs.lemmas.List.{map-append}
 use Rattle.wc_base.specs.declared.error.DomError.{DomError}
 use Rattle.wc_base.specs.declared.error.DomError.TheVariants as dom
@@ -17,7 +17,7 @@ use Rattle.wc_config.specs.Configs.{is_valid, is_within, is_supported, coder_id_
 use Rattle.codec_definitions.specs.declared.unit.Unit as media
 use Rattle.codec_definitions.specs.declared.command.Command.{Command}
 use Rattle.codec_definitions.specs.declared.command.Command.TheVariants as command
-use Rattle.codec_definitions.specs.Answers.{answer_after, answers_from, audio_decoder_answer, sample_decoder_by, sample_encoder_by, until_refused, last_answer}
+use Rattle.codec_definitions.specs.Answers.{answer_after, answers_from, audio_decoder_answer, audio_encoder_answer, sample_decoder_by, sample_encoder_by, until_refused, last_answer}
 use Rattle.codec_definitions.specs.Flac.{described, flac_decoder}
 use Rattle.codec_definitions.specs.SampleCodecs.{SampleCodec, sample_codec}
 use Rattle.codec_model.specs.declared.entry.CodecState.{CodecState}
@@ -28,9 +28,7 @@ use Rattle.codec_model.specs.declared.entry.Removal.TheVariants as removal
 use Rattle.codec_model.specs.declared.entry.Call.{Call}
 use Rattle.codec_model.specs.declared.entry.Call.TheVariants as call
 use Rattle.codec_model.specs.declared.entry.Entry.{Entry}
-use Rattle.codec_model.specs.declared.entry.Entry.TheVariants as entry
 use Rattle.codec_model.specs.declared.entry.HeldSound.{HeldSound}
-use Rattle.codec_model.specs.declared.entry.Handed.TheVariants as handed
 use Rattle.codec_model.specs.declared.entry.Coded.TheVariants as coded
 use Rattle.codec_model.specs.declared.entry.Work.{Work}
 use Rattle.codec_model.specs.declared.entry.Work.TheVariants as work
@@ -44,20 +42,17 @@ use Rattle.codec_model.specs.declared.entry.Task.TheVariants as task
 use Rattle.codec_model.specs.declared.entry.Ended.{Ended}
 use Rattle.codec_model.specs.declared.entry.Ended.TheVariants as ended
 use Rattle.codec_model.specs.declared.entry.Outcome.{Outcome}
-use Rattle.codec_model.specs.Control.{Control, kind_of, is_taken, after_message, process_queue, at_next_place, run_task, done_running, after_end, after_reset, after_close, after_encode, after_take, may_take, may_reclaim, may_start, is_key_chunk}
-use Rattle.codec_model.specs.Replay.{State, Given, command_of, decoder_config, labelled_answer, is_configured, given_more, answer_to, answers_to, opening_state, step, done_ended, ended_of, removal_error, after_call, call_error, accepted, remove_or_refuse, removed, start_step, done_step, with_control, turn_step}
-use Rattle.wc_base.specs.Options.{cond_is, some_same}
-use Rattle.history_laws.specs.Answers.{kept_is, ran_answer}
-
--- the answers of a coder that refused nothing so far
-both : (a b : Bool) → (a && b) ≡ true → (a ≡ true) × (b ≡ true)
-both true b h = (refl, h)
-both false b h = absurd cc
+use Rattle.codec_model.specs.Control.{Control, kind_of, after_message, process_queue, at_next_place, done_running, after_end, after_reset, after_close, after_encode, is_key_chunk}
+use Rattle.codec_model.specs.Replay.{State, Given, command_of, decoder_config, labelled_answer, is_configured, given_more, answer_to, answers_to, opening_state, step, ended_of, removal_error, after_call, call_error, accepted, remove_or_refuse, removed}
+use Rattle.wc_base.specs.Options.{some_same}
+use Rattle.history_laws.specs.Answers.{ran_answer}
+use Rattle.codec_model.specs.StepLaws.{begins, begins_free, begun, task_ran, EachStep, by_queue, by_steps}
 
 some_is : {X : Type 0} (o : Option X) → is_some o ≡ true → (x : X) × (o ≡ Some x)
 some_is None h = absurd cc
 some_is (Some x) h = (x, refl)
 
+-- a coder refused nothing so far
 abbrev pub none_refused : CoderId → Config → List Command → List Command → Bool
 none_refused id config before [] = true
 none_refused id config before (x ∷ xs) = is_some (answer_after id config before x) && none_refused id config (before ++ x ∷ []) xs
@@ -77,7 +72,7 @@ last_of_one (Some units) = refl
 last_more : (id : CoderId) (c : Config) (before xs : List Command) (x : Command) → none_refused id c before xs ≡ true → last_answer (answers_from id c before (xs ++ x ∷ [])) ≡ answer_after id c (before ++ xs) x
 last_more id c before [] x h = last_of_one (answer_after id c before x) ∙ ap (λ b. answer_after id c b x) (sym (append-nil before))
 last_more id c before (y ∷ ys) x h =
-    let parts = both (is_some (answer_after id c before y)) (none_refused id c (before ++ y ∷ []) ys) h in
+    let parts = and_parts (is_some (answer_after id c before y)) (none_refused id c (before ++ y ∷ []) ys) h in
     let u = some_is (answer_after id c before y) parts.0 in
     let rest = last_more id c (before ++ y ∷ []) ys x parts.1 in
     let more = answers_some id c (before ++ y ∷ []) ys x in
@@ -87,7 +82,7 @@ last_more id c before (y ∷ ys) x h =
 none_refused_more : (id : CoderId) (c : Config) (before xs : List Command) (x : Command) → none_refused id c before xs ≡ true → is_some (answer_after id c (before ++ xs) x) ≡ true → none_refused id c before (xs ++ x ∷ []) ≡ true
 none_refused_more id c before [] x h s = let here : is_some (answer_after id c before x) ≡ true = ap (λ b. is_some (answer_after id c b x)) (sym (append-nil before)) ∙ s in rw here refl
 none_refused_more id c before (y ∷ ys) x h s =
-    let parts = both (is_some (answer_after id c before y)) (none_refused id c (before ++ y ∷ []) ys) h in
+    let parts = and_parts (is_some (answer_after id c before y)) (none_refused id c (before ++ y ∷ []) ys) h in
     let same : is_some (answer_after id c ((before ++ y ∷ []) ++ ys) x) ≡ true = ap (λ b. is_some (answer_after id c b x)) (append_assoc before (y ∷ []) ys) ∙ s in
     let rest = none_refused_more id c (before ++ y ∷ []) ys x parts.1 same in
     rw (parts.0, rest) refl
@@ -125,7 +120,7 @@ open_labelled : (g : Given) (x : Command) → IsOpen g → (us : List media.Unit
 open_labelled g x k us h = let found = unlabelled (decoder_config g.config) (last_answer (answers_to (more x g))) us h in open_more g x k found.0 found.1
 
 supported_asks : (config : Config) → is_supported config ≡ true → is_some (coder_id_of config) ≡ true
-supported_asks config s = (both (is_valid config) (is_some (coder_id_of config)) (both (is_valid config && is_some (coder_id_of config)) (is_within config) s).0).1
+supported_asks config s = (and_parts (is_valid config) (is_some (coder_id_of config)) (and_parts (is_valid config && is_some (coder_id_of config)) (is_within config) s).0).1
 
 configure_asks : (config : Config) (b : Bool) (us : List media.Unit) → is_supported config ≡ b → cond b (Some []) None ≡ Some us → is_supported config ≡ true
 configure_asks config true us e h = e
@@ -181,9 +176,13 @@ decoder_drains : (k : CodecId) (c : AudioDecoderConfig) → is_some (audio_decod
 decoder_drains codec.Flac c = flac_drains (described c.description)
 decoder_drains k c = sample_drains (sample_codec k) c
 
+encoder_drains : (k : CodecId) (c : AudioEncoderConfig) (before : List Command) → is_some (audio_encoder_answer k c before command.Drain) ≡ true
+encoder_drains codec.Flac c before = refl
+encoder_drains k c before = coded_drains (sample_codec k) c
+
 drain_answered : (id : CoderId) (c : Config) (before : List Command) → is_some (answer_after id c before command.Drain) ≡ true
 drain_answered id (config.AudioDecoder c) before = decoder_drains id.codec c
-drain_answered id (config.AudioEncoder c) before = coded_drains (sample_codec id.codec) c
+drain_answered id (config.AudioEncoder c) before = encoder_drains id.codec c before
 drain_answered id (config.VideoDecoder c) before = refl
 drain_answered id config.Bad before = refl
 
@@ -247,50 +246,38 @@ taken_same (work.Configure config) at ms c e = record { phase = refl; epoch = re
 taken_same (work.Coded chunk) at ms c e = record { phase = refl; epoch = refl; halted = refl; queued = works_moved c.work (record { number = c.next_item; place = at; work = work.Coded chunk }) ms ∙ ap (λ (l : List Message). works_on c.work l) (sym e); running = refl }
 taken_same work.Flush at ms c e = record { phase = refl; epoch = refl; halted = refl; queued = works_moved c.work (record { number = c.next_item; place = at; work = work.Flush }) ms ∙ ap (λ (l : List Message). works_on c.work l) (sym e); running = refl }
 
-same_by : (b : Bool) (c d : Control) → Same c d → Same c (cond b d c)
-same_by true c d h = h
-same_by false c d h = same_self c
-
-process_same : (ms : List Message) (c : Control) → c.messages ≡ ms → Same c (process_queue ms c)
-process_same [] c e = same_self c
-process_same (m ∷ ms) c e =
-    let d : Control = record (after_message m c) { messages = ms } in
-    same_by (is_taken m c) c (process_queue ms d) (same_after c d (process_queue ms d) (taken_same m.work m.place ms c e) (process_same ms d refl))
+process_same : (c : Control) → Same c (process_queue c.messages c)
+process_same c = by_queue (Same c) (λ m ms d e h. same_after c d _ h (taken_same m.work m.place ms d e)) c.messages c refl (same_self c)
 
 processed : (c : Control) (given busy : Given) → At c given busy → At (process_queue c.messages c) given busy
-processed c given busy h = at_same c (process_queue c.messages c) given busy (process_same c.messages c refl) h
+processed c given busy h = at_same c (process_queue c.messages c) given busy (process_same c) h
 
 -- a call that is taken
 abbrev queues : Control → Message → Control
 queues c m = record c { messages = c.messages ++ m ∷ [] }
 
+-- the same with another queue, in another phase
+queued_as : (phase new : CodecState) (epoch : ℕ) (halted : Bool) (ws vs : List Work) (running : Option Running) (given busy : Given) → (h : Parts phase epoch halted ws running given busy) → (h.begun ≡ false → leads vs ≡ true) → Parts new epoch halted vs running given busy
+queued_as phase new epoch halted ws vs running given busy h led = record {
+  begun = h.begun;
+  first = λ b. leads_starts vs (led b);
+  calls = λ p b. led b;
+  open_now = h.open_now;
+  open_then = h.open_then;
+  same = h.same;
+  flushed = h.flushed;
+  before = h.before;
+}
+
 pushed_configure : (c : Control) (place : ℕ) (config : Config) (given busy : Given) → At c given busy → At (record (queues c (record { place = place; work = work.Configure config })) { phase = Configured }) given busy
 pushed_configure c place config given busy h =
     rw (works_more c.work c.messages (record { place = place; work = work.Configure config }))
-    (record {
-      begun = h.begun;
-      first = λ b. leads_starts _ (starts_push (works c) config (h.first b));
-      calls = λ p b. starts_push (works c) config (h.first b);
-      open_now = h.open_now;
-      open_then = h.open_then;
-      same = h.same;
-      flushed = h.flushed;
-      before = h.before;
-    })
+    (queued_as c.phase Configured c.epoch c.halted (works c) (works c ++ work.Configure config ∷ []) c.running given busy h (λ b. starts_push (works c) config (h.first b)))
 
 pushed_other : (c : Control) (m : Message) (given busy : Given) → c.phase ≡ Configured → At c given busy → At (queues c m) given busy
 pushed_other c m given busy configured h =
     rw (works_more c.work c.messages m)
-    (record {
-      begun = h.begun;
-      first = λ b. leads_starts _ (leads_push (works c) m.work (h.calls configured b));
-      calls = λ p b. leads_push (works c) m.work (h.calls configured b);
-      open_now = h.open_now;
-      open_then = h.open_then;
-      same = h.same;
-      flushed = h.flushed;
-      before = h.before;
-    })
+    (queued_as c.phase c.phase c.epoch c.halted (works c) (works c ++ m.work ∷ []) c.running given busy h (λ b. leads_push (works c) m.work (h.calls configured b)))
 
 decodes_configured : (p : CodecState) (b : Bool) → ◌≡◌ {A = Option DomError} (elim p [ Unconfigured ↦ Some dom.InvalidState | Configured ↦ cond b (Some dom.Data) None | Closed ↦ Some dom.InvalidState ]) None → p ≡ Configured
 decodes_configured Unconfigured b h = absurd cc
@@ -347,88 +334,57 @@ removal_sound None removal.Close s h = close_sound s h
 removal_sound (Some e) r s h = h
 
 -- a start
+-- where the front item does not configure, one was begun, and the coder is open
+open_for : (phase : CodecState) (epoch : ℕ) (w : Work) (ws : List Work) (given busy : Given) → leads (w ∷ ws) ≡ false → Parts phase epoch false (w ∷ ws) None given busy → IsOpen given
+open_for phase epoch w ws given busy other h = by h.begun refl
+  where
+    by : (b : Bool) → h.begun ≡ b → IsOpen given
+    by true e = h.open_now e refl (λ r is. absurd cc)
+    by false e = let never : false ≡ true = sym other ∙ h.first e in absurd cc
+
+-- an item is begun whose answer leaves the coder open
+begun_at : (phase : CodecState) (r : Running) (ws : List Work) (g : Given) → ((us : List media.Unit) → answer_to r.kind g ≡ Some us → IsOpen g) → (r.kind ≡ kind.Flush → is_some (answer_to kind.Flush g) ≡ true) → Parts phase r.epoch false ws (Some r) g g
+begun_at phase r ws g opens flushes = record {
+  begun = true;
+  first = λ b. absurd cc;
+  calls = λ p b. absurd cc;
+  open_now = λ b fine free. absurd (free r refl refl);
+  open_then = λ q is e us answer. opens us (subst (λ (x : Running). answer_to x.kind g ≡ Some us) (sym (some_same r q is)) answer);
+  same = λ q is e. refl;
+  flushed = λ q is f. flushes (ap (λ (x : Running). x.kind) (some_same r q is) ∙ f);
+  before = λ q is. rw (← ap (λ (x : Running). x.epoch) (some_same r q is)) (omega arith);
+}
+
 starts_one : (phase : CodecState) (epoch number place : ℕ) (w : Work) (ws : List Work) (given busy : Given) → Parts phase epoch false (w ∷ ws) None given busy → Parts phase epoch false ws (Some (record { epoch = epoch; number = number; place = place; kind = kind_of w })) (given_more w given) (given_more w given)
 starts_one phase epoch number place (work.Configure config) ws given busy h =
-    let g : Given = record { config = config; commands = [] } in
-    record {
-      begun = true;
-      first = λ b. absurd cc;
-      calls = λ p b. absurd cc;
-      open_now = λ b fine free. absurd (free _ refl refl);
-      open_then = λ r is e us answer. open_configured config us (subst (λ (x : Running). answer_to x.kind g ≡ Some us) (sym (some_same _ r is)) answer);
-      same = λ r is e. refl;
-      flushed = λ r is f. absurd cc;
-      before = λ r is. rw (← ap (λ (x : Running). x.epoch) (some_same _ r is)) (omega arith);
-    }
+    begun_at phase (record { epoch = epoch; number = number; place = place; kind = kind.Configure }) ws _ (open_configured config) (λ f. absurd cc)
 starts_one phase epoch number place (work.Coded input) ws given busy h =
-    let k = begins h.begun refl in
-    record {
-      begun = true;
-      first = λ b. absurd cc;
-      calls = λ p b. absurd cc;
-      open_now = λ b fine free. absurd (free _ refl refl);
-      open_then = λ r is e us answer. open_labelled given (command_of input) k us (subst (λ (x : Running). answer_to x.kind (more (command_of input) given) ≡ Some us) (sym (some_same _ r is)) answer);
-      same = λ r is e. refl;
-      flushed = λ r is f. absurd cc;
-      before = λ r is. rw (← ap (λ (x : Running). x.epoch) (some_same _ r is)) (omega arith);
-    }
-  where
-    begins : (b : Bool) → h.begun ≡ b → IsOpen given
-    begins true e = h.open_now e refl (λ r is. absurd cc)
-    begins false e = let no : false ≡ true = h.first e in absurd cc
+    let k = open_for phase epoch (work.Coded input) ws given busy refl h in
+    begun_at phase (record { epoch = epoch; number = number; place = place; kind = kind.Coded }) ws _ (open_labelled given (command_of input) k) (λ f. absurd cc)
 starts_one phase epoch number place work.Flush ws given busy h =
-    let k = begins h.begun refl in
-    record {
-      begun = true;
-      first = λ b. absurd cc;
-      calls = λ p b. absurd cc;
-      open_now = λ b fine free. absurd (free _ refl refl);
-      open_then = λ r is e us answer. open_labelled given command.Drain k us (subst (λ (x : Running). answer_to x.kind (more command.Drain given) ≡ Some us) (sym (some_same _ r is)) answer);
-      same = λ r is e. refl;
-      flushed = λ r is f. label_kept (decoder_config given.config) _ (open_drains given k);
-      before = λ r is. rw (← ap (λ (x : Running). x.epoch) (some_same _ r is)) (omega arith);
-    }
-  where
-    begins : (b : Bool) → h.begun ≡ b → IsOpen given
-    begins true e = h.open_now e refl (λ r is. absurd cc)
-    begins false e = let no : false ≡ true = h.first e in absurd cc
+    let k = open_for phase epoch work.Flush ws given busy refl h in
+    begun_at phase (record { epoch = epoch; number = number; place = place; kind = kind.Flush }) ws _ (open_labelled given command.Drain k) (λ f. label_kept (decoder_config given.config) _ (open_drains given k))
 
 idle_is : (halted : Bool) (running : Option Running) → (is_none running && not halted) ≡ true → (halted ≡ false) × (running ≡ None)
 idle_is false None h = (refl, refl)
 idle_is true None h = absurd cc
 idle_is halted (Some r) h = absurd cc
 
-started_sound : (is : List Item) (epoch item : ℕ) (s t : State) → s.control.work ≡ is → start_step is epoch item s ≡ Some t → Sound s → Sound t
-started_sound [] epoch item s t e step h = absurd cc
-started_sound (i ∷ is) epoch item s t e step h =
-    let k = cond_is (may_start s.control && eqb epoch s.control.epoch && eqb item i.number) _ t step in
-    let idle = idle_is s.control.halted s.control.running (both (may_start s.control) (eqb epoch s.control.epoch) (both (may_start s.control && eqb epoch s.control.epoch) (eqb item i.number) k.0).0).0 in
+started_sound : (i : Item) (is : List Item) (epoch item : ℕ) (s : State) → s.control.work ≡ i ∷ is → begins epoch item i s.control ≡ true → Sound s → Sound (begun (i ∷ is) i s)
+started_sound i is epoch item s e may h =
+    let idle = idle_is s.control.halted s.control.running (begins_free epoch item i s.control may) in
     let there : Parts s.control.phase s.control.epoch false (i.work ∷ works_on is s.control.messages) None s.given s.running_given = rw (← idle.0, ← idle.1) (subst (λ (l : List Item). Parts s.control.phase s.control.epoch s.control.halted (works_on l s.control.messages) s.control.running s.given s.running_given) e h) in
-    let begun = starts_one s.control.phase s.control.epoch i.number i.place i.work (works_on is s.control.messages) s.given s.running_given there in
-    subst (λ (u : State). Sound u) (some_same _ t k.1) (subst (λ (l : List Item). At (Rattle.codec_model.specs.Control.start_first l (at_next_place s.control)) (given_more i.work s.given) (given_more i.work s.given)) (sym e) (rw idle.0 begun))
+    rw idle.0 (starts_one s.control.phase s.control.epoch i.number i.place i.work (works_on is s.control.messages) s.given s.running_given there)
 
 -- ---- the end of an item
 
--- an item of an older epoch ended
-stale_at : (phase : CodecState) (epoch : ℕ) (halted : Bool) (ws : List Work) (r : Running) (given busy : Given) → (r.epoch ≡ epoch → ⊥) → Parts phase epoch halted ws (Some r) given busy → Parts phase epoch halted ws None given busy
-stale_at phase epoch halted ws r given busy old h = record {
+-- an item ended: the coder is still open, or the codec is halted
+ended_at : (phase : CodecState) (epoch : ℕ) (halted now : Bool) (ws : List Work) (r : Running) (given busy : Given) → (h : Parts phase epoch halted ws (Some r) given busy) → (h.begun ≡ true → now ≡ false → IsOpen given) → Parts phase epoch now ws None given busy
+ended_at phase epoch halted now ws r given busy h stays = record {
   begun = h.begun;
   first = h.first;
   calls = h.calls;
-  open_now = λ b fine free. h.open_now b fine (λ q is e. old (ap (λ (x : Running). x.epoch) (some_same r q is) ∙ e));
-  open_then = λ q is. absurd cc;
-  same = λ q is. absurd cc;
-  flushed = λ q is. absurd cc;
-  before = λ q is. absurd cc;
-}
-
--- an item of this epoch ended: the coder is still open, or the codec is halted
-ended_at : (phase : CodecState) (epoch : ℕ) (halted now : Bool) (ws : List Work) (r : Running) (given busy : Given) → (now ≡ false → IsOpen given) → Parts phase epoch halted ws (Some r) given busy → Parts phase epoch now ws None given busy
-ended_at phase epoch halted now ws r given busy stays h = record {
-  begun = h.begun;
-  first = h.first;
-  calls = h.calls;
-  open_now = λ b fine free. stays fine;
+  open_now = λ b fine free. stays b fine;
   open_then = λ q is. absurd cc;
   same = λ q is. absurd cc;
   flushed = λ q is. absurd cc;
@@ -443,57 +399,42 @@ ran_same epoch number place kind.Flush units c = record { phase = refl; epoch = 
 settled_at : (r : Running) (e : Ended) (x : Outcome) (c : Control) (given busy : Given) → c.running ≡ None → r.epoch ≡ c.epoch → ended_of r.kind busy x ≡ Some e → Parts c.phase c.epoch c.halted (works c) (Some r) given busy → At (after_end r e c) given busy
 settled_at r (ended.Ran us) x c given busy idle now is h =
     at_same c (after_end r (ended.Ran us) c) given busy (ran_same r.epoch r.number r.place r.kind us c)
-    (rw idle (ended_at c.phase c.epoch c.halted c.halted (works c) r given busy (λ fine. h.open_then r refl now us (subst (λ (g : Given). answer_to r.kind g ≡ Some us) (h.same r refl now) (ran_answer r.kind busy x us is))) h))
-settled_at r ended.Refused x c given busy idle now is h = rw idle (ended_at c.phase c.epoch c.halted true (works c) r given busy (λ fine. absurd cc) h)
-settled_at r (ended.NoSlot n) x c given busy idle now is h = rw idle (ended_at c.phase c.epoch c.halted true (works c) r given busy (λ fine. absurd cc) h)
-settled_at r ended.NoMemory x c given busy idle now is h = rw idle (ended_at c.phase c.epoch c.halted true (works c) r given busy (λ fine. absurd cc) h)
+    (rw idle (ended_at c.phase c.epoch c.halted c.halted (works c) r given busy h (λ b fine. h.open_then r refl now us (subst (λ (g : Given). answer_to r.kind g ≡ Some us) (h.same r refl now) (ran_answer r.kind busy x us is)))))
+settled_at r e x c given busy idle now is h = rw idle (ended_at c.phase c.epoch c.halted true (works c) r given busy h (λ b fine. absurd cc))
 
 done_at : (r : Running) (e : Ended) (x : Outcome) (moment : ℕ) (c : Control) (given busy : Given) → ended_of r.kind busy x ≡ Some e → Parts c.phase c.epoch c.halted (works c) (Some r) given busy → At (done_running r e moment (at_next_place c)) given busy
 done_at r e x moment c given busy is h = by (eqb r.epoch c.epoch) refl
   where
     by : (b : Bool) → eqb r.epoch c.epoch ≡ b → At (cond b (after_end r e (record (at_next_place c) { running = None; progress = Some (max moment (unwrap_or c.progress moment)) })) (record (at_next_place c) { running = None })) given busy
     by true k = settled_at r e x (record (at_next_place c) { running = None; progress = Some (max moment (unwrap_or c.progress moment)) }) given busy refl (eqb-true r.epoch c.epoch k) is h
-    by false k = stale_at c.phase c.epoch c.halted (works c) r given busy (λ same. let no : true ≡ false = sym (eq-eqb r.epoch c.epoch same) ∙ k in absurd cc) h
-
-ended_sound : (r : Running) (x : Outcome) (o : Option Ended) (moment : ℕ) (s t : State) → s.control.running ≡ Some r → ended_of r.kind s.running_given x ≡ o → done_ended r o moment s ≡ Some t → Sound s → Sound t
-ended_sound r x None moment s t out is step h = absurd cc
-ended_sound r x (Some e) moment s t out is step h =
-    subst (λ (u : State). Sound u) (some_same (with_control (done_running r e moment (at_next_place s.control)) s) t step)
-    (done_at r e x moment s.control s.given s.running_given is (subst (λ (o : Option Running). Parts s.control.phase s.control.epoch s.control.halted (works s.control) o s.given s.running_given) out h))
-
-done_sound : (o : Option Running) (epoch item moment : ℕ) (x : Outcome) (s t : State) → s.control.running ≡ o → done_step o epoch item moment x s ≡ Some t → Sound s → Sound t
-done_sound None epoch item moment x s t out step h = absurd cc
-done_sound (Some r) epoch item moment x s t out step h = ended_sound r x (ended_of r.kind s.running_given x) moment s t out refl (cond_is (eqb r.epoch epoch && eqb r.number item) (done_ended r (ended_of r.kind s.running_given x) moment s) t step).1 h
+    by false k =
+        let older : r.epoch ≡ c.epoch → ⊥ = λ same. let never : true ≡ false = sym (eq-eqb r.epoch c.epoch same) ∙ k in absurd cc in
+        ended_at c.phase c.epoch c.halted c.halted (works c) r given busy h (λ b fine. h.open_now b fine (λ q is_q e. older (ap (λ (y : Running). y.epoch) (some_same r q is_q) ∙ e)))
 
 -- a turn
-task_sound : (task : Task) (ts : List Task) (s t : State) → s.control.tasks ≡ task ∷ ts → turn_step (task ∷ ts) s ≡ Some t → Sound s → Sound t
-task_sound task.Unblock ts s t e step h = subst (λ (u : State). Sound u) (some_same _ t step) (rw e h)
-task_sound task.Process ts s t e step h = subst (λ (u : State). Sound u) (some_same _ t step) (rw e (processed (record (at_next_place s.control) { tasks = ts }) s.given s.running_given h))
-task_sound task.Desaturate ts s t e step h = subst (λ (u : State). Sound u) (some_same _ t step) (rw e (processed (record (at_next_place s.control) { tasks = ts; saturated = false }) s.given s.running_given h))
-task_sound (task.Output units) ts s t e step h = subst (λ (u : State). Sound u) (some_same _ t step) (rw e h)
-task_sound (task.Flushed promise units) ts s t e step h = subst (λ (u : State). Sound u) (some_same _ t step) (rw e h)
-task_sound task.Dequeue ts s t e step h = subst (λ (u : State). Sound u) (some_same _ t step) (rw e h)
-task_sound (task.Close x) ts s t e step h = subst (λ (u : State). Sound u) (some_same _ t step) (rw e (close_sound (record s { control = record s.control { tasks = ts } }) h))
+task_sound : (x : Task) (ts : List Task) (s : State) → Sound s → Sound (task_ran x ts s)
+task_sound task.Process ts s h = processed (record (at_next_place s.control) { tasks = ts }) s.given s.running_given h
+task_sound task.Desaturate ts s h = processed (record (at_next_place s.control) { tasks = ts; saturated = false }) s.given s.running_given h
+task_sound (task.Close x) ts s h = close_sound (record s { control = record s.control { tasks = ts } }) h
+task_sound x ts s h = h
 
-turned_sound : (ts : List Task) (s t : State) → s.control.tasks ≡ ts → turn_step ts s ≡ Some t → Sound s → Sound t
-turned_sound [] s t e step h = absurd cc
-turned_sound (x ∷ ts) s t e step h = task_sound x ts s t e step h
+each_sound : EachStep (λ e s t. Sound s → Sound t)
+each_sound = record {
+  call = λ who x s h. called_at (call_error x s.control) x s.control s.given s.running_given refl h;
+  gone = λ who s h. h;
+  kept = λ who s off h. h;
+  cloned = λ who x s on h. encoded_at x s.control s.given s.running_given on h;
+  remove = λ who r s h. removal_sound (removal_error s.control) r s h;
+  take = λ who unit s may h. h;
+  start = λ i is epoch item s first may h. started_sound i is epoch item s first may h;
+  done = λ r e epoch item moment o s running own is h.
+      done_at r e o moment s.control s.given s.running_given is (subst (λ (q : Option Running). Parts s.control.phase s.control.epoch s.control.halted (works s.control) q s.given s.running_given) running h);
+  turn = λ x ts s first h. task_sound x ts s h;
+  reclaim = λ moment s may h. close_sound s h;
+}
 
 pub step_sound : (e : Entry) (s t : State) → step e s ≡ Some t → Sound s → Sound t
-step_sound (entry.Configure who config) s t is h = subst (λ (u : State). Sound u) (some_same _ t is) (called_at (call_error (call.Configure config) s.control) (call.Configure config) s.control s.given s.running_given refl h)
-step_sound (entry.Decode who chunk) s t is h = subst (λ (u : State). Sound u) (some_same _ t is) (called_at (call_error (call.Decode chunk) s.control) (call.Decode chunk) s.control s.given s.running_given refl h)
-step_sound (entry.Encode who handed.Gone) s t is h = subst (λ (u : State). Sound u) (some_same _ t is) h
-step_sound (entry.Encode who handed.Kept) s t is h = subst (λ (u : State). Sound u) (kept_is (is_configured s.control) _ t is) h
-step_sound (entry.Encode who (handed.Cloned sound)) s t is h =
-    let k = cond_is (is_configured s.control) _ t is in subst (λ (u : State). Sound u) (some_same _ t k.1) (encoded_at sound s.control s.given s.running_given k.0 h)
-step_sound (entry.Flush who) s t is h = subst (λ (u : State). Sound u) (some_same _ t is) (called_at (call_error call.Flush s.control) call.Flush s.control s.given s.running_given refl h)
-step_sound (entry.Reset who) s t is h = subst (λ (u : State). Sound u) (some_same _ t is) (removal_sound (removal_error s.control) removal.Reset s h)
-step_sound (entry.Close who) s t is h = subst (λ (u : State). Sound u) (some_same _ t is) (removal_sound (removal_error s.control) removal.Close s h)
-step_sound (entry.Take who unit) s t is h = subst (λ (u : State). Sound u) (some_same _ t (cond_is (may_take unit s.control) _ t is).1) h
-step_sound (entry.Start epoch item) s t is h = started_sound s.control.work epoch item s t refl is h
-step_sound (entry.Done epoch item moment x) s t is h = done_sound s.control.running epoch item moment x s t refl is h
-step_sound entry.Turn s t is h = turned_sound s.control.tasks s t refl is h
-step_sound (entry.Reclaim moment) s t is h = subst (λ (u : State). Sound u) (some_same _ t (cond_is (may_reclaim moment s.control) _ t is).1) (close_sound s h)
+step_sound = by_steps (λ e s t. Sound s → Sound t) each_sound
 
 pub opened : (o : Opening) → Sound (opening_state o)
 opened o = record {

@@ -1,11 +1,12 @@
 -- A codec with blanks for its outputs takes the same steps.
 use Rattle.std.proofs.Common.{ℕ, zero, suc, ◌≡◌, ◌+◌, ◌&&◌, ◌||◌, not, Bool, true, false, eqb, cond, List, [], ◌∷◌, ◌++◌, length, map, filter, count_by, Option, Some, None, is_some, refl, ap, sym, subst, ◌∙◌, arith}
-use Rattle.std.specs.Prelude.{option_map, max, unwrap_or}
+use Rattle.std.specs.Prelude.{max, unwrap_or}
 use Rattle.std.proofs.lemmas.Bool.{eqb-true}
 use Rattle.std.proofs.lemmas.List.Sums.{sum_by-cons}
 use Rattle.std.proofs.lemmas.List.{map-append, length-replicate}
 use Rattle.wc_base.specs.declared.error.DomError.{DomError}
 use Rattle.wc_base.specs.declared.error.DomError.TheVariants as dom
+use Rattle.wc_base.specs.declared.who.Who.{Who}
 use Rattle.wc_config.specs.Configs.{is_supported}
 use Rattle.codec_definitions.specs.declared.unit.Unit as media
 use Rattle.codec_model.specs.declared.entry.CodecState.TheVariants.{Configured, Closed}
@@ -15,16 +16,13 @@ use Rattle.codec_model.specs.declared.entry.Call.{Call}
 use Rattle.codec_model.specs.declared.entry.Call.TheVariants as call
 use Rattle.codec_model.specs.declared.entry.Entry.{Entry}
 use Rattle.codec_model.specs.declared.entry.Entry.TheVariants as entry
-use Rattle.codec_model.specs.declared.entry.Pair.{Pair}
 use Rattle.codec_model.specs.declared.entry.HeldSound.{HeldSound}
-use Rattle.codec_model.specs.declared.entry.Handed.TheVariants as handed
 use Rattle.codec_model.specs.declared.entry.Coded.TheVariants as coded
 use Rattle.codec_model.specs.declared.entry.Work.{Work}
 use Rattle.codec_model.specs.declared.entry.Work.TheVariants as work
 use Rattle.codec_model.specs.declared.entry.WorkKind.{WorkKind}
 use Rattle.codec_model.specs.declared.entry.WorkKind.TheVariants as kind
 use Rattle.codec_model.specs.declared.entry.Message.{Message}
-use Rattle.codec_model.specs.declared.entry.Item.{Item}
 use Rattle.codec_model.specs.declared.entry.Running.{Running}
 use Rattle.codec_model.specs.declared.entry.Task.{Task}
 use Rattle.codec_model.specs.declared.entry.Task.TheVariants as task
@@ -32,11 +30,12 @@ use Rattle.codec_model.specs.declared.entry.Ended.{Ended}
 use Rattle.codec_model.specs.declared.entry.Ended.TheVariants as ended
 use Rattle.codec_model.specs.declared.entry.Outcome.{Outcome}
 use Rattle.codec_model.specs.declared.entry.Outcome.TheVariants as outcome
-use Rattle.codec_model.specs.Control.{Control, is_decoder, is_dequeue, is_desaturate, is_taken, after_message, process_queue, at_next_place, run_task, done_running, after_end, after_reset, after_close, after_removal, after_encode, after_take, may_take, with_flushed, carried, active_after, may_reclaim, may_start}
-use Rattle.codec_model.specs.Replay.{State, Given, is_configured, step, done_ended, ended_of, ended_run, ended_refused, answer_to, start_step, done_step, turn_step, removed, accepted, after_call, call_error, call_step, removal_error, remove_or_refuse, with_control}
+use Rattle.codec_model.specs.Control.{Control, is_decoder, is_dequeue, is_desaturate, with_desaturate, with_output, is_taken, after_message, process_queue, at_next_place, run_task, done_running, after_end, after_reset, after_close, after_removal, after_encode, with_flushed, carried, active_after}
+use Rattle.codec_model.specs.Replay.{State, Given, step, ended_of, ended_run, ended_refused, answer_to, removed, accepted, after_call, call_error, call_step, removal_error, remove_or_refuse, removal_step, entry_of, removal_entry, with_control}
 use Rattle.wc_base.specs.Options.{cond_is, some_same}
 use Rattle.codec_model.specs.Facts.{with_event}
 use Rattle.codec_follow.specs.Follow.{blank, blanks, ran_as, refused_as, ended_as, follow_done, follow_step}
+use Rattle.codec_model.specs.StepLaws.{given_past, task_ran, EachStep, start_made, turn_made, by_steps}
 use Rattle.codec_follow.proofs.Answered.{Sound}
 
 abbrev pub erased_task : Task → Task
@@ -106,13 +105,8 @@ call_erased (Some e) x c = refl
 
 kept_erased : (ts : List Task) → filter is_dequeue (map erased_task ts) ≡ map erased_task (filter is_dequeue ts)
 kept_erased [] = refl
-kept_erased (task.Unblock ∷ ts) = kept_erased ts
-kept_erased (task.Process ∷ ts) = kept_erased ts
-kept_erased (task.Desaturate ∷ ts) = kept_erased ts
-kept_erased (task.Output units ∷ ts) = kept_erased ts
-kept_erased (task.Flushed promise units ∷ ts) = kept_erased ts
 kept_erased (task.Dequeue ∷ ts) = ap (λ (us : List Task). task.Dequeue ∷ us) (kept_erased ts)
-kept_erased (task.Close x ∷ ts) = kept_erased ts
+kept_erased (t ∷ ts) = kept_erased ts
 
 reset_erased : (c : Control) → after_reset (erased c) ≡ erased (after_reset c)
 reset_erased c =
@@ -140,57 +134,44 @@ task_erased (task.Flushed promise units) c =
 task_erased task.Dequeue c = refl
 task_erased (task.Close x) c = close_erased c
 
-turn_erased : (ts : List Task) (c : Control) (given running : Given) (held : Option Pair) → turn_step (map erased_task ts) (erased_state (record { control = record c { tasks = ts }; given = given; running_given = running; running_held = held })) ≡ option_map erased_state (turn_step ts (record { control = record c { tasks = ts }; given = given; running_given = running; running_held = held }))
-turn_erased [] c given running held = refl
-turn_erased (task.Unblock ∷ ts) c given running held = ap (λ (d : Control). Some (with_control d (record { control = c; given = given; running_given = running; running_held = held }))) (task_erased task.Unblock (record (at_next_place c) { tasks = ts }))
-turn_erased (task.Process ∷ ts) c given running held = ap (λ (d : Control). Some (with_control d (record { control = c; given = given; running_given = running; running_held = held }))) (task_erased task.Process (record (at_next_place c) { tasks = ts }))
-turn_erased (task.Desaturate ∷ ts) c given running held = ap (λ (d : Control). Some (with_control d (record { control = c; given = given; running_given = running; running_held = held }))) (task_erased task.Desaturate (record (at_next_place c) { tasks = ts }))
-turn_erased (task.Output units ∷ ts) c given running held = ap (λ (d : Control). Some (with_control d (record { control = c; given = given; running_given = running; running_held = held }))) (task_erased (task.Output units) (record (at_next_place c) { tasks = ts }))
-turn_erased (task.Flushed promise units ∷ ts) c given running held = ap (λ (d : Control). Some (with_control d (record { control = c; given = given; running_given = running; running_held = held }))) (task_erased (task.Flushed promise units) (record (at_next_place c) { tasks = ts }))
-turn_erased (task.Dequeue ∷ ts) c given running held = refl
-turn_erased (task.Close x ∷ ts) c given running held = ap (λ (d : Control). Some (removed d (record { control = c; given = given; running_given = running; running_held = held }))) (task_erased (task.Close x) (record (at_next_place c) { tasks = ts }))
+past_erased : (t : Task) (g : Given) → given_past (erased_task t) g ≡ given_past t g
+past_erased (task.Close x) g = refl
+past_erased t g = refl
 
-start_by : (b : Bool) (s t : State) → cond b (Some (erased_state t)) None ≡ option_map erased_state (cond b (Some t) None)
-start_by true s t = refl
-start_by false s t = refl
-
-start_erased : (is : List Item) (epoch item : ℕ) (c : Control) (given running : Given) (held : Option Pair) → start_step is epoch item (erased_state (record { control = record c { work = is }; given = given; running_given = running; running_held = held })) ≡ option_map erased_state (start_step is epoch item (record { control = record c { work = is }; given = given; running_given = running; running_held = held }))
-start_erased [] epoch item c given running held = refl
-start_erased (i ∷ is) epoch item c given running held = start_by (may_start c && eqb epoch c.epoch && eqb item i.number) (record { control = c; given = given; running_given = running; running_held = held }) _
+turn_erased : (t : Task) (ts : List Task) (s : State) → s.control.tasks ≡ t ∷ ts → follow_step entry.Turn (erased_state s) ≡ Some (erased_state (task_ran t ts s))
+turn_erased t ts s first =
+    turn_made (erased_task t) (map erased_task ts) (erased_state s) (ap (map erased_task) first)
+    ∙ (ap (λ (c : Control). Some (record s { control = c; given = given_past (erased_task t) s.given })) (task_erased t (record (at_next_place s.control) { tasks = ts }))
+    ∙ ap (λ (g : Given). Some (record (erased_state (task_ran t ts s)) { given = g })) (past_erased t s.given))
 
 -- the ends of items
 desaturates_erased : (ts : List Task) → count_by is_desaturate (map erased_task ts) ≡ count_by is_desaturate ts
 desaturates_erased [] = refl
-desaturates_erased (task.Unblock ∷ ts) = desaturates_erased ts
-desaturates_erased (task.Process ∷ ts) = desaturates_erased ts
 desaturates_erased (task.Desaturate ∷ ts) =
     let one : Task → ℕ = λ t. cond (is_desaturate t) 1 0 in
     omega (arith, desaturates_erased ts, sum_by-cons one task.Desaturate ts, sum_by-cons one task.Desaturate (map erased_task ts))
-desaturates_erased (task.Output units ∷ ts) = desaturates_erased ts
-desaturates_erased (task.Flushed promise units ∷ ts) = desaturates_erased ts
-desaturates_erased (task.Dequeue ∷ ts) = desaturates_erased ts
-desaturates_erased (task.Close x ∷ ts) = desaturates_erased ts
+desaturates_erased (t ∷ ts) = desaturates_erased ts
 
 push_if : (b : Bool) (t : Task) (ts : List Task) → cond b (map erased_task ts ++ erased_task t ∷ []) (map erased_task ts) ≡ map erased_task (cond b (ts ++ t ∷ []) ts)
 push_if true t ts = sym (pushed ts t)
 push_if false t ts = refl
 
-freed_erased : (saturated : Bool) (ts : List Task) → cond (saturated && eqb (count_by is_desaturate (map erased_task ts)) 0) (map erased_task ts ++ task.Desaturate ∷ []) (map erased_task ts) ≡ map erased_task (cond (saturated && eqb (count_by is_desaturate ts) 0) (ts ++ task.Desaturate ∷ []) ts)
+freed_erased : (saturated : Bool) (ts : List Task) → with_desaturate saturated (map erased_task ts) ≡ map erased_task (with_desaturate saturated ts)
 freed_erased saturated ts = rw (desaturates_erased ts) (push_if (saturated && eqb (count_by is_desaturate ts) 0) task.Desaturate ts)
 
 unless : (b : Bool) (t : Task) (ts : List Task) → cond b (map erased_task ts) (map erased_task ts ++ erased_task t ∷ []) ≡ map erased_task (cond b ts (ts ++ t ∷ []))
 unless true t ts = refl
 unless false t ts = sym (pushed ts t)
 
-given_erased : (units : List media.Unit) (ts : List Task) → cond (eqb (length (blanks (length units))) 0) (map erased_task ts) (map erased_task ts ++ task.Output (blanks (length units)) ∷ []) ≡ map erased_task (cond (eqb (length units) 0) ts (ts ++ task.Output units ∷ []))
+given_erased : (units : List media.Unit) (ts : List Task) → with_output (blanks (length units)) (map erased_task ts) ≡ map erased_task (with_output units ts)
 given_erased units ts = rw (length-replicate (length units) blank) (unless (eqb (length units) 0) (task.Output units) ts)
 
-coded_erased : (units : List media.Unit) (saturated : Bool) (ts us : List Task) → us ≡ map erased_task (cond (saturated && eqb (count_by is_desaturate ts) 0) (ts ++ task.Desaturate ∷ []) ts) → cond (eqb (length (blanks (length units))) 0) us (us ++ task.Output (blanks (length units)) ∷ []) ≡ map erased_task (cond (eqb (length units) 0) (cond (saturated && eqb (count_by is_desaturate ts) 0) (ts ++ task.Desaturate ∷ []) ts) (cond (saturated && eqb (count_by is_desaturate ts) 0) (ts ++ task.Desaturate ∷ []) ts ++ task.Output units ∷ []))
-coded_erased units saturated ts us h = rw h (given_erased units (cond (saturated && eqb (count_by is_desaturate ts) 0) (ts ++ task.Desaturate ∷ []) ts))
+coded_erased : (units : List media.Unit) (saturated : Bool) (ts : List Task) → with_output (blanks (length units)) (with_desaturate saturated (map erased_task ts)) ≡ map erased_task (with_output units (with_desaturate saturated ts))
+coded_erased units saturated ts = ap (with_output (blanks (length units))) (freed_erased saturated ts) ∙ given_erased units (with_desaturate saturated ts)
 
 ran_erased : (epoch number place : ℕ) (k : WorkKind) (units : List media.Unit) (c : Control) → after_end (record { epoch = epoch; number = number; place = place; kind = k }) (ended.Ran (blanks (length units))) (erased c) ≡ erased (after_end (record { epoch = epoch; number = number; place = place; kind = k }) (ended.Ran units) c)
 ran_erased epoch number place kind.Configure units c = ap (λ (ts : List Task). record (erased c) { tasks = ts }) (sym (pushed c.tasks task.Unblock))
-ran_erased epoch number place kind.Coded units c = ap (λ (ts : List Task). record (erased c) { tasks = ts }) (coded_erased units c.saturated c.tasks _ (freed_erased c.saturated c.tasks))
+ran_erased epoch number place kind.Coded units c = ap (λ (ts : List Task). record (erased c) { tasks = ts }) (coded_erased units c.saturated c.tasks)
 ran_erased epoch number place kind.Flush units c = ap (λ (ts : List Task). record (erased c) { tasks = ts }) (sym (pushed c.tasks (task.Flushed place units)))
 
 closing_erased : (x : DomError) (c : Control) → record (erased c) { halted = true; tasks = map erased_task c.tasks ++ task.Close x ∷ [] } ≡ erased (record c { halted = true; tasks = c.tasks ++ task.Close x ∷ [] })
@@ -210,17 +191,18 @@ done_erased : (r : Running) (e : Ended) (moment : ℕ) (c : Control) → done_ru
 done_erased r e moment c = done_by (eqb r.epoch c.epoch) _ _ (record c { running = None }) (settled_erased r e (record c { running = None; progress = Some (max moment (unwrap_or c.progress moment)) }))
 
 -- an end that a codec's definition gives is one that follows, with blanks
+blank_ends : (units : ℕ) (us : List media.Unit) (e : Ended) → ended_run units (Some us) ≡ Some e → Some (ended.Ran (blanks units)) ≡ Some (erased_end e)
+blank_ends units us e h =
+    let k = cond_is (eqb units (length us)) (Some (ended.Ran us)) e h in
+    rw (eqb-true units (length us) k.0) (subst (λ (x : Ended). Some (ended.Ran (blanks (length us))) ≡ Some (erased_end x)) (some_same (ended.Ran us) e k.1) refl)
+
 ran_ends : (k : WorkKind) (units : ℕ) (us : List media.Unit) (e : Ended) → (k ≡ kind.Configure → us ≡ []) → ended_run units (Some us) ≡ Some e → ran_as k units ≡ Some (erased_end e)
 ran_ends kind.Configure units us e none h =
     let k = cond_is (eqb units (length us)) (Some (ended.Ran us)) e h in
     let same : units ≡ 0 = eqb-true units (length us) k.0 ∙ ap (λ (l : List media.Unit). length l) (none refl) in
     rw same (subst (λ (x : Ended). Some (ended.Ran []) ≡ Some (erased_end x)) (some_same (ended.Ran us) e k.1) (rw (none refl) refl))
-ran_ends kind.Coded units us e none h =
-    let k = cond_is (eqb units (length us)) (Some (ended.Ran us)) e h in
-    rw (eqb-true units (length us) k.0) (subst (λ (x : Ended). Some (ended.Ran (blanks (length us))) ≡ Some (erased_end x)) (some_same (ended.Ran us) e k.1) refl)
-ran_ends kind.Flush units us e none h =
-    let k = cond_is (eqb units (length us)) (Some (ended.Ran us)) e h in
-    rw (eqb-true units (length us) k.0) (subst (λ (x : Ended). Some (ended.Ran (blanks (length us))) ≡ Some (erased_end x)) (some_same (ended.Ran us) e k.1) refl)
+ran_ends kind.Coded units us e none h = blank_ends units us e h
+ran_ends kind.Flush units us e none h = blank_ends units us e h
 
 ran_ends_by : (k : WorkKind) (units : ℕ) (a : Option (List media.Unit)) (e : Ended) → (k ≡ kind.Configure → (us : List media.Unit) → a ≡ Some us → us ≡ []) → ended_run units a ≡ Some e → ran_as k units ≡ Some (erased_end e)
 ran_ends_by k units None e none h = absurd cc
@@ -262,46 +244,34 @@ ends_erased k g outcome.Refused e answered h = refused_ends_by k g e answered h
 ends_erased k g (outcome.NoSlot n) e answered h = no_slot_ends k g n e h
 ends_erased k g outcome.NoMemory e answered h = ap (λ (x : Ended). Some (erased_end x)) (some_same ended.NoMemory e h)
 
-ended_erased : (r : Running) (x : Outcome) (a : Option Ended) (moment : ℕ) (s t : State) → (r.kind ≡ kind.Flush → is_some (answer_to kind.Flush s.running_given) ≡ true) → ended_of r.kind s.running_given x ≡ a → done_ended r a moment s ≡ Some t → done_ended r (ended_as r.kind s.running_given x) moment (erased_state s) ≡ Some (erased_state t)
-ended_erased r x None moment s t fine is h = absurd cc
-ended_erased r x (Some e) moment s t fine is h =
-    rw (ends_erased r.kind s.running_given x e fine is)
-    (ap (λ (d : Control). Some (with_control d s)) (done_erased r e moment (at_next_place s.control)) ∙ ap (λ (u : State). Some (erased_state u)) (some_same (with_control (done_running r e moment (at_next_place s.control)) s) t h))
+done_followed : (q : Option Running) (r : Running) (e : Ended) (epoch item moment : ℕ) (o : Outcome) (s : State) → q ≡ Some r → (eqb r.epoch epoch && eqb r.number item) ≡ true → ended_as r.kind s.running_given o ≡ Some (erased_end e) → follow_done q epoch item moment o (erased_state s) ≡ Some (erased_state (with_control (done_running r e moment (at_next_place s.control)) s))
+done_followed None r e epoch item moment o s running own ends = absurd cc
+done_followed (Some p) r e epoch item moment o s running own ends =
+    rw (some_same p r running, own, ends) (ap (λ (d : Control). Some (with_control d s)) (done_erased r e moment (at_next_place s.control)))
 
-done_step_erased : (o : Option Running) (epoch item moment : ℕ) (x : Outcome) (s t : State) → s.control.running ≡ o → Sound s → done_step o epoch item moment x s ≡ Some t → follow_done o epoch item moment x (erased_state s) ≡ Some (erased_state t)
-done_step_erased None epoch item moment x s t out fine h = absurd cc
-done_step_erased (Some r) epoch item moment x s t out fine h =
-    let k = cond_is (eqb r.epoch epoch && eqb r.number item) (done_ended r (ended_of r.kind s.running_given x) moment s) t h in
-    rw k.0 (ended_erased r x (ended_of r.kind s.running_given x) moment s t (fine.flushed r out) refl k.1)
+call_followed : (who : Who) (x : Call) (s : State) → follow_step (entry_of who x) (erased_state s) ≡ Some (erased_state (call_step x s))
+call_followed who (call.Configure config) s = ap (λ (d : Control). Some (with_control d s)) (call_erased (call_error (call.Configure config) s.control) (call.Configure config) s.control)
+call_followed who (call.Decode chunk) s = ap (λ (d : Control). Some (with_control d s)) (call_erased (call_error (call.Decode chunk) s.control) (call.Decode chunk) s.control)
+call_followed who call.Flush s = ap (λ (d : Control). Some (with_control d s)) (call_erased (call_error call.Flush s.control) call.Flush s.control)
 
-call_step_erased : (x : Call) (s : State) → call_error x (erased s.control) ≡ call_error x s.control → call_step x (erased_state s) ≡ erased_state (call_step x s)
-call_step_erased x s same = rw same (ap (λ (d : Control). with_control d s) (call_erased (call_error x s.control) x s.control))
+removal_followed : (who : Who) (r : Removal) (s : State) → follow_step (removal_entry who r) (erased_state s) ≡ Some (erased_state (removal_step r s))
+removal_followed who removal.Reset s = ap (λ (u : State). Some u) (removal_erased (removal_error s.control) removal.Reset s)
+removal_followed who removal.Close s = ap (λ (u : State). Some u) (removal_erased (removal_error s.control) removal.Close s)
 
--- where a test fails, and where it passes
-failed_by : (b : Bool) (x y : State) → x ≡ erased_state y → cond b None (Some x) ≡ option_map erased_state (cond b None (Some y))
-failed_by true x y h = refl
-failed_by false x y h = ap (λ (u : State). Some u) h
-
-passed_by : (b : Bool) (x y : State) → x ≡ erased_state y → cond b (Some x) None ≡ option_map erased_state (cond b (Some y) None)
-passed_by true x y h = ap (λ (u : State). Some u) h
-passed_by false x y h = refl
+each_erased : EachStep (λ e s t. Sound s → follow_step e (erased_state s) ≡ Some (erased_state t))
+each_erased = record {
+  call = λ who x s fine. call_followed who x s;
+  gone = λ who s fine. refl;
+  kept = λ who s off fine. rw off refl;
+  cloned = λ who x s on fine. rw on (ap (λ (d : Control). Some (with_control d s)) (encoded_erased x s.control));
+  remove = λ who r s fine. removal_followed who r s;
+  take = λ who unit s may fine. rw may refl;
+  start = λ i is epoch item s first may fine. start_made i is epoch item (erased_state s) first may;
+  done = λ r e epoch item moment o s running own is fine. done_followed s.control.running r e epoch item moment o s running own (ends_erased r.kind s.running_given o e (fine.flushed r running) is);
+  turn = λ x ts s first fine. turn_erased x ts s first;
+  reclaim = λ moment s may fine. rw may (ap (λ (d : Control). Some (removed d s)) (close_erased (at_next_place s.control)));
+}
 
 -- One step of a legal history, from blanks.
-pub step_erased : (e : Entry) (s t : State) → Sound s → step e s ≡ Some t → follow_step e (erased_state s) ≡ Some (erased_state t)
-step_erased (entry.Configure who config) s t fine h = ap (λ (u : State). Some u) (call_step_erased (call.Configure config) s refl) ∙ ap (option_map erased_state) h
-step_erased (entry.Decode who chunk) s t fine h = ap (λ (u : State). Some u) (call_step_erased (call.Decode chunk) s refl) ∙ ap (option_map erased_state) h
-step_erased (entry.Encode who handed.Gone) s t fine h = ap (option_map erased_state) h
-step_erased (entry.Encode who handed.Kept) s t fine h = failed_by (is_configured s.control) _ (with_control (at_next_place s.control) s) refl ∙ ap (option_map erased_state) h
-step_erased (entry.Encode who (handed.Cloned sound)) s t fine h =
-    passed_by (is_configured s.control) _ (with_control (after_encode s.control.place sound (at_next_place s.control)) s) (ap (λ (d : Control). with_control d s) (encoded_erased sound s.control)) ∙ ap (option_map erased_state) h
-step_erased (entry.Flush who) s t fine h = ap (λ (u : State). Some u) (call_step_erased call.Flush s refl) ∙ ap (option_map erased_state) h
-step_erased (entry.Reset who) s t fine h =
-    ap (λ (u : State). Some u) (removal_erased (removal_error s.control) removal.Reset s) ∙ ap (option_map erased_state) h
-step_erased (entry.Close who) s t fine h =
-    ap (λ (u : State). Some u) (removal_erased (removal_error s.control) removal.Close s) ∙ ap (option_map erased_state) h
-step_erased (entry.Take who unit) s t fine h = passed_by (may_take unit s.control) _ (with_control (after_take (at_next_place s.control)) s) refl ∙ ap (option_map erased_state) h
-step_erased (entry.Start epoch item) s t fine h = start_erased s.control.work epoch item s.control s.given s.running_given s.running_held ∙ ap (option_map erased_state) h
-step_erased (entry.Done epoch item moment x) s t fine h = done_step_erased s.control.running epoch item moment x s t refl fine h
-step_erased entry.Turn s t fine h = turn_erased s.control.tasks s.control s.given s.running_given s.running_held ∙ ap (option_map erased_state) h
-step_erased (entry.Reclaim moment) s t fine h =
-    passed_by (may_reclaim moment s.control) _ (removed (after_close (at_next_place s.control)) s) (ap (λ (d : Control). removed d s) (close_erased (at_next_place s.control))) ∙ ap (option_map erased_state) h
+pub step_erased : (e : Entry) (s t : State) → step e s ≡ Some t → Sound s → follow_step e (erased_state s) ≡ Some (erased_state t)
+step_erased = by_steps (λ e s t. Sound s → follow_step e (erased_state s) ≡ Some (erased_state t)) each_erased

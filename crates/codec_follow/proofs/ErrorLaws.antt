@@ -16,14 +16,12 @@ use Rattle.codec_model.specs.declared.entry.Entry.TheVariants as entry
 use Rattle.codec_model.specs.declared.entry.Event.{Event}
 use Rattle.codec_model.specs.declared.entry.Event.TheVariants as event
 use Rattle.codec_model.specs.declared.entry.HeldSound.{HeldSound}
-use Rattle.codec_model.specs.declared.entry.Handed.TheVariants as handed
 use Rattle.codec_model.specs.declared.entry.Coded.TheVariants as coded
 use Rattle.codec_model.specs.declared.entry.Work.{Work}
 use Rattle.codec_model.specs.declared.entry.Work.TheVariants as work
 use Rattle.codec_model.specs.declared.entry.WorkKind.{WorkKind}
 use Rattle.codec_model.specs.declared.entry.WorkKind.TheVariants as kind
 use Rattle.codec_model.specs.declared.entry.Message.{Message}
-use Rattle.codec_model.specs.declared.entry.Item.{Item}
 use Rattle.codec_model.specs.declared.entry.Running.{Running}
 use Rattle.codec_model.specs.declared.entry.Task.{Task}
 use Rattle.codec_model.specs.declared.entry.Task.TheVariants as task
@@ -31,12 +29,12 @@ use Rattle.codec_model.specs.declared.entry.Ended.{Ended}
 use Rattle.codec_model.specs.declared.entry.Ended.TheVariants as ended
 use Rattle.codec_model.specs.declared.entry.Outcome.{Outcome}
 use Rattle.codec_model.specs.declared.entry.Outcome.TheVariants as outcome
-use Rattle.codec_model.specs.Control.{Control, is_taken, is_dequeue, with_dequeue_if, with_message, is_decoder, after_message, process_queue, at_next_place, start_first, with_desaturate, with_output, with_ran, with_end, after_end, done_running, after_reset, after_encode, may_take, may_start, run_task}
-use Rattle.codec_model.specs.Replay.{State, Given, answer_to, is_configured, opening_state, step, IsLegal, ended_of, ended_run, ended_refused, call_error, configure_error, decode_error, flush_error, after_call, removal_error, remove_or_refuse, start_step, done_step, done_ended, turn_step}
+use Rattle.codec_model.specs.Control.{Control, is_dequeue, with_dequeue_if, with_message, is_decoder, after_message, process_queue, at_next_place, with_desaturate, with_output, with_ran, with_end, after_end, done_running, after_reset, after_encode, run_task}
+use Rattle.codec_model.specs.Replay.{State, Given, answer_to, opening_state, step, IsLegal, ended_of, ended_run, ended_refused, call_error, configure_error, decode_error, flush_error, after_call, removal_error, remove_or_refuse}
 use Rattle.codec_model.specs.Shown.{shows, handed_error, task_carried, shown_from, shown, refusal, rejection, rejections, removal_shows, outputs_from, task_shows, turn_shows}
 use Rattle.wc_base.specs.Options.{cond_is, some_same}
 use Rattle.wc_config.specs.declared.config.AudioDecoderConfig.{AudioDecoderConfig}
-use Rattle.history_laws.specs.Answers.{kept_is}
+use Rattle.codec_model.specs.StepLaws.{EachStep, by_queue, by_steps}
 use Rattle.history_laws.specs.OutputLaws.{all_append}
 use Rattle.codec_follow.specs.Errors.{IsServedEnd, IsServed, AreServedFrom, AreServed, IsForMemory}
 
@@ -73,16 +71,11 @@ message_fine place (work.Configure config) ms c fine = fine
 message_fine place (work.Coded chunk) ms c fine = dequeue_fine true c fine
 message_fine place work.Flush ms c fine = fine
 
-process_fine : (ms : List Message) (c : Control) → AllFine c.tasks → AllFine (process_queue ms c).tasks
-process_fine [] c fine = fine
-process_fine (m ∷ ms) c fine = by_test (is_taken m c) (process_fine ms (record (after_message m c) { messages = ms }) (message_fine m.place m.work ms c fine))
-  where
-    by_test : (b : Bool) → AllFine (process_queue ms (record (after_message m c) { messages = ms })).tasks → AllFine (cond b (process_queue ms (record (after_message m c) { messages = ms })) c).tasks
-    by_test true rest = rest
-    by_test false rest = fine
+process_fine : (c : Control) → AllFine c.tasks → AllFine (process_queue c.messages c).tasks
+process_fine c fine = by_queue (λ (d : Control). AllFine d.tasks) (λ m ms d e h. message_fine m.place m.work ms d h) c.messages c refl fine
 
 sent_fine : (place : ℕ) (w : Work) (c : Control) → AllFine c.tasks → AllFine (with_message place w c).tasks
-sent_fine place w c fine = process_fine (c.messages ++ record { place = place; work = w } ∷ []) (record c { messages = c.messages ++ record { place = place; work = w } ∷ [] }) fine
+sent_fine place w c fine = process_fine (record c { messages = c.messages ++ record { place = place; work = w } ∷ [] }) fine
 
 call_fine : (o : Option DomError) (x : Call) (c : Control) → AllFine c.tasks → AllFine (after_call o x c).tasks
 call_fine (Some e) x c fine = fine
@@ -103,10 +96,6 @@ removal_fine : (o : Option DomError) (r : Removal) (s : State) → AllFine s.con
 removal_fine (Some e) r s fine = fine
 removal_fine None removal.Reset s fine = reset_fine (at_next_place s.control) fine
 removal_fine None removal.Close s fine = reset_fine (at_next_place s.control) fine
-
-start_fine : (is : List Item) (c : Control) → AllFine c.tasks → AllFine (start_first is c).tasks
-start_fine [] c fine = fine
-start_fine (i ∷ is) c fine = fine
 
 -- ---- ends
 
@@ -154,61 +143,34 @@ done_tasks r e moment c end fine = by_test (eqb r.epoch c.epoch)
     by_test true = end_tasks r e c.saturated c.tasks end fine
     by_test false = fine
 
-ended_fine : (r : Running) (o : Outcome) (a : Option Ended) (moment : ℕ) (s t : State) → IsServedEnd o (Some r) s.running_given → ended_of r.kind s.running_given o ≡ a → done_ended r a moment s ≡ Some t → AllFine s.control.tasks → AllFine t.control.tasks
-ended_fine r o None moment s t served is h fine = absurd cc
-ended_fine r o (Some e) moment s t served is h fine =
-    subst (λ (u : State). AllFine u.control.tasks) (some_same _ t h) (done_tasks r e moment (at_next_place s.control) (end_fine r.kind s.running_given o e r refl served is) fine)
-
-done_fine : (q : Option Running) (epoch item moment : ℕ) (o : Outcome) (s t : State) → IsServedEnd o q s.running_given → done_step q epoch item moment o s ≡ Some t → AllFine s.control.tasks → AllFine t.control.tasks
-done_fine None epoch item moment o s t served h fine = absurd cc
-done_fine (Some r) epoch item moment o s t served h fine =
-    ended_fine r o (ended_of r.kind s.running_given o) moment s t served refl (cond_is (eqb r.epoch epoch && eqb r.number item) (done_ended r (ended_of r.kind s.running_given o) moment s) t h).1 fine
-
 -- ---- turns
 
 run_fine : (x : Task) (c : Control) → AllFine c.tasks → AllFine (run_task x c).tasks
 run_fine task.Unblock c fine = with_one c.tasks task.Process fine tt
-run_fine task.Process c fine = process_fine c.messages c fine
-run_fine task.Desaturate c fine = process_fine c.messages (record c { saturated = false }) fine
-run_fine (task.Output units) c fine = fine
-run_fine (task.Flushed promise units) c fine = fine
-run_fine task.Dequeue c fine = fine
+run_fine task.Process c fine = process_fine c fine
+run_fine task.Desaturate c fine = process_fine (record c { saturated = false }) fine
 run_fine (task.Close x) c fine = reset_fine c fine
+run_fine x c fine = fine
 
-task_fine : (x : Task) (ts : List Task) (s t : State) → s.control.tasks ≡ x ∷ ts → turn_step (x ∷ ts) s ≡ Some t → AllFine ts → AllFine t.control.tasks
-task_fine task.Unblock ts s t e h fine = subst (λ (u : State). AllFine u.control.tasks) (some_same _ t h) (rw e (run_fine task.Unblock (record (at_next_place s.control) { tasks = ts }) fine))
-task_fine task.Process ts s t e h fine = subst (λ (u : State). AllFine u.control.tasks) (some_same _ t h) (rw e (run_fine task.Process (record (at_next_place s.control) { tasks = ts }) fine))
-task_fine task.Desaturate ts s t e h fine = subst (λ (u : State). AllFine u.control.tasks) (some_same _ t h) (rw e (run_fine task.Desaturate (record (at_next_place s.control) { tasks = ts }) fine))
-task_fine (task.Output units) ts s t e h fine = subst (λ (u : State). AllFine u.control.tasks) (some_same _ t h) (rw e fine)
-task_fine (task.Flushed promise units) ts s t e h fine = subst (λ (u : State). AllFine u.control.tasks) (some_same _ t h) (rw e fine)
-task_fine task.Dequeue ts s t e h fine = subst (λ (u : State). AllFine u.control.tasks) (some_same _ t h) (rw e fine)
-task_fine (task.Close x) ts s t e h fine = subst (λ (u : State). AllFine u.control.tasks) (some_same _ t h) (rw e (run_fine (task.Close x) (record (at_next_place s.control) { tasks = ts }) fine))
+-- ---- entries
 
-turn_fine : (ts : List Task) (s t : State) → s.control.tasks ≡ ts → turn_step ts s ≡ Some t → AllFine ts → AllFine t.control.tasks
-turn_fine [] s t e h fine = absurd cc
-turn_fine (x ∷ ts) s t e h fine = task_fine x ts s t e h fine.1
+each_fine : EachStep (λ e s t. IsServed e s → AllFine s.control.tasks → AllFine t.control.tasks)
+each_fine = record {
+  call = λ who x s served fine. call_fine (call_error x s.control) x s.control fine;
+  gone = λ who s served fine. fine;
+  kept = λ who s off served fine. fine;
+  cloned = λ who x s on served fine. encode_fine x s.control fine;
+  remove = λ who r s served fine. removal_fine (removal_error s.control) r s fine;
+  take = λ who unit s may served fine. fine;
+  start = λ i is epoch item s first may served fine. fine;
+  done = λ r e epoch item moment o s running own is served fine.
+      done_tasks r e moment (at_next_place s.control) (end_fine r.kind s.running_given o e r refl (subst (λ (q : Option Running). IsServedEnd o q s.running_given) running served) is) fine;
+  turn = λ x ts s first served fine. run_fine x (record (at_next_place s.control) { tasks = ts }) (subst AllFine first fine).1;
+  reclaim = λ moment s may served fine. elim served [ ];
+}
 
-started_fine : (is : List Item) (epoch item : ℕ) (s t : State) → start_step is epoch item s ≡ Some t → AllFine s.control.tasks → AllFine t.control.tasks
-started_fine [] epoch item s t h fine = absurd cc
-started_fine (i ∷ is) epoch item s t h fine =
-    subst (λ (u : State). AllFine u.control.tasks) (some_same _ t (cond_is (may_start s.control && eqb epoch s.control.epoch && eqb item i.number) _ t h).1)
-    (start_fine s.control.work (at_next_place s.control) fine)
-
-step_fine : (e : Entry) (s t : State) → IsServed e s → step e s ≡ Some t → AllFine s.control.tasks → AllFine t.control.tasks
-step_fine (entry.Configure who config) s t served h fine = subst (λ (u : State). AllFine u.control.tasks) (some_same _ t h) (call_fine (call_error (call.Configure config) s.control) (call.Configure config) s.control fine)
-step_fine (entry.Decode who chunk) s t served h fine = subst (λ (u : State). AllFine u.control.tasks) (some_same _ t h) (call_fine (call_error (call.Decode chunk) s.control) (call.Decode chunk) s.control fine)
-step_fine (entry.Encode who handed.Gone) s t served h fine = subst (λ (u : State). AllFine u.control.tasks) (some_same _ t h) fine
-step_fine (entry.Encode who handed.Kept) s t served h fine = subst (λ (u : State). AllFine u.control.tasks) (kept_is (is_configured s.control) _ t h) fine
-step_fine (entry.Encode who (handed.Cloned sound)) s t served h fine =
-    subst (λ (u : State). AllFine u.control.tasks) (some_same _ t (cond_is (is_configured s.control) _ t h).1) (encode_fine sound s.control fine)
-step_fine (entry.Flush who) s t served h fine = subst (λ (u : State). AllFine u.control.tasks) (some_same _ t h) (call_fine (call_error call.Flush s.control) call.Flush s.control fine)
-step_fine (entry.Reset who) s t served h fine = subst (λ (u : State). AllFine u.control.tasks) (some_same _ t h) (removal_fine (removal_error s.control) removal.Reset s fine)
-step_fine (entry.Close who) s t served h fine = subst (λ (u : State). AllFine u.control.tasks) (some_same _ t h) (removal_fine (removal_error s.control) removal.Close s fine)
-step_fine (entry.Take who unit) s t served h fine = subst (λ (u : State). AllFine u.control.tasks) (some_same _ t (cond_is (may_take unit s.control) _ t h).1) fine
-step_fine (entry.Start epoch item) s t served h fine = started_fine s.control.work epoch item s t h fine
-step_fine (entry.Done epoch item moment o) s t served h fine = done_fine s.control.running epoch item moment o s t served h fine
-step_fine entry.Turn s t served h fine = turn_fine s.control.tasks s t refl h fine
-step_fine (entry.Reclaim moment) s t served h fine = elim served [ ]
+step_fine : (e : Entry) (s t : State) → step e s ≡ Some t → IsServed e s → AllFine s.control.tasks → AllFine t.control.tasks
+step_fine = by_steps (λ e s t. IsServed e s → AllFine s.control.tasks → AllFine t.control.tasks) each_fine
 
 -- ---- what is shown
 
@@ -236,23 +198,16 @@ outputs_for n [] = tt
 outputs_for n (u ∷ us) = (tt, outputs_for (n + 1) us)
 
 task_for : (x : Task) (n : ℕ) (ps : List ℕ) → Fine x → AllFor (task_shows x n ps)
-task_for task.Unblock n ps fine = tt
-task_for task.Process n ps fine = tt
-task_for task.Desaturate n ps fine = tt
 task_for (task.Output units) n ps fine = outputs_for n units
 task_for (task.Flushed promise units) n ps fine = all_append IsForMemory (outputs_from n units) (event.Resolve promise ∷ []) (outputs_for n units) (tt, tt)
 task_for task.Dequeue n ps fine = (tt, tt)
 task_for (task.Close x) n ps fine = all_append IsForMemory (rejections x ps) (event.ErrorCall x ∷ []) (rejections_for x ps) (fine, tt)
+task_for x n ps fine = tt
 
 -- a task closes the codec as it did, whatever config its outputs carry
 carried_fine : (active : Option AudioDecoderConfig) (x : Task) → Fine x → Fine (task_carried active x)
-carried_fine active task.Unblock fine = tt
-carried_fine active task.Process fine = tt
-carried_fine active task.Desaturate fine = tt
-carried_fine active (task.Output units) fine = tt
-carried_fine active (task.Flushed promise units) fine = tt
-carried_fine active task.Dequeue fine = tt
 carried_fine active (task.Close error) fine = fine
+carried_fine active x fine = tt
 
 turn_for : (ts : List Task) (c : Control) → AllFine ts → AllFor (turn_shows ts c)
 turn_for [] c fine = tt
@@ -265,11 +220,9 @@ shows_for (entry.Encode who x) s served fine = refusal_for (handed_error x)
 shows_for (entry.Flush who) s served fine = rejection_for s.control.place (flush_error s.control)
 shows_for (entry.Reset who) s served fine = removal_for (removal_error s.control) s.control.pending
 shows_for (entry.Close who) s served fine = removal_for (removal_error s.control) s.control.pending
-shows_for (entry.Take who unit) s served fine = tt
-shows_for (entry.Start epoch item) s served fine = tt
-shows_for (entry.Done epoch item moment o) s served fine = tt
 shows_for entry.Turn s served fine = turn_for s.control.tasks s.control fine
 shows_for (entry.Reclaim moment) s served fine = elim served [ ]
+shows_for e s served fine = tt
 
 abbrev Placed : ℕ × Event → Type 0
 Placed x = IsForMemory x.1
@@ -282,7 +235,7 @@ shown_for : (h : List Entry) (s : State) → AreServedFrom h s → AllFine s.con
 shown_for [] s served fine = tt
 shown_for (e ∷ es) s served fine =
     all_append Placed (map (λ (x : Event). (s.control.place, x)) (shows e s)) (unwrap_or (option_map (shown_from es) (step e s)) []) (placed s.control.place (shows e s) (shows_for e s served.0 fine))
-    (rest (step e s) refl served.1 (λ t is more. shown_for es t more (step_fine e s t served.0 is fine)))
+    (rest (step e s) refl served.1 (λ t is more. shown_for es t more (step_fine e s t is served.0 fine)))
   where
     rest : (o : Option State) → step e s ≡ o → IfSome o (AreServedFrom es) → ((t : State) → step e s ≡ Some t → AreServedFrom es t → AllByRecursion Placed (shown_from es t)) → AllByRecursion Placed (unwrap_or (option_map (shown_from es) o) [])
     rest None is more next = tt

@@ -17,8 +17,8 @@ use Rattle.codec_model.specs.declared.entry.Task.{Task}
 use Rattle.codec_model.specs.declared.entry.Task.TheVariants as task
 use Rattle.codec_model.specs.Control.{Control, carried}
 use Rattle.codec_model.specs.Replay.{State, opening_state, step, replay_from, removal_error, configure_error, decode_error, flush_error}
-use Rattle.codec_model.specs.Shown.{shows, refusal, rejection, rejections, outputs_from, turn_shows, removal_shows, handed_error, shown_from, shown_at, each_shown_from, turn_word, word_at, units_in, outputs_of}
-use Rattle.codec_follow.specs.Follow.{blank, blanks, follow_step, follow_from, filled, filled_at, each_filled_from, units_shown}
+use Rattle.codec_model.specs.Shown.{shows, refusal, rejection, rejections, outputs_from, turn_shows, removal_shows, handed_error, shown_from, shown_at, each_shown_from, turn_word, word_at, units_in, units_shown, outputs_of}
+use Rattle.codec_follow.specs.Follow.{blank, blanks, follow_step, follow_from, filled, filled_at, each_filled_from}
 use Rattle.codec_follow.specs.Laws.{LegalFollows, LegalFills, UnitsInOrder}
 use Rattle.codec_follow.proofs.Answered.{Sound, step_sound, opened}
 use Rattle.codec_follow.proofs.Erased.{carried_blanks, erased_task, erased, erased_state, step_erased}
@@ -63,14 +63,11 @@ carried_erased n active us =
 
 task_shown : (ts : List Task) (c : Control) → turn_shows (map erased_task ts) (erased c) ≡ map erased_event (turn_shows ts c)
 task_shown [] c = refl
-task_shown (task.Unblock ∷ ts) c = refl
-task_shown (task.Process ∷ ts) c = refl
-task_shown (task.Desaturate ∷ ts) c = refl
 task_shown (task.Output units ∷ ts) c = carried_erased c.shown c.active units
 task_shown (task.Flushed promise units ∷ ts) c =
     ap (λ (xs : List Event). xs ++ event.Resolve promise ∷ []) (carried_erased c.shown c.active units) ∙ sym (map-append erased_event (outputs_from c.shown (carried c.active units)) (event.Resolve promise ∷ []))
-task_shown (task.Dequeue ∷ ts) c = refl
 task_shown (task.Close x ∷ ts) c = closes_erased x c.pending
+task_shown (t ∷ ts) c = refl
 
 shows_erased : (e : Entry) (s : State) → shows e (erased_state s) ≡ map erased_event (shows e s)
 shows_erased (entry.Configure who config) s = refusal_erased (configure_error config s.control)
@@ -79,44 +76,24 @@ shows_erased (entry.Encode who x) s = refusal_erased (handed_error x)
 shows_erased (entry.Flush who) s = rejection_erased s.control.place (flush_error s.control)
 shows_erased (entry.Reset who) s = removal_erased (removal_error s.control) s.control.pending
 shows_erased (entry.Close who) s = removal_erased (removal_error s.control) s.control.pending
-shows_erased (entry.Take who unit) s = refl
-shows_erased (entry.Start epoch item) s = refl
-shows_erased (entry.Done epoch item moment o) s = refl
 shows_erased entry.Turn s = task_shown s.control.tasks s.control
 shows_erased (entry.Reclaim moment) s = closes_erased dom.QuotaExceeded s.control.pending
+shows_erased e s = refl
 
 word_erased_on : (ts : List Task) → turn_word (map erased_task ts) ≡ turn_word ts
 word_erased_on [] = refl
 word_erased_on (task.Unblock ∷ ts) = refl
-word_erased_on (task.Process ∷ ts) = refl
-word_erased_on (task.Desaturate ∷ ts) = refl
-word_erased_on (task.Output units ∷ ts) = refl
-word_erased_on (task.Flushed promise units ∷ ts) = refl
-word_erased_on (task.Dequeue ∷ ts) = refl
-word_erased_on (task.Close x ∷ ts) = refl
+word_erased_on (t ∷ ts) = refl
 
 word_erased : (e : Entry) (s : State) → word_at e (erased_state s) ≡ word_at e s
 word_erased entry.Turn s = word_erased_on s.control.tasks
-word_erased (entry.Configure who config) s = refl
-word_erased (entry.Decode who chunk) s = refl
-word_erased (entry.Encode who x) s = refl
-word_erased (entry.Flush who) s = refl
-word_erased (entry.Reset who) s = refl
-word_erased (entry.Close who) s = refl
-word_erased (entry.Take who unit) s = refl
-word_erased (entry.Start epoch item) s = refl
-word_erased (entry.Done epoch item moment o) s = refl
-word_erased (entry.Reclaim moment) s = refl
+word_erased e s = refl
 
 -- blanks that are filled with what was there
 fill_erased : (k : Kind) → (xs : List Event) (us : List media.Unit) → filled k (map erased_event xs) (units_in xs ++ us) ≡ (xs, us)
 fill_erased k [] us = refl
-fill_erased k (event.Refusal x ∷ xs) us = ap (λ (p : List Event × List media.Unit). (event.Refusal x ∷ p.0, p.1)) (fill_erased k xs us)
 fill_erased k (event.Output number unit ∷ xs) us = ap (λ (p : List Event × List media.Unit). (event.Output number unit ∷ p.0, p.1)) (fill_erased k xs us)
-fill_erased k (event.Resolve promise ∷ xs) us = ap (λ (p : List Event × List media.Unit). (event.Resolve promise ∷ p.0, p.1)) (fill_erased k xs us)
-fill_erased k (event.Reject promise x ∷ xs) us = ap (λ (p : List Event × List media.Unit). (event.Reject promise x ∷ p.0, p.1)) (fill_erased k xs us)
-fill_erased k (event.Dequeue ∷ xs) us = ap (λ (p : List Event × List media.Unit). (event.Dequeue ∷ p.0, p.1)) (fill_erased k xs us)
-fill_erased k (event.ErrorCall x ∷ xs) us = ap (λ (p : List Event × List media.Unit). (event.ErrorCall x ∷ p.0, p.1)) (fill_erased k xs us)
+fill_erased k (x ∷ xs) us = ap (λ (p : List Event × List media.Unit). (x ∷ p.0, p.1)) (fill_erased k xs us)
 
 -- what an entry shows, from blanks and what it shows
 filled_shown : (k : Kind) → (e : Entry) (s : State) (us : List media.Unit) → filled k (shows e (erased_state s)) (units_in (shows e s) ++ us) ≡ (shows e s, us)
@@ -128,7 +105,7 @@ at_shown k e s us = rw (word_erased e s, filled_shown k e s us) refl
 -- a legal history follows
 follows_rest : (es : List Entry) (e : Entry) (s : State) (o : Option State) → step e s ≡ o → Sound s → is_some (option_and_then (replay_from es) o) ≡ true → ((t : State) → Sound t → is_some (replay_from es t) ≡ true → is_some (follow_from es (erased_state t)) ≡ true) → is_some (option_and_then (follow_from es) (follow_step e (erased_state s))) ≡ true
 follows_rest es e s None is fine legal ih = absurd cc
-follows_rest es e s (Some t) is fine legal ih = rw (step_erased e s t fine is) (ih t (step_sound e s t is fine) legal)
+follows_rest es e s (Some t) is fine legal ih = rw (step_erased e s t is fine) (ih t (step_sound e s t is fine) legal)
 
 follows_all : (h : List Entry) (s : State) → Sound s → is_some (replay_from h s) ≡ true → is_some (follow_from h (erased_state s)) ≡ true
 follows_all [] s fine legal = refl
@@ -141,7 +118,7 @@ legal_follows o h legal = follows_all h (opening_state o) (opened o) legal
 fills_rest : (k : Kind) → (es : List Entry) (e : Entry) (s : State) (o : Option State) → step e s ≡ o → Sound s → is_some (option_and_then (replay_from es) o) ≡ true → ((t : State) → Sound t → is_some (replay_from es t) ≡ true → each_shown_from es t ≡ each_filled_from k es (erased_state t) (outputs_of (shown_from es t))) → shown_at e s ∷ unwrap_or (option_map (each_shown_from es) o) [] ≡ each_filled_from k (e ∷ es) (erased_state s) (outputs_of (map (λ x. (s.control.place, x)) (shows e s) ++ unwrap_or (option_map (shown_from es) o) []))
 fills_rest k es e s None is fine legal ih = absurd cc
 fills_rest k es e s (Some t) is fine legal ih =
-    rw (outputs_tagged s.control.place (shows e s) (shown_from es t), step_erased e s t fine is, at_shown k e s (outputs_of (shown_from es t)), filled_shown k e s (outputs_of (shown_from es t)))
+    rw (outputs_tagged s.control.place (shows e s) (shown_from es t), step_erased e s t is fine, at_shown k e s (outputs_of (shown_from es t)), filled_shown k e s (outputs_of (shown_from es t)))
     (ap (λ (xs : List Shown). shown_at e s ∷ xs) (ih t (step_sound e s t is fine) legal))
 
 fills_all : (k : Kind) → (h : List Entry) (s : State) → Sound s → is_some (replay_from h s) ≡ true → each_shown_from h s ≡ each_filled_from k h (erased_state s) (outputs_of (shown_from h s))
@@ -154,13 +131,9 @@ legal_fills o h legal = fills_all o.kind h (opening_state o) (opened o) legal
 -- the units come in order
 fill_order : (k : Kind) → (xs : List Event) (us : List media.Unit) → length (units_in (filled k xs us).0) ≤ length us → us ≡ units_in (filled k xs us).0 ++ (filled k xs us).1
 fill_order k [] us few = refl
-fill_order k (event.Refusal x ∷ xs) us few = fill_order k xs us few
 fill_order k (event.Output number unit ∷ xs) [] few = absurd (omega (arith, few))
 fill_order k (event.Output number unit ∷ xs) (u ∷ us) few = ap (λ (l : List media.Unit). u ∷ l) (fill_order k xs us (omega (arith, few)))
-fill_order k (event.Resolve promise ∷ xs) us few = fill_order k xs us few
-fill_order k (event.Reject promise x ∷ xs) us few = fill_order k xs us few
-fill_order k (event.Dequeue ∷ xs) us few = fill_order k xs us few
-fill_order k (event.ErrorCall x ∷ xs) us few = fill_order k xs us few
+fill_order k (x ∷ xs) us few = fill_order k xs us few
 
 abbrev Begins : List media.Unit → List media.Unit → Type 0
 Begins us front = (rest : List media.Unit) × (us ≡ front ++ rest)

@@ -1,6 +1,6 @@
 -- Histories that follow: each entry is legal after those before it, where each end of an item is taken as it stands (our
 -- choice). What the outputs hold is left open.
-use Rattle.std.specs.Prelude.{ℕ, ◌≡◌, ◌==◌, ◌&&◌, true, false, pos, List, [], ◌∷◌, ◌++◌, replicate, Option, Some, None, is_some, option_map, option_and_then, unwrap_or, if◌then◌else◌}
+use Rattle.std.specs.Prelude.{ℕ, ◌≡◌, ◌==◌, ◌&&◌, true, false, pos, List, [], ◌∷◌, replicate, Option, Some, None, is_some, option_map, option_and_then, unwrap_or, if◌then◌else◌}
 use Rattle.wc_config.specs.declared.config.Config.{Config}
 use Rattle.wc_config.specs.Configs.{is_supported}
 use Rattle.codec_definitions.specs.declared.unit.Unit as media
@@ -22,7 +22,7 @@ use Rattle.codec_model.specs.declared.entry.Shown.{Shown}
 use Rattle.codec_follow.specs.declared.known.Known.{Known}
 use Rattle.codec_follow.specs.Outputs.{empty_output}
 use Rattle.codec_model.specs.Replay.{State, Given, opening_state, done_ended, step}
-use Rattle.codec_model.specs.Shown.{shows, word_at, units_in}
+use Rattle.codec_model.specs.Shown.{shows, word_at}
 
 -- the place of an output whose content the history does not tell
 abbrev pub blank : media.Unit
@@ -110,8 +110,3 @@ each_filled_from k (e ∷ es) s us = unwrap_or (option_map (λ t. filled_at k e 
 
 abbrev pub each_filled : Opening → List Entry → List media.Unit → List Shown
 each_filled o h us = each_filled_from o.kind h (opening_state o) us
-
--- the outputs of what entries show, in order
-abbrev pub units_shown : List Shown → List media.Unit
-units_shown [] = []
-units_shown (x ∷ xs) = units_in x.events ++ units_shown xs

@@ -5,8 +5,8 @@ use Rattle.codec_definitions.specs.declared.unit.Unit as media
 use Rattle.codec_model.specs.declared.entry.Opening.{Opening}
 use Rattle.codec_model.specs.declared.entry.Entry.{Entry}
 use Rattle.codec_model.specs.Replay.{IsLegal}
-use Rattle.codec_model.specs.Shown.{shown, outputs_of, each_shown}
-use Rattle.codec_follow.specs.Follow.{IsFollowed, each_filled, units_shown}
+use Rattle.codec_model.specs.Shown.{shown, outputs_of, each_shown, units_shown}
+use Rattle.codec_follow.specs.Follow.{IsFollowed, each_filled}
 use Rattle.codec_follow.specs.Outputs.{IsOutputOf, ConfiguresAs}
 
 -- a legal history follows

@@ -1,7 +1,13 @@
 -- Whole runs, followed.
-use Rattle.std.specs.Prelude.{ℕ, ◌≡◌, List, [], ◌∷◌, Some, None, codes, map, option_map}
+use Rattle.std.specs.Prelude.{ℕ, ◌≡◌, true, pos, List, [], ◌∷◌, Some, None, is_some, codes, map, replicate, option_map}
+use Rattle.wc_base.specs.declared.media.SampleFormat.TheVariants.{S16}
 use Rattle.wc_config.specs.declared.config.Config.{Config}
 use Rattle.wc_config.specs.declared.config.Config.TheVariants as config
+use Rattle.codec_definitions.specs.declared.unit.Unit as media
+use Rattle.codec_definitions.specs.declared.unit.Unit.TheVariants.{Coded}
+use Rattle.codec_model.specs.declared.entry.Opening.{Opening}
+use Rattle.codec_model.specs.declared.entry.HeldSound.{HeldSound}
+use Rattle.codec_model.specs.declared.entry.Handed.TheVariants as handed
 use Rattle.codec_model.specs.declared.entry.Outcome.TheVariants as outcome
 use Rattle.codec_model.specs.declared.entry.Entry.{Entry}
 use Rattle.codec_model.specs.declared.entry.Entry.TheVariants as entry
@@ -51,6 +57,41 @@ raw_video = config.VideoDecoder (record { codec = codes "x-raw-i420"; width = So
 abbrev pub FlushIsAnswered : Type 0
 FlushIsAnswered = follows four (refusing pcm) ≡ None
 
--- nor is that of raw video, which has no coder yet: such a refusal is not legal, and does not follow
+-- nor is that of raw video: such a refusal is not legal, and does not follow
 abbrev pub VideoIsAnswered : Type 0
 VideoIsAnswered = (replay four (refusing raw_video) ≡ None) × (follows four (refusing raw_video) ≡ None)
+
+-- an encoder of FLAC, with blocks of 16 frames
+abbrev pub encoder : Opening
+encoder = record { kind = kind.AudioEncoder; saturation = 4 }
+
+abbrev pub flac : Config
+flac = config.AudioEncoder (record { codec = codes "flac"; rate = 8000; channels = 1; block_size = 16; level = 5; depth = 16 })
+
+-- 32 frames, of which it holds a clone
+abbrev pub silence : HeldSound
+silence = record {
+  samples = record { shape = record { format = S16; rate = 8000; channels = 1; frames = 32; timestamp = pos 0 }; bytes = replicate 64 0 };
+  pair = record { resource = 0; reference = 1 };
+}
+
+-- an encode whose item is told to have given so many units
+abbrev pub encoding : ℕ → List Entry
+encoding units =
+    entry.Configure (step_of 0) flac ∷ entry.Encode (step_of 1) (handed.Cloned silence)
+    ∷ entry.Start 0 0 ∷ entry.Done 0 0 1 (outcome.Ran 0) ∷ entry.Turn ∷ entry.Turn
+    ∷ entry.Start 0 1 ∷ entry.Done 0 1 2 (outcome.Ran units) ∷ entry.Turn ∷ entry.Turn ∷ []
+
+-- the unit of a chunk
+abbrev pub coded : media.Unit
+coded = Coded chunk None
+
+-- its samples make two blocks: with two units it is legal, and with one it is not
+abbrev pub TwoBlocks : Type 0
+TwoBlocks = (is_some (replay encoder (encoding 2)) ≡ true) × (replay encoder (encoding 1) ≡ None)
+
+-- both are shown by one turn
+abbrev pub TwoShown : Type 0
+TwoShown =
+    map (λ x. x.events) (each_filled encoder (encoding 2) (coded ∷ []))
+    ≡ [] ∷ [] ∷ [] ∷ [] ∷ [] ∷ [] ∷ [] ∷ [] ∷ (Dequeue ∷ []) ∷ (Output 0 coded ∷ Output 1 (empty_output kind.AudioEncoder) ∷ []) ∷ []

@@ -12,4 +12,4 @@ mod rows;
 pub use follower::Follower;
 pub use laws::{legal_histories_follow, outputs_are_of_their_kind, served_items_give_no_error};
 pub use outputs::empty_output;
-pub use rows::{decoding_followed, ordinary_followed};
+pub use rows::{decoding_followed, encoding_followed, ordinary_followed};

@@ -1,5 +1,5 @@
 // The definitions on whole runs, computed by the checker.
-ghost use Rattle.codec_follow.specs.Rows.{OrdinaryFollows, OrdinaryFills, ThreeShown, ConfigureGivesNone, FlushIsAnswered, VideoIsAnswered};
+ghost use Rattle.codec_follow.specs.Rows.{OrdinaryFollows, OrdinaryFills, ThreeShown, ConfigureGivesNone, FlushIsAnswered, VideoIsAnswered, TwoBlocks, TwoShown};
 
 /// One configure, one decode, one flush: the state after the run as it is followed, and what it shows with its output.
 pub fn ordinary_followed()
@@ -13,4 +13,10 @@ pub fn decoding_followed()
     ensures configure { ConfigureGivesNone }
     ensures flush { FlushIsAnswered }
     ensures video { VideoIsAnswered }
+{}
+
+/// An encode of FLAC whose samples make two blocks: its item gives two units, and both are shown by one turn.
+pub fn encoding_followed()
+    ensures blocks { TwoBlocks }
+    ensures shown { TwoShown }
 {}

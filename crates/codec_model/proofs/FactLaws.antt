@@ -1,11 +1,10 @@
 -- The facts hold at the opening, and each step keeps them.
-use Rattle.std.proofs.Common.{ℕ, inl, inr, ◌≡◌, ◌+◌, ◌≤◌, ◌<◌, ◌&&◌, ◌||◌, not, Bool, true, false, eqb, cond, List, [], ◌∷◌, ◌++◌, length, filter, count_by, Option, Some, None, is_some, is_none, refl, ap, sym, subst, eq-eqb, ◌∙◌, arith}
+use Rattle.std.proofs.Common.{ℕ, ◌≡◌, ◌+◌, ◌≤◌, ◌<◌, ◌&&◌, ◌||◌, not, Bool, true, false, eqb, cond, List, [], ◌∷◌, ◌++◌, length, filter, count_by, Option, Some, None, is_some, is_none, refl, ap, sym, subst, eq-eqb, ◌∙◌, arith}
 use Rattle.std.specs.Prelude.{option_and_then, unwrap_or, max, IfSome}
-use Rattle.std.proofs.lemmas.Bool.{cases_lt, eqb-true}
+use Rattle.std.proofs.lemmas.Bool.{eqb-true}
 use Rattle.std.proofs.lemmas.Bool.Decides.{nat_tests}
-use Rattle.std.specs.List.{AllByRecursion}
 use Rattle.std.proofs.lemmas.List.Sums.{sum_by-cons, sum_by-append}
-use Rattle.wc_base.specs.Options.{some_same, cond_is}
+use Rattle.wc_base.specs.Options.{some_same}
 use Rattle.wc_base.specs.declared.error.DomError.{DomError}
 use Rattle.wc_base.specs.declared.error.DomError.TheVariants as dom
 use Rattle.codec_definitions.specs.declared.unit.Unit as media
@@ -16,9 +15,7 @@ use Rattle.codec_model.specs.declared.entry.Removal.TheVariants as removal
 use Rattle.codec_model.specs.declared.entry.Call.{Call}
 use Rattle.codec_model.specs.declared.entry.Call.TheVariants as call
 use Rattle.codec_model.specs.declared.entry.Entry.{Entry}
-use Rattle.codec_model.specs.declared.entry.Entry.TheVariants as entry
 use Rattle.codec_model.specs.declared.entry.HeldSound.{HeldSound}
-use Rattle.codec_model.specs.declared.entry.Handed.TheVariants as handed
 use Rattle.codec_model.specs.declared.entry.Coded.TheVariants as coded
 use Rattle.codec_model.specs.declared.entry.Work.{Work}
 use Rattle.codec_model.specs.declared.entry.Work.TheVariants as work
@@ -31,10 +28,10 @@ use Rattle.codec_model.specs.declared.entry.Task.{Task}
 use Rattle.codec_model.specs.declared.entry.Task.TheVariants as task
 use Rattle.codec_model.specs.declared.entry.Ended.{Ended}
 use Rattle.codec_model.specs.declared.entry.Ended.TheVariants as ended
-use Rattle.codec_model.specs.declared.entry.Outcome.{Outcome}
-use Rattle.codec_model.specs.Control.{Control, is_coded, kind_of, is_decoder, is_close, is_dequeue, is_desaturate, coded_running, coded_out, is_taken, after_message, takes_front, process_queue, at_next_place, run_front, run_task, done_running, after_end, refusal_of, after_reset, after_close, after_removal, may_reclaim, may_start, start_front, after_encode, after_take, may_take}
-use Rattle.codec_model.specs.Replay.{State, opening_state, step, replay, replay_from, done_ended, ended_of, removal_error, after_call, call_error, call_step, accepted, removal_step, remove_or_refuse, start_step, done_step, with_control, turn_step, is_configured}
+use Rattle.codec_model.specs.Control.{Control, is_coded, kind_of, is_decoder, is_close, is_dequeue, is_desaturate, coded_running, coded_out, is_taken, after_message, takes_front, process_queue, at_next_place, run_task, done_running, after_end, refusal_of, after_reset, after_close, after_removal, may_start, start_first, after_encode}
+use Rattle.codec_model.specs.Replay.{State, opening_state, step, replay, replay_from, removal_error, after_call, call_error, accepted, remove_or_refuse}
 use Rattle.codec_model.specs.Facts.{bit, with_event, is_unblock, is_process, resolves, is_configure, flushes, configures_now, flushes_now, CountsMessages, HaltsForClose, IsNumbered, IsBefore, NumbersItems, BlocksForConfigure, SaturatesForCoded, KeepsSaturation, ProcessesSoon, OwesPromises, NamesEarlier, IsNeverStuck, IsQuiet, OwesNothing, EndsQuiet}
+use Rattle.codec_model.specs.StepLaws.{EachStep, begins_free, by_steps}
 
 -- counts of one more at the end and at the front
 push : {X : Type 0} (p : X → Bool) (xs : List X) (x : X) → count_by p (xs ++ x ∷ []) ≡ count_by p xs + bit (p x)
@@ -293,12 +290,12 @@ both_true true b h = absurd cc
 both_true false true h = absurd cc
 both_true false false h = (refl, refl)
 
-start_sound : (i : Item) (is : List Item) (c : Control) → c.work ≡ i ∷ is → may_start c ≡ true → Sound c → Sound (start_front (at_next_place c))
+start_sound : (i : Item) (is : List Item) (c : Control) → c.work ≡ i ∷ is → may_start c ≡ true → Sound c → Sound (start_first (i ∷ is) (at_next_place c))
 start_sound i is c e may h =
     let free = both_true (is_some c.running) c.halted may in
     let idle : c.running ≡ None = not_none c.running free.0 in
     let there = subst (λ (o : Option Running). Mostly c.messages (record c { work = i ∷ is; running = o })) idle (subst (λ (ws : List Item). Mostly c.messages (record c { work = ws })) e h.0) in
-    rw e (start_kept i.number i.place i.work is c free.1 there, h.1)
+    (start_kept i.number i.place i.work is c free.1 there, h.1)
 
 -- an end of an older epoch leaves all but the item
 stale_kept : (r : Running) (c : Control) → eqb r.epoch c.epoch ≡ false → Mostly c.messages (record c { running = Some r }) → Mostly c.messages (record c { place = c.place + 1; running = None })
@@ -669,9 +666,6 @@ task_sound (task.Close x) ts c h = close_sound (record (at_next_place c) { tasks
   before = h.0.before;
 })
 
-turn_sound : (t : Task) (ts : List Task) (c : Control) → c.tasks ≡ t ∷ ts → Sound c → Sound (run_front (at_next_place c))
-turn_sound t ts c e h = rw e (task_sound t ts c (subst (λ (xs : List Task). Sound (record c { tasks = xs })) e h))
-
 -- calls
 entered_kept : (ms : List Message) (c : Control) → Mostly ms c → Mostly ms (at_next_place c)
 entered_kept ms c h = record {
@@ -786,72 +780,41 @@ call_sound None x c h = accepted_sound x c h
 call_sound (Some error) x c h = (entered_kept c.messages c h.0, h.1)
 
 -- one step
-sound_at : (s t : State) → s ≡ t → Sound s.control → Sound t.control
-sound_at s t e h = subst (λ (x : State). Sound x.control) e h
-
-first_of : (a b d : Bool) → (a && b && d) ≡ true → a ≡ true
-first_of true b d h = refl
-first_of false b d h = absurd cc
+entered_sound : (c : Control) → Sound c → Sound (at_next_place c)
+entered_sound c h = (entered_kept c.messages c h.0, h.1)
 
 refused_or_sound : (o : Option DomError) (r : Removal) (s : State) → Sound s.control → Sound (remove_or_refuse o r s).control
 refused_or_sound None r s h = removal_sound r (at_next_place s.control) (removable s.control h)
-refused_or_sound (Some x) r s h = (entered_kept s.control.messages s.control h.0, h.1)
-
-start_step_sound : (is : List Item) (epoch item : ℕ) (s t : State) → s.control.work ≡ is → start_step is epoch item s ≡ Some t → Sound s.control → Sound t.control
-start_step_sound [] epoch item s t e h sound = absurd cc
-start_step_sound (i ∷ is) epoch item s t e h sound =
-    let k = cond_is _ _ t h in
-    subst (λ (x : State). Sound x.control) (some_same _ t k.1) (start_sound i is s.control e (first_of (may_start s.control) (eqb epoch s.control.epoch) (eqb item i.number) k.0) sound)
-
-ended_sound : (r : Running) (o : Option Ended) (moment : ℕ) (s t : State) → s.control.running ≡ Some r → done_ended r o moment s ≡ Some t → Sound s.control → Sound t.control
-ended_sound r None moment s t e h sound = absurd cc
-ended_sound r (Some x) moment s t e h sound = subst (λ (u : State). Sound u.control) (some_same (with_control (done_running r x moment (at_next_place s.control)) s) t h) (done_sound r x moment s.control e sound)
-
-done_step_sound : (o : Option Running) (epoch item moment : ℕ) (x : Outcome) (s t : State) → s.control.running ≡ o → done_step o epoch item moment x s ≡ Some t → Sound s.control → Sound t.control
-done_step_sound None epoch item moment x s t e h sound = absurd cc
-done_step_sound (Some r) epoch item moment x s t e h sound = ended_sound r (ended_of r.kind s.running_given x) moment s t e (cond_is (eqb r.epoch epoch && eqb r.number item) (done_ended r (ended_of r.kind s.running_given x) moment s) t h).1 sound
-
-pub turned_control : (x : Task) (ts : List Task) (s t : State) → turn_step (x ∷ ts) s ≡ Some t → t.control ≡ run_front (at_next_place s.control)
-turned_control (task.Close e) ts s t h = sym (ap (λ (u : State). u.control) (some_same _ _ h))
-turned_control x ts s t h = sym (ap (λ (u : State). u.control) (some_same _ _ h))
-
-turn_step_sound : (ts : List Task) (s t : State) → s.control.tasks ≡ ts → turn_step ts s ≡ Some t → Sound s.control → Sound t.control
-turn_step_sound [] s t e h sound = absurd cc
-turn_step_sound (x ∷ ts) s t e h sound = subst (λ (c : Control). Sound c) (sym (turned_control x ts s t h)) (turn_sound x ts s.control e sound)
+refused_or_sound (Some x) r s h = entered_sound s.control h
 
 encode_sound : (x : HeldSound) (c : Control) → Sound c → Sound (after_encode c.place x (at_next_place c))
 encode_sound x c h =
     let s : Control = record (at_next_place c) { size = c.size + 1; messages = c.messages ++ record { place = c.place; work = work.Coded (coded.Sound x) } ∷ [] } in
     process_sound s.messages s refl (decode_kept (coded.Sound x) c h.0)
 
-taken_sound : (c : Control) → Sound c → Sound (after_take (at_next_place c))
-taken_sound c h = (entered_kept c.messages c h.0, h.1)
-
-kept_sound : (b : Bool) (s t : State) → cond b None (Some (with_control (at_next_place s.control) s)) ≡ Some t → Sound s.control → Sound t.control
-kept_sound true s t h sound = absurd cc
-kept_sound false s t h sound = sound_at (with_control (at_next_place s.control) s) t (some_same _ _ h) (entered_kept s.control.messages s.control sound.0, sound.1)
+each_sound : EachStep (λ e s t. Sound s.control → Sound t.control)
+each_sound = record {
+  call = λ who x s h. call_sound (call_error x s.control) x s.control h;
+  gone = λ who s h. entered_sound s.control h;
+  kept = λ who s off h. entered_sound s.control h;
+  cloned = λ who x s on h. encode_sound x s.control h;
+  remove = λ who r s h. refused_or_sound (removal_error s.control) r s h;
+  take = λ who unit s may h. (entered_kept s.control.messages s.control h.0, h.1);
+  start = λ i is epoch item s first may h. start_sound i is s.control first (begins_free epoch item i s.control may) h;
+  done = λ r e epoch item moment x s running own is h. done_sound r e moment s.control running h;
+  turn = λ x ts s first h. task_sound x ts s.control (subst (λ (xs : List Task). Sound (record s.control { tasks = xs })) first h);
+  reclaim = λ moment s may h. close_sound (at_next_place s.control) (removable s.control h);
+}
 
 step_sound : (e : Entry) (s t : State) → step e s ≡ Some t → Sound s.control → Sound t.control
-step_sound (entry.Configure who config) s t h sound = sound_at (call_step (call.Configure config) s) t (some_same _ _ h) (call_sound (call_error (call.Configure config) s.control) (call.Configure config) s.control sound)
-step_sound (entry.Decode who chunk) s t h sound = sound_at (call_step (call.Decode chunk) s) t (some_same _ _ h) (call_sound (call_error (call.Decode chunk) s.control) (call.Decode chunk) s.control sound)
-step_sound (entry.Encode who handed.Gone) s t h sound = sound_at _ t (some_same _ _ h) (entered_kept s.control.messages s.control sound.0, sound.1)
-step_sound (entry.Encode who handed.Kept) s t h sound = kept_sound (is_configured s.control) s t h sound
-step_sound (entry.Encode who (handed.Cloned x)) s t h sound = subst (λ (u : State). Sound u.control) (some_same _ t (cond_is (is_configured s.control) _ t h).1) (encode_sound x s.control sound)
-step_sound (entry.Flush who) s t h sound = sound_at (call_step call.Flush s) t (some_same _ _ h) (call_sound (call_error call.Flush s.control) call.Flush s.control sound)
-step_sound (entry.Reset who) s t h sound = sound_at (removal_step removal.Reset s) t (some_same _ _ h) (refused_or_sound (removal_error s.control) removal.Reset s sound)
-step_sound (entry.Close who) s t h sound = sound_at (removal_step removal.Close s) t (some_same _ _ h) (refused_or_sound (removal_error s.control) removal.Close s sound)
-step_sound (entry.Take who unit) s t h sound = subst (λ (u : State). Sound u.control) (some_same _ t (cond_is (may_take unit s.control) _ t h).1) (taken_sound s.control sound)
-step_sound (entry.Start epoch item) s t h sound = start_step_sound s.control.work epoch item s t refl h sound
-step_sound (entry.Done epoch item moment x) s t h sound = done_step_sound s.control.running epoch item moment x s t refl h sound
-step_sound entry.Turn s t h sound = turn_step_sound s.control.tasks s t refl h sound
-step_sound (entry.Reclaim moment) s t h sound = subst (λ (u : State). Sound u.control) (some_same _ t (cond_is (may_reclaim moment s.control) _ t h).1) (close_sound (at_next_place s.control) (removable s.control sound))
+step_sound = by_steps (λ e s t. Sound s.control → Sound t.control) each_sound
 
 then_sound : (es : List Entry) (t : State) (o : Option State) → option_and_then (replay_from es) o ≡ Some t → ((u : State) → o ≡ Some u → Sound u.control) → ((u : State) → replay_from es u ≡ Some t → Sound u.control → Sound t.control) → Sound t.control
 then_sound es t None h one rest = absurd cc
 then_sound es t (Some u) h one rest = rest u h (one u refl)
 
 replay_sound : (es : List Entry) (s t : State) → replay_from es s ≡ Some t → Sound s.control → Sound t.control
-replay_sound [] s t h sound = sound_at s t (some_same s t h) sound
+replay_sound [] s t h sound = subst (λ (x : State). Sound x.control) (some_same s t h) sound
 replay_sound (e ∷ es) s t h sound = then_sound es t (step e s) h (λ u k. step_sound e s u k sound) (λ u k v. replay_sound es u t k v)
 
 opening_sound : (o : Opening) → 1 ≤ o.saturation → Sound (opening_state o).control

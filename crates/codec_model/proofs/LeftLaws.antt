@@ -1,9 +1,8 @@
 -- A start, an end of an item and a turn leave fewer steps.
-use Rattle.std.proofs.Common.{ℕ, ◌≡◌, ◌+◌, ◌*◌, ◌≤◌, ◌&&◌, not, Bool, true, false, eqb, cond, List, [], ◌∷◌, ◌++◌, length, length-append, sum_by, filter, count_by, Option, Some, None, refl, ap, subst, arith}
+use Rattle.std.proofs.Common.{ℕ, ◌≡◌, ◌+◌, ◌*◌, ◌≤◌, ◌&&◌, not, Bool, true, false, eqb, cond, List, [], ◌∷◌, ◌++◌, length, length-append, sum_by, filter, count_by, Option, Some, None, refl, sym, ap, subst, arith}
 use Rattle.std.specs.Prelude.{max, unwrap_or}
 use Rattle.std.proofs.lemmas.List.Sums.{sum_by-cons, sum_by-append, count_by-le-length}
 use Rattle.std.proofs.lemmas.Bool.Decides.{nat_tests}
-use Rattle.wc_base.specs.declared.error.DomError.{DomError}
 use Rattle.wc_base.specs.declared.error.DomError.TheVariants as dom
 use Rattle.codec_definitions.specs.declared.unit.Unit as media
 use Rattle.codec_model.specs.declared.entry.Entry.{Entry}
@@ -20,11 +19,11 @@ use Rattle.codec_model.specs.declared.entry.Task.TheVariants as task
 use Rattle.codec_model.specs.declared.entry.Ended.{Ended}
 use Rattle.codec_model.specs.declared.entry.Ended.TheVariants as ended
 use Rattle.codec_model.specs.declared.entry.Outcome.{Outcome}
-use Rattle.codec_model.specs.Control.{Control, is_coded, is_dequeue, is_desaturate, is_taken, after_message, process_queue, at_next_place, run_task, done_running, after_end, after_close, refusal_of, start_front, task_weight, running_weight, left}
+use Rattle.codec_model.specs.Control.{Control, is_coded, is_dequeue, is_desaturate, is_taken, after_message, process_queue, at_next_place, run_task, done_running, after_end, after_close, refusal_of, start_front, task_weight, running_weight, left, run_front}
 use Rattle.codec_model.specs.Replay.{State, step, done_ended, ended_of, start_step, done_step, turn_step, with_control}
 use Rattle.codec_model.specs.Facts.{with_event, is_step, CountsMessages, LeavesFewer}
 use Rattle.wc_base.specs.Options.{some_same, cond_is}
-use Rattle.codec_model.proofs.FactLaws.{counts, turned_control}
+use Rattle.codec_model.proofs.FactLaws.{counts}
 
 abbrev weight : List Task → ℕ
 weight ts = sum_by task_weight ts
@@ -89,6 +88,10 @@ task_left (task.Output units) ts c h = omega (arith, front_weight (task.Output u
 task_left (task.Flushed promise units) ts c h = omega (arith, front_weight (task.Flushed promise units) ts)
 task_left task.Dequeue ts c h = omega (arith, front_weight task.Dequeue ts)
 task_left (task.Close x) ts c h = omega (arith, front_weight (task.Close x) ts, close_left (record (at_next_place c) { tasks = ts }) h)
+
+turned_control : (x : Task) (ts : List Task) (s t : State) → turn_step (x ∷ ts) s ≡ Some t → t.control ≡ run_front (at_next_place s.control)
+turned_control (task.Close e) ts s t h = sym (ap (λ (u : State). u.control) (some_same _ _ h))
+turned_control x ts s t h = sym (ap (λ (u : State). u.control) (some_same _ _ h))
 
 turned_left : (ts : List Task) (s t : State) → s.control.tasks ≡ ts → turn_step ts s ≡ Some t → CountsMessages s.control → left t.control + 1 ≤ left s.control
 turned_left [] s t e h k = absurd cc

@@ -1,7 +1,7 @@
 -- The control state of a codec, and the steps of its algorithms on it (W3C WebCodecs, sections 2.2 'Control Messaging
 -- Model', 2.3 'Codec Work Parallel Queue', and the algorithms of AudioDecoder; saturation and what a removal does to
 -- epochs and tasks are our choice).
-use Rattle.std.specs.Prelude.{ℕ, ◌+◌, ◌-◌, ◌*◌, ◌==◌, max, Bool, true, false, not, ◌&&◌, ◌||◌, List, [], ◌∷◌, ◌++◌, length, count_by, sum_by, filter, drop, map, nat_le, nat_lt, bytes_eq, Option, Some, None, is_some, is_none, if◌then◌else◌, unwrap_or}
+use Rattle.std.specs.Prelude.{ℕ, ◌+◌, ◌-◌, ◌*◌, ◌==◌, max, Bool, true, false, not, ◌&&◌, ◌||◌, List, [], ◌∷◌, ◌++◌, length, count_by, sum_by, filter, nat_le, nat_lt, bytes_eq, Option, Some, None, is_some, is_none, if◌then◌else◌, unwrap_or}
 use Rattle.wc_config.specs.declared.config.Config.{Config}
 use Rattle.wc_chunk.specs.declared.chunk.Chunk.{Chunk}
 use Rattle.wc_base.specs.declared.error.DomError.{DomError}
@@ -18,7 +18,6 @@ use Rattle.codec_model.specs.declared.entry.CodecState.{CodecState}
 use Rattle.codec_model.specs.declared.entry.CodecState.TheVariants.{Unconfigured, Configured, Closed}
 use Rattle.codec_model.specs.declared.entry.Pair.{Pair}
 use Rattle.codec_model.specs.declared.entry.HeldSound.{HeldSound}
-use Rattle.codec_model.specs.declared.entry.Coded.{Coded}
 use Rattle.codec_model.specs.declared.entry.Coded.TheVariants as coded
 use Rattle.codec_model.specs.declared.entry.Work.{Work}
 use Rattle.codec_model.specs.declared.entry.Work.TheVariants as work

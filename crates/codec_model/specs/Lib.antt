@@ -4,5 +4,6 @@ pub mod Shown
 pub mod Rows
 pub mod Facts
 pub mod ShownLaws
+pub mod StepLaws
 pub mod Earlier
 pub mod Held

@@ -1,5 +1,6 @@
 -- What the entries of a history show: exceptions, outputs, promise ends, dequeue events and error calls.
-use Rattle.std.specs.Prelude.{ℕ, ◌≡◌, ◌+◌, Bool, true, false, List, [], ◌∷◌, ◌++◌, length, Option, Some, None, map, option_map, unwrap_or, ◌==◌, if◌then◌else◌}
+use Rattle.std.specs.Prelude.{ℕ, ◌≡◌, ◌+◌, Bool, true, false, List, [], ◌∷◌, ◌++◌, Option, Some, None, map, option_map, unwrap_or, ◌==◌, if◌then◌else◌}
+use Rattle.std.specs.List.{flat_map}
 use Rattle.wc_base.specs.declared.error.DomError.{DomError}
 use Rattle.wc_base.specs.declared.error.DomError.TheVariants as dom
 use Rattle.codec_definitions.specs.declared.unit.Unit as media
@@ -130,6 +131,10 @@ units_in (x ∷ xs) = event_units x ++ units_in xs
 abbrev pub outputs_of : List (ℕ × Event) → List media.Unit
 outputs_of [] = []
 outputs_of (x ∷ xs) = event_units x.1 ++ outputs_of xs
+
+-- the outputs of what entries showed, in order
+abbrev pub units_shown : List Shown → List media.Unit
+units_shown xs = flat_map (λ x. units_in x.events) xs
 
 -- the promise end that an event shows, if it shows one
 abbrev pub event_ends : Event → List PromiseEnd

@@ -1,14 +1,29 @@
 -- Outputs as they are shown, by the config that the first of them carries.
 use Rattle.std.proofs.Common.{◌<◌, ◌≡◌, Bool, true, false, cond, List, [], ◌∷◌, length, set, get_or, Option, Some, None, refl, arith}
+use Rattle.wc_base.specs.declared.media.Picture.{Picture}
+use Rattle.wc_base.specs.declared.media.Samples.{Samples}
+use Rattle.wc_chunk.specs.declared.chunk.Chunk.{Chunk}
 use Rattle.codec_definitions.specs.declared.unit.Unit as media
 use Rattle.codec_definitions.specs.declared.unit.Unit.TheVariants as unit_of
 use Rattle.wc_config.specs.declared.config.AudioDecoderConfig.{AudioDecoderConfig}
 use Rattle.codec_model.specs.Control.{is_active, carried, active_after}
-use Rattle.codec_queues.specs.Labels.{first_config, bare, without_config}
+use Rattle.codec_queues.specs.Labels.{first_config, without_config}
 
-pub bare_first : (us : List media.Unit) (u : media.Unit) → 0 < length us → set us 0 (bare (get_or us 0 u)) ≡ without_config us
-bare_first [] u h = absurd (omega (arith, h))
-bare_first (x ∷ us) u h = refl
+pub first_without : (us : List media.Unit) (u : media.Unit) (chunk : Chunk) (config : Option AudioDecoderConfig) → 0 < length us → get_or us 0 u ≡ unit_of.Coded chunk config → set us 0 (unit_of.Coded chunk None) ≡ without_config us
+first_without [] u chunk config h is = absurd (omega (arith, h))
+first_without (x ∷ us) u chunk config h is = rw is refl
+
+pub none_without : (us : List media.Unit) → length us ≡ 0 → us ≡ without_config us
+none_without [] h = refl
+none_without (x ∷ us) h = absurd (omega (arith, h))
+
+pub sound_without : (us : List media.Unit) (u : media.Unit) (s : Samples) → get_or us 0 u ≡ unit_of.Sound s → us ≡ without_config us
+sound_without [] u s is = refl
+sound_without (x ∷ us) u s is = rw is refl
+
+pub image_without : (us : List media.Unit) (u : media.Unit) (p : Picture) → get_or us 0 u ≡ unit_of.Image p → us ≡ without_config us
+image_without [] u p is = refl
+image_without (x ∷ us) u p is = rw is refl
 
 -- outputs that carry no config are shown as they are
 pub carried_none : (active : Option AudioDecoderConfig) (us : List media.Unit) → first_config us ≡ None → carried active us ≡ us

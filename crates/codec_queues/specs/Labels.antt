@@ -24,12 +24,7 @@ abbrev pub label_of : Ended → Option AudioDecoderConfig
 label_of (ended.Ran units) = first_config units
 label_of e = None
 
--- an output without its config
-abbrev pub bare : media.Unit → media.Unit
-bare (unit_of.Coded chunk config) = unit_of.Coded chunk None
-bare (unit_of.Sound samples) = unit_of.Sound samples
-bare (unit_of.Image picture) = unit_of.Image picture
-
+-- outputs of which the first carries no config
 abbrev pub without_config : List media.Unit → List media.Unit
-without_config [] = []
-without_config (u ∷ us) = bare u ∷ us
+without_config (unit_of.Coded chunk config ∷ us) = unit_of.Coded chunk None ∷ us
+without_config us = us

@@ -2,7 +2,7 @@
 // EncodedAudioChunkMetadata).
 ghost use Rattle.std.specs.Prelude.{◌≡◌, Some};
 ghost use Rattle.codec_model.specs.Control.{same_description, is_active, carried, active_after};
-ghost use Rattle.codec_queues.specs.Labels.{first_config, task_label, bare, without_config};
+ghost use Rattle.codec_queues.specs.Labels.{first_config, task_label, without_config};
 
 use bytes::Bytes;
 use codec_model::Task;
@@ -84,27 +84,16 @@ fn is_active(active: &Option<AudioDecoderConfig>, config: &AudioDecoderConfig) -
     }
 }
 
-/// Takes the config off an output.
-fn bare(unit: &mut Unit)
-    ensures { unit.new ≡ bare unit.old }
-{
-    match unit {
-        Unit::Coded { chunk: _, config } => {
-            *config = None;
-        }
-        Unit::Sound(_) => {}
-        Unit::Image(_) => {}
-    }
-}
-
 /// Takes the config off the first of these outputs.
-#[tactic(auto, using(crate::proofs::Carried::bare_first))]
+#[tactic(auto, using(crate::proofs::Carried::first_without, crate::proofs::Carried::none_without, crate::proofs::Carried::sound_without, crate::proofs::Carried::image_without))]
 fn without_config(units: List<Unit>) -> List<Unit>
     ensures { result ≡ without_config units }
 {
     let mut units = units.into_vec();
     if !units.is_empty() {
-        bare(&mut units[0]);
+        if let Unit::Coded { chunk: _, config } = &mut units[0] {
+            *config = None;
+        }
     }
     List::of(units)
 }

@@ -1,5 +1,5 @@
-ghost use Rattle.std.specs.Prelude.{◌≡◌, unwrap_or, option_map};
-ghost use Rattle.coder_api.specs.Meaning.{Configured, Stopped, new_state, is_id};
+ghost use Rattle.std.specs.Prelude.{◌≡◌, [], unwrap_or, option_map};
+ghost use Rattle.coder_api.specs.Meaning.{Configured, Stopped, state_after, is_id};
 ghost use Rattle.slot_registry.specs.Slots.{IsHeld, KeepsBoxes};
 
 use coder_api::{Coder, CoderFault, Input, SlotBox, SlotEntry, SlotOp, Unit};
@@ -26,7 +26,7 @@ struct Quiet {
 impl Coder for Quiet {
     ghost coder = { λ q. q.id };
 
-    ghost meaning = { λ q. unwrap_or (option_map (λ c. Configured c new_state) q.config) Stopped };
+    ghost meaning = { λ q. unwrap_or (option_map (λ c. Configured c (state_after q.id c [])) q.config) Stopped };
 
     fn id(&self) -> CoderId {
         self.id

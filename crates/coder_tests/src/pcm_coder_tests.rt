@@ -273,6 +273,7 @@ fn a_box_is_lent_with_its_number(rt: HostRuntime) -> Result<(), Fail> {
     assert!(rt; lent.id() == id && lent.number() == 3 && lent.by() == by);
     assert!(rt; lent.supports(&config));
     lent.configure(alloc, &config)?;
+    assert!(rt; lent.setup(alloc)?.is_none());
     let mut out = Vec::new(alloc);
     lent.push(alloc, &Input::Chunk(&chunk(alloc, &[6])?), &mut out)?;
     lent.drain(alloc, &mut out)?;

@@ -2,5 +2,6 @@ pub mod ProductLaws
 pub mod RestoreLaws
 pub mod FrameLaws
 pub mod FrameEndLaws
+mod Drained
 mod Served
 mod StereoLaws

@@ -6,7 +6,8 @@ use Rattle.std.proofs.lemmas.List.{length-drop, length-append}
 use Rattle.std.proofs.lemmas.List.FromFn.{map-range_with_len_more}
 use Rattle.std.specs.List.{range_with_len}
 use Rattle.wc_config.specs.declared.config.AudioEncoderConfig.{AudioEncoderConfig}
-use Rattle.flac_encode.specs.Blocks.{block_frames, block_samples, values_in}
+use Rattle.codec_definitions.specs.FlacCode.{block_frames, block_samples}
+use Rattle.codec_definitions.specs.FlacEncoder.{values_in}
 use Rattle.flac_encode.specs.Steps.{IsRanged}
 use Rattle.flac_encode.proofs.Steps.{block_pos, within_block, left_samples, IsCut, cut, length_values}
 use Rattle.wc_base.specs.declared.media.Samples.{Samples}

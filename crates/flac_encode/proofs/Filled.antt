@@ -13,7 +13,7 @@ use Rattle.wc_config.specs.declared.config.AudioEncoderConfig.{AudioEncoderConfi
 use Rattle.flac_blocks.specs.Modes.{IsBlock}
 use Rattle.flac_blocks.specs.Frames.{frame_bits}
 use Rattle.flac_blocks.specs.declared.mode.BlockFormat.{BlockFormat}
-use Rattle.flac_encode.specs.Code.{bytes_with, channel_apart, apart, format_of, flac_code}
+use Rattle.codec_definitions.specs.FlacCode.{bytes_with, channel_apart, apart, format_of, flac_code}
 use Rattle.flac_encode.specs.Steps.{IsRanged}
 use Rattle.flac_encode.proofs.Steps.{length_rows}
 use Rattle.std.proofs.Math.Nat.{mul-le-mul_left, div-add-mod}

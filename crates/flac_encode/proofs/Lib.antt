@@ -1,4 +1,5 @@
 pub mod Counts
+pub mod Described
 pub mod Filled
 pub mod Meets
 pub mod Runs

@@ -7,7 +7,7 @@ use Rattle.wc_base.specs.declared.media.Samples.{Samples}
 use Rattle.wc_base.specs.declared.media.SoundShape.{SoundShape}
 use Rattle.wc_config.specs.declared.config.AudioEncoderConfig.{AudioEncoderConfig}
 use Rattle.codec_definitions.specs.Pcm.{format_size, is_planar, is_whole, place_of}
-use Rattle.flac_encode.specs.Blocks.{values_in}
+use Rattle.codec_definitions.specs.FlacEncoder.{values_in}
 use Rattle.flac_encode.specs.Runs.{run_value}
 use Rattle.flac_encode.proofs.Counts.{more_units}
 use Rattle.flac_encode.proofs.Filled.{one_more}

@@ -13,8 +13,8 @@ use Rattle.wc_config.specs.declared.config.AudioEncoderConfig.{AudioEncoderConfi
 use Rattle.codec_definitions.specs.declared.unit.Unit as unit
 use Rattle.codec_definitions.specs.declared.command.Command.{Command}
 use Rattle.codec_definitions.specs.declared.command.Command.TheVariants as command
-use Rattle.flac_encode.specs.State.{Kept, new_state}
-use Rattle.flac_encode.specs.Blocks.{block_frames, block_samples, block_at, block_unit, frame_values, values_in, values_of, place_in, unit_at, whole_blocks, units_with, rest_of, unit_of_rest, is_taken, inputs_since, kept_with, kept_after, blocks_answer, blocks_state}
+use Rattle.codec_definitions.specs.FlacCode.{block_frames, block_samples}
+use Rattle.codec_definitions.specs.FlacEncoder.{Kept, nothing_kept, block_at, block_unit, frame_values, values_in, values_of, place_in, unit_at, whole_blocks, units_with, rest_of, unit_of_rest, is_taken, inputs_since, kept_with, kept_after, blocks_answer, blocks_state}
 use Rattle.flac_encode.specs.Steps.{place_after, place_left, step_unit, step_units, step_state, step_answer, step_after}
 
 -- ---- places
@@ -240,7 +240,7 @@ rest_step c xs pc =
     let up : r * c.channels ≤ block_frames c * c.channels = mul-le-mul_right c.channels (omega (arith, k.short)) in
     ap (λ (l : List ℤ). block_unit c (whole_blocks c xs % 2 ^ 31) l (place_in xs (whole_blocks c xs * block_frames c))) (take_all (block_samples c) (rest_of c xs) (omega (arith, k.samples, up)))
 
-none_kept : (c : AudioEncoderConfig) → 0 < c.channels → kept_after c [] ≡ new_state
+pub none_kept : (c : AudioEncoderConfig) → 0 < c.channels → kept_after c [] ≡ nothing_kept
 none_kept c pc =
     let none : whole_blocks c [] ≡ 0 = zero-div (block_samples c) in
     same_state (rest_of c []) [] (place_in [] (whole_blocks c [] * block_frames c)) (pos 0, 0) (whole_blocks c [] % 2 ^ 31) 0 (drop_all (block_samples c * whole_blocks c []) [] (omega arith)) refl (ap (λ (x : ℕ). x % 2 ^ 31) none)

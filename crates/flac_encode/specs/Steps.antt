@@ -6,9 +6,9 @@ use Rattle.wc_config.specs.declared.config.AudioEncoderConfig.{AudioEncoderConfi
 use Rattle.codec_definitions.specs.declared.unit.Unit as unit
 use Rattle.codec_definitions.specs.declared.command.Command.{Command}
 use Rattle.codec_definitions.specs.declared.command.Command.TheVariants as command
-use Rattle.wc_config.specs.Configs.{is_depth}
-use Rattle.flac_encode.specs.State.{Kept, new_state}
-use Rattle.flac_encode.specs.Blocks.{block_frames, block_samples, block_at, block_unit, values_in, is_taken, unit_of_rest}
+use Rattle.wc_config.specs.Configs.{audio_codec, is_depth, is_flac}
+use Rattle.codec_definitions.specs.FlacCode.{block_frames, block_samples}
+use Rattle.codec_definitions.specs.FlacEncoder.{Kept, nothing_kept, block_at, block_unit, values_in, is_taken, unit_of_rest}
 
 -- where frame `n` of kept frames and of an input behind them stands: the first of the kept stands at `place`, and a block
 -- begins at no other of them
@@ -54,12 +54,14 @@ step_answer c state x = None
 
 abbrev pub step_after : AudioEncoderConfig → Kept → Command → Kept
 step_after c state (command.Sound s) = step_state c state s
-step_after c state command.Drain = new_state
+step_after c state command.Drain = nothing_kept
 step_after c state x = state
 
--- what a config is whose frames and blocks are some
+-- what a config is that is served: FLAC's, with each number in its range
 pub record IsRanged (c : AudioEncoderConfig) : Type 0 where
+  pub flac : is_flac (audio_codec c.codec) ≡ true
   pub rate : 0 < c.rate
+  pub most_rate : c.rate ≤ 1048575
   pub channels : 0 < c.channels
   pub most_channels : c.channels ≤ 8
   pub most_block : c.block_size ≤ 65535

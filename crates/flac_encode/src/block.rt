@@ -6,7 +6,7 @@ ghost use Rattle.flac_subframes.specs.Fixed.{at};
 ghost use Rattle.flac_subframes.specs.Spelling.{HasDepth, HaveDepth};
 ghost use Rattle.flac_blocks.specs.Modes.{IsFormat, IsBlock};
 ghost use Rattle.flac_blocks.specs.Frames.{frame_bits};
-ghost use Rattle.flac_encode.specs.Code.{format_of, channel_apart, apart, bytes_with, flac_code};
+ghost use Rattle.codec_definitions.specs.FlacCode.{format_of, channel_apart, apart, bytes_with, flac_code};
 ghost use Rattle.flac_encode.specs.Steps.{IsRanged};
 
 use crate::values::push_value;
@@ -48,7 +48,7 @@ pub fn code_block(
 }
 
 /// A law: bytes are those of their bits.
-fn bytes_are_of_bits(bytes: &[u8])
+pub fn bytes_are_of_bits(bytes: &[u8])
     ensures { bytes.now ≡ bytes_with (bits_in bytes.now) }
 {
     let _count = bytes.len();

@@ -1,21 +1,23 @@
-// The coder.
-ghost use Rattle.std.specs.Prelude.{◌≡◌, [], ◌++◌, true, IfOk, OnOk, OnErr};
+// The encoder.
+ghost use Rattle.std.specs.Prelude.{◌≡◌, [], true, IfOk, OnOk, OnErr};
 ghost use Rattle.wc_config.specs.declared.config.Config.TheVariants as configs;
-ghost use Rattle.coder_api.specs.Meaning.{Answers, serves, as_coder_fault};
+ghost use Rattle.coder_api.specs.Meaning.{Stopped, IsConfigured, IsAt, Answers, serves, command_of, as_coder_fault, renewed};
 ghost use Rattle.codec_definitions.specs.declared.command.Command.TheVariants as command;
-ghost use Rattle.flac_encode.specs.State.{new_state};
-ghost use Rattle.flac_encode.specs.Value.{state_of, IsReady, flac_id, Stopped, Configured, IsConfigured, IsAt, Takes, meaning_of, IsInRange, answer_from, meaning_after};
+ghost use Rattle.codec_definitions.specs.FlacEncoder.{nothing_kept};
+ghost use Rattle.flac_encode.specs.Value.{encoder_id, state_of, IsReady, meaning_of, IsInRange, answer_in, after_in};
 
+use crate::description::decoder_config;
 use crate::encoder::{Encoder, encode, finish};
-use coder_api::{CoderFault, Unit};
+use codec_definitions::Unit;
+use coder_api::{Coder, CoderFault, Input};
 use std::alloc::Global;
 use std::marker::Model;
-use wc_base::{NoMemory, SoundShape};
-use wc_config::{AudioEncoderConfig, CodecId, CoderId, Config, Role};
+use wc_base::NoMemory;
+use wc_config::{AudioDecoderConfig, AudioEncoderConfig, CodecId, CoderId, Config, Role};
 
-/// An encoder of FLAC: stopped, or configured, with the samples that no block has yet. Each command's units are those of
-/// the definition for the whole list of commands since the configuration: an input gives the blocks that are whole with
-/// it and not without it, and a drain what is left as one smaller block, after which numbering begins anew.
+/// An encoder of FLAC (RFC 9639; W3C WebCodecs, registration for FLAC): stopped, or configured, with the samples that no
+/// block has yet. An input gives the blocks that are whole with it and not without it, and a drain what is left as one
+/// smaller block, after which numbering begins anew.
 #[derive(Drop)]
 pub struct FlacEncoder {
     setting: Setting,
@@ -29,11 +31,12 @@ enum Setting {
 }
 
 impl Model for FlacEncoder {
-    ghost use Rattle.flac_encode.specs.Value.{Meaning, meaning_of, IsInRange};
+    ghost use Rattle.std.specs.Prelude.{◌≡◌};
+    ghost use Rattle.flac_encode.specs.Value.{EncoderValue, IsInRange, meaning_of};
 
-    ghost Value = { Meaning };
+    ghost Value = { EncoderValue };
 
-    ghost view = { λ p. meaning_of p.setting };
+    ghost view = { λ p. record { meaning = meaning_of p.setting } };
 
     ghost invariant = { λ p. IsInRange p.setting };
 }
@@ -41,66 +44,58 @@ impl Model for FlacEncoder {
 impl FlacEncoder {
     /// A stopped encoder, with no memory.
     pub fn new() -> FlacEncoder
-        ensures { result ≡ Stopped }
+        ensures { result ≡ record { meaning = Stopped } }
     {
         FlacEncoder {
             setting: Setting::Stopped,
         }
     }
+}
 
-    /// Whether the config is supported and asks for an encoder of FLAC.
-    pub fn supports(config: &Config) -> bool
-        ensures { result ≡ serves flac_id config.now }
-    {
+impl Coder for FlacEncoder {
+    ghost coder = { λ p. encoder_id };
+
+    ghost meaning = { λ p. p.meaning };
+
+    fn id(&self) -> CoderId {
+        encoder_id()
+    }
+
+    fn supports(&self, config: &Config) -> bool {
         match config.coder_id() {
             Some(id) => config.supported() && id == encoder_id(),
             None => false,
         }
     }
 
-    /// Configures the encoder, with nothing given yet. After want of memory it is stopped.
-    pub fn configure(&mut self, alloc: Global, config: &AudioEncoderConfig) -> Result<(), NoMemory>
-        requires { serves flac_id (configs.AudioEncoder config.now) ≡ true }
-        ensures ok { OnOk result (self.new ≡ Configured config.now new_state) }
-        ensures at { OnOk result (IsAt config.now [] self.new) }
-        ensures err { OnErr result (self.new ≡ Stopped) }
-    {
+    fn configure(&mut self, alloc: Global, config: &Config) -> Result<(), NoMemory> {
         self.setting = Setting::Stopped;
-        self.setting = Setting::Encoder(encoder_of(alloc, config)?);
+        self.setting = setting_of(alloc, config)?;
         Ok(())
     }
 
-    /// Takes samples, and appends the units of the blocks that are whole with them. They are refused exactly where their
-    /// rate or channel count is not the config's, or their bytes are not as many as their shape needs. After a fault the
-    /// encoder is stopped, and nothing was appended.
-    pub fn push(
+    fn setup(&self, alloc: Global) -> Result<Option<AudioDecoderConfig>, NoMemory> {
+        match &self.setting {
+            Setting::Encoder(e) => Ok(Some(decoder_config(alloc, &e.config)?)),
+            Setting::Stopped => Ok(None),
+        }
+    }
+
+    #[tactic(auto, using(coder_api::specs::Kept::kept_after))]
+    fn push(
         &mut self,
         alloc: Global,
-        shape: &SoundShape,
-        bytes: &[u8],
+        input: &Input<'_>,
         out: &mut Vec<Unit>,
-    ) -> Result<(), CoderFault>
-        requires { IsConfigured self.old }
-        ensures takes { Takes self.old
-            (command.Sound (record { shape = shape.now; bytes = bytes.now })) result out.old.items
-            out.new.items self.new }
-        ensures kept { OnErr result (out.new.items ≡ out.old.items) }
-    {
-        let result = take(alloc, &mut self.setting, shape, bytes, out);
+    ) -> Result<(), CoderFault> {
+        let result = take(alloc, &mut self.setting, input, out);
         if result.is_err() {
             self.setting = Setting::Stopped;
         }
         result
     }
 
-    /// Appends the unit of what is left, if there is any, and begins anew. After want of memory the encoder is stopped,
-    /// and nothing was appended.
-    pub fn drain(&mut self, alloc: Global, out: &mut Vec<Unit>) -> Result<(), NoMemory>
-        requires { IsConfigured self.old }
-        ensures drains { Takes self.old command.Drain (as_coder_fault result) out.old.items
-            out.new.items self.new }
-        ensures kept { OnErr result (out.new.items ≡ out.old.items) }
-    {
+    fn drain(&mut self, alloc: Global, out: &mut Vec<Unit>) -> Result<(), NoMemory> {
         let result = drain(alloc, &mut self.setting, out);
         if result.is_err() {
             self.setting = Setting::Stopped;
@@ -108,16 +103,13 @@ impl FlacEncoder {
         result
     }
 
-    /// Stops the encoder.
-    pub fn stop(&mut self)
-        ensures { self.new ≡ Stopped }
-    {
+    fn stop(&mut self) {
         self.setting = Setting::Stopped;
     }
 }
 
 fn encoder_id() -> CoderId
-    ensures { result ≡ flac_id }
+    ensures { result ≡ encoder_id }
 {
     CoderId {
         role: Role::Encode,
@@ -125,11 +117,25 @@ fn encoder_id() -> CoderId
     }
 }
 
+/// What a config that this id serves asks for.
+fn setting_of(alloc: Global, config: &Config) -> Result<Setting, NoMemory>
+    requires serves { serves encoder_id config.now ≡ true }
+    ensures at { IfOk result (λ s. IsAt encoder_id config.now [] (meaning_of s)) }
+    ensures range { IfOk result IsInRange }
+{
+    match config {
+        Config::AudioEncoder(c) => Ok(Setting::Encoder(encoder_of(alloc, c)?)),
+        Config::AudioDecoder(_) => unreachable!(),
+        Config::VideoDecoder(_) => unreachable!(),
+        Config::Bad => unreachable!(),
+    }
+}
+
 /// An encoder with a config that FLAC serves, and nothing kept.
 fn encoder_of(alloc: Global, config: &AudioEncoderConfig) -> Result<Encoder, NoMemory>
-    requires { serves flac_id (configs.AudioEncoder config.now) ≡ true }
+    requires { serves encoder_id (configs.AudioEncoder config.now) ≡ true }
     ensures config { IfOk result (λ e. e.config ≡ config.now) }
-    ensures state { IfOk result (λ e. state_of e ≡ new_state) }
+    ensures state { IfOk result (λ e. state_of e ≡ nothing_kept) }
     ensures ready { IfOk result IsReady }
 {
     Ok(Encoder {
@@ -145,18 +151,19 @@ fn encoder_of(alloc: Global, config: &AudioEncoderConfig) -> Result<Encoder, NoM
 fn take(
     alloc: Global,
     setting: &mut Setting,
-    shape: &SoundShape,
-    bytes: &[u8],
+    input: &Input<'_>,
     out: &mut Vec<Unit>,
 ) -> Result<(), CoderFault>
     requires range { IsInRange setting.old }
-    ensures answer { Answers (answer_from (meaning_of setting.old)
-        (command.Sound (record { shape = shape.now; bytes = bytes.now }))) result out.old.items
-        out.new.items }
-    ensures after { OnOk result (meaning_of setting.new ≡ meaning_after (meaning_of setting.old)
-        (command.Sound (record { shape = shape.now; bytes = bytes.now }))) }
+    ensures answer { Answers
+        (answer_in setting.old (command_of input.now)) result out.old.items out.new.items }
+    ensures after { OnOk result
+        (meaning_of setting.new ≡ after_in setting.old (command_of input.now)) }
     ensures ready { OnOk result (IsInRange setting.new) }
 {
+    let Input::Sound(shape, bytes) = input else {
+        return Err(CoderFault::Refused);
+    };
     match setting {
         Setting::Encoder(e) => encode(alloc, e, shape, bytes, out),
         Setting::Stopped => Err(CoderFault::Refused),
@@ -167,10 +174,11 @@ fn take(
 fn drain(alloc: Global, setting: &mut Setting, out: &mut Vec<Unit>) -> Result<(), NoMemory>
     requires range { IsInRange setting.old }
     requires configured { IsConfigured (meaning_of setting.old) }
-    ensures answer { Answers (answer_from (meaning_of setting.old) command.Drain)
+    ensures answer { Answers (answer_in setting.old command.Drain)
         (as_coder_fault result) out.old.items out.new.items }
-    ensures after { OnOk result
-        (meaning_of setting.new ≡ meaning_after (meaning_of setting.old) command.Drain) }
+    ensures after { OnOk result (meaning_of setting.new ≡ after_in setting.old command.Drain) }
+    ensures anew { OnOk result (meaning_of setting.new ≡ renewed (meaning_of setting.old)) }
+    ensures kept { OnErr result (out.new.items ≡ out.old.items) }
     ensures ready { OnOk result (IsInRange setting.new) }
 {
     match setting {

@@ -3,18 +3,19 @@ ghost use Rattle.std.specs.Prelude.{◌≡◌, ◌<◌, ◌≤◌, ◌+◌, ◌-
 ghost use Rattle.std.specs.List.{range_with_len};
 ghost use Rattle.codec_definitions.specs.Pcm.{is_whole};
 ghost use Rattle.flac_subframes.specs.Spelling.{HaveDepth};
-ghost use Rattle.flac_encode.specs.Blocks.{block_at, block_frames, block_samples, block_unit, values_in, unit_of_rest};
+ghost use Rattle.codec_definitions.specs.FlacCode.{block_frames, block_samples};
+ghost use Rattle.codec_definitions.specs.FlacEncoder.{block_at, block_unit, values_in, unit_of_rest, nothing_kept};
 ghost use Rattle.std.specs.Prelude.{pos, ◌+ℤ◌};
 ghost use Rattle.std.specs.Int.{w64, saturate_signed};
 ghost use Rattle.coder_api.specs.Meaning.{Answers};
-ghost use Rattle.flac_encode.specs.State.{new_state};
 ghost use Rattle.codec_definitions.specs.declared.command.Command.TheVariants as command;
 ghost use Rattle.flac_encode.specs.Steps.{IsRanged, step_unit, step_state, step_answer, left_after, place_after};
 ghost use Rattle.flac_encode.specs.Value.{state_of, IsReady};
 
 use crate::block::code_block;
 use crate::values::push_values;
-use coder_api::{CoderFault, Unit};
+use codec_definitions::Unit;
+use coder_api::CoderFault;
 use sample_conversion::is_whole;
 use std::alloc::Global;
 use wc_base::{NoMemory, SoundShape};
@@ -101,7 +102,7 @@ pub fn finish(alloc: Global, e: &mut Encoder, out: &mut Vec<Unit>) -> Result<(),
     ensures answer { OnOk result (out.new.items ≡ out.old.items ++ unit_of_rest e.old.rest.items
         (block_unit e.old.config e.old.number e.old.rest.items (e.old.origin, e.old.offset))) }
     ensures kept { OnErr result (out.new.items ≡ out.old.items) }
-    ensures state { OnOk result (state_of e.new ≡ new_state) }
+    ensures state { OnOk result (state_of e.new ≡ nothing_kept) }
     ensures config { e.new.config ≡ e.old.config }
     ensures ready { OnOk result (IsReady e.new) }
 {
@@ -135,7 +136,7 @@ fn push_rest(alloc: Global, e: &Encoder, out: &mut Vec<Unit>) -> Result<(), NoMe
 }
 
 /// Frames a block.
-fn block_frames(config: &AudioEncoderConfig) -> u32
+pub fn block_frames(config: &AudioEncoderConfig) -> u32
     ensures { result ≡ block_frames config.now }
 {
     if config.block_size == 0 {

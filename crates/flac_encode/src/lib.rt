@@ -3,6 +3,7 @@
 
 mod block;
 mod coder;
+mod description;
 mod encoder;
 mod values;
 

@@ -7,10 +7,10 @@
 #![tactic(auto)]
 
 ghost use Rattle.std.specs.Prelude.{◌≡◌, ◌<◌, ◌≤◌, length, OnOk};
-ghost use Rattle.flac_encode_speed.specs.Used.{IsUsed};
+ghost use Rattle.coder_api.specs.Meaning.{IsConfigured};
 
 use codec_definitions::Unit;
-use coder_api::CoderFault;
+use coder_api::{Coder, CoderFault, Input};
 use flac_encode::FlacEncoder;
 use std::alloc::Global;
 use std::io::{BufWriter, Write};
@@ -109,16 +109,14 @@ struct Counts {
 /// Takes one piece.
 fn push_piece(
     alloc: Global,
-    config: &AudioEncoderConfig,
     layout: Layout,
     piece: &[u8],
     encoder: &mut FlacEncoder,
     units: &mut Vec<Unit>,
 ) -> Result<(), CoderFault>
-    requires used { IsUsed config.now encoder.old }
-    ensures used { OnOk result (IsUsed config.now encoder.new) }
+    requires configured { IsConfigured encoder.old.meaning }
+    ensures configured { OnOk result (IsConfigured encoder.new.meaning) }
 {
-    let _config = config;
     let size = frame_size(layout);
     if size == 0 {
         return Err(CoderFault::Refused);
@@ -133,7 +131,7 @@ fn push_piece(
         frames,
         timestamp: 0,
     };
-    encoder.push(alloc, &shape, piece, units)
+    encoder.push(alloc, &Input::Sound(&shape, piece), units)
 }
 
 /// Writes the bytes of units where that is asked for, and counts them.
@@ -165,17 +163,14 @@ fn encode_all<W: Write>(
     samples: &[u8],
     writer: &mut W,
 ) -> Result<Counts, Fault> {
-    if !FlacEncoder::supports(config) {
+    let mut encoder = FlacEncoder::new();
+    if !encoder.supports(config) {
         return Err(Fault::Refused);
     }
-    let Config::AudioEncoder(config) = config else {
-        return Err(Fault::Refused);
-    };
     let size = frame_size(layout) * layout.piece as usize;
     if size == 0 {
         return Err(Fault::Refused);
     }
-    let mut encoder = FlacEncoder::new();
     encoder.configure(alloc, config)?;
     let mut units = Vec::new(alloc);
     let mut counts = Counts {
@@ -185,7 +180,7 @@ fn encode_all<W: Write>(
     let mut rest = samples;
     while !rest.is_empty() {
         let (piece, more) = rest.split_at(size.min(rest.len()));
-        push_piece(alloc, config, layout, piece, &mut encoder, &mut units)?;
+        push_piece(alloc, layout, piece, &mut encoder, &mut units)?;
         counts = write_units(work, units.as_slice(), counts, writer)?;
         units.clear();
         rest = more;

@@ -1,16 +1,18 @@
-// The encoder, given samples in pieces.
+// The encoder, told commands.
 ghost use Rattle.std.specs.Prelude.{OnOk};
-ghost use Rattle.flac_encode_tests.specs.Used.{IsUsed};
+ghost use Rattle.coder_api.specs.Meaning.{IsConfigured};
 
 use bytes::Bytes;
 use codec_definitions::Unit;
-use coder_api::CoderFault;
+use coder_api::{Coder, CoderFault, Input};
 use flac_encode::FlacEncoder;
 use std::alloc::Global;
 use std::test::Fail;
-use wc_base::{SampleFormat, SoundShape, Text};
+use wc_base::{NoMemory, SampleFormat, SoundShape, Text};
 use wc_chunk::Chunk;
-use wc_config::{AudioEncoderConfig, Config};
+use wc_config::{
+    AudioDecoderConfig, AudioEncoderConfig, CodecId, Config, Role, StreamInfo, read_streaminfo,
+};
 
 const FIRST: [u8; 10] = [123, 148, 148, 125, 143, 161, 156, 169, 169, 139];
 
@@ -63,17 +65,15 @@ fn unit(alloc: Global, timestamp: i64, duration: u64, bytes: &[u8]) -> Result<Un
 /// Pushes mono samples, and counts all units.
 fn push_next(
     alloc: Global,
-    config: &AudioEncoderConfig,
     encoder: &mut FlacEncoder,
     shape: &SoundShape,
     bytes: &[u8],
     out: &mut Vec<Unit>,
 ) -> Result<usize, CoderFault>
-    requires used { IsUsed config.now encoder.old }
-    ensures used { OnOk result (IsUsed config.now encoder.new) }
+    requires configured { IsConfigured encoder.old.meaning }
+    ensures configured { OnOk result (IsConfigured encoder.new.meaning) }
 {
-    let _config = config;
-    encoder.push(alloc, shape, bytes, out)?;
+    encoder.push(alloc, &Input::Sound(shape, bytes), out)?;
     Ok(out.len())
 }
 
@@ -84,33 +84,16 @@ fn pushed(
     rate: u32,
     out: &mut Vec<Unit>,
 ) -> Result<Option<[usize; 3]>, CoderFault> {
-    if !FlacEncoder::supports(config) {
+    let mut encoder = FlacEncoder::new();
+    if !encoder.supports(config) {
         return Ok(None);
     }
-    let Config::AudioEncoder(config) = config else {
-        return Ok(None);
-    };
-    let mut encoder = FlacEncoder::new();
     match encoder.configure(alloc, config) {
         Ok(()) => {}
         Err(_) => return Err(CoderFault::NoMemory),
     }
-    let first = push_next(
-        alloc,
-        config,
-        &mut encoder,
-        &shape(8000, 10, 0),
-        &FIRST,
-        out,
-    )?;
-    let second = push_next(
-        alloc,
-        config,
-        &mut encoder,
-        &shape(rate, 12, 5000),
-        &SECOND,
-        out,
-    )?;
+    let first = push_next(alloc, &mut encoder, &shape(8000, 10, 0), &FIRST, out)?;
+    let second = push_next(alloc, &mut encoder, &shape(rate, 12, 5000), &SECOND, out)?;
     match encoder.drain(alloc, out) {
         Ok(()) => Ok(Some([first, second, out.len()])),
         Err(_) => Err(CoderFault::NoMemory),
@@ -139,5 +122,87 @@ fn samples_of_another_rate(rt: HostRuntime) -> Result<(), Fail> {
     let counts = pushed(alloc, &config(alloc)?, 8001, &mut out);
     assert!(rt; counts == Err(CoderFault::Refused));
     assert!(rt; out.is_empty());
+    Ok(())
+}
+
+/// A config of 44100 frames a second, 2 channels and 16 bits.
+fn stereo(alloc: Global, block_size: u32) -> Result<Config, Fail> {
+    Ok(Config::AudioEncoder(AudioEncoderConfig {
+        codec: Text::of(String::from_str(alloc, "flac")?),
+        rate: 44100,
+        channels: 2,
+        block_size,
+        level: 5,
+        depth: 16,
+    }))
+}
+
+/// The config with which an encoder's outputs are decoded; none where its own is not served.
+fn setup_of(alloc: Global, config: &Config) -> Result<Option<AudioDecoderConfig>, NoMemory> {
+    let mut encoder = FlacEncoder::new();
+    if !encoder.supports(config) {
+        return Ok(None);
+    }
+    encoder.configure(alloc, config)?;
+    encoder.setup(alloc)
+}
+
+/// Descriptions of such a stream, with blocks of 4096 frames and of 16: the mark, the header of the last block, of type 0 with
+/// 34 bytes, and then 16 bits for each block size, 24 for each frame size, 20 for the rate (0x0ac44), 3 for the channels less
+/// 1 (1), 5 for the depth less 1 (15) and 36 for the total, and the sum.
+const BLOCKS_OF_4096: [u8; 42] = [
+    0x66, 0x4c, 0x61, 0x43, 0x80, 0x00, 0x00, 0x22, 0x10, 0x00, 0x10, 0x00, 0x00, 0x00, 0x00, 0x00,
+    0x00, 0x00, 0x0a, 0xc4, 0x42, 0xf0, 0x00, 0x00, 0x00, 0x00, 0x00, 0x00, 0x00, 0x00, 0x00, 0x00,
+    0x00, 0x00, 0x00, 0x00, 0x00, 0x00, 0x00, 0x00, 0x00, 0x00,
+];
+
+const BLOCKS_OF_16: [u8; 42] = [
+    0x66, 0x4c, 0x61, 0x43, 0x80, 0x00, 0x00, 0x22, 0x00, 0x10, 0x00, 0x10, 0x00, 0x00, 0x00, 0x00,
+    0x00, 0x00, 0x0a, 0xc4, 0x42, 0xf0, 0x00, 0x00, 0x00, 0x00, 0x00, 0x00, 0x00, 0x00, 0x00, 0x00,
+    0x00, 0x00, 0x00, 0x00, 0x00, 0x00, 0x00, 0x00, 0x00, 0x00,
+];
+
+fn stream(block: u32) -> StreamInfo {
+    StreamInfo {
+        min_block: block,
+        max_block: block,
+        min_frame: 0,
+        max_frame: 0,
+        rate: 44100,
+        channels: 2,
+        depth: 16,
+        total: 0,
+        md5: [0; 16],
+    }
+}
+
+/// A block size of 0 is taken as 4096.
+#[test]
+fn outputs_are_decoded_with_a_description(rt: HostRuntime) -> Result<(), Fail> {
+    let alloc = rt.alloc();
+    for (block_size, block, description) in [(0, 4096, &BLOCKS_OF_4096), (16, 16, &BLOCKS_OF_16)] {
+        let setup = setup_of(alloc, &stereo(alloc, block_size)?)?.expect(&rt, "a served config");
+        let wanted = AudioDecoderConfig {
+            codec: Text::of(String::from_str(alloc, "flac")?),
+            rate: 44100,
+            channels: 2,
+            description: Some(Bytes::from_vec(Vec::from_slice(alloc, description)?)?),
+        };
+        assert!(rt; setup == wanted);
+        assert!(rt; read_streaminfo(description) == Some(stream(block)));
+    }
+    Ok(())
+}
+
+/// It serves FLAC's encoder configs alone.
+#[test]
+fn a_config_is_served_of_an_encoder_of_flac(rt: HostRuntime) -> Result<(), Fail> {
+    let alloc = rt.alloc();
+    let mut encoder = FlacEncoder::new();
+    assert!(rt; encoder.id().role == Role::Encode && encoder.id().codec == CodecId::Flac);
+    assert!(rt; encoder.supports(&stereo(alloc, 16)?));
+    assert!(rt; !encoder.supports(&stereo(alloc, 15)?));
+    assert!(rt; !encoder.supports(&Config::Bad));
+    encoder.stop();
     Ok(())
 }

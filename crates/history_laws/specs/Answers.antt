@@ -1,5 +1,5 @@
 -- What is known of the answers that items have.
-use Rattle.std.proofs.Common.{◌≡◌, Bool, true, false, cond, List, [], ◌∷◌, ◌++◌, Option, Some, None, is_some, refl, ap, subst, ◌∙◌}
+use Rattle.std.proofs.Common.{◌≡◌, true, List, [], ◌∷◌, ◌++◌, Option, Some, None, is_some, refl, ap, subst, ◌∙◌}
 use Rattle.std.specs.List.{AllByRecursion}
 use Rattle.wc_base.specs.Options.{cond_is, some_same}
 use Rattle.wc_config.specs.declared.codec.CoderId.{CoderId}
@@ -14,11 +14,6 @@ use Rattle.codec_model.specs.declared.entry.Ended.TheVariants as ended
 use Rattle.codec_model.specs.declared.entry.Outcome.{Outcome}
 use Rattle.codec_model.specs.declared.entry.Outcome.TheVariants as outcome
 use Rattle.codec_model.specs.Replay.{Given, answer_to, answers_by, decoder_config, labelled, labelled_answer, ended_of, ended_run, ended_refused}
-
--- what is there only where a test fails
-pub kept_is : {X : Type 0} (b : Bool) (x t : X) → cond b None (Some x) ≡ Some t → x ≡ t
-kept_is true x t h = absurd cc
-kept_is false x t h = some_same x t h
 
 -- an item that ran gave the units of its answer
 pub ran_answer : (k : WorkKind) (g : Given) (x : Outcome) (us : List media.Unit) → ended_of k g x ≡ Some (ended.Ran us) → answer_to k g ≡ Some us

@@ -1,10 +1,11 @@
 -- A codec's state counts the outputs that its history showed, and an output that was shown stays as it is.
-use Rattle.std.proofs.Common.{ℕ, zero, suc, ◌≡◌, ◌+◌, ◌&&◌, ◌||◌, Bool, true, false, eqb, cond, map, List, [], ◌∷◌, ◌++◌, append_assoc, append-nil, length, length-append, slice_get, Option, Some, None, refl, ap, sym, subst, ◌∙◌, arith}
+use Rattle.std.proofs.Common.{ℕ, zero, suc, ◌≡◌, ◌+◌, ◌||◌, Bool, true, false, eqb, cond, map, List, [], ◌∷◌, ◌++◌, append_assoc, append-nil, length, length-append, slice_get, Option, Some, None, refl, ap, sym, subst, ◌∙◌, arith}
 use Rattle.std.specs.Prelude.{max, unwrap_or, option_map, option_and_then}
 use Rattle.std.specs.List.{AllByRecursion}
 use Rattle.wc_base.specs.declared.error.DomError.{DomError}
 use Rattle.wc_base.specs.declared.error.DomError.TheVariants as dom
-use Rattle.wc_base.specs.Options.{cond_is, some_same}
+use Rattle.wc_base.specs.declared.who.Who.{Who}
+use Rattle.wc_base.specs.Options.{some_same}
 use Rattle.wc_config.specs.declared.config.AudioDecoderConfig.{AudioDecoderConfig}
 use Rattle.codec_definitions.specs.declared.unit.Unit as media
 use Rattle.codec_definitions.specs.declared.unit.Unit.TheVariants as unit
@@ -13,10 +14,7 @@ use Rattle.codec_model.specs.declared.entry.Removal.{Removal}
 use Rattle.codec_model.specs.declared.entry.Removal.TheVariants as removal
 use Rattle.codec_model.specs.declared.entry.Call.{Call}
 use Rattle.codec_model.specs.declared.entry.Call.TheVariants as call
-use Rattle.codec_model.specs.declared.entry.Handed.{Handed}
-use Rattle.codec_model.specs.declared.entry.Handed.TheVariants as handed
 use Rattle.codec_model.specs.declared.entry.Entry.{Entry}
-use Rattle.codec_model.specs.declared.entry.Entry.TheVariants as entry
 use Rattle.codec_model.specs.declared.entry.Event.{Event}
 use Rattle.codec_model.specs.declared.entry.Event.TheVariants as event
 use Rattle.codec_model.specs.declared.entry.CodecState.TheVariants.{Configured}
@@ -24,16 +22,14 @@ use Rattle.codec_model.specs.declared.entry.Coded.TheVariants as coded
 use Rattle.codec_model.specs.declared.entry.Work.{Work}
 use Rattle.codec_model.specs.declared.entry.Work.TheVariants as work
 use Rattle.codec_model.specs.declared.entry.Message.{Message}
-use Rattle.codec_model.specs.declared.entry.Item.{Item}
 use Rattle.codec_model.specs.declared.entry.Running.{Running}
 use Rattle.codec_model.specs.declared.entry.Task.{Task}
 use Rattle.codec_model.specs.declared.entry.Task.TheVariants as task
 use Rattle.codec_model.specs.declared.entry.Ended.{Ended}
-use Rattle.codec_model.specs.declared.entry.Outcome.{Outcome}
-use Rattle.codec_model.specs.Control.{Control, is_taken, after_message, process_queue, at_next_place, run_front, run_task, done_running, after_end, start_first, with_message, is_decoder, may_take, carried, may_reclaim, may_start}
-use Rattle.codec_model.specs.Replay.{State, opening_state, step, replay, replay_from, done_ended, ended_of, configure_error, decode_error, flush_error, removal_error, after_call, accepted, is_configured, remove_or_refuse, start_step, done_step, turn_step, encode_step, take_step, removed, with_control}
-use Rattle.codec_model.specs.Shown.{refusal, rejection, rejections, close_shows, removal_shows, outputs_from, task_shows, task_carried, turn_shows, handed_error, shows, shown, shown_from, each_shown, each_shown_from, event_units, units_in, outputs_of}
-use Rattle.history_laws.specs.Answers.{kept_is}
+use Rattle.codec_model.specs.Control.{Control, after_message, process_queue, at_next_place, run_task, done_running, after_end, with_message, is_decoder, carried}
+use Rattle.codec_model.specs.Replay.{State, opening_state, step, replay, replay_from, call_error, configure_error, decode_error, flush_error, removal_error, after_call, accepted, remove_or_refuse, entry_of, removal_entry}
+use Rattle.codec_model.specs.Shown.{refusal, rejection, rejections, close_shows, removal_shows, outputs_from, task_shows, task_carried, turn_shows, shows, shown, shown_from, each_shown, each_shown_from, event_units, units_in, outputs_of}
+use Rattle.codec_model.specs.StepLaws.{task_ran, EachStep, by_queue, by_steps}
 use Rattle.history_laws.specs.OutputLaws.{all_append, units_append}
 
 -- ---- what entries show
@@ -83,16 +79,11 @@ message_shown (work.Configure config) place ms c = refl
 message_shown (work.Coded input) place ms c = refl
 message_shown work.Flush place ms c = refl
 
-process_shown : (ms : List Message) (c : Control) → (process_queue ms c).shown ≡ c.shown
-process_shown [] c = refl
-process_shown (m ∷ ms) c = by (is_taken m c) (process_shown ms (record (after_message m c) { messages = ms }) ∙ message_shown m.work m.place ms c)
-  where
-    by : (b : Bool) → (process_queue ms (record (after_message m c) { messages = ms })).shown ≡ c.shown → (cond b (process_queue ms (record (after_message m c) { messages = ms })) c).shown ≡ c.shown
-    by true same = same
-    by false same = refl
+process_shown : (c : Control) → (process_queue c.messages c).shown ≡ c.shown
+process_shown c = by_queue (λ (d : Control). d.shown ≡ c.shown) (λ m ms d e h. message_shown m.work m.place ms d ∙ h) c.messages c refl refl
 
 sent_shown : (place : ℕ) (w : Work) (c : Control) → (with_message place w c).shown ≡ c.shown
-sent_shown place w c = process_shown (c.messages ++ record { place = place; work = w } ∷ []) (record c { messages = c.messages ++ record { place = place; work = w } ∷ [] })
+sent_shown place w c = process_shown (record c { messages = c.messages ++ record { place = place; work = w } ∷ [] })
 
 accepted_shown : (x : Call) (c : Control) → (accepted x c).shown ≡ c.shown
 accepted_shown (call.Configure config) c = sent_shown c.place (work.Configure config) (record (at_next_place c) { phase = Configured; key_required = is_decoder c.opening.kind || c.key_required })
@@ -108,16 +99,6 @@ removal_shown None removal.Reset s = refl
 removal_shown None removal.Close s = refl
 removal_shown (Some error) r s = refl
 
-start_shown : (is : List Item) (c : Control) → (start_first is c).shown ≡ c.shown
-start_shown [] c = refl
-start_shown (i ∷ is) c = refl
-
-started_shown : (is : List Item) (epoch item : ℕ) (s t : State) → start_step is epoch item s ≡ Some t → t.control.shown ≡ s.control.shown
-started_shown [] epoch item s t is_next = absurd cc
-started_shown (i ∷ is) epoch item s t is_next =
-    subst (λ (u : State). u.control.shown ≡ s.control.shown) (some_same _ t (cond_is (may_start s.control && eqb epoch s.control.epoch && eqb item i.number) _ t is_next).1)
-    (start_shown s.control.work (at_next_place s.control))
-
 end_shown : (r : Running) (e : Ended) (moment : ℕ) (c : Control) → (done_running r e moment c).shown ≡ c.shown
 end_shown r e moment c = by (eqb r.epoch c.epoch)
   where
@@ -125,70 +106,41 @@ end_shown r e moment c = by (eqb r.epoch c.epoch)
     by true = refl
     by false = refl
 
-ended_shown : (r : Running) (o : Option Ended) (moment : ℕ) (s t : State) → done_ended r o moment s ≡ Some t → t.control.shown ≡ s.control.shown
-ended_shown r None moment s t is = absurd cc
-ended_shown r (Some e) moment s t is = subst (λ (u : State). u.control.shown ≡ s.control.shown) (some_same _ t is) (end_shown r e moment (at_next_place s.control))
-
-done_shown : (o : Option Running) (epoch item moment : ℕ) (x : Outcome) (s t : State) → done_step o epoch item moment x s ≡ Some t → t.control.shown ≡ s.control.shown
-done_shown None epoch item moment x s t is = absurd cc
-done_shown (Some r) epoch item moment x s t is = ended_shown r (ended_of r.kind s.running_given x) moment s t (cond_is (eqb r.epoch epoch && eqb r.number item) _ t is).1
-
 run_shown : (x : Task) (c d : Control) → (run_task x d).shown ≡ d.shown + length (units_in (task_shows (task_carried c.active x) c.shown c.pending))
 run_shown task.Unblock c d = omega arith
-run_shown task.Process c d = none_more _ _ [] (process_shown d.messages d) refl
-run_shown task.Desaturate c d = none_more _ _ [] (process_shown d.messages (record d { saturated = false })) refl
+run_shown task.Process c d = none_more _ _ [] (process_shown d) refl
+run_shown task.Desaturate c d = none_more _ _ [] (process_shown (record d { saturated = false })) refl
 run_shown (task.Output units) c d = ap (λ (n : ℕ). d.shown + n) (sym (ap (λ (us : List media.Unit). length us) (output_units c.shown (carried c.active units)) ∙ length-carried c.active units))
 run_shown (task.Flushed promise units) c d = ap (λ (n : ℕ). d.shown + n) (sym (ap (λ (us : List media.Unit). length us) (flushed_units c.shown promise (carried c.active units)) ∙ length-carried c.active units))
 run_shown task.Dequeue c d = omega arith
 run_shown (task.Close x) c d = none_more _ _ _ refl (closing_units x c.pending)
 
-turned_shown : (ts : List Task) (s t : State) → s.control.tasks ≡ ts → turn_step ts s ≡ Some t → t.control.shown ≡ s.control.shown + length (units_in (turn_shows ts s.control))
-turned_shown [] s t is is_next = absurd cc
-turned_shown (x ∷ ts) s t is is_next = by x is_next is
-  where
-    ran : (y : Task) → s.control.tasks ≡ y ∷ ts → (run_front (at_next_place s.control)).shown ≡ s.control.shown + length (units_in (turn_shows (y ∷ ts) s.control))
-    ran y e = rw e (run_shown y s.control (record (at_next_place s.control) { tasks = ts }))
+call_units : (who : Who) (x : Call) (s : State) → units_in (shows (entry_of who x) s) ≡ []
+call_units who (call.Configure given) s = refusal_units (configure_error given s.control)
+call_units who (call.Decode chunk) s = refusal_units (decode_error chunk s.control)
+call_units who call.Flush s = rejection_units s.control.place (flush_error s.control)
 
-    moved : (u : State) (y : Task) → Some u ≡ Some t → u.control.shown ≡ s.control.shown + length (units_in (turn_shows (y ∷ ts) s.control)) → t.control.shown ≡ s.control.shown + length (units_in (turn_shows (y ∷ ts) s.control))
-    moved u y made counts = subst (λ (v : State). v.control.shown ≡ s.control.shown + length (units_in (turn_shows (y ∷ ts) s.control))) (some_same u t made) counts
+removed_units : (who : Who) (r : Removal) (s : State) → units_in (shows (removal_entry who r) s) ≡ []
+removed_units who removal.Reset s = removal_units (removal_error s.control) s.control.pending
+removed_units who removal.Close s = removal_units (removal_error s.control) s.control.pending
 
-    go_on : State
-    go_on = with_control (run_front (at_next_place s.control)) s
-
-    by : (y : Task) → turn_step (y ∷ ts) s ≡ Some t → s.control.tasks ≡ y ∷ ts → t.control.shown ≡ s.control.shown + length (units_in (turn_shows (y ∷ ts) s.control))
-    by (task.Close error) made e = moved (removed (run_front (at_next_place s.control)) s) (task.Close error) made (ran (task.Close error) e)
-    by task.Unblock made e = moved go_on task.Unblock made (ran task.Unblock e)
-    by task.Process made e = moved go_on task.Process made (ran task.Process e)
-    by task.Desaturate made e = moved go_on task.Desaturate made (ran task.Desaturate e)
-    by (task.Output units) made e = moved go_on (task.Output units) made (ran (task.Output units) e)
-    by (task.Flushed promise units) made e = moved go_on (task.Flushed promise units) made (ran (task.Flushed promise units) e)
-    by task.Dequeue made e = moved go_on task.Dequeue made (ran task.Dequeue e)
-
-encoded_shown : (x : Handed) (s t : State) → encode_step x s ≡ Some t → t.control.shown ≡ s.control.shown
-encoded_shown handed.Gone s t is = sym (ap (λ (u : State). u.control.shown) (some_same _ t is))
-encoded_shown handed.Kept s t is = sym (ap (λ (u : State). u.control.shown) (kept_is (is_configured s.control) _ t is))
-encoded_shown (handed.Cloned sound) s t is =
-    subst (λ (u : State). u.control.shown ≡ s.control.shown) (some_same _ t (cond_is (is_configured s.control) _ t is).1) (sent_shown s.control.place (work.Coded (coded.Sound sound)) (record (at_next_place s.control) { size = s.control.size + 1 }))
-
-reclaimed_shown : (moment : ℕ) (s t : State) → step (entry.Reclaim moment) s ≡ Some t → t.control.shown ≡ s.control.shown
-reclaimed_shown moment s t is = sym (ap (λ (u : State). u.control.shown) (some_same _ t (cond_is (may_reclaim moment s.control) _ t is).1))
-
-taken_shown : (unit : ℕ) (s t : State) → take_step unit s ≡ Some t → t.control.shown ≡ s.control.shown
-taken_shown unit s t is = sym (ap (λ (u : State). u.control.shown) (some_same _ t (cond_is (may_take unit s.control) _ t is).1))
+each_counts : EachStep (λ e s t. t.control.shown ≡ s.control.shown + length (units_in (shows e s)))
+each_counts = record {
+  call = λ who x s. none_more _ _ _ (call_shown (call_error x s.control) x s.control) (call_units who x s);
+  gone = λ who s. none_more _ _ [] refl refl;
+  kept = λ who s off. none_more _ _ [] refl refl;
+  cloned = λ who x s on. none_more _ _ [] (sent_shown s.control.place (work.Coded (coded.Sound x)) (record (at_next_place s.control) { size = s.control.size + 1 })) refl;
+  remove = λ who r s. none_more _ _ _ (removal_shown (removal_error s.control) r s) (removed_units who r s);
+  take = λ who unit s may. none_more _ _ [] refl refl;
+  start = λ i is epoch item s first may. none_more _ _ [] refl refl;
+  done = λ r e epoch item moment x s running own is. none_more _ _ [] (end_shown r e moment (at_next_place s.control)) refl;
+  turn = λ x ts s first. subst (λ (l : List Task). (task_ran x ts s).control.shown ≡ s.control.shown + length (units_in (turn_shows l s.control))) (sym first) (run_shown x s.control (record (at_next_place s.control) { tasks = ts }));
+  reclaim = λ moment s may. none_more _ _ _ refl (closing_units dom.QuotaExceeded s.control.pending);
+}
 
 -- an entry counts the outputs that it shows
 pub step_counts : (e : Entry) (s t : State) → step e s ≡ Some t → t.control.shown ≡ s.control.shown + length (units_in (shows e s))
-step_counts (entry.Configure who given) s t is = none_more _ _ _ (sym (ap (λ (u : State). u.control.shown) (some_same _ t is)) ∙ call_shown (configure_error given s.control) (call.Configure given) s.control) (refusal_units (configure_error given s.control))
-step_counts (entry.Decode who chunk) s t is = none_more _ _ _ (sym (ap (λ (u : State). u.control.shown) (some_same _ t is)) ∙ call_shown (decode_error chunk s.control) (call.Decode chunk) s.control) (refusal_units (decode_error chunk s.control))
-step_counts (entry.Encode who x) s t is = none_more _ _ _ (encoded_shown x s t is) (refusal_units (handed_error x))
-step_counts (entry.Flush who) s t is = none_more _ _ _ (sym (ap (λ (u : State). u.control.shown) (some_same _ t is)) ∙ call_shown (flush_error s.control) call.Flush s.control) (rejection_units s.control.place (flush_error s.control))
-step_counts (entry.Reset who) s t is = none_more _ _ _ (sym (ap (λ (u : State). u.control.shown) (some_same _ t is)) ∙ removal_shown (removal_error s.control) removal.Reset s) (removal_units (removal_error s.control) s.control.pending)
-step_counts (entry.Close who) s t is = none_more _ _ _ (sym (ap (λ (u : State). u.control.shown) (some_same _ t is)) ∙ removal_shown (removal_error s.control) removal.Close s) (removal_units (removal_error s.control) s.control.pending)
-step_counts (entry.Take who unit) s t is = none_more _ _ _ (taken_shown unit s t is) refl
-step_counts (entry.Start epoch item) s t is = none_more _ _ _ (started_shown s.control.work epoch item s t is) refl
-step_counts (entry.Done epoch item moment x) s t is = none_more _ _ _ (done_shown s.control.running epoch item moment x s t is) refl
-step_counts entry.Turn s t is = turned_shown s.control.tasks s t refl is
-step_counts (entry.Reclaim moment) s t is = none_more _ _ _ (reclaimed_shown moment s t is) (closing_units dom.QuotaExceeded s.control.pending)
+step_counts = by_steps (λ e s t. t.control.shown ≡ s.control.shown + length (units_in (shows e s))) each_counts
 
 -- ---- histories
 

@@ -1,5 +1,8 @@
 pub mod Outputs
 pub mod Answers
+pub mod UnitLaws
+pub mod BlockLaws
+pub mod StreamLaws
 pub mod OutputLaws
 pub mod Numbers
 pub mod NumberLaws

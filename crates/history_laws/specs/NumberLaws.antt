@@ -1,17 +1,15 @@
 -- No number of a codec's state is above the number of its entries.
-use Rattle.std.proofs.Common.{ℕ, ◌≡◌, ◌+◌, ◌≤◌, ◌&&◌, Bool, true, false, eqb, cond, List, [], ◌∷◌, ◌++◌, length, length-append, Option, Some, None, refl, ap, sym, subst, ◌∙◌, arith}
+use Rattle.std.proofs.Common.{ℕ, ◌≡◌, ◌+◌, ◌≤◌, Bool, true, false, eqb, cond, List, [], ◌∷◌, ◌++◌, length, length-append, Option, Some, None, refl, ap, sym, subst, ◌∙◌, arith}
 use Rattle.std.specs.Prelude.{max, unwrap_or}
 use Rattle.wc_base.specs.declared.error.DomError.{DomError}
-use Rattle.wc_base.specs.Options.{cond_is, some_same}
+use Rattle.wc_base.specs.Options.{some_same}
 use Rattle.codec_model.specs.declared.entry.Opening.{Opening}
 use Rattle.codec_model.specs.declared.entry.Removal.{Removal}
 use Rattle.codec_model.specs.declared.entry.Removal.TheVariants as removal
 use Rattle.codec_model.specs.declared.entry.Call.{Call}
 use Rattle.codec_model.specs.declared.entry.Call.TheVariants as call
 use Rattle.codec_model.specs.declared.entry.Entry.{Entry}
-use Rattle.codec_model.specs.declared.entry.Entry.TheVariants as entry
 use Rattle.codec_model.specs.declared.entry.HeldSound.{HeldSound}
-use Rattle.codec_model.specs.declared.entry.Handed.TheVariants as handed
 use Rattle.codec_model.specs.declared.entry.Coded.TheVariants as coded
 use Rattle.codec_model.specs.declared.entry.Work.{Work}
 use Rattle.codec_model.specs.declared.entry.Work.TheVariants as work
@@ -21,12 +19,11 @@ use Rattle.codec_model.specs.declared.entry.Running.{Running}
 use Rattle.codec_model.specs.declared.entry.Task.{Task}
 use Rattle.codec_model.specs.declared.entry.Task.TheVariants as task
 use Rattle.codec_model.specs.declared.entry.Ended.{Ended}
-use Rattle.codec_model.specs.declared.entry.Outcome.{Outcome}
-use Rattle.codec_model.specs.Control.{Control, is_taken, after_message, process_queue, at_next_place, run_task, done_running, after_end, start_first, after_reset, after_close, after_encode, after_take, may_take, may_reclaim, may_start}
-use Rattle.codec_model.specs.Replay.{State, opening_state, step, done_ended, ended_of, removal_error, after_call, call_error, accepted, is_configured, remove_or_refuse, start_step, done_step, turn_step}
+use Rattle.codec_model.specs.Control.{Control, after_message, process_queue, at_next_place, run_task, done_running, after_end, start_first, after_reset, after_close, after_encode, after_take}
+use Rattle.codec_model.specs.Replay.{State, opening_state, step, removal_error, after_call, call_error, accepted, remove_or_refuse}
 use Rattle.history_laws.specs.Numbers.{AreItemsUpTo, IsUpTo}
 use Rattle.history_laws.specs.OutputLaws.{all_append}
-use Rattle.history_laws.specs.Answers.{kept_is}
+use Rattle.codec_model.specs.StepLaws.{EachStep, by_queue, by_steps}
 
 items_up : (n : ℕ) (is : List Item) → AreItemsUpTo n is → AreItemsUpTo (n + 1) is
 items_up n [] h = tt
@@ -58,37 +55,16 @@ longer xs x = length-append xs (x ∷ [])
 
 -- ---- messages
 
--- the same, but for the queue of messages, which is this one
-record IsUpToWith (n : ℕ) (ms : List Message) (c : Control) : Type 0 where
-  place : c.place ≤ n
-  epoch : c.epoch ≤ n
-  size : c.size ≤ n
-  next : c.next_item + length ms ≤ n
-  queued : AreItemsUpTo n c.work
-  running : (r : Running) → c.running ≡ Some r → (r.epoch ≤ n) × (r.number ≤ n)
+item_up : (n : ℕ) (at : ℕ) (w : Work) (ms : List Message) (c : Control) → c.messages ≡ record { place = at; work = w } ∷ ms → IsUpTo n c → AreItemsUpTo n (c.work ++ record { number = c.next_item; place = at; work = w } ∷ [])
+item_up n at w ms c e h = all_append (λ (i : Item). i.number ≤ n) c.work (record { number = c.next_item; place = at; work = w } ∷ []) h.queued (omega (arith, h.next, ap length e), tt)
 
-item_up : (n : ℕ) (at : ℕ) (w : Work) (ms : List Message) (c : Control) → IsUpToWith n (record { place = at; work = w } ∷ ms) c → AreItemsUpTo n (c.work ++ record { number = c.next_item; place = at; work = w } ∷ [])
-item_up n at w ms c h = all_append (λ (i : Item). i.number ≤ n) c.work (record { number = c.next_item; place = at; work = w } ∷ []) h.queued (omega (arith, h.next), tt)
-
-taken_up : (n : ℕ) (at : ℕ) (w : Work) (ms : List Message) (c : Control) → IsUpToWith n (record { place = at; work = w } ∷ ms) c → IsUpToWith n ms (record (after_message (record { place = at; work = w }) c) { messages = ms })
-taken_up n at (work.Configure config) ms c h = record { place = h.place; epoch = h.epoch; size = h.size; next = omega (arith, h.next); queued = item_up n at (work.Configure config) ms c h; running = h.running }
-taken_up n at (work.Coded input) ms c h = record { place = h.place; epoch = h.epoch; size = omega (arith, h.size); next = omega (arith, h.next); queued = item_up n at (work.Coded input) ms c h; running = h.running }
-taken_up n at work.Flush ms c h = record { place = h.place; epoch = h.epoch; size = h.size; next = omega (arith, h.next); queued = item_up n at work.Flush ms c h; running = h.running }
-
-with_queue : (n : ℕ) (ms : List Message) (c : Control) → c.messages ≡ ms → IsUpToWith n ms c → IsUpTo n c
-with_queue n ms c e h = record { place = h.place; epoch = h.epoch; size = h.size; next = rw e (h.next); queued = h.queued; running = h.running }
-
-process_up : (n : ℕ) (ms : List Message) (c : Control) → c.messages ≡ ms → IsUpToWith n ms c → IsUpTo n (process_queue ms c)
-process_up n [] c e h = with_queue n [] c e h
-process_up n (m ∷ ms) c e h =
-    by (is_taken m c) (process_up n ms (record (after_message m c) { messages = ms }) refl (taken_up n m.place m.work ms c h))
-  where
-    by : (b : Bool) → IsUpTo n (process_queue ms (record (after_message m c) { messages = ms })) → IsUpTo n (cond b (process_queue ms (record (after_message m c) { messages = ms })) c)
-    by true rest = rest
-    by false rest = with_queue n (m ∷ ms) c e h
+taken_up : (n : ℕ) (at : ℕ) (w : Work) (ms : List Message) (c : Control) → c.messages ≡ record { place = at; work = w } ∷ ms → IsUpTo n c → IsUpTo n (record (after_message (record { place = at; work = w }) c) { messages = ms })
+taken_up n at (work.Configure config) ms c e h = record { place = h.place; epoch = h.epoch; size = h.size; next = omega (arith, h.next, ap length e); queued = item_up n at (work.Configure config) ms c e h; running = h.running }
+taken_up n at (work.Coded input) ms c e h = record { place = h.place; epoch = h.epoch; size = omega (arith, h.size); next = omega (arith, h.next, ap length e); queued = item_up n at (work.Coded input) ms c e h; running = h.running }
+taken_up n at work.Flush ms c e h = record { place = h.place; epoch = h.epoch; size = h.size; next = omega (arith, h.next, ap length e); queued = item_up n at work.Flush ms c e h; running = h.running }
 
 processed_up : (n : ℕ) (c : Control) → IsUpTo n c → IsUpTo n (process_queue c.messages c)
-processed_up n c h = process_up n c.messages c refl (record { place = h.place; epoch = h.epoch; size = h.size; next = h.next; queued = h.queued; running = h.running })
+processed_up n c h = by_queue (IsUpTo n) (λ m ms d e k. taken_up n m.place m.work ms d e k) c.messages c refl h
 
 -- ---- calls
 
@@ -137,22 +113,17 @@ removal_up n (Some error) r s h = entered n s.control h
 
 -- ---- starts and ends
 
-started_up : (n : ℕ) (is : List Item) (epoch number : ℕ) (s t : State) → s.control.work ≡ is → start_step is epoch number s ≡ Some t → IsUpTo n s.control → IsUpTo (n + 1) t.control
-started_up n [] epoch number s t e step h = absurd cc
-started_up n (i ∷ is) epoch number s t e step h =
-    let made = cond_is (may_start s.control && eqb epoch s.control.epoch && eqb number i.number) _ t step in
-    let items : AreItemsUpTo n (i ∷ is) = subst (AreItemsUpTo n) e h.queued in
-    let more = entered n s.control h in
-    let begun : IsUpTo (n + 1) (start_first (i ∷ is) (at_next_place s.control)) = record {
+begun_up : (n : ℕ) (i : Item) (is : List Item) (c : Control) → c.work ≡ i ∷ is → IsUpTo n c → IsUpTo (n + 1) (start_first (i ∷ is) (at_next_place c))
+begun_up n i is c first h =
+    let items : AreItemsUpTo n (i ∷ is) = subst (AreItemsUpTo n) first h.queued in
+    let more = entered n c h in record {
       place = more.place;
       epoch = more.epoch;
       size = more.size;
       next = more.next;
       queued = items_up n is items.1;
-      running = λ r is. let same = some_same _ r is in (subst (λ (x : Running). x.epoch ≤ n + 1) same (omega (arith, h.epoch)), subst (λ (x : Running). x.number ≤ n + 1) same (omega (arith, items.0)));
-    } in
-    subst (λ (u : State). IsUpTo (n + 1) u.control) (some_same _ t made.1)
-    (subst (λ (l : List Item). IsUpTo (n + 1) (start_first l (at_next_place s.control))) (sym e) begun)
+      running = λ r now. let same = some_same _ r now in (subst (λ (x : Running). x.epoch ≤ n + 1) same (omega (arith, h.epoch)), subst (λ (x : Running). x.number ≤ n + 1) same (omega (arith, items.0)));
+    }
 
 -- the same in all that counts
 same_up : (n : ℕ) (c d : Control) → d.place ≡ c.place → d.epoch ≡ c.epoch → d.size ≡ c.size → d.next_item ≡ c.next_item → d.messages ≡ c.messages → d.work ≡ c.work → d.running ≡ c.running → IsUpTo n c → IsUpTo n d
@@ -176,14 +147,6 @@ done_up n r e moment c h = by (eqb r.epoch c.epoch)
     by true = same_up (n + 1) (record (at_next_place c) { running = None }) _ refl refl refl refl refl refl refl (idle_up (n + 1) (at_next_place c) (entered n c h))
     by false = idle_up (n + 1) (at_next_place c) (entered n c h)
 
-ended_up : (n : ℕ) (r : Running) (o : Option Ended) (moment : ℕ) (s t : State) → done_ended r o moment s ≡ Some t → IsUpTo n s.control → IsUpTo (n + 1) t.control
-ended_up n r None moment s t step h = absurd cc
-ended_up n r (Some e) moment s t step h = subst (λ (u : State). IsUpTo (n + 1) u.control) (some_same _ t step) (done_up n r e moment s.control h)
-
-done_step_up : (n : ℕ) (o : Option Running) (epoch number moment : ℕ) (x : Outcome) (s t : State) → done_step o epoch number moment x s ≡ Some t → IsUpTo n s.control → IsUpTo (n + 1) t.control
-done_step_up n None epoch number moment x s t step h = absurd cc
-done_step_up n (Some r) epoch number moment x s t step h = ended_up n r (ended_of r.kind s.running_given x) moment s t (cond_is (eqb r.epoch epoch && eqb r.number number) (done_ended r (ended_of r.kind s.running_given x) moment s) t step).1 h
-
 -- ---- turns
 
 run_up : (n : ℕ) (t : Task) (ts : List Task) (c : Control) → IsUpTo n c → IsUpTo (n + 1) (run_task t (record (at_next_place c) { tasks = ts }))
@@ -195,44 +158,27 @@ run_up n (task.Flushed promise units) ts c h = same_up (n + 1) (at_next_place c)
 run_up n task.Dequeue ts c h = same_up (n + 1) (at_next_place c) _ refl refl refl refl refl refl refl (entered n c h)
 run_up n (task.Close x) ts c h = let r = closed_up n c h in record { place = r.place; epoch = r.epoch; size = r.size; next = r.next; queued = r.queued; running = r.running }
 
-turned_up : (n : ℕ) (ts : List Task) (s t : State) → s.control.tasks ≡ ts → turn_step ts s ≡ Some t → IsUpTo n s.control → IsUpTo (n + 1) t.control
-turned_up n [] s t e step h = absurd cc
-turned_up n (x ∷ ts) s t e step h = by x step e
-  where
-    ran : (y : Task) → s.control.tasks ≡ y ∷ ts → IsUpTo (n + 1) (Rattle.codec_model.specs.Control.run_front (at_next_place s.control))
-    ran y is = rw is (run_up n y ts s.control h)
-
-    by : (y : Task) → turn_step (y ∷ ts) s ≡ Some t → s.control.tasks ≡ y ∷ ts → IsUpTo (n + 1) t.control
-    by (task.Close error) made is = subst (λ (u : State). IsUpTo (n + 1) u.control) (some_same _ t made) (ran (task.Close error) is)
-    by task.Unblock made is = subst (λ (u : State). IsUpTo (n + 1) u.control) (some_same _ t made) (ran task.Unblock is)
-    by task.Process made is = subst (λ (u : State). IsUpTo (n + 1) u.control) (some_same _ t made) (ran task.Process is)
-    by task.Desaturate made is = subst (λ (u : State). IsUpTo (n + 1) u.control) (some_same _ t made) (ran task.Desaturate is)
-    by (task.Output units) made is = subst (λ (u : State). IsUpTo (n + 1) u.control) (some_same _ t made) (ran (task.Output units) is)
-    by (task.Flushed promise units) made is = subst (λ (u : State). IsUpTo (n + 1) u.control) (some_same _ t made) (ran (task.Flushed promise units) is)
-    by task.Dequeue made is = subst (λ (u : State). IsUpTo (n + 1) u.control) (some_same _ t made) (ran task.Dequeue is)
-
 -- ---- entries
 
 taken_by : (n : ℕ) (c : Control) → IsUpTo n c → IsUpTo (n + 1) (after_take (at_next_place c))
 taken_by n c h = same_up (n + 1) (at_next_place c) (after_take (at_next_place c)) refl refl refl refl refl refl refl (entered n c h)
 
+each_up : (n : ℕ) → EachStep (λ e s t. IsUpTo n s.control → IsUpTo (n + 1) t.control)
+each_up n = record {
+  call = λ who x s h. called_up n (call_error x s.control) x s.control h;
+  gone = λ who s h. entered n s.control h;
+  kept = λ who s off h. entered n s.control h;
+  cloned = λ who x s on h. encoded_up n x s.control h;
+  remove = λ who r s h. removal_up n (removal_error s.control) r s h;
+  take = λ who unit s may h. taken_by n s.control h;
+  start = λ i is epoch item s first may h. begun_up n i is s.control first h;
+  done = λ r e epoch item moment x s running own is h. done_up n r e moment s.control h;
+  turn = λ x ts s first h. run_up n x ts s.control h;
+  reclaim = λ moment s may h. closed_up n s.control h;
+}
+
 pub step_up : (n : ℕ) (e : Entry) (s t : State) → step e s ≡ Some t → IsUpTo n s.control → IsUpTo (n + 1) t.control
-step_up n (entry.Configure who given) s t is h = subst (λ (u : State). IsUpTo (n + 1) u.control) (some_same _ t is) (called_up n (call_error (call.Configure given) s.control) (call.Configure given) s.control h)
-step_up n (entry.Decode who chunk) s t is h = subst (λ (u : State). IsUpTo (n + 1) u.control) (some_same _ t is) (called_up n (call_error (call.Decode chunk) s.control) (call.Decode chunk) s.control h)
-step_up n (entry.Encode who handed.Gone) s t is h = subst (λ (u : State). IsUpTo (n + 1) u.control) (some_same _ t is) (entered n s.control h)
-step_up n (entry.Encode who handed.Kept) s t is h = subst (λ (u : State). IsUpTo (n + 1) u.control) (kept_is (is_configured s.control) _ t is) (entered n s.control h)
-step_up n (entry.Encode who (handed.Cloned sound)) s t is h =
-    subst (λ (u : State). IsUpTo (n + 1) u.control) (some_same _ t (cond_is (is_configured s.control) _ t is).1) (encoded_up n sound s.control h)
-step_up n (entry.Flush who) s t is h = subst (λ (u : State). IsUpTo (n + 1) u.control) (some_same _ t is) (called_up n (call_error call.Flush s.control) call.Flush s.control h)
-step_up n (entry.Reset who) s t is h = subst (λ (u : State). IsUpTo (n + 1) u.control) (some_same _ t is) (removal_up n (removal_error s.control) removal.Reset s h)
-step_up n (entry.Close who) s t is h = subst (λ (u : State). IsUpTo (n + 1) u.control) (some_same _ t is) (removal_up n (removal_error s.control) removal.Close s h)
-step_up n (entry.Take who unit) s t is h =
-    subst (λ (u : State). IsUpTo (n + 1) u.control) (some_same _ t (cond_is (may_take unit s.control) _ t is).1) (taken_by n s.control h)
-step_up n (entry.Start epoch number) s t is h = started_up n s.control.work epoch number s t refl is h
-step_up n (entry.Done epoch number moment x) s t is h = done_step_up n s.control.running epoch number moment x s t is h
-step_up n entry.Turn s t is h = turned_up n s.control.tasks s t refl is h
-step_up n (entry.Reclaim moment) s t is h =
-    subst (λ (u : State). IsUpTo (n + 1) u.control) (some_same _ t (cond_is (may_reclaim moment s.control) _ t is).1) (closed_up n s.control h)
+step_up n = by_steps (λ e s t. IsUpTo n s.control → IsUpTo (n + 1) t.control) (each_up n)
 
 pub opening_up : (o : Opening) → IsUpTo 0 (opening_state o).control
 opening_up o = record { place = omega arith; epoch = omega arith; size = omega arith; next = omega arith; queued = tt; running = λ r is. absurd cc }

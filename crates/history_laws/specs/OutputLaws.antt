@@ -5,7 +5,7 @@ use Rattle.std.specs.Prelude.{option_map, unwrap_or, max, count_by, filter}
 use Rattle.std.specs.List.{AllByRecursion}
 use Rattle.wc_base.specs.declared.error.DomError.{DomError}
 use Rattle.wc_base.specs.declared.error.DomError.TheVariants as dom
-use Rattle.wc_base.specs.Options.{cond_is, some_same}
+use Rattle.wc_base.specs.declared.who.Who.{Who}
 use Rattle.wc_config.specs.Configs.{is_valid, coder_id_of}
 use Rattle.wc_config.specs.declared.config.AudioDecoderConfig.{AudioDecoderConfig}
 use Rattle.codec_definitions.specs.declared.unit.Unit as media
@@ -22,7 +22,6 @@ use Rattle.codec_model.specs.declared.entry.Entry.TheVariants as entry
 use Rattle.codec_model.specs.declared.entry.Event.{Event}
 use Rattle.codec_model.specs.declared.entry.Event.TheVariants as event
 use Rattle.codec_model.specs.declared.entry.HeldSound.{HeldSound}
-use Rattle.codec_model.specs.declared.entry.Handed.TheVariants as handed
 use Rattle.codec_model.specs.declared.entry.Coded.{Coded}
 use Rattle.codec_model.specs.declared.entry.Coded.TheVariants as coded
 use Rattle.codec_model.specs.declared.entry.Work.{Work}
@@ -37,11 +36,12 @@ use Rattle.codec_model.specs.declared.entry.Task.TheVariants as task
 use Rattle.codec_model.specs.declared.entry.Ended.{Ended}
 use Rattle.codec_model.specs.declared.entry.Ended.TheVariants as ended
 use Rattle.codec_model.specs.declared.entry.Outcome.{Outcome}
-use Rattle.codec_model.specs.Control.{Control, is_taken, after_message, process_queue, at_next_place, run_task, done_running, after_end, start_first, is_dequeue, is_desaturate, with_desaturate, after_reset, after_close, after_encode, after_take, may_take, carried, is_active, may_reclaim, may_start}
-use Rattle.codec_model.specs.Replay.{State, Given, command_of, decoder_config, labelled, is_configured, given_more, answer_to, opening_state, nothing_given, step, done_ended, ended_of, configure_error, decode_error, flush_error, removal_error, after_call, call_error, accepted, remove_or_refuse, removed, start_step, done_step, with_control, turn_step}
+use Rattle.codec_model.specs.Control.{Control, after_message, process_queue, at_next_place, run_task, done_running, after_end, is_dequeue, is_desaturate, with_desaturate, after_reset, after_close, after_encode, after_take, carried, is_active}
+use Rattle.codec_model.specs.Replay.{State, Given, command_of, decoder_config, labelled, given_more, answer_to, opening_state, nothing_given, step, ended_of, configure_error, decode_error, flush_error, removal_error, after_call, call_error, accepted, remove_or_refuse, removed, entry_of, with_control}
 use Rattle.codec_model.specs.Shown.{refusal, rejection, rejections, outputs_from, turn_shows, removal_shows, handed_error, shows, event_units, units_in, each_shown, each_shown_from}
 use Rattle.history_laws.specs.Outputs.{IsOwnCommand, MayCarry, Judge, HoldsOwn}
-use Rattle.history_laws.specs.Answers.{kept_is, ran_answer, answer_where}
+use Rattle.history_laws.specs.Answers.{ran_answer, answer_where}
+use Rattle.codec_model.specs.StepLaws.{given_past, begun, task_ran, EachStep, by_queue, by_steps}
 
 pub all_append : {X : Type 0} (P : X → Type 0) (xs ys : List X) → AllByRecursion P xs → AllByRecursion P ys → AllByRecursion P (xs ++ ys)
 all_append P [] ys h k = k
@@ -52,14 +52,14 @@ all_more P xs y h k = all_append P xs (y ∷ []) h (k, tt)
 
 -- ---- what a codec's definition answers
 
-abbrev AllOf : Judge → List media.Unit → Type 0
+abbrev pub AllOf : Judge → List media.Unit → Type 0
 AllOf k us = AllByRecursion k.output us
 
-abbrev IsOwn : Judge → Command → Type 0
+abbrev pub IsOwn : Judge → Command → Type 0
 IsOwn k x = IsOwnCommand k.chunk k.sound x
 
 -- the config and the inputs that a coder was given are such
-abbrev IsOwnGiven : Judge → Given → Type 0
+abbrev pub IsOwnGiven : Judge → Given → Type 0
 IsOwnGiven k g = k.config g.config × AllByRecursion (IsOwn k) g.commands
 
 none_given : (k : Judge) → IsOwnGiven k nothing_given
@@ -83,32 +83,32 @@ given_of k w g us own h =
 
 -- ---- states
 
-abbrev IsOwnWork : Judge → Work → Type 0
+abbrev pub IsOwnWork : Judge → Work → Type 0
 IsOwnWork k (work.Configure c) = k.config c
 IsOwnWork k (work.Coded (coded.Chunk chunk)) = k.chunk chunk
 IsOwnWork k (work.Coded (coded.Sound sound)) = k.sound sound.samples
 IsOwnWork k work.Flush = Unit {0}
 
-abbrev IsOwnTask : Judge → Task → Type 0
+abbrev pub IsOwnTask : Judge → Task → Type 0
 IsOwnTask k (task.Output units) = AllOf k units
 IsOwnTask k (task.Flushed promise units) = AllOf k units
 IsOwnTask k t = Unit {0}
 
-abbrev AreOwnMessages : Judge → List Message → Type 0
+abbrev pub AreOwnMessages : Judge → List Message → Type 0
 AreOwnMessages k ms = AllByRecursion (λ m. IsOwnWork k m.work) ms
 
-abbrev AreOwnTasks : Judge → List Task → Type 0
+abbrev pub AreOwnTasks : Judge → List Task → Type 0
 AreOwnTasks k ts = AllByRecursion (IsOwnTask k) ts
 
-record OwnControl (k : Judge) (c : Control) : Type 0 where
-  messages : AreOwnMessages k c.messages
-  items : AllByRecursion (λ i. IsOwnWork k i.work) c.work
-  tasks : AreOwnTasks k c.tasks
+pub record OwnControl (k : Judge) (c : Control) : Type 0 where
+  pub messages : AreOwnMessages k c.messages
+  pub items : AllByRecursion (λ i. IsOwnWork k i.work) c.work
+  pub tasks : AreOwnTasks k c.tasks
 
-record Own (k : Judge) (s : State) : Type 0 where
-  control : OwnControl k s.control
-  given : IsOwnGiven k s.given
-  busy : IsOwnGiven k s.running_given
+pub record Own (k : Judge) (s : State) : Type 0 where
+  pub control : OwnControl k s.control
+  pub given : IsOwnGiven k s.given
+  pub busy : IsOwnGiven k s.running_given
 
 dequeue_own : (k : Judge) (b : Bool) (ts : List Task) → AreOwnTasks k ts → AreOwnTasks k (cond b (ts ++ task.Dequeue ∷ []) ts)
 dequeue_own k true ts h = all_more (IsOwnTask k) ts task.Dequeue h tt
@@ -131,18 +131,11 @@ taken_own k work.Flush at ms c h w all = record {
   tasks = h.tasks;
 }
 
-own_by : (k : Judge) (b : Bool) (c d : Control) → OwnControl k c → OwnControl k d → OwnControl k (cond b d c)
-own_by k true c d h j = j
-own_by k false c d h j = h
-
-process_own : (k : Judge) (ms : List Message) (c : Control) → OwnControl k c → AreOwnMessages k ms → OwnControl k (process_queue ms c)
-process_own k [] c h all = h
-process_own k (m ∷ ms) c h all =
-    let d : Control = record (after_message m c) { messages = ms } in
-    own_by k (is_taken m c) c (process_queue ms d) h (process_own k ms d (taken_own k m.work m.place ms c h all.0 all.1) all.1)
-
 processed_own : (k : Judge) (c : Control) → OwnControl k c → OwnControl k (process_queue c.messages c)
-processed_own k c h = process_own k c.messages c h h.messages
+processed_own k c own = by_queue (OwnControl k) taken c.messages c refl own
+  where
+    taken : (m : Message) (ms : List Message) (d : Control) → d.messages ≡ m ∷ ms → OwnControl k d → OwnControl k (record (after_message m d) { messages = ms })
+    taken m ms d e h = let all : AreOwnMessages k (m ∷ ms) = subst (AreOwnMessages k) e h.messages in taken_own k m.work m.place ms d h all.0 all.1
 
 -- ---- calls
 
@@ -230,18 +223,11 @@ more_own k (work.Configure c) g own h = (own, tt)
 more_own k (work.Coded input) g own h = (h.0, all_more (IsOwn k) g.commands (command_of input) h.1 (command_own k input own))
 more_own k work.Flush g own h = (h.0, all_more (IsOwn k) g.commands command.Drain h.1 tt)
 
-started_own : (k : Judge) (is : List Item) (epoch number : ℕ) (s t : State) → s.control.work ≡ is → start_step is epoch number s ≡ Some t → Own k s → Own k t
-started_own k [] epoch number s t e step h = absurd cc
-started_own k (i ∷ is) epoch number s t e step h =
-    let given = cond_is (may_start s.control && eqb epoch s.control.epoch && eqb number i.number) _ t step in
-    let items : AllByRecursion (λ j. IsOwnWork k j.work) (i ∷ is) = subst (λ (l : List Item). AllByRecursion (λ j. IsOwnWork k j.work) l) e h.control.items in
+begun_own : (k : Judge) (i : Item) (is : List Item) (s : State) → s.control.work ≡ i ∷ is → Own k s → Own k (begun (i ∷ is) i s)
+begun_own k i is s first h =
+    let items : AllByRecursion (λ j. IsOwnWork k j.work) (i ∷ is) = subst (λ (l : List Item). AllByRecursion (λ j. IsOwnWork k j.work) l) first h.control.items in
     let own = more_own k i.work s.given items.0 h.given in
-    subst (λ (u : State). Own k u) (some_same _ t given.1)
-    (record {
-      control = subst (λ (l : List Item). OwnControl k (start_first l (at_next_place s.control))) (sym e) (record { messages = h.control.messages; items = items.1; tasks = h.control.tasks });
-      given = own;
-      busy = own;
-    })
+    record { control = record { messages = h.control.messages; items = items.1; tasks = h.control.tasks }; given = own; busy = own }
 
 -- ---- ends of items
 
@@ -278,18 +264,9 @@ done_own k r e moment c h own = by (eqb r.epoch c.epoch)
     by true = settled_own k r e _ (same_own k c _ refl refl refl h) own
     by false = same_own k c _ refl refl refl h
 
-ended_own : (k : Judge) (r : Running) (x : Outcome) (o : Option Ended) (moment : ℕ) (s t : State) → ended_of r.kind s.running_given x ≡ o → done_ended r o moment s ≡ Some t → Own k s → Own k t
-ended_own k r x None moment s t is step h = absurd cc
-ended_own k r x (Some e) moment s t is step h =
-    subst (λ (u : State). Own k u) (some_same (with_control (done_running r e moment (at_next_place s.control)) s) t step)
-    (with_own k (done_running r e moment (at_next_place s.control)) s (done_own k r e moment s.control h.control (λ us ran. given_of k r.kind s.running_given us h.busy (ran_answer r.kind s.running_given x us (is ∙ ap some_ended ran)))) h)
-  where
-    some_ended : Ended → Option Ended
-    some_ended e = Some e
-
-done_step_own : (k : Judge) (o : Option Running) (epoch number moment : ℕ) (x : Outcome) (s t : State) → done_step o epoch number moment x s ≡ Some t → Own k s → Own k t
-done_step_own k None epoch number moment x s t step h = absurd cc
-done_step_own k (Some r) epoch number moment x s t step h = ended_own k r x (ended_of r.kind s.running_given x) moment s t refl (cond_is (eqb r.epoch epoch && eqb r.number number) (done_ended r (ended_of r.kind s.running_given x) moment s) t step).1 h
+ended_own : (k : Judge) (r : Running) (e : Ended) (moment : ℕ) (x : Outcome) (s : State) → ended_of r.kind s.running_given x ≡ Some e → Own k s → Own k (with_control (done_running r e moment (at_next_place s.control)) s)
+ended_own k r e moment x s is h =
+    with_own k _ s (done_own k r e moment s.control h.control (λ us ran. given_of k r.kind s.running_given us h.busy (ran_answer r.kind s.running_given x us (is ∙ ap (λ (y : Ended). Some y) ran)))) h
 
 -- ---- turns
 
@@ -307,47 +284,44 @@ left_own k t ts c e h =
     let tasks : AreOwnTasks k (t ∷ ts) = subst (λ (l : List Task). AreOwnTasks k l) e h.tasks in
     record { messages = h.messages; items = h.items; tasks = tasks.1 }
 
-turned_own : (k : Judge) (ts : List Task) (s t : State) → s.control.tasks ≡ ts → turn_step ts s ≡ Some t → Own k s → Own k t
-turned_own k [] s t e step h = absurd cc
-turned_own k (task.Close x ∷ ts) s t e step h = subst (λ (u : State). Own k u) (some_same _ t step) (rw e (removed_own k _ s (run_own k (task.Close x) _ (left_own k (task.Close x) ts s.control e h.control)) h))
-turned_own k (task.Unblock ∷ ts) s t e step h = subst (λ (u : State). Own k u) (some_same _ t step) (rw e (with_own k _ s (run_own k task.Unblock _ (left_own k task.Unblock ts s.control e h.control)) h))
-turned_own k (task.Process ∷ ts) s t e step h = subst (λ (u : State). Own k u) (some_same _ t step) (rw e (with_own k _ s (run_own k task.Process _ (left_own k task.Process ts s.control e h.control)) h))
-turned_own k (task.Desaturate ∷ ts) s t e step h = subst (λ (u : State). Own k u) (some_same _ t step) (rw e (with_own k _ s (run_own k task.Desaturate _ (left_own k task.Desaturate ts s.control e h.control)) h))
-turned_own k (task.Output units ∷ ts) s t e step h = subst (λ (u : State). Own k u) (some_same _ t step) (rw e (with_own k _ s (run_own k (task.Output units) _ (left_own k (task.Output units) ts s.control e h.control)) h))
-turned_own k (task.Flushed promise units ∷ ts) s t e step h = subst (λ (u : State). Own k u) (some_same _ t step) (rw e (with_own k _ s (run_own k (task.Flushed promise units) _ (left_own k (task.Flushed promise units) ts s.control e h.control)) h))
-turned_own k (task.Dequeue ∷ ts) s t e step h = subst (λ (u : State). Own k u) (some_same _ t step) (rw e (with_own k _ s (run_own k task.Dequeue _ (left_own k task.Dequeue ts s.control e h.control)) h))
+past_own : (k : Judge) (t : Task) (g : Given) → IsOwnGiven k g → IsOwnGiven k (given_past t g)
+past_own k (task.Close x) g h = none_given k
+past_own k t g h = h
+
+task_ran_own : (k : Judge) (t : Task) (ts : List Task) (s : State) → s.control.tasks ≡ t ∷ ts → Own k s → Own k (task_ran t ts s)
+task_ran_own k t ts s first h = record { control = run_own k t _ (left_own k t ts s.control first h.control); given = past_own k t s.given h.given; busy = h.busy }
 
 -- ---- entries
 
 call_own : (k : Judge) (x : Call) (s : State) → (call_error x s.control ≡ None → IsOwnCall k x) → Own k s → Own k (with_control (after_call (call_error x s.control) x s.control) s)
 call_own k x s own h = with_own k _ s (called_own k (call_error x s.control) x s.control own h.control) h
 
-step_own : (k : Judge) (e : Entry) (s t : State) → step e s ≡ Some t → HoldsOwn k e → Own k s → Own k t
-step_own k (entry.Configure who given) s t is own h =
-    subst (λ (u : State). Own k u) (some_same _ t is)
-    (call_own k (call.Configure given) s (λ taken. own (accepted_valid (is_valid given) _ taken)) h)
-step_own k (entry.Decode who chunk) s t is own h = subst (λ (u : State). Own k u) (some_same _ t is) (call_own k (call.Decode chunk) s (λ taken. own) h)
-step_own k (entry.Encode who handed.Gone) s t is own h = subst (λ (u : State). Own k u) (some_same _ t is) (with_own k _ s (entered_own k s.control h.control) h)
-step_own k (entry.Encode who handed.Kept) s t is own h = subst (λ (u : State). Own k u) (kept_is (is_configured s.control) _ t is) (with_own k _ s (entered_own k s.control h.control) h)
-step_own k (entry.Encode who (handed.Cloned sound)) s t is own h =
-    subst (λ (u : State). Own k u) (some_same _ t (cond_is (is_configured s.control) _ t is).1) (with_own k _ s (encoded_own k sound s.control own h.control) h)
-step_own k (entry.Flush who) s t is own h = subst (λ (u : State). Own k u) (some_same _ t is) (call_own k call.Flush s (λ taken. tt) h)
-step_own k (entry.Reset who) s t is own h =
-    subst (λ (u : State). Own k u) (some_same _ t is)
-    (removal_own k (removal_error s.control) removal.Reset s h)
-step_own k (entry.Close who) s t is own h =
-    subst (λ (u : State). Own k u) (some_same _ t is)
-    (removal_own k (removal_error s.control) removal.Close s h)
-step_own k (entry.Take who unit) s t is own h =
-    subst (λ (u : State). Own k u) (some_same _ t (cond_is (may_take unit s.control) _ t is).1) (with_own k _ s (same_own k s.control (after_take (at_next_place s.control)) refl refl refl h.control) h)
-step_own k (entry.Start epoch number) s t is own h = started_own k s.control.work epoch number s t refl is h
-step_own k (entry.Done epoch number moment x) s t is own h = done_step_own k s.control.running epoch number moment x s t is h
-step_own k entry.Turn s t is own h = turned_own k s.control.tasks s t refl is h
-step_own k (entry.Reclaim moment) s t is own h =
-    subst (λ (u : State). Own k u) (some_same _ t (cond_is (may_reclaim moment s.control) _ t is).1)
-    (removed_own k _ s (closed_own k (at_next_place s.control) (entered_own k s.control h.control)) h)
+own_of_call : (k : Judge) (who : Who) (x : Call) (c : Control) → HoldsOwn k (entry_of who x) → call_error x c ≡ None → IsOwnCall k x
+own_of_call k who (call.Configure given) c own taken = own (accepted_valid (is_valid given) _ taken)
+own_of_call k who (call.Decode chunk) c own taken = own
+own_of_call k who call.Flush c own taken = tt
 
-opening_own : (k : Judge) (o : Opening) → Own k (opening_state o)
+entry_own : (k : Judge) (s : State) → Own k s → Own k (with_control (at_next_place s.control) s)
+entry_own k s h = with_own k _ s (entered_own k s.control h.control) h
+
+each_own : (k : Judge) → EachStep (λ e s t. HoldsOwn k e → Own k s → Own k t)
+each_own k = record {
+  call = λ who x s own h. call_own k x s (own_of_call k who x s.control own) h;
+  gone = λ who s own h. entry_own k s h;
+  kept = λ who s off own h. entry_own k s h;
+  cloned = λ who x s on own h. with_own k _ s (encoded_own k x s.control own h.control) h;
+  remove = λ who r s own h. removal_own k (removal_error s.control) r s h;
+  take = λ who unit s may own h. with_own k _ s (same_own k s.control (after_take (at_next_place s.control)) refl refl refl h.control) h;
+  start = λ i is epoch item s first may own h. begun_own k i is s first h;
+  done = λ r e epoch item moment x s running this is own h. ended_own k r e moment x s is h;
+  turn = λ x ts s first own h. task_ran_own k x ts s first h;
+  reclaim = λ moment s may own h. removed_own k _ s (closed_own k (at_next_place s.control) (entered_own k s.control h.control)) h;
+}
+
+pub step_own : (k : Judge) (e : Entry) (s t : State) → step e s ≡ Some t → HoldsOwn k e → Own k s → Own k t
+step_own k = by_steps (λ e s t. HoldsOwn k e → Own k s → Own k t) (each_own k)
+
+pub opening_own : (k : Judge) (o : Opening) → Own k (opening_state o)
 opening_own k o = record { control = record { messages = tt; items = tt; tasks = tt }; given = none_given k; busy = none_given k }
 
 -- ---- what entries show

@@ -6,17 +6,11 @@ use Rattle.std.proofs.lemmas.Bool.{and_parts, eqb-true}
 use Rattle.std.proofs.lemmas.Nat.{div-mul-add}
 use Rattle.std.proofs.lemmas.List.FromFn.{length-map-range_with_len}
 use Rattle.wc_base.specs.Options.{cond_is, some_same}
-use Rattle.wc_base.specs.declared.media.Samples.{Samples}
 use Rattle.wc_base.specs.declared.media.SampleFormat.TheVariants as format
-use Rattle.wc_base.specs.declared.media.PictureShape.{PictureShape}
 use Rattle.wc_chunk.specs.declared.chunk.Chunk.{Chunk}
-use Rattle.wc_config.specs.declared.codec.CoderId.{CoderId}
 use Rattle.wc_config.specs.declared.codec.CodecId.{CodecId}
 use Rattle.wc_config.specs.declared.codec.CodecId.TheVariants as codec
 use Rattle.wc_config.specs.declared.config.AudioDecoderConfig.{AudioDecoderConfig}
-use Rattle.wc_config.specs.declared.config.AudioEncoderConfig.{AudioEncoderConfig}
-use Rattle.wc_config.specs.declared.config.Config.{Config}
-use Rattle.wc_config.specs.declared.config.Config.TheVariants as config
 use Rattle.wc_config.specs.declared.stream_info.StreamInfo.{StreamInfo}
 use Rattle.flac_definitions.specs.declared.fault.HeaderFault.TheVariants as fault
 use Rattle.flac_definitions.specs.declared.fault.HeaderField.TheVariants as field
@@ -31,30 +25,23 @@ use Rattle.flac_definitions.specs.Frame.{footer_at, with_header, frame_at, if_al
 use Rattle.picture_planes.specs.Planes.{picture_size}
 use Rattle.codec_definitions.specs.declared.unit.Unit as media
 use Rattle.codec_definitions.specs.declared.unit.Unit.TheVariants as unit
-use Rattle.codec_definitions.specs.declared.command.Command.{Command}
-use Rattle.codec_definitions.specs.declared.command.Command.TheVariants as command
 use Rattle.codec_definitions.specs.Pcm.{bytes_of, spelled, converted, format_size}
-use Rattle.codec_definitions.specs.SampleCodecs.{SampleCodec, sample_codec, sample_decoder, sample_encoder, decoded_at, decoded}
-use Rattle.codec_definitions.specs.Flac.{sample_size, sample_bytes, interchannel_bytes, bytes_of_frame, flac_format, described, flac_sound, unit_of_frame, flac_decoder}
-use Rattle.codec_definitions.specs.RawVideo.{raw_shape, is_key, chunks_since_drain, from_last_key, picture_byte, picture_of, last_picture, is_whole_chunk, picture_unit, raw_decoder}
-use Rattle.codec_definitions.specs.Answers.{undefined_answer, sample_decoder_by, sample_encoder_by, audio_decoder_answer, answer_after}
+use Rattle.codec_definitions.specs.SampleCodecs.{SampleCodec, sample_codec, decoded_at, decoded}
+use Rattle.codec_definitions.specs.Flac.{sample_size, sample_bytes, interchannel_bytes, bytes_of_frame, flac_format, flac_sound}
+use Rattle.codec_definitions.specs.RawVideo.{is_key, chunks_since_drain, from_last_key, picture_byte, picture_of, last_picture}
 use Rattle.codec_model.specs.declared.entry.Opening.{Opening}
 use Rattle.codec_model.specs.declared.entry.Handed.TheVariants as handed
 use Rattle.codec_model.specs.declared.entry.Entry.{Entry}
 use Rattle.codec_model.specs.declared.entry.Entry.TheVariants as entry
 use Rattle.codec_model.specs.Shown.{shown, outputs_of}
 use Rattle.history_laws.specs.Outputs.{Judge, HoldsOwn, IsWholeUnit}
+use Rattle.history_laws.specs.UnitLaws.{decoded_sound, are_frames, EachAnswer, by_answers}
+use Rattle.history_laws.specs.BlockLaws.{answers_blocks, blocks_where}
 use Rattle.history_laws.specs.OutputLaws.{outputs_are}
 use Rattle.history_laws.specs.CountLaws.{outputs_each}
 
 abbrev AllWhole : List media.Unit → Type 0
 AllWhole us = AllByRecursion IsWholeUnit us
-
-none_whole : (us : List media.Unit) → ◌≡◌ {A = Option (List media.Unit)} (Some []) (Some us) → AllWhole us
-none_whole us h = subst AllWhole (some_same [] us h) tt
-
-one_whole : (u : media.Unit) (us : List media.Unit) → IsWholeUnit u → Some (u ∷ []) ≡ Some us → AllWhole us
-one_whole u us own h = subst AllWhole (some_same (u ∷ []) us h) (own, tt)
 
 -- ---- bytes
 
@@ -98,58 +85,24 @@ has_size codec.RawI422 = tt
 has_size codec.RawI444 = tt
 has_size codec.RawNv12 = tt
 
-sound_or : (a b : Bool) (samples : Samples) (us : List media.Unit) → (b ≡ true → IsWholeUnit (unit.Sound samples)) → cond a (Some []) (cond b (Some (unit.Sound samples ∷ [])) None) ≡ Some us → AllWhole us
-sound_or true b samples us whole h = none_whole us h
-sound_or false true samples us whole h = one_whole (unit.Sound samples) us (whole refl) h
-sound_or false false samples us whole h = absurd cc
-
-sample_whole : (s : SampleCodec) (c : AudioDecoderConfig) (x : Command) (us : List media.Unit) → 0 < s.size → sample_decoder s c x ≡ Some us → AllWhole us
-sample_whole s c (command.Chunk chunk) us size h =
+sound_whole : (id : CodecId) (s : SampleCodec) (c : AudioDecoderConfig) (chunk : Chunk) → sample_codec id ≡ Some s → are_frames s c chunk ≡ true → IsWholeUnit (unit.Sound (decoded_sound s c chunk))
+sound_whole id s c chunk is fine =
     let frame = s.size * c.channels in
-    sound_or (length chunk.bytes == 0) _ _ us
-    (λ fine. length-decoded s chunk.bytes
-    ∙ ap (λ (n : ℕ). n * format_size s.format) (samples_in_frames (length chunk.bytes) s.size c.channels size
-    (eqb-true (length chunk.bytes % frame) 0 (and_parts (length chunk.bytes % frame == 0) (nat_lt (length chunk.bytes / frame) (2 ^ 32)) fine).0)))
-    h
-sample_whole s c (command.Sound samples) us size h = absurd cc
-sample_whole s c (command.Image picture) us size h = absurd cc
-sample_whole s c command.Drain us size h = none_whole us h
-
-undefined_whole : (x : Command) (us : List media.Unit) → undefined_answer x ≡ Some us → AllWhole us
-undefined_whole (command.Chunk chunk) us h = absurd cc
-undefined_whole (command.Sound samples) us h = absurd cc
-undefined_whole (command.Image picture) us h = absurd cc
-undefined_whole command.Drain us h = none_whole us h
-
-decoded_by : (o : Option SampleCodec) (c : AudioDecoderConfig) (x : Command) (us : List media.Unit) → HasSize o → sample_decoder_by o c x ≡ Some us → AllWhole us
-decoded_by None c x us size h = undefined_whole x us h
-decoded_by (Some s) c x us size h = sample_whole s c x us size h
-
-chunk_or : (b : Bool) (chunk : Chunk) (us : List media.Unit) → cond b (Some (unit.Coded chunk None ∷ [])) None ≡ Some us → AllWhole us
-chunk_or true chunk us h = one_whole (unit.Coded chunk None) us tt h
-chunk_or false chunk us h = absurd cc
-
-sample_encoded : (s : SampleCodec) (c : AudioEncoderConfig) (x : Command) (us : List media.Unit) → sample_encoder s c x ≡ Some us → AllWhole us
-sample_encoded s c (command.Chunk chunk) us h = absurd cc
-sample_encoded s c (command.Sound samples) us h = chunk_or _ _ us h
-sample_encoded s c (command.Image picture) us h = absurd cc
-sample_encoded s c command.Drain us h = none_whole us h
-
-encoded_by : (o : Option SampleCodec) (c : AudioEncoderConfig) (x : Command) (us : List media.Unit) → sample_encoder_by o c x ≡ Some us → AllWhole us
-encoded_by None c x us h = undefined_whole x us h
-encoded_by (Some s) c x us h = sample_encoded s c x us h
+    let whole = (and_parts (length chunk.bytes % frame == 0) (nat_lt (length chunk.bytes / frame) (2 ^ 32)) fine).0 in
+    length-decoded s chunk.bytes
+    ∙ ap (λ (n : ℕ). n * format_size s.format) (samples_in_frames (length chunk.bytes) s.size c.channels (subst HasSize is (has_size id)) (eqb-true (length chunk.bytes % frame) 0 whole))
 
 -- ---- FLAC: what readers gave, one after another
 
-bind_some : {A B : Type 0} (o : Option A) (f : A → Option B) (y : B) → (o >>= f) ≡ Some y → (x : A) × (o ≡ Some x) × (f x ≡ Some y)
+pub bind_some : {A B : Type 0} (o : Option A) (f : A → Option B) (y : B) → (o >>= f) ≡ Some y → (x : A) × (o ≡ Some x) × (f x ≡ Some y)
 bind_some None f y h = absurd cc
 bind_some (Some x) f y h = (x, refl, h)
 
-bind_ok : {A B E : Type 0} (r : Result A E) (f : A → Result B E) (y : B) → result.◌>>=◌ r f ≡ Ok y → (x : A) × (r ≡ Ok x) × (f x ≡ Ok y)
+pub bind_ok : {A B E : Type 0} (r : Result A E) (f : A → Result B E) (y : B) → result.◌>>=◌ r f ≡ Ok y → (x : A) × (r ≡ Ok x) × (f x ≡ Ok y)
 bind_ok (Ok x) f y h = (x, refl, h)
 bind_ok (Err e) f y h = absurd cc
 
-fault_none : {A E : Type 0} (r : Result A E) (y : A) → without_fault r ≡ Some y → r ≡ Ok y
+pub fault_none : {A E : Type 0} (r : Result A E) (y : A) → without_fault r ≡ Some y → r ≡ Ok y
 fault_none (Ok x) y h = cc
 fault_none (Err e) y h = absurd cc
 
@@ -178,7 +131,7 @@ header_agrees info p h is =
     let sum = bind_ok (header_sum_at p.at rate.0.1) _ h rate.2 in
     described_agrees info _ h sum.2
 
-given_header : (h : FrameHeader) (p : Place) (o : Option (List ℤ)) (g : (FrameHeader × List ℤ) × Place) → with_header h p o ≡ Some g → h ≡ g.0.0
+pub given_header : (h : FrameHeader) (p : Place) (o : Option (List ℤ)) (g : (FrameHeader × List ℤ) × Place) → with_header h p o ≡ Some g → h ≡ g.0.0
 given_header h p None g is = absurd cc
 given_header h p (Some samples) g is = ap (λ (z : (FrameHeader × List ℤ) × Place). z.0.0) (some_same ((h, samples), p) g is)
 
@@ -213,27 +166,14 @@ flac_size depth = by (nat_le depth 16)
     by true = refl
     by false = refl
 
-frame_whole : (info : StreamInfo) (chunk : Chunk) (o : Option (FrameHeader × List ℤ)) (us : List media.Unit) → frame_of info chunk.bytes ≡ o → unit_of_frame info chunk o ≡ Some us → AllWhole us
-frame_whole info chunk None us is h = absurd cc
-frame_whole info chunk (Some f) us is h = one_whole (flac_sound info chunk f.0 f.1) us whole h
-  where
-    same : Agrees info f.0
-    same = frame_agrees info chunk.bytes f is
-
-    whole : IsWholeUnit (flac_sound info chunk f.0 f.1)
-    whole =
-        length-frame f.0 f.1
-        ∙ (ap (λ (n : ℕ). f.0.block * (n * sample_size f.0.depth)) same.0
-        ∙ (ap (λ (n : ℕ). f.0.block * (info.channels * sample_size n)) same.1
-        ∙ (sym (mul_assoc f.0.block info.channels (sample_size info.depth))
-        ∙ ap (λ (n : ℕ). f.0.block * info.channels * n) (sym (flac_size info.depth)))))
-
-flac_whole : (o : Option StreamInfo) (x : Command) (us : List media.Unit) → flac_decoder o x ≡ Some us → AllWhole us
-flac_whole None (command.Chunk chunk) us h = absurd cc
-flac_whole (Some info) (command.Chunk chunk) us h = frame_whole info chunk (frame_of info chunk.bytes) us refl h
-flac_whole o (command.Sound samples) us h = absurd cc
-flac_whole o (command.Image picture) us h = absurd cc
-flac_whole o command.Drain us h = none_whole us h
+frame_whole : (info : StreamInfo) (chunk : Chunk) (f : FrameHeader × List ℤ) → frame_of info chunk.bytes ≡ Some f → IsWholeUnit (flac_sound info chunk f.0 f.1)
+frame_whole info chunk f is =
+    let same = frame_agrees info chunk.bytes f is in
+    length-frame f.0 f.1
+    ∙ (ap (λ (n : ℕ). f.0.block * (n * sample_size f.0.depth)) same.0
+    ∙ (ap (λ (n : ℕ). f.0.block * (info.channels * sample_size n)) same.1
+    ∙ (sym (mul_assoc f.0.block info.channels (sample_size info.depth))
+    ∙ ap (λ (n : ℕ). f.0.block * info.channels * n) (sym (flac_size info.depth)))))
 
 -- ---- raw video
 
@@ -242,35 +182,17 @@ length-picture size chunks bytes h =
     let made = (cond_is (list_any is_key chunks) (Some (picture_of size (from_last_key chunks))) bytes h).1 in
     subst (λ (l : List ℕ). length l ≡ size) (some_same _ bytes made) (length-map-range_with_len (picture_byte (from_last_key chunks)) 0 size)
 
-picture_whole : (shape : PictureShape) (chunk : Chunk) (o : Option (List ℕ)) (us : List media.Unit) → ((bytes : List ℕ) → o ≡ Some bytes → length bytes ≡ picture_size shape) → picture_unit shape chunk o ≡ Some us → AllWhole us
-picture_whole shape chunk None us long h = absurd cc
-picture_whole shape chunk (Some bytes) us long h = one_whole _ us (long bytes refl) h
-
-raw_whole : (o : Option PictureShape) (before : List Command) (x : Command) (us : List media.Unit) → raw_decoder o before x ≡ Some us → AllWhole us
-raw_whole None before (command.Chunk chunk) us h = absurd cc
-raw_whole (Some shape) before (command.Chunk chunk) us h = by (is_whole_chunk (picture_size shape) chunk.bytes) h
-  where
-    chunks : List (List ℕ)
-    chunks = chunks_since_drain before ++ chunk.bytes ∷ []
-
-    by : (b : Bool) → cond (not b) None (picture_unit shape chunk (last_picture (picture_size shape) chunks)) ≡ Some us → AllWhole us
-    by true e = picture_whole shape chunk (last_picture (picture_size shape) chunks) us (length-picture (picture_size shape) chunks) e
-    by false e = absurd cc
-raw_whole o before (command.Sound samples) us h = absurd cc
-raw_whole o before (command.Image picture) us h = absurd cc
-raw_whole o before command.Drain us h = none_whole us h
-
 -- ---- codecs
 
-decoder_whole : (id : CodecId) (c : AudioDecoderConfig) (x : Command) (us : List media.Unit) → audio_decoder_answer id c x ≡ Some us → AllWhole us
-decoder_whole codec.Flac c x us h = flac_whole (described c.description) x us h
-decoder_whole id c x us h = decoded_by (sample_codec id) c x us (has_size id) h
-
-answer_whole : (id : CoderId) (c : Config) (before : List Command) (x : Command) (us : List media.Unit) → answer_after id c before x ≡ Some us → AllWhole us
-answer_whole id (config.AudioDecoder c) before x us h = decoder_whole id.codec c x us h
-answer_whole id (config.AudioEncoder c) before x us h = encoded_by (sample_codec id.codec) c x us h
-answer_whole id (config.VideoDecoder c) before x us h = raw_whole (raw_shape id.codec c) before x us h
-answer_whole id config.Bad before x us h = undefined_whole x us h
+each_whole : EachAnswer (λ c before x us. AllWhole us)
+each_whole = record {
+  nothing = λ c before x. tt;
+  samples = λ id s c before chunk is fine. (sound_whole id s c chunk is fine, tt);
+  frame = λ info c before chunk f says is. (frame_whole info chunk f is, tt);
+  chunk = λ id s c before samples is. (tt, tt);
+  blocks = λ c before x us h. blocks_where IsWholeUnit c (λ number values place few. tt) us (answers_blocks c before x us h);
+  picture = λ id c shape before chunk bytes is last. (length-picture (picture_size shape) (chunks_since_drain before ++ chunk.bytes ∷ []) bytes last, tt);
+}
 
 abbrev whole : Judge
 whole = record {
@@ -279,7 +201,7 @@ whole = record {
   sound = λ samples. Unit {0};
   output = IsWholeUnit;
   nothing = tt;
-  gives = λ id c before x us own input h. answer_whole id c before x us h;
+  gives = λ id c before x us own input h. by_answers (λ d b y vs. AllWhole vs) each_whole id c before x us h;
   relabel = λ chunk old new may h. tt;
 }
 
@@ -291,18 +213,8 @@ entries_own (e ∷ es) = (by e, entries_own es)
   where
     by : (x : Entry) → HoldsOwn whole x
     by (entry.Configure who c) = λ valid. tt
-    by (entry.Decode who chunk) = tt
-    by (entry.Encode who handed.Gone) = tt
-    by (entry.Encode who handed.Kept) = tt
     by (entry.Encode who (handed.Cloned sound)) = tt
-    by (entry.Flush who) = tt
-    by (entry.Reset who) = tt
-    by (entry.Close who) = tt
-    by (entry.Take who unit) = tt
-    by (entry.Start epoch number) = tt
-    by (entry.Done epoch number moment x) = tt
-    by entry.Turn = tt
-    by (entry.Reclaim moment) = tt
+    by e = tt
 
 -- every output that a history shows is whole
 pub outputs_are_whole : (o : Opening) (h : List Entry) → AllByRecursion IsWholeUnit (outputs_of (shown o h))

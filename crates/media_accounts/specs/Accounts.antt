@@ -53,7 +53,7 @@ abbrev pub is_by_entry : ℕ → ℕ → By → Bool
 is_by_entry k place (by.Caller who) = false
 is_by_entry k place (by.Codec codec n) = (codec == k) && (n == place)
 
--- whatever an end says of whether its reference was the last of its resource
+-- the same, where an end does not say whether its reference was the last of its resource
 abbrev pub without_last : PoolOp → PoolOp
 without_last (op.Make r f) = op.Make r f
 without_last (op.Clone r f) = op.Clone r f

@@ -269,7 +269,7 @@ pub record Taken : Type 0 where
   pub unit : output.Unit
   pub answer : StepResult
 
--- what a step is given from elsewhere: the chunk that it copies, and the output that it takes
+-- what a step is given from elsewhere: the chunk that it copies, if that was made or is of a chunk file, and the output that it takes
 pub record Brought : Type 0 where
   pub chunk : Option Chunk
   pub taken : Option Taken
@@ -278,7 +278,7 @@ pub record Brought : Type 0 where
 abbrev pub chunk_medium : Chunk → Medium
 chunk_medium chunk = record { shape = ChunkOf chunk; held = None }
 
--- the output's bytes are those of a new resource; a chunk has none
+-- the bytes of audio data or of a frame are those of a new resource; a chunk stays in the variable itself
 abbrev pub unit_came : List PoolEntry → ℕ → StepResult → output.Unit → List (Option Medium) → Came
 unit_came pool j answer (unit.Sound s) vs = record (makes pool j (SoundOf s.shape) s.bytes vs) { answer = answer }
 unit_came pool j answer (unit.Image p) vs = record (makes pool j (PictureOf p.shape) p.bytes vs) { answer = answer }

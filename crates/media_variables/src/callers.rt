@@ -1,15 +1,14 @@
 // The media of all callers.
-ghost use Rattle.std.specs.Prelude.{◌≡◌, ◌<◌, ◌++◌, [], ◌∷◌, true, None, Some, IfOk, IfSome, OnErr};
+ghost use Rattle.std.specs.Prelude.{◌≡◌, ◌<◌, ◌++◌, [], ◌∷◌, true, None, Some, IfOk, OnErr};
 ghost use Rattle.std.specs.Prelude.{map, length, option_and_then};
 ghost use Rattle.codec_model.specs.Held.{in_order};
-ghost use Rattle.codec_model.specs.declared.entry.Handed.TheVariants as handed;
-ghost use Rattle.wc_pool.specs.Bag.{held_in, is_held, is_legal_pool, references_made};
+ghost use Rattle.wc_pool.specs.Bag.{held_in, is_legal_pool};
 ghost use Rattle.media_variables.specs.declared.lending.SoundFound.TheVariants as found;
 ghost use Rattle.media_variables.specs.Variables.{Brought, CameTo, IsCome, Media, Taken};
 ghost use Rattle.media_variables.specs.Variables.{media_came, taken_came, unit_came, variables_of};
-ghost use Rattle.media_variables.specs.Variables.{chunk_in_medium, handed_of, medium_at, sound_at};
+ghost use Rattle.media_variables.specs.Variables.{chunk_in_medium, medium_at, sound_at};
 ghost use Rattle.media_variables.specs.Held.{AreHeld, AreLive, AreApart, IsEnoughUnit, IsLent};
-ghost use Rattle.media_variables.specs.Held.{clones_of, ends_behind, pair_of, sound_found};
+ghost use Rattle.media_variables.specs.Held.{ends_behind, pair_of, sound_found};
 ghost use Rattle.media_variables.specs.Given.{Comes, Reaches};
 
 use crate::ending::{end_each, end_if};
@@ -130,14 +129,9 @@ impl CallerMedia {
     ) -> Result<(Samples, MediaRef), NoMemory>
         requires { let vs = variables_of caller self.old.variables in
             sound_found (sound_at vs variable) ≡ found.Open }
-        ensures handed { let vs = variables_of caller self.old.variables in
-            let number = references_made self.old.pool in
-            IfOk result (λ x. IfSome (sound_at vs variable) (λ s. handed_of number true s
-            ≡ handed.Cloned (record { samples = x.0; pair = pair_of x.1 }))) }
-        ensures media { IfOk result (λ x. self.new
-            ≡ record self.old { pool = self.old.pool ++ clones_of by (pair_of x.1 ∷ []) }) }
-        ensures may { IfOk result (λ x. is_held x.1.resource self.old.pool ≡ true) }
-        ensures next { IfOk result (λ x. x.1.number ≡ references_made self.old.pool) }
+        ensures lent { let vs = variables_of caller self.old.variables in
+            IfOk result (IsLent by self.old.pool self.new.pool (sound_at vs variable)) }
+        ensures same { self.new.variables ≡ self.old.variables }
         ensures apart { IfOk result
             (λ x. AreApart self.new.pool self.new.variables (pair_of x.1 ∷ [])) }
         ensures err { OnErr result (self.new ≡ self.old) }

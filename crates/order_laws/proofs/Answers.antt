@@ -1,6 +1,7 @@
 -- What steps on media answer, to which no output is brought, is neither a call of a codec, nor a look at one, nor a take.
 use Rattle.std.proofs.Common.{ℕ, ◌≡◌, Bool, true, false, cond, List, [], length, Option, Some, None, Result, Ok, Err, refl, subst}
 use Rattle.std.specs.Prelude.{unwrap_or, option_map}
+use Rattle.wc_base.specs.Options.{some_same}
 use Rattle.wc_base.specs.declared.error.DomError.{DomError}
 use Rattle.wc_base.specs.declared.who.Who.{Who}
 use Rattle.wc_chunk.specs.declared.chunk.Chunk.{Chunk}
@@ -25,7 +26,7 @@ use Rattle.script_types.specs.declared.steps.MediaStep.TheVariants as media
 use Rattle.script_types.specs.declared.steps.Step.TheVariants as step
 use Rattle.report_text.specs.declared.result.StepResult.{StepResult}
 use Rattle.report_text.specs.declared.result.StepResult.TheVariants as result
-use Rattle.media_variables.specs.Variables.{Reference, Shape, SoundOf, PictureOf, ChunkOf, Medium, Came, medium_at, audio_came, frame_came, clone_held, transfer_held, close_held, if_there, zeros, sound_of, frame_of, copy_options, rect_of, layouts_in, audio_copied, frame_copied, planes_copied, chunk_copied, size_found, copy_chunk, copy_medium, size_of_medium, chunk_of_variable, copy_came, media_came}
+use Rattle.media_variables.specs.Variables.{Reference, Shape, SoundOf, PictureOf, Medium, Came, medium_at, audio_came, frame_came, clone_held, transfer_held, close_held, if_there, zeros, sound_of, frame_of, copy_options, rect_of, layouts_in, audio_copied, frame_copied, planes_copied, chunk_copied, size_found, copy_chunk, copy_medium, size_of_medium, chunk_of_variable, copy_came, media_came}
 use Rattle.trace_text.specs.Follow.{Recorded}
 use Rattle.order_laws.proofs.Grown.{IsFound, brought}
 use Rattle.trace_text.specs.Fits.{mark_of, called, taken_from, taken_by, IsAnswerOf, LookShows, IsMediaAnswer, IsLocalAnswer}
@@ -39,29 +40,20 @@ IsOwn (result.Unit k place n) = ⊥
 IsOwn (result.NoUnit k n) = ⊥
 IsOwn r = Unit {0}
 
-pub own_mark : (r : StepResult) → IsOwn r → mark_of r ≡ mark.Local
-own_mark (result.Call k place error) own = absurd own
-own_mark (result.Look k n end) own = absurd own
-own_mark (result.State k n state size) own = absurd own
-own_mark (result.Unit k place n) own = absurd own
-own_mark (result.NoUnit k n) own = absurd own
-own_mark (result.Local error) own = refl
-own_mark (result.Copied n bytes) own = refl
-own_mark (result.CopiedFrame n layouts bytes) own = refl
-own_mark (result.Size n) own = refl
-own_mark result.Absent own = refl
+-- it marks no place of a codec, answers no call, names no output, and took none
+pub record OwnFacts (s : ScriptData) (w : Recorded) (r : StepResult) : Type 0 where
+  pub local : mark_of r ≡ mark.Local
+  pub answers : IsAnswerOf s w None r
+  pub found : IsFound s w r
+  pub took : taken_by s w (Some r) ≡ None
 
-pub own_result : (s : ScriptData) (w : Recorded) (r : StepResult) → IsOwn r → IsAnswerOf s w None r
-own_result s w (result.Call k place error) own = absurd own
-own_result s w (result.Look k n end) own = absurd own
-own_result s w (result.State k n state size) own = absurd own
-own_result s w (result.Unit k place n) own = absurd own
-own_result s w (result.NoUnit k n) own = absurd own
-own_result s w (result.Local error) own = tt
-own_result s w (result.Copied n bytes) own = tt
-own_result s w (result.CopiedFrame n layouts bytes) own = tt
-own_result s w (result.Size n) own = tt
-own_result s w result.Absent own = tt
+pub own_facts : (s : ScriptData) (w : Recorded) (r : StepResult) → IsOwn r → OwnFacts s w r
+own_facts s w (result.Call k place error) own = absurd own
+own_facts s w (result.Look k n end) own = absurd own
+own_facts s w (result.State k n state size) own = absurd own
+own_facts s w (result.Unit k place n) own = absurd own
+own_facts s w (result.NoUnit k n) own = absurd own
+own_facts s w r own = record { local = refl; answers = tt; found = tt; took = refl }
 
 pub own_shows : (s : ScriptData) (w : Recorded) (c : ℕ) (x : MediaStep) (r : StepResult) → IsOwn r → LookShows s w c (step.Media x) r
 own_shows s w c x (result.Call k place error) own = absurd own
@@ -71,15 +63,6 @@ own_shows s w c x (result.Unit k place n) own = absurd own
 own_shows s w c x (result.NoUnit k n) own = absurd own
 own_shows s w c (media.Take on bind kind) r own = tt
 own_shows s w c x r own = tt
-
--- it names no output, and took none
-pub own_found : (s : ScriptData) (w : Recorded) (r : StepResult) → IsOwn r → IsFound s w r
-own_found s w (result.Unit k place n) own = absurd own
-own_found s w r own = tt
-
-pub own_taken : (s : ScriptData) (w : Recorded) (r : StepResult) → IsOwn r → taken_by s w (Some r) ≡ None
-own_taken s w (result.Unit k place n) own = absurd own
-own_taken s w r own = refl
 
 -- ---- each kind of step
 
@@ -142,36 +125,23 @@ chunk_own (Some c) size = bytes_own (copied_to c.bytes (zeros size)) (copied_cou
 
 copy_own : (shape : Shape) (held : Option Reference) (o : Options) (size : ℕ) → IsOwn (copy_medium (record { shape = shape; held = held }) o size)
 copy_own (SoundOf shape) held (options.Audio (Some o)) size = sound_copied size (copied_audio (sound_of shape held) size (copy_options o))
-copy_own (SoundOf shape) held (options.Audio None) size = tt
-copy_own (SoundOf shape) held (options.Frame o) size = tt
-copy_own (SoundOf shape) held options.Nothing size = tt
 copy_own (PictureOf shape) held (options.Frame (Some o)) size =
     let f = frame_of shape held in planes_own (unwrap_or (content_of f) []) (zeros size) (video.plan_for f (option_map rect_of o.rect) (layouts_in o))
-copy_own (PictureOf shape) held (options.Frame None) size = tt
-copy_own (PictureOf shape) held (options.Audio o) size = tt
-copy_own (PictureOf shape) held options.Nothing size = tt
-copy_own (ChunkOf chunk) held o size = tt
+copy_own shape held o size = tt
 
 medium_size : (shape : Shape) (held : Option Reference) (o : Options) → IsOwn (size_of_medium (record { shape = shape; held = held }) o)
 medium_size (SoundOf shape) held (options.Audio (Some o)) = size_own (allocation_size (sound_of shape held) (copy_options o))
-medium_size (SoundOf shape) held (options.Audio None) = tt
-medium_size (SoundOf shape) held (options.Frame o) = tt
-medium_size (SoundOf shape) held options.Nothing = tt
 medium_size (PictureOf shape) held (options.Frame (Some o)) = size_own (video.allocation_size (frame_of shape held) (option_map rect_of o.rect) (layouts_in o))
-medium_size (PictureOf shape) held (options.Frame None) = tt
-medium_size (PictureOf shape) held (options.Audio o) = tt
-medium_size (PictureOf shape) held options.Nothing = tt
-medium_size (ChunkOf chunk) held o = tt
+medium_size shape held o = tt
 
 copies_own : (chunk : Option Chunk) (of : ℕ) (o : Options) (size : ℕ) (vs : List (Option Medium)) → AnswersOwn (copy_came chunk of o size vs)
 copies_own chunk of options.Nothing size vs = chunk_own (chunk_of_variable chunk vs of) size
-copies_own chunk of (options.Audio o) size vs = there_own (medium_at vs of) vs _ (λ m. copy_own m.shape m.held (options.Audio o) size)
-copies_own chunk of (options.Frame o) size vs = there_own (medium_at vs of) vs _ (λ m. copy_own m.shape m.held (options.Frame o) size)
+copies_own chunk of o size vs = there_own (medium_at vs of) vs _ (λ m. copy_own m.shape m.held o size)
 
 -- ---- every step
 
 came_own : (c y : Came) → AnswersOwn c → Some c ≡ Some y → AnswersOwn y
-came_own c y own same = let it : c ≡ y = cc in subst AnswersOwn it own
+came_own c y own same = subst AnswersOwn (some_same c y same) own
 
 -- where no output is brought to it
 pub media_own : (pool : List PoolEntry) (who : Who) (chunk : Option Chunk) (x : MediaStep) (vs : List (Option Medium)) (y : Came) → media_came pool who (brought chunk None) x vs ≡ Some y → IsOwn y.answer

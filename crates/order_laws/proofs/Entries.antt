@@ -41,17 +41,11 @@ opened_still s v k e opened j lt = elim (cases_eq j k) [
 ]
 
 pub call_fits : (e : Entry) (who : Who) (refusal : Option ℕ) → who_of e ≡ Some who → EntryFits e refusal
-call_fits (entry.Configure w config) who refusal names = tt
-call_fits (entry.Decode w chunk) who refusal names = tt
-call_fits (entry.Encode w handed) who refusal names = tt
-call_fits (entry.Flush w) who refusal names = tt
-call_fits (entry.Reset w) who refusal names = tt
-call_fits (entry.Close w) who refusal names = tt
-call_fits (entry.Take w n) who refusal names = tt
 call_fits (entry.Start epoch item) who refusal names = absurd cc
 call_fits (entry.Done epoch item moment o) who refusal names = absurd cc
 call_fits entry.Turn who refusal names = absurd cc
 call_fits (entry.Reclaim moment) who refusal names = absurd cc
+call_fits e who refusal names = tt
 
 -- the histories after an entry
 pub history_there : (v : Course) (k : ℕ) → length (at k (histories v.codecs)) ≡ length (codec_at k v.codecs).history
@@ -165,8 +159,5 @@ entry_more stays s v k e t one may =
 
 -- an entry of no caller adds nothing
 pub nobody_adds : (pool : List PoolEntry) (e : Entry) → who_of e ≡ None → MayAddAll pool e
-nobody_adds pool (entry.Start epoch item) nobody i p is = absurd cc
-nobody_adds pool (entry.Done epoch item moment o) nobody i p is = absurd cc
 nobody_adds pool entry.Turn nobody i p is = absurd cc
-nobody_adds pool (entry.Reclaim moment) nobody i p is = absurd cc
 nobody_adds pool e nobody i p is = absurd cc

@@ -1,5 +1,5 @@
 -- What is recorded grows: what was there stays, and what it says of the script too.
-use Rattle.std.proofs.Common.{ℕ, zero, suc, ◌≡◌, ◌≤◌, ◌<◌, ◌++◌, List, take, length, Option, Some, None, refl, ap, sym, ◌∙◌, subst, arith}
+use Rattle.std.proofs.Common.{ℕ, zero, suc, ◌≡◌, ◌≤◌, ◌<◌, ◌++◌, List, take, length, Option, Some, None, refl, ap, sym, ◌∙◌, arith}
 use Rattle.std.specs.Prelude.{slice_get, option_map, option_and_then}
 use Rattle.std.proofs.lemmas.List.{take-append-le}
 use Rattle.std.proofs.lemmas.Option.{slice_get_within}
@@ -24,7 +24,7 @@ use Rattle.report_text.specs.declared.result.StepResult.TheVariants as result
 use Rattle.trace_text.specs.Report.{refusal_in}
 use Rattle.trace_text.specs.Follow.{Recorded, opening_at, steps_of, copied_chunk, promise_after, output_at}
 use Rattle.trace_text.specs.Fits.{result_in, entry_in, step_in, called, taken_from, exception_at, made_steps, taken_by, brought_to, came_at, variables_at, IsAnswerOf, IsResultBy, IsResultOf, LookShows, IsLocalAnswer, MarksClimb}
-use Rattle.media_variables.specs.Variables.{Medium, Came, Taken, Brought}
+use Rattle.media_variables.specs.Variables.{Came, Taken, Brought}
 use Rattle.media_accounts.specs.Accounts.{variables_by, IsBroughtToo}
 use Rattle.trace_text.specs.FitsLaws.{made_at, look_of, order_by_places}
 use Rattle.order_laws.proofs.Legal.{shown_kept}
@@ -156,6 +156,5 @@ result_stays s media w v legal climbs g same c j r is fits =
       made = made_stays s w v legal g (record { caller = c; step = j }) (taken_from fits.step) (called fits.step) r (λ k p e call. order.stands c j k p r is (ap made_at call)) fits.made;
       found = found_stays s w v g r fits.found;
       shows = shows_stays s w v g c fits.step r (λ k n l. order.within c j k n r is l) fits.shows;
-      answers = subst (λ (vs : List (Option Medium)). IsLocalAnswer s media vs (came_at s media v c j) c fits.step r) (sym (variables_stay s media w v c j same (omega (arith, made))))
-          (subst (λ (o : Option Came). IsLocalAnswer s media (variables_at s media w c j) o c fits.step r) (sym (same c j made)) fits.answers);
+      answers = rw (same c j made, variables_stay s media w v c j same (omega (arith, made))) fits.answers;
     }

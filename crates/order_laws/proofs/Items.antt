@@ -1,9 +1,10 @@
 -- Each item of a sound script's order makes a move that fits.
 use Rattle.std.proofs.Common.{ℕ, zero, suc, ◌≡◌, ◌≤◌, ◌<◌, inl, inr, Bool, true, false, not, cond, if◌then◌else◌, eq-eqb, List, [], ◌∷◌, take, length, Option, Some, None, is_some, refl, ap, sym, subst, ◌∙◌, arith}
 use Rattle.std.proofs.Math.Seq.{take-length}
-use Rattle.std.specs.Prelude.{slice_get, option_map, option_and_then, unwrap_or, ◌==◌}
-use Rattle.std.proofs.lemmas.Bool.{cases_eq, ne_eqb}
+use Rattle.std.specs.Prelude.{slice_get, option_map, option_and_then, ◌==◌}
+use Rattle.std.proofs.lemmas.Bool.{cases_eq, ne_eqb, eqb-true}
 use Rattle.std.proofs.lemmas.Option.{slice_get_past, slice_get_within}
+use Rattle.wc_base.specs.Options.{some_same}
 use Rattle.wc_base.specs.declared.error.DomError.{DomError}
 use Rattle.wc_base.specs.declared.error.DomError.TheVariants as dom
 use Rattle.wc_base.specs.declared.who.Who.{Who}
@@ -37,7 +38,7 @@ use Rattle.codec_accounts.specs.ListLaws.{get_some, result_kept, result_new}
 use Rattle.codec_accounts.specs.Calls.{who_of, reach, call_in}
 use Rattle.codec_accounts.specs.Calls as mark
 use Rattle.codec_accounts.specs.CallsLaws.{MayClimb}
-use Rattle.codec_accounts.specs.Codec.{CodecValue, new_codec, state_after, state_of, codec_at, histories}
+use Rattle.codec_accounts.specs.Codec.{new_codec, state_after, state_of, codec_at, histories}
 use Rattle.codec_accounts.specs.StartLaws.{EndFits}
 use Rattle.codec_accounts.specs.AccountLaws.{EntryFits, history_at}
 use Rattle.script_types.specs.declared.script.CallerItem.{CallerItem}
@@ -55,7 +56,7 @@ use Rattle.trace_text.specs.Follow.{Recorded, Course, record_of, opening_in, ope
 use Rattle.script_types.specs.declared.steps.MediaStep.{MediaStep}
 use Rattle.script_types.specs.declared.steps.MediaStep.TheVariants as on_media
 use Rattle.script_types.specs.declared.steps.VariableKind.{VariableKind}
-use Rattle.media_variables.specs.Variables.{Reference, Shape, SoundOf, PictureOf, ChunkOf, Medium, Came, Taken, medium_at, media_ref, sound_of, sound_in, sound_at, handed_by, handed_of, media_came, taken_came, variables_of}
+use Rattle.media_variables.specs.Variables.{Reference, Shape, SoundOf, PictureOf, ChunkOf, Medium, Came, medium_at, media_ref, sound_of, sound_in, sound_at, handed_by, handed_of, media_came, taken_came, variables_of}
 use Rattle.media_variables.specs.Held.{held_by}
 use Rattle.media_accounts.specs.Accounts.{media_of, MayAdd, IsQuiet}
 use Rattle.trace_text.specs.Fits.{taken_by, brought_to, came_at, variables_at, result_in, step_in, called, mark_of, IsResultOf, LookShows, IsLocalAnswer, HasArguments}
@@ -63,7 +64,7 @@ use Rattle.order_laws.specs.Sound.{IsSound, promise_of, IsFlush}
 use Rattle.order_laws.proofs.Entries.{below_or_past, MayAddAll}
 use Rattle.order_laws.proofs.Grown.{IsFound, taken_as, brought}
 use Rattle.order_laws.proofs.Legal.{Steps, MayBeRefused, call_legal, take_legal, start_legal, done_legal, turn_legal, reclaim_legal}
-use Rattle.order_laws.proofs.Moves.{Stands, next_who, next_place, take_result, AnswerFits, AskFits, MoveFits, one_medium, none_quiet, call_quiet}
+use Rattle.order_laws.proofs.Moves.{Stands, next_who, next_place, take_result, AnswerFits, AskFits, MoveFits, none_quiet, call_quiet}
 
 steps_within : (cs : List CallerItem) (c j : ℕ) (x : Step) → slice_get (steps_in cs c) j ≡ Some x → c < length cs
 steps_within [] c j x h = absurd cc
@@ -172,12 +173,7 @@ absent_apart v = record { climbs = λ k. omega arith; no_call = λ k who. refl }
 look_climbs : (v : Course) (on k : ℕ) (b : Bool) → (b ≡ true → on ≡ k) → MayClimb (cond b (Some (length (codec_at on v.codecs).history, length (codec_at on v.codecs).history)) None) (length (at k (histories v.codecs))) (length (at k (histories v.codecs)))
 look_climbs v on k false same = omega arith
 look_climbs v on k true same =
-    let e = ap (λ n. length (codec_at n v.codecs).history) (same refl) in
-    let h = ap length (history_at k v.codecs) in
-    (omega (arith, e, h), omega (arith, e, h))
-
-same_codec : (a b : ℕ) → (a == b) ≡ true → a ≡ b
-same_codec a b h = grind arith
+    let h = ap length (history_at k v.codecs) in rw (same refl) (omega (arith, h), omega (arith, h))
 
 decode_fits : (s : ScriptData) (media : List (List Chunk)) (made : List CoderId) (v : Course) (c k : ℕ) (chunk : Variable) (o : Option Chunk) → IsSound s → Stands s media made v → IsNext s v c (step.Decode k chunk) → chunk_for media (steps_of s c) (variables_of c v.media.variables) chunk.step ≡ o
     → MoveFits s media v (decode_move (next_who v c) k o (codec_at k v.codecs))
@@ -189,29 +185,8 @@ decode_fits s media made v c k chunk (Some value) sound st is some =
 flush_came : (s : ScriptData) (media : List (List Chunk)) (w : Recorded) (who : Who) (vs : List (Option Medium)) (o : Option Came) (c : ℕ) (y : Step) (r : StepResult) → IsFlush y → IsResultOf s w who y r → IsLocalAnswer s media vs o c y r → (k : ℕ) × (p : ℕ) × (error : Option DomError) × (r ≡ result.Call k p error)
 flush_came s media w who vs o c (step.Flush on bind) (result.Call k p error) flush made answers = (k, p, error, refl)
 flush_came s media w who vs o c (step.Flush on bind) result.Absent flush made answers = absurd answers
-flush_came s media w who vs o c (step.Flush on bind) (result.Local error) flush made answers = absurd made
-flush_came s media w who vs o c (step.Flush on bind) (result.Look k n end) flush made answers = absurd made
-flush_came s media w who vs o c (step.Flush on bind) (result.Copied n bytes) flush made answers = absurd made
-flush_came s media w who vs o c (step.Flush on bind) (result.CopiedFrame n layouts bytes) flush made answers = absurd made
-flush_came s media w who vs o c (step.Flush on bind) (result.Size n) flush made answers = absurd made
-flush_came s media w who vs o c (step.Flush on bind) (result.State k n state size) flush made answers = absurd made
-flush_came s media w who vs o c (step.Flush on bind) (result.Unit k p n) flush made answers = absurd made
-flush_came s media w who vs o c (step.Flush on bind) (result.NoUnit k n) flush made answers = absurd made
-flush_came s media w who vs o c (step.Configure on config) r flush made answers = absurd flush
-flush_came s media w who vs o c (step.Chunk bind source) r flush made answers = absurd flush
-flush_came s media w who vs o c (step.Decode on chunk) r flush made answers = absurd flush
-flush_came s media w who vs o c (step.Poll promise) r flush made answers = absurd flush
-flush_came s media w who vs o c (step.Await promise) r flush made answers = absurd flush
-flush_came s media w who vs o c (step.Reset on) r flush made answers = absurd flush
-flush_came s media w who vs o c (step.Close on) r flush made answers = absurd flush
-flush_came s media w who vs o c (step.State on) r flush made answers = absurd flush
-flush_came s media w who vs o c (step.Media x) r flush made answers = absurd flush
-
-one_step : (a b : Step) → Some a ≡ Some b → a ≡ b
-one_step a b h = cc
-
-call_found : (o : Option StepResult) (r : StepResult) → o ≡ Some r → (k : ℕ) × (p : ℕ) × (error : Option DomError) × (r ≡ result.Call k p error) → (k : ℕ) × (p : ℕ) × (error : Option DomError) × (o ≡ Some (result.Call k p error))
-call_found o r is came = (came.0, came.1, came.2, is ∙ ap (λ (q : StepResult). Some q) came.3)
+flush_came s media w who vs o c (step.Flush on bind) r flush made answers = absurd made
+flush_came s media w who vs o c x r flush made answers = absurd flush
 
 -- a step that looks at an earlier promise finds the call of its flush
 promise_call : (s : ScriptData) (media : List (List Chunk)) (made : List CoderId) (v : Course) (c : ℕ) (x : Step) (promise : Variable) → IsSound s → Stands s media made v → IsNext s v c x → promise_of x ≡ Some promise
@@ -221,14 +196,11 @@ promise_call s media made v c x promise sound st is looks =
     let there = get_some (at c v.callers) promise.step before in
     let flush = sound.promised c (length (at c v.callers)) x promise is looks in
     let fits = st.results c promise.step there.0 there.1 in
-    let same : fits.step ≡ flush.0 = one_step fits.step flush.0 (sym fits.is_step ∙ flush.1) in
-    let came = flush_came s media (record_of v) (record { caller = c; step = promise.step }) (variables_at s media (record_of v) c promise.step) (came_at s media (record_of v) c promise.step) c flush.0 there.0 flush.2 (subst (λ (y : Step). IsResultOf s (record_of v) (record { caller = c; step = promise.step }) y there.0) same fits.made) (subst (λ (y : Step). IsLocalAnswer s media (variables_at s media (record_of v) c promise.step) (came_at s media (record_of v) c promise.step) c y there.0) same fits.answers) in
-    call_found (result_in (record_of v) c promise.step) there.0 there.1 came
+    let same : fits.step ≡ flush.0 = some_same fits.step flush.0 (sym fits.is_step ∙ flush.1) in
+    let came = flush_came s media (record_of v) (record { caller = c; step = promise.step }) (variables_at s media (record_of v) c promise.step) (came_at s media (record_of v) c promise.step) c flush.0 there.0 flush.2 (rw same at fits.made) (rw same at fits.answers) in
+    (came.0, came.1, came.2, there.1 ∙ ap (λ (q : StepResult). Some q) came.3)
 
--- a codec that is not there is a new one, in the course and in the script
-codec_past : (k : ℕ) (ds : List CodecValue) → length ds ≤ k → codec_at k ds ≡ new_codec (record { kind = kind.AudioDecoder; saturation = 4 })
-codec_past k ds le = ap (λ (o : Option CodecValue). unwrap_or o (new_codec (record { kind = kind.AudioDecoder; saturation = 4 }))) (slice_get_past ds k le)
-
+-- a codec that is not there is opened as a new one
 opening_past : (cs : List CodecItem) (k : ℕ) → length cs ≤ k → opening_in cs k ≡ record { kind = kind.AudioDecoder; saturation = 4 }
 opening_past [] k le = refl
 opening_past (c ∷ cs) zero le = absurd (omega (arith, le))
@@ -238,7 +210,7 @@ opening_past (c ∷ cs) (suc k) le = opening_past cs k (omega (arith, le))
 pub opens : (s : ScriptData) (media : List (List Chunk)) (made : List CoderId) (v : Course) (k : ℕ) → Stands s media made v → (codec_at k v.codecs).opening ≡ opening_at s k
 opens s media made v k st = elim (below_or_past k (length v.codecs)) [
   | inl lt ↦ st.opened k lt
-  | inr le ↦ ap (λ (d : CodecValue). d.opening) (codec_past k v.codecs le) ∙ sym (opening_past s.codecs k (let n = st.count in omega (arith, le, n)))
+  | inr le ↦ rw (slice_get_past v.codecs k le, opening_past s.codecs k (let n = st.count in omega (arith, le, n))) refl
 ]
 
 -- the whole history that a look sees
@@ -249,18 +221,14 @@ all_there v k = ap (take (length (codec_at k v.codecs).history)) (history_at k v
 promise_shows : (s : ScriptData) (media : List (List Chunk)) (made : List CoderId) (v : Course) (k p : ℕ) → Stands s media made v
     → promise_after (codec_at k v.codecs).opening (codec_at k v.codecs).history p ≡ promise_after (opening_at s k) (take (length (codec_at k v.codecs).history) (at k (histories v.codecs))) p
 promise_shows s media made v k p st =
-    let h = (codec_at k v.codecs).history in
-    ap (λ (o : Opening). promise_after o h p) (opens s media made v k st)
-    ∙ ap (λ (l : List Entry). promise_after (opening_at s k) l p) (sym (all_there v k))
+    rw (all_there v k, sym (opens s media made v k st)) refl
 
 state_shows : (s : ScriptData) (media : List (List Chunk)) (made : List CoderId) (v : Course) (k : ℕ) → Stands s media made v → state_of (codec_at k v.codecs) ≡ state_after (opening_at s k) (take (length (codec_at k v.codecs).history) (at k (histories v.codecs)))
-state_shows s media made v k st =
-    ap (λ (o : Opening). state_after o (codec_at k v.codecs).history) (opens s media made v k st)
-    ∙ ap (λ (l : List Entry). state_after (opening_at s k) l) (sym (all_there v k))
+state_shows s media made v k st = rw (all_there v k, sym (opens s media made v k st)) refl
 
 look_apart : (v : Course) (k : ℕ) (r : StepResult) → mark_of r ≡ mark.Look k (length (codec_at k v.codecs).history) → Apart v r
 look_apart v k r is = record {
-  climbs = λ n. subst (λ m. MayClimb (reach n m) (length (at n (histories v.codecs))) (length (at n (histories v.codecs)))) (sym is) (look_climbs v k n (k == n) (same_codec k n));
+  climbs = λ n. rw is (look_climbs v k n (k == n) (eqb-true k n));
   no_call = λ n who. ap (call_in n who) is;
 }
 
@@ -300,18 +268,16 @@ take_quiet : (s : ScriptData) (media : List (List Chunk)) (v : Course) (c k n : 
 take_quiet s media v c k n bind holds lt is x pool vs named =
     let w = record_of (with_result c (result.NoUnit k n) v) in
     let j = length (at c v.callers) in
-    let same : on_media.Take k bind holds ≡ x = one_medium (on_media.Take k bind holds) x (sym (ap (option_and_then media_of) is) ∙ named) in
+    let same : on_media.Take k bind holds ≡ x = some_same (on_media.Take k bind holds) x (sym (ap (option_and_then media_of) is) ∙ named) in
     let none : taken_by s w (result_in w c j) ≡ None = ap (taken_by s w) (result_new c (result.NoUnit k n) v.callers lt) in
-    subst (λ (y : MediaStep). media_came pool (next_who v c) (brought_to s media w c j y) y vs ≡ None) same (ap (λ (o : Option Taken). taken_came pool j o vs) none)
+    rw (sym same, none) refl
 
 -- what is not taken yet of a codec's outputs, as a look at its whole history sees it
 untaken : (s : ScriptData) (media : List (List Chunk)) (made : List CoderId) (v : Course) (k : ℕ) → Stands s media made v
     → let d = codec_at k v.codecs in let h = take (length d.history) (at k (histories v.codecs)) in
     output_at (opening_at s k) h (state_after (opening_at s k) h).control.taken ≡ output_at d.opening d.history (state_of d).control.taken
 untaken s media made v k st =
-    let d = codec_at k v.codecs in
-    ap (λ (l : List Entry). output_at (opening_at s k) l (state_after (opening_at s k) l).control.taken) (all_there v k)
-    ∙ sym (ap (λ (o : Opening). output_at o d.history (state_after o d.history).control.taken) (opens s media made v k st))
+    rw (all_there v k, sym (opens s media made v k st)) refl
 
 take_fits : (s : ScriptData) (media : List (List Chunk)) (made : List CoderId) (v : Course) (c k : ℕ) (bind : List ℕ) (holds : VariableKind) (o : Option output.Unit) → IsSound s → Stands s media made v → IsNext s v c (step.Media (on_media.Take k bind holds))
     → output_at (codec_at k v.codecs).opening (codec_at k v.codecs).history (state_of (codec_at k v.codecs)).control.taken ≡ o
@@ -338,7 +304,7 @@ take_fits s media made v c k bind holds (Some u) sound st is some =
       after = after.0;
       steps = after.1;
       unit = u;
-      there = ap (λ (l : List Entry). output_at (opening_at s k) l n) (history_at k v.codecs) ∙ (sym (ap (λ (o : Opening). output_at o d.history n) (opens s media made v k st)) ∙ some);
+      there = rw (history_at k v.codecs, sym (opens s media made v k st)) some;
       comes = refl;
     }
 
@@ -347,24 +313,15 @@ take_fits s media made v c k bind holds (Some u) sound st is some =
 -- what is handed over is legal where it tells whether the codec is configured
 encode_legal : (who : Who) (number : ℕ) (shape : SoundShape) (held : Option MediaRef) (t : State) (b : Bool) → is_configured t.control ≡ b → Steps (entry.Encode who (handed_by number b shape held)) t
 encode_legal who number shape None t b is = refl
-encode_legal who number shape (Some r) t true is = taken (is_configured t.control) _ is
-  where
-    taken : (b : Bool) (u : State) → b ≡ true → is_some (if b then Some u else None) ≡ true
-    taken b u is = ap (λ (c : Bool). is_some (if c then Some u else None)) is
-encode_legal who number shape (Some r) t false is = refused (is_configured t.control) _ is
-  where
-    refused : (b : Bool) (u : State) → b ≡ false → is_some (if b then None else Some u) ≡ true
-    refused b u is = ap (λ (c : Bool). is_some (if c then None else Some u)) is
-
-error_by : (c b : Bool) → c ≡ b → (if c then None else Some dom.InvalidState) ≡ (if b then None else Some dom.InvalidState)
-error_by c b is = ap (λ (d : Bool). if d then None else Some dom.InvalidState) is
+encode_legal who number shape (Some r) t true is = rw is refl
+encode_legal who number shape (Some r) t false is = rw is refl
 
 -- its exception is what its entry shows
 encode_shows : (who : Who) (number : ℕ) (shape : SoundShape) (held : Option MediaRef) (t : State) (b : Bool) → is_configured t.control ≡ b
     → encode_error (is_gone (handed_by number b shape held)) t.control ≡ refusal_in (shows (entry.Encode who (handed_by number b shape held)) t)
 encode_shows who number shape None t b is = refl
-encode_shows who number shape (Some r) t true is = error_by (is_configured t.control) true is
-encode_shows who number shape (Some r) t false is = error_by (is_configured t.control) false is
+encode_shows who number shape (Some r) t true is = rw is refl
+encode_shows who number shape (Some r) t false is = rw is refl
 
 -- it adds a reference to what is held
 encode_adds : (pool : List PoolEntry) (who : Who) (shape : SoundShape) (held : Option MediaRef) (b : Bool) → ((r : MediaRef) → held ≡ Some r → is_held r.resource pool ≡ true) → MayAddAll pool (entry.Encode who (handed_by (references_made pool) b shape held))
@@ -385,15 +342,9 @@ sound_held (Some m) x r is holds = by_shape m.shape m.held is
     by_shape (PictureOf shape) held is = absurd cc
     by_shape (ChunkOf chunk) held is = absurd cc
     by_shape (SoundOf shape) None is =
-        let same : sound_of shape None ≡ x = cc in
-        absurd (let bad : None ≡ Some r = ap (λ (s : Sound). s.held) same ∙ holds in cc)
+        absurd (let bad : None ≡ Some r = ap (λ (s : Sound). s.held) (some_same (sound_of shape None) x is) ∙ holds in cc)
     by_shape (SoundOf shape) (Some q) is =
-        let same : sound_of shape (Some q) ≡ x = cc in
-        let one : media_ref q ≡ r = one_ref (media_ref q) r (ap (λ (s : Sound). s.held) same ∙ holds) in
-        (q, refl, ap (λ (y : MediaRef). y.resource) one)
-      where
-        one_ref : (a b : MediaRef) → Some a ≡ Some b → a ≡ b
-        one_ref a b h = cc
+        (q, refl, ap (λ (y : MediaRef). y.resource) (some_same (media_ref q) r (ap (λ (s : Sound). s.held) (some_same (sound_of shape (Some q)) x is) ∙ holds)))
 
 abbrev one_if : Bool → ℕ
 one_if b = if b then 1 else 0
@@ -495,14 +446,11 @@ done_own s media made v k wants moment (Some r) e st is ends =
       fits = end_says wants d.holding.refusal (answer_to r.kind t.running_given);
     })
   where
-    one_running : (a b : Running) → Some a ≡ Some b → a ≡ b
-    one_running a b h = cc
-
     may_be : (q : Option ℕ) → (codec_at k v.codecs).holding.refusal ≡ q → MayBeRefused r (state_of (codec_at k v.codecs)) q
     may_be None q = tt
     may_be (Some n) q =
         let needs = (st.boxes.each k).has.needs n q in
-        let same : needs.running ≡ r = one_running needs.running r (sym needs.is_running ∙ is) in
+        let same : needs.running ≡ r = some_same needs.running r (sym needs.is_running ∙ is) in
         (ap (λ (x : Running). x.kind) (sym same) ∙ needs.configure, needs.supported)
 
 turn_own : (t : State) (refusal : Option ℕ) (ts : List Task) (e : Entry) → t.control.tasks ≡ ts → turn_on ts ≡ Some e → Own t refusal e
@@ -527,10 +475,7 @@ item_own s media made v k wants (item.Reclaim n moment) e st is = reclaim_own (s
 -- a codec that is not there has nothing to do
 none_past : (wants : Bool) (x : OrderItem) (o : Opening) → item_entry wants x (new_codec o) ≡ None
 none_past wants (item.Caller c) o = refl
-none_past wants (item.Start n) o = refl
-none_past wants (item.Done n moment) o = refl
-none_past wants (item.Turn n) o = refl
-none_past wants (item.Reclaim n moment) o = refl
+none_past wants x o = refl
 
 own_fits : (s : ScriptData) (media : List (List Chunk)) (made : List CoderId) (v : Course) (k : ℕ) (wants : Bool) (x : OrderItem) (o : Option Entry) → Stands s media made v → item_entry wants x (codec_at k v.codecs) ≡ o → MoveFits s media v (advance k o)
 own_fits s media made v k wants x None st is = tt
@@ -540,7 +485,7 @@ own_fits s media made v k wants x (Some e) st is =
     record {
       codec = elim (below_or_past k (length v.codecs)) [
         | inl lt ↦ lt
-        | inr le ↦ absurd (let bad = sym (ap (item_entry wants x) (codec_past k v.codecs le) ∙ none_past wants x _) ∙ is in cc)
+        | inr le ↦ absurd (let bad = sym (none_past wants x _) ∙ (rw (slice_get_past v.codecs k le) at is) in cc)
       ];
       after = after.0;
       steps = after.1;

@@ -1,6 +1,7 @@
 -- Each entry that following an order makes is legal.
-use Rattle.std.proofs.Common.{ℕ, ◌≡◌, ◌<◌, Bool, true, false, eq-eqb, cond, List, [], ◌∷◌, ◌++◌, length, Option, Some, None, is_some, refl, ap, sym, subst, ◌∙◌, arith}
+use Rattle.std.proofs.Common.{ℕ, ◌≡◌, ◌<◌, Bool, true, false, eq-eqb, List, [], ◌∷◌, ◌++◌, length, Option, Some, None, is_some, refl, ap, sym, subst, ◌∙◌, arith}
 use Rattle.std.specs.Prelude.{unwrap_or, slice_get}
+use Rattle.wc_base.specs.Options.{some_same, cond_is}
 use Rattle.wc_base.specs.declared.who.Who.{Who}
 use Rattle.wc_config.specs.Configs.{is_supported}
 use Rattle.codec_definitions.specs.declared.unit.Unit as media
@@ -50,27 +51,21 @@ shown_last o h e l =
 
 -- a call is always legal
 pub call_legal : (who : Who) (x : Call) (s : State) → Steps (entry_of who x) s
-call_legal who (call.Configure config) s = refl
-call_legal who (call.Decode chunk) s = refl
 call_legal who call.Flush s = refl
+call_legal who x s = refl
 
 -- a take of the first output that was shown and not taken yet
 pub take_legal : (who : Who) (s : State) → s.control.taken < s.control.shown → Steps (entry.Take who s.control.taken) s
 take_legal who s lt = rw (eq-eqb s.control.taken s.control.taken refl, lt-ltb s.control.taken s.control.shown lt) refl
 
-pub cond_some : {X : Type 0} (b : Bool) (o : Option X) (x : X) → cond b o None ≡ Some x → (b ≡ true) × (o ≡ Some x)
-cond_some true o x h = (refl, h)
-cond_some false o x h = absurd cc
-
 start_on : (is : List Item) (i : Item) (s : State) → may_start s.control ≡ true → front is ≡ Some i → is_some (start_step is s.control.epoch i.number s) ≡ true
 start_on [] i s may f = absurd cc
 start_on (j ∷ rest) i s may f =
-    let same : j ≡ i = cc in
-    rw (may, eq-eqb s.control.epoch s.control.epoch refl, eq-eqb i.number j.number (ap (λ (x : Item). x.number) (sym same))) refl
+    rw (may, eq-eqb s.control.epoch s.control.epoch refl, eq-eqb i.number j.number (ap (λ (x : Item). x.number) (sym (some_same j i f)))) refl
 
 pub start_legal : (s : State) (i : Item) → start_item s.control ≡ Some i → Steps (entry.Start s.control.epoch i.number) s
 start_legal s i h =
-    let may = cond_some (may_start s.control) (front s.control.work) i h in
+    let may = cond_is (may_start s.control) (front s.control.work) i h in
     start_on s.control.work i s may.0 may.1
 
 answered : (r : Running) (s : State) (moment : ℕ) (a : Option (List media.Unit)) → answer_to r.kind s.running_given ≡ a → is_some (done_ended r (ended_of r.kind s.running_given (outcome_by a)) moment s) ≡ true
@@ -97,13 +92,8 @@ done_legal s r moment wants refusal h may =
     (rw (eq-eqb r.epoch r.epoch refl, eq-eqb r.number r.number refl) (outcome_legal r s moment wants refusal may))
 
 pub turn_legal : (s : State) (x : Task) (ts : List Task) → s.control.tasks ≡ x ∷ ts → Steps entry.Turn s
-turn_legal s (task.Close error) ts h = rw h refl
-turn_legal s task.Unblock ts h = rw h refl
-turn_legal s task.Process ts h = rw h refl
-turn_legal s task.Desaturate ts h = rw h refl
-turn_legal s (task.Output units) ts h = rw h refl
-turn_legal s (task.Flushed promise units) ts h = rw h refl
 turn_legal s task.Dequeue ts h = rw h refl
+turn_legal s x ts h = rw h refl
 
 pub reclaim_legal : (s : State) (moment : ℕ) → may_reclaim moment s.control ≡ true → Steps (entry.Reclaim moment) s
 reclaim_legal s moment h = rw h refl

@@ -1,9 +1,11 @@
 -- What stands of a course stands after each kind of move.
-use Rattle.std.proofs.Common.{ℕ, zero, suc, ◌≡◌, ◌≢◌, ◌≤◌, ◌<◌, ◌++◌, inl, inr, Bool, true, false, cond, eq-eqb, List, [], ◌∷◌, length, length-append, map, Option, Some, None, refl, ap, sym, subst, ◌∙◌, arith, append-nil}
-use Rattle.std.specs.Prelude.{slice_get, option_map, option_and_then, ◌==◌}
+use Rattle.std.proofs.Common.{ℕ, zero, suc, is_some, ◌≡◌, ◌≤◌, ◌<◌, ◌++◌, inl, inr, eq-eqb, List, [], ◌∷◌, length, length-append, map, Option, Some, None, refl, ap, sym, subst, ◌∙◌, arith, append-nil}
+use Rattle.std.specs.Prelude.{slice_get, option_and_then}
 use Rattle.std.specs.List.{sum_by}
-use Rattle.std.proofs.lemmas.Bool.{cases_eq}
+use Rattle.std.proofs.lemmas.Bool.{cases_eq, ne_eqb}
+use Rattle.std.proofs.lemmas.List.{map-append, length-map}
 use Rattle.std.proofs.lemmas.Option.{slice_get_within}
+use Rattle.wc_base.specs.Options.{some_same}
 use Rattle.wc_base.specs.declared.who.By.TheVariants as by
 use Rattle.codec_model.specs.Held.{HeldStays}
 use Rattle.wc_pool.specs.Laws.{LiveAreNumbered}
@@ -16,9 +18,7 @@ use Rattle.codec_definitions.specs.declared.unit.Unit as output
 use Rattle.codec_definitions.specs.declared.unit.Unit.TheVariants as unit
 use Rattle.codec_model.specs.declared.entry.Entry.{Entry}
 use Rattle.codec_model.specs.declared.entry.Entry.TheVariants as entry
-use Rattle.codec_model.specs.declared.entry.Opening.{Opening}
-use Rattle.codec_model.specs.declared.entry.Shown.{Shown}
-use Rattle.codec_model.specs.Replay.{State, step as entry_step, IsLegal}
+use Rattle.codec_model.specs.Replay.{State, step as entry_step}
 use Rattle.codec_model.specs.Shown.{shows}
 use Rattle.codec_accounts.specs.Owed.{at, append_at}
 use Rattle.codec_accounts.specs.ListLaws.{append_at_length, at_same, at_other, get_end, result_kept, result_new, result_more, there}
@@ -33,7 +33,7 @@ use Rattle.script_types.specs.declared.steps.Step.TheVariants as step
 use Rattle.report_text.specs.declared.result.StepResult.{StepResult}
 use Rattle.report_text.specs.declared.result.StepResult.TheVariants as result
 use Rattle.trace_text.specs.Report.{refusal_in}
-use Rattle.media_variables.specs.Variables.{Medium, Media, Came, Taken, Brought, media_came, variables_of, after_came}
+use Rattle.media_variables.specs.Variables.{Medium, Media, Came, Brought, media_came, variables_of, after_came}
 use Rattle.media_accounts.specs.Accounts.{pool_by, media_of, came_in, OneMore, IsQuiet, MediaStand, StepStands, NothingStands, StepsStand, OthersStand, LaterStand, LaterStands, EntryStands, EntriesStand}
 use Rattle.script_types.specs.declared.steps.MediaStep.{MediaStep}
 use Rattle.script_types.specs.declared.steps.MediaStep.TheVariants as on_media
@@ -43,7 +43,7 @@ use Rattle.trace_text.specs.Fits.{result_in, entry_in, step_in, called, taken_fr
 use Rattle.order_laws.proofs.Legal.{shown_last}
 use Rattle.order_laws.proofs.Entries.{codec_count, opened_still, call_fits, history_there, entries_new, longer_history, made_stays, same_history, this_history, lending_of, OneEntry, MayAddAll, entry_more, nobody_adds}
 use Rattle.order_laws.proofs.Grown.{Legals, Grows, SameMedia, variables_stay, ResultFits, taken_as, brought, output_stays, brought_stays, result_stays}
-use Rattle.order_laws.proofs.Answers.{IsOwn, own_mark, own_result, own_shows, own_found, own_taken, media_own, takes_none, media_answers}
+use Rattle.order_laws.proofs.Answers.{IsOwn, own_facts, own_shows, media_own, takes_none, media_answers}
 
 -- the laws of media
 pub record MediaLaws : Type 0 where
@@ -71,45 +71,24 @@ pub record Stands (s : ScriptData) (media : List (List Chunk)) (made : List Code
 -- a codec's history, as the script opened it
 pub legals : (s : ScriptData) (media : List (List Chunk)) (made : List CoderId) (v : Course) → Stands s media made v → Legals s (record_of v)
 legals s media made v st k = elim (there k (histories v.codecs)) [
-  | inr none ↦ subst (λ (h : List Entry). IsLegal (opening_at s k) h) (sym none) refl
+  | inr none ↦ rw none refl
   | inl lt ↦ (
       let below : k < length v.codecs = (let c = histories_count v.codecs in omega (arith, lt, c)) in
-      let d = codec_at k v.codecs in
-      let legal : IsLegal d.opening d.history = ap is_there (st.boxes.each k).replays in
-      subst (λ (h : List Entry). IsLegal (opening_at s k) h) (sym (history_at k v.codecs)) (subst (λ (o : Opening). IsLegal o d.history) (st.opened k below) legal)
+      rw (history_at k v.codecs, sym (st.opened k below)) (ap is_some (st.boxes.each k).replays)
       )
 ]
-  where
-    is_there : Option State → Bool
-    is_there o = elim o [ None ↦ false | Some t ↦ true ]
 
 -- ---- results and marks
 
 marks_append : (c : ℕ) (r : StepResult) (ls : List (List StepResult)) → map (λ rs. map mark_of rs) (append_at c r ls) ≡ append_at c (mark_of r) (map (λ rs. map mark_of rs) ls)
 marks_append c r [] = refl
-marks_append zero r (l ∷ ls) = ap (λ (x : List Mark). x ∷ map (λ rs. map mark_of rs) ls) (map_one l)
-  where
-    map_one : (l : List StepResult) → map mark_of (l ++ r ∷ []) ≡ map mark_of l ++ mark_of r ∷ []
-    map_one [] = refl
-    map_one (x ∷ xs) = ap (λ (m : List Mark). mark_of x ∷ m) (map_one xs)
+marks_append zero r (l ∷ ls) = ap (λ (x : List Mark). x ∷ map (λ rs. map mark_of rs) ls) (map-append mark_of l (r ∷ []))
 marks_append (suc c) r (l ∷ ls) = ap (λ (m : List (List Mark)). map mark_of l ∷ m) (marks_append c r ls)
-
-marks_count : (ls : List (List StepResult)) → length (map (λ rs. map mark_of rs) ls) ≡ length ls
-marks_count [] = refl
-marks_count (l ∷ ls) = ap suc (marks_count ls)
 
 marks_long : (c : ℕ) (ls : List (List StepResult)) → length (at c (map (λ rs. map mark_of rs) ls)) ≡ length (at c ls)
 marks_long c [] = refl
-marks_long zero (l ∷ ls) = long l
-  where
-    long : (l : List StepResult) → length (map mark_of l) ≡ length l
-    long [] = refl
-    long (x ∷ xs) = ap suc (long xs)
+marks_long zero (l ∷ ls) = length-map l mark_of
 marks_long (suc c) (l ∷ ls) = marks_long c ls
-
-map_more : (l : List StepResult) (r : StepResult) → map mark_of (l ++ r ∷ []) ≡ map mark_of l ++ mark_of r ∷ []
-map_more [] r = refl
-map_more (x ∷ xs) r = ap (λ (m : List Mark). mark_of x ∷ m) (map_more xs r)
 
 -- ---- the next step of a caller
 
@@ -213,49 +192,37 @@ results_more : (s : ScriptData) (media : List (List Chunk)) (made : List CoderId
 results_more s media made v u c r st g told callers fits b j q is =
     elim (result_more b c j r q v.callers (ap (λ (ls : List (List StepResult)). slice_get (at b ls) j) (sym callers) ∙ is)) [
       | inl was ↦ result_stays s media (record_of v) (record_of u) (legals s media made v st) st.climbs g told b j q was (st.results b j q was)
-      | inr new ↦ (
-          let number : ResultFits s media (record_of u) b (length (at b v.callers)) r = subst (λ (n : ℕ). ResultFits s media (record_of u) n (length (at n v.callers)) r) (sym new.number) fits in
-          let place : ResultFits s media (record_of u) b j r = subst (λ (n : ℕ). ResultFits s media (record_of u) b n r) (sym new.place) number in
-          subst (λ (x : StepResult). ResultFits s media (record_of u) b j x) (sym new.value) place
-          )
+      | inr new ↦ rw (new.place, new.value, new.number) fits
     ]
 
 -- the marks of a course that goes on by one result
 marks_climb : (v u : Course) (c : ℕ) (r : StepResult) → MarksClimb (record_of v) → u.callers ≡ append_at c r v.callers → c < length v.callers → ((k : ℕ) → length (at k (histories v.codecs)) ≤ length (at k (histories u.codecs)))
     → ((k : ℕ) → MayClimb (reach k (mark_of r)) (length (at k (histories v.codecs))) (length (at k (histories u.codecs)))) → MarksClimb (record_of u)
 marks_climb v u c r climbs callers lt up may b k =
-    subst (λ (ls : List (List StepResult)). Climbs k 0 (map mark_of (at b ls)) (length (at k (histories u.codecs)))) (sym callers) (elim (cases_eq b c) [
-      | inr other ↦ subst (λ (l : List StepResult). Climbs k 0 (map mark_of l) (length (at k (histories u.codecs)))) (sym (at_other b c r v.callers other))
+    elim (cases_eq b c) [
+      | inr other ↦ rw (callers, at_other b c r v.callers other)
           (climbs_on k 0 (map mark_of (at b v.callers)) (length (at k (histories v.codecs))) (length (at k (histories u.codecs))) (up k) (climbs b k))
-      | inl same ↦ subst (λ (n : ℕ). Climbs k 0 (map mark_of (at n (append_at c r v.callers))) (length (at k (histories u.codecs)))) (sym same)
-          (subst (λ (l : List StepResult). Climbs k 0 (map mark_of l) (length (at k (histories u.codecs)))) (sym (at_same c r v.callers lt))
-          (subst (λ (l : List Mark). Climbs k 0 l (length (at k (histories u.codecs)))) (sym (map_more (at c v.callers) r))
-          (climbs_add k 0 (map mark_of (at c v.callers)) (length (at k (histories v.codecs))) (mark_of r) (length (at k (histories u.codecs))) (climbs c k) (may k))))
-    ])
+      | inl same ↦ rw (same, callers, at_same c r v.callers lt, map-append mark_of (at c v.callers) (r ∷ []))
+          (climbs_add k 0 (map mark_of (at c v.callers)) (length (at k (histories v.codecs))) (mark_of r) (length (at k (histories u.codecs))) (climbs c k) (may k))
+    ]
 
 -- the calls of a course that goes on by one result
 calls_once : (v u : Course) (c k : ℕ) (r : StepResult) (more : List Entry) → mark.CallsAreIn k (at k (histories v.codecs)) (marks_of (record_of v)) → u.callers ≡ append_at c r v.callers → c < length v.callers → at k (histories u.codecs) ≡ at k (histories v.codecs) ++ more
     → named (at k (histories v.codecs) ++ more) ≡ named (at k (histories v.codecs)) ++ call_in k (next_who v c) (mark_of r) → mark.CallsAreIn k (at k (histories u.codecs)) (marks_of (record_of u))
 calls_once v u c k r more once callers lt grown names =
     let marks = marks_of (record_of v) in
-    let there : c < length marks = (let n = marks_count v.callers in omega (arith, lt, n)) in
-    let same : named (at k (histories v.codecs) ++ more) ≡ named (at k (histories v.codecs)) ++ call_in k (record { caller = c; step = length (at c marks) }) (mark_of r) =
-    names ∙ ap (λ (n : ℕ). named (at k (histories v.codecs)) ++ call_in k (record { caller = c; step = n }) (mark_of r)) (sym (marks_long c v.callers)) in
-    let all = calls_in_more k c (mark_of r) marks (at k (histories v.codecs)) more there once (λ t. ap (sum_by t) same) in
-    subst (λ (ms : List (List Mark)). mark.CallsAreIn k (at k (histories u.codecs)) ms) (sym (ap (λ (ls : List (List StepResult)). map (λ rs. map mark_of rs) ls) callers ∙ marks_append c r v.callers))
-    (subst (λ (h : List Entry). mark.CallsAreIn k h (append_at c (mark_of r) marks)) (sym grown) all)
+    let there : c < length marks = (let n = length-map v.callers (λ rs. map mark_of rs) in omega (arith, lt, n)) in
+    let same : named (at k (histories v.codecs) ++ more) ≡ named (at k (histories v.codecs)) ++ call_in k (record { caller = c; step = length (at c marks) }) (mark_of r) = rw (marks_long c v.callers) names in
+    rw (callers, marks_append c r v.callers, grown) (calls_in_more k c (mark_of r) marks (at k (histories v.codecs)) more there once (λ t. ap (sum_by t) same))
 
 -- ---- media
 
 -- one caller has one result more
 one_more : (v u : Course) (c : ℕ) (r : StepResult) → u.callers ≡ append_at c r v.callers → c < length v.callers → OneMore (made_steps (record_of v)) (made_steps (record_of u)) c
 one_more v u c r callers lt = record {
-  here = ap (λ (ls : List (List StepResult)). length (at c ls)) callers ∙ (ap length (at_same c r v.callers lt) ∙ one (at c v.callers));
-  others = λ d other. ap (λ (ls : List (List StepResult)). length (at d ls)) callers ∙ ap length (at_other d c r v.callers other);
+  here = rw (callers, at_same c r v.callers lt) (let n = length-append (at c v.callers) (r ∷ []) in omega (arith, n));
+  others = λ d other. rw (callers, at_other d c r v.callers other) refl;
 }
-  where
-    one : (l : List StepResult) → length (l ++ r ∷ []) ≡ suc (length l)
-    one l = let n = length-append l (r ∷ []) in omega (arith, n)
 
 -- what is brought to each step that was made is so still
 later_stands : MediaLaws → (s : ScriptData) (media : List (List Chunk)) (made : List CoderId) (v u : Course) → Stands s media made v → Grows (record_of v) (record_of u)
@@ -268,25 +235,13 @@ later_stands laws s media made v u st g =
 pub none_quiet : (s : ScriptData) (brought : ℕ → ℕ → MediaStep → Brought) (c j : ℕ) → option_and_then media_of (step_in s c j) ≡ None → IsQuiet (steps_of s) brought c j
 none_quiet s brought c j none x pool vs is = absurd (let bad : None ≡ Some x = sym none ∙ is in cc)
 
-pub one_medium : (x y : MediaStep) → Some x ≡ Some y → x ≡ y
-one_medium x y h = cc
-
 -- a step that calls a codec is quiet: it is none on media, or one that encodes
 pub call_quiet : (s : ScriptData) (brought : ℕ → ℕ → MediaStep → Brought) (c j k : ℕ) (x : Step) → step_in s c j ≡ Some x → called x ≡ Some k → IsQuiet (steps_of s) brought c j
 call_quiet s brought c j k (step.Media (on_media.Encode on content)) is h = λ y pool vs named. (
-    let same : on_media.Encode on content ≡ y = one_medium (on_media.Encode on content) y (sym (ap (option_and_then media_of) is) ∙ named) in
-    subst (λ (z : MediaStep). media_came pool (record { caller = c; step = j }) (brought c j z) z vs ≡ None) same refl
+    let same = some_same (on_media.Encode on content) y (sym (ap (option_and_then media_of) is) ∙ named) in rw (sym same) refl
     )
 call_quiet s brought c j k (step.Media x) is h = absurd cc
-call_quiet s brought c j k (step.Configure on config) is h = none_quiet s brought c j (ap (option_and_then media_of) is)
-call_quiet s brought c j k (step.Decode on chunk) is h = none_quiet s brought c j (ap (option_and_then media_of) is)
-call_quiet s brought c j k (step.Flush on bind) is h = none_quiet s brought c j (ap (option_and_then media_of) is)
-call_quiet s brought c j k (step.Reset on) is h = none_quiet s brought c j (ap (option_and_then media_of) is)
-call_quiet s brought c j k (step.Close on) is h = none_quiet s brought c j (ap (option_and_then media_of) is)
-call_quiet s brought c j k (step.Chunk bind source) is h = absurd cc
-call_quiet s brought c j k (step.Poll promise) is h = absurd cc
-call_quiet s brought c j k (step.Await promise) is h = absurd cc
-call_quiet s brought c j k (step.State on) is h = absurd cc
+call_quiet s brought c j k x is h = none_quiet s brought c j (ap (option_and_then media_of) is)
 
 -- all media stand after one entry more of a codec, whose course goes on to u
 entry_stands : MediaLaws → (s : ScriptData) (media : List (List Chunk)) (made : List CoderId) (v u : Course) (k : ℕ) (e : Entry) (t : State) → Stands s media made v → OneEntry s v k e t → MayAddAll v.media.pool e
@@ -361,6 +316,8 @@ advance_stands laws s media made v k e st a =
     let later = later_stands laws s media made v u st (advance_grows v k e) in
     let stands = entry_stands laws s media made v u k e a.after st (one_entry s media made v k e a.after st a.codec a.steps) (nobody_adds v.media.pool e a.nobody) later in
     let told = entry_told s media v u k e later stands refl in
+    let here = at k (histories v.codecs) in
+    let still : named (here ++ e ∷ []) ≡ named here = rw (named_more here e, a.nobody, append-nil (named here)) refl in
     record {
       callers = st.callers;
       count = codec_count v k e ∙ st.count;
@@ -373,25 +330,14 @@ advance_stands laws s media made v k e st a =
         | inr new ↦ absurd (let bad = sym a.nobody ∙ (ap who_of (sym new.value) ∙ names) in cc)
       ];
       once = λ n. elim (cases_eq n k) [
-        | inr other ↦ subst (λ (h : List Entry). mark.CallsAreIn n h (marks_of (record_of v))) (sym (same_history v k n e other)) (st.once n)
-        | inl same ↦ subst (λ (i : ℕ). mark.CallsAreIn i (at i (histories (with_entry k e v).codecs)) (marks_of (record_of v))) (sym same)
-            (subst (λ (h : List Entry). mark.CallsAreIn k h (marks_of (record_of v))) (sym (this_history v k e a.codec))
-            (λ t. ap (sum_by t) (named_more (at k (histories v.codecs)) e ∙ (ap (λ (o : Option Who). named (at k (histories v.codecs)) ++ named_at (length (at k (histories v.codecs))) o) a.nobody ∙ append-nil (named (at k (histories v.codecs))))) ∙ st.once k t))
+        | inr other ↦ rw (same_history v k n e other) (st.once n)
+        | inl same ↦ rw (same, this_history v k e a.codec) (λ t. ap (sum_by t) still ∙ st.once k t)
       ];
       climbs = λ c n. climbs_on n 0 (map mark_of (at c v.callers)) (length (at n (histories v.codecs))) (length (at n (histories (with_entry k e v).codecs))) (up_to v k n e) (st.climbs c n);
       stand = stands.stands;
     }
 
 -- ---- a caller's entry, and its result
-
-reach_itself : (k p : ℕ) → reach k (mark.Call k p) ≡ Some (p, suc p)
-reach_itself k p = ap (λ (b : Bool). cond b (Some (p, suc p)) None) (eq-eqb k k refl)
-
-not_same : (x y : ℕ) → x ≢ y → (x == y) ≡ false
-not_same x y other = grind arith
-
-some_who : {x y : Who} → Some x ≡ Some y → x ≡ y
-some_who h = cc
 
 -- a result whose entry is the codec's next, and names the caller's next step
 record IsNextEntry (v : Course) (c k : ℕ) (e : Entry) (r : StepResult) : Type 0 where
@@ -406,7 +352,7 @@ entry_arguments s media made v u c k e r x st told a is_step has codecs n q f wh
     elim (entries_new v k q n e f (ap (λ (ds : List CodecValue). slice_get (at n (histories ds)) q) (sym codecs) ∙ is)) [
       | inl was ↦ arguments_stay s media made v u n q f who st told was names
       | inr new ↦ (
-          let same : next_who v c ≡ who = some_who (sym a.names ∙ (ap who_of (sym new.value) ∙ names)) in
+          let same : next_who v c ≡ who = some_same (next_who v c) who (sym a.names ∙ (ap who_of (sym new.value) ∙ names)) in
           let here : HasArguments s media (variables_at s media (record_of u) c (length (at c v.callers))) (next_who v c) e x =
           subst (λ (vs : List (Option Medium)). HasArguments s media vs (next_who v c) e x) (sym (same_before s media made v u c st told)) has in (
             x,
@@ -420,40 +366,25 @@ entry_once : (v : Course) (c k : ℕ) (e : Entry) (r : StepResult) → ((n : ℕ
     → (n : ℕ) → mark.CallsAreIn n (at n (histories (with_entry k e v).codecs)) (marks_of (record_of (with_result c r (with_entry k e v))))
 entry_once v c k e r once a n =
     let u = with_result c r (with_entry k e v) in
-    let p = next_place v k in
     let h = at n (histories v.codecs) in
     let here = at k (histories v.codecs) in
-    let long : length here ≡ p = history_there v k in
     elim (cases_eq n k) [
       | inr other ↦ calls_once v u c n r [] (once n) refl a.caller (same_history v k n e other ∙ sym (append-nil h))
-          (ap named (append-nil h)
-          ∙ sym (ap (λ (m : Mark). named h ++ call_in n (next_who v c) m) a.marks
-          ∙ (ap (λ (b : Bool). named h ++ cond b ((p, next_who v c) ∷ []) []) (not_same k n (λ z. other (sym z))) ∙ append-nil (named h))))
-      | inl same ↦ subst (λ (i : ℕ). mark.CallsAreIn i (at i (histories u.codecs)) (marks_of (record_of u))) (sym same)
-          (calls_once v u c k r (e ∷ []) (once k) refl a.caller (this_history v k e a.codec)
-          (named_more here e
-          ∙ (ap (λ (o : Option Who). named here ++ named_at (length here) o) a.names
-          ∙ (ap (λ (i : ℕ). named here ++ ((i, next_who v c) ∷ [])) long
-          ∙ (ap (λ (b : Bool). named here ++ cond b ((p, next_who v c) ∷ []) []) (sym (eq-eqb k k refl))
-          ∙ ap (λ (m : Mark). named here ++ call_in k (next_who v c) m) (sym a.marks))))))
+          (rw (a.marks, ne_eqb k n (λ z. other (sym z)), append-nil h, append-nil (named h)) refl)
+      | inl same ↦ rw same (calls_once v u c k r (e ∷ []) (once k) refl a.caller (this_history v k e a.codec) (named_more here e ∙ rw (a.marks, eq-eqb k k refl, a.names, history_there v k) refl))
     ]
 
 entry_climbs : (v : Course) (c k : ℕ) (e : Entry) (r : StepResult) → MarksClimb (record_of v) → IsNextEntry v c k e r → MarksClimb (record_of (with_result c r (with_entry k e v)))
 entry_climbs v c k e r climbs a =
-    marks_climb v u c r climbs refl a.caller (λ n. up_to v k n e) (λ n. subst (λ (m : Mark). MayClimb (reach n m) (length (at n (histories v.codecs))) (length (at n (histories u.codecs)))) (sym a.marks) (may n))
+    marks_climb v (with_result c r (with_entry k e v)) c r climbs refl a.caller (λ n. up_to v k n e) (λ n. rw a.marks (may n))
   where
-    u : Course
-    u = with_result c r (with_entry k e v)
-
     may : (n : ℕ) → MayClimb (reach n (mark.Call k (next_place v k))) (length (at n (histories v.codecs))) (length (at n (histories (with_entry k e v).codecs)))
     may n =
         let p = next_place v k in
         let long : length (at k (histories v.codecs)) ≡ p = history_there v k in
         elim (cases_eq n k) [
-          | inr other ↦ subst (λ (o : Option (ℕ × ℕ)). MayClimb o (length (at n (histories v.codecs))) (length (at n (histories (with_entry k e v).codecs)))) (sym (ap (λ (b : Bool). cond b (Some (p, suc p)) None) (not_same k n (λ h. other (sym h))))) (up_to v k n e)
-          | inl same ↦ subst (λ (i : ℕ). MayClimb (reach i (mark.Call k p)) (length (at i (histories v.codecs))) (length (at i (histories (with_entry k e v).codecs)))) (sym same)
-              (subst (λ (o : Option (ℕ × ℕ)). MayClimb o (length (at k (histories v.codecs))) (length (at k (histories (with_entry k e v).codecs)))) (sym (reach_itself k p))
-              (omega (arith, long), (let l = ap length (this_history v k e a.codec) in let q = length-append (at k (histories v.codecs)) (e ∷ []) in omega (arith, long, l, q))))
+          | inr other ↦ rw (ne_eqb k n (λ h. other (sym h))) (up_to v k n e)
+          | inl same ↦ rw (same, eq-eqb k k refl) (omega (arith, long), (let l = ap length (this_history v k e a.codec) in let q = length-append (at k (histories v.codecs)) (e ∷ []) in omega (arith, long, l, q)))
         ]
 
 -- ---- calls
@@ -466,13 +397,8 @@ call_there s media made v c k e error st a =
     let h = at k (histories v.codecs) in
     let p = next_place v k in
     let legal = legals s media made v st k in
-    let state : state_after (opening_at s k) h ≡ state_of (codec_at k v.codecs) = ap (state_after (opening_at s k)) (history_at k v.codecs) ∙ ap (λ (o : Opening). state_after o (codec_at k v.codecs).history) (sym (st.opened k a.codec)) in
-    let shown : error ≡ exception_at (opening_at s k) (at k (histories u.codecs)) p =
-    a.shown
-    ∙ (ap (λ (t : State). refusal_in (shows e t)) (sym state)
-    ∙ (sym (ap (λ (o : Option Shown). option_and_then (λ (y : Shown). refusal_in y.events) o) (shown_last (opening_at s k) h e legal))
-    ∙ (ap (λ (n : ℕ). exception_at (opening_at s k) (h ++ e ∷ []) n) (history_there v k)
-    ∙ ap (λ (l : List Entry). exception_at (opening_at s k) l p) (sym (this_history v k e a.codec))))) in
+    let state : state_after (opening_at s k) h ≡ state_of (codec_at k v.codecs) = rw (history_at k v.codecs, st.opened k a.codec) refl in
+    let shown : error ≡ exception_at (opening_at s k) (at k (histories u.codecs)) p = rw (this_history v k e a.codec, sym (history_there v k), shown_last (opening_at s k) h e legal, state) a.shown in
     let none = no_look s media (record_of u) c k p a.step error a.calls in
     record {
       step = a.step;
@@ -486,17 +412,13 @@ call_there s media made v c k e error st a =
   where
     no_look : (s : ScriptData) (media : List (List Chunk)) (w : Recorded) (c k p : ℕ) (x : Step) (error : Option DomError) → called x ≡ Some k
         → (taken_from x ≡ None) × LookShows s w c x (result.Call k p error) × ((vs : List (Option Medium)) (o : Option Came) → IsLocalAnswer s media vs o c x (result.Call k p error))
-    no_look s media w c k p (step.Configure on config) error h = (refl, tt, λ vs o. tt)
-    no_look s media w c k p (step.Decode on chunk) error h = (refl, tt, λ vs o. tt)
-    no_look s media w c k p (step.Flush on bind) error h = (refl, tt, λ vs o. tt)
-    no_look s media w c k p (step.Reset on) error h = (refl, tt, λ vs o. tt)
-    no_look s media w c k p (step.Close on) error h = (refl, tt, λ vs o. tt)
     no_look s media w c k p (step.Chunk bind source) error h = absurd cc
     no_look s media w c k p (step.Poll promise) error h = absurd cc
     no_look s media w c k p (step.Await promise) error h = absurd cc
     no_look s media w c k p (step.State on) error h = absurd cc
     no_look s media w c k p (step.Media (on_media.Encode on content)) error h = (refl, tt, λ vs o. tt)
     no_look s media w c k p (step.Media x) error h = absurd cc
+    no_look s media w c k p x error h = (refl, tt, λ vs o. tt)
 
 ask_stands : MediaLaws → (s : ScriptData) (media : List (List Chunk)) (made : List CoderId) (v : Course) (c k : ℕ) (e : Entry) (error : Option DomError) → Stands s media made v → AskFits s media v c k e error → Stands s media made (after_move (Ask c k e error) v)
 ask_stands laws s media made v c k e error st a =
@@ -541,19 +463,18 @@ handled_stands laws s media made v who y st a =
     let grows : Grows (record_of v) (record_of u) = record { stays = (answer_grows v c r).stays; more = (answer_grows v c r).more } in
     let later = later_stands laws s media made v u st grows in
     let own : IsOwn r = media_own v.media.pool (next_who v c) chunk a.handled (variables_of c v.media.variables) y a.comes in
-    let none : taken_by s (record_of u) (result_in (record_of u) c (length (at c v.callers))) ≡ None = ap (taken_by s (record_of u)) (result_new c r v.callers a.caller) ∙ own_taken s (record_of u) r own in
-    let comes : media_came v.media.pool (next_who v c) (brought_to s media (record_of u) c (length (at c v.callers)) a.handled) a.handled (variables_of c v.media.variables) ≡ Some y =
-    ap (λ (o : Option Taken). media_came v.media.pool (next_who v c) (brought chunk o) a.handled (variables_of c v.media.variables)) none ∙ a.comes in
+    let fitting = own_facts s (record_of u) r own in
+    let none : taken_by s (record_of u) (result_in (record_of u) c (length (at c v.callers))) ≡ None = ap (taken_by s (record_of u)) (result_new c r v.callers a.caller) ∙ fitting.took in
     let told : StepStands (steps_of s) (brought_to s media (record_of u)) (lending_of s v.codecs) (made_steps (record_of v)) (made_steps (record_of u)) (length s.callers) v.media c y =
-    laws.media (steps_of s) (brought_to s media (record_of u)) (lending_of s v.codecs) (made_steps (record_of v)) (made_steps (record_of u)) (length s.callers) v.media c a.handled y later.stands below (one_more v u c r refl a.caller) a.is_step comes in
+    laws.media (steps_of s) (brought_to s media (record_of u)) (lending_of s v.codecs) (made_steps (record_of v)) (made_steps (record_of u)) (length s.callers) v.media c a.handled y later.stands below (one_more v u c r refl a.caller) a.is_step (rw none a.comes) in
     let still : SameMedia s media (record_of v) (record_of u) = still_told s media v u c y v.media later.same told refl in
     let none_named = takes_none v.media.pool (next_who v c) chunk a.handled (variables_of c v.media.variables) y a.comes in
     let fits : ResultFits s media (record_of u) c (length (at c v.callers)) r = record {
       step = step.Media a.handled;
       is_step = a.is_step;
       made = subst (λ (t : Option ℕ). IsResultBy s (record_of u) (next_who v c) t (called (step.Media a.handled)) r) (sym none_named.0)
-          (subst (λ (o : Option ℕ). IsAnswerOf s (record_of u) o r) (sym none_named.1) (own_result s (record_of u) r own));
-      found = own_found s (record_of u) r own;
+          (subst (λ (o : Option ℕ). IsAnswerOf s (record_of u) o r) (sym none_named.1) fitting.answers);
+      found = fitting.found;
       shows = own_shows s (record_of u) c a.handled r own;
       answers = media_answers s media v.media.pool (next_who v c) chunk a.handled (variables_at s media (record_of u) c (length (at c v.callers))) (variables_of c v.media.variables) y (came_at s media (record_of u) c (length (at c v.callers))) c r a.comes (subst (λ (o : Option Came). IsMediaAnswer o r) (sym told.here) refl);
     } in
@@ -566,9 +487,9 @@ handled_stands laws s media made v who y st a =
       results = results_more s media made v u c r st grows still refl fits;
       arguments = λ k p e who is names. arguments_stay s media made v u k p e who st still is names;
       once = λ k. calls_once v u c k r [] (st.once k) refl a.caller (sym (append-nil (at k (histories v.codecs))))
-          (ap named (append-nil (at k (histories v.codecs))) ∙ sym (ap (λ m. named (at k (histories v.codecs)) ++ call_in k (next_who v c) m) (own_mark r own) ∙ append-nil (named (at k (histories v.codecs)))));
+          (ap named (append-nil (at k (histories v.codecs))) ∙ sym (ap (λ m. named (at k (histories v.codecs)) ++ call_in k (next_who v c) m) fitting.local ∙ append-nil (named (at k (histories v.codecs)))));
       climbs = marks_climb v u c r st.climbs refl a.caller (λ k. omega arith)
-          (λ k. subst (λ (m : Mark). MayClimb (reach k m) (length (at k (histories v.codecs))) (length (at k (histories v.codecs)))) (sym (own_mark r own)) (omega arith));
+          (λ k. subst (λ (m : Mark). MayClimb (reach k m) (length (at k (histories v.codecs))) (length (at k (histories v.codecs)))) (sym fitting.local) (omega arith));
       stand = told.stands;
     }
 
@@ -603,10 +524,7 @@ take_there s media v u c k n bind holds shown is grown found = record {
 }
   where
     stands : entry_in (record_of u) k (next_place v k) ≡ Some (entry.Take (next_who v c) n)
-    stands =
-        ap (λ (l : List Entry). slice_get l (next_place v k)) grown
-        ∙ (ap (λ (i : ℕ). slice_get (at k (histories v.codecs) ++ entry.Take (next_who v c) n ∷ []) i) (sym (history_there v k))
-        ∙ get_end (at k (histories v.codecs)) (entry.Take (next_who v c) n))
+    stands = rw (grown, sym (history_there v k)) (get_end (at k (histories v.codecs)) (entry.Take (next_who v c) n))
 
 -- a take does nothing to the pool
 take_pool : (v : Course) (k n c : ℕ) (e : Entry) → e ≡ entry.Take (next_who v c) n → (with_entry k e v).media.pool ≡ v.media.pool
@@ -630,17 +548,13 @@ received_stands laws s media made v c k e y st a =
     let grows : Grows (record_of v) (record_of u) = record { stays = (both_grow v c k e r).stays; more = (both_grow v c k e r).more } in
     let later = later_stands laws s media made v u st grows in
     let shown : output_at (opening_at s k) (at k (histories u.codecs)) n ≡ Some a.unit = output_stays s (record_of v) (record_of u) grows k n a.unit a.there in
-    let took : taken_by s (record_of u) (result_in (record_of u) c (length (at c v.callers))) ≡ Some (taken_as (take_result v k n) a.unit) =
-    ap (taken_by s (record_of u)) (result_new c r v.callers a.caller ∙ ap (λ (q : StepResult). Some q) answers) ∙ ap (option_map (taken_as (take_result v k n))) shown in
+    let took : taken_by s (record_of u) (result_in (record_of u) c (length (at c v.callers))) ≡ Some (taken_as (take_result v k n) a.unit) = rw (result_new c r v.callers a.caller, answers, shown) refl in
     let m = (with_entry k e v).media in
     let pool : m.pool ≡ v.media.pool = take_pool v k n c e a.takes in
     let stands = entry_stands laws s media made v u k e a.after st (one_entry s media made v k e a.after st a.codec a.steps) (take_adds v.media.pool (next_who v c) n e a.takes) later in
     let before = λ (d j : ℕ) (lt : j < made_steps (record_of v) d). stands.same d j ∙ later.same d j lt in
-    let comes : media_came m.pool (next_who v c) (brought_to s media (record_of u) c (length (at c v.callers)) step_taken) step_taken (variables_of c v.media.variables) ≡ Some y =
-    ap (λ (o : Option Taken). media_came m.pool (next_who v c) (brought None o) step_taken (variables_of c v.media.variables)) took
-    ∙ (ap (λ (p : List PoolEntry). media_came p (next_who v c) (brought None (Some (taken_as (take_result v k n) a.unit))) step_taken (variables_of c v.media.variables)) pool ∙ a.comes) in
     let told : StepStands (steps_of s) (brought_to s media (record_of u)) (lending_of s u.codecs) (made_steps (record_of v)) (made_steps (record_of u)) (length s.callers) m c y =
-    laws.media (steps_of s) (brought_to s media (record_of u)) (lending_of s u.codecs) (made_steps (record_of v)) (made_steps (record_of u)) (length s.callers) m c step_taken y stands.stands below (one_more v u c r refl a.caller) a.is_step comes in
+    laws.media (steps_of s) (brought_to s media (record_of u)) (lending_of s u.codecs) (made_steps (record_of v)) (made_steps (record_of u)) (length s.callers) m c step_taken y stands.stands below (one_more v u c r refl a.caller) a.is_step (rw (took, pool) a.comes) in
     let still : SameMedia s media (record_of v) (record_of u) = still_told s media v u c y m before told refl in
     let grown : at k (histories u.codecs) ≡ at k (histories v.codecs) ++ entry.Take (next_who v c) n ∷ [] = this_history v k e a.codec ∙ ap (λ (x : Entry). at k (histories v.codecs) ++ x ∷ []) a.takes in
     let fits : ResultFits s media (record_of u) c (length (at c v.callers)) r =

@@ -3,6 +3,7 @@ use Rattle.std.proofs.Common.{ℕ, zero, suc, ◌≡◌, ◌<◌, List, [], ◌�
 use Rattle.std.specs.Prelude.{slice_get}
 use Rattle.std.specs.List.{sum_by}
 use Rattle.std.proofs.lemmas.List.{length-map}
+use Rattle.wc_base.specs.Options.{some_same}
 use Rattle.wc_config.specs.declared.codec.CoderId.{CoderId}
 use Rattle.wc_chunk.specs.declared.chunk.Chunk.{Chunk}
 use Rattle.codec_model.specs.declared.entry.Entry.{Entry}
@@ -122,18 +123,15 @@ record Fitting (s : ScriptData) (media : List (List Chunk)) (made : List CoderId
   boxes : BoxesAccounted made (opening_at s) w.codecs w.slots
   legal : (k : ℕ) → IsLegal (opening_at s k) (at k w.codecs)
 
-same_step : {X : Type 0} (a b : X) → Some a ≡ Some b → a ≡ b
-same_step a b h = cc
-
 fitting : (s : ScriptData) (media : List (List Chunk)) (made : List CoderId) (v : Course) → Stands s media made v → Fitting s media made (record_of v)
 fitting s media made v st = record {
   calls = record { made = λ c j r is. (let f = st.results c j r is in (f.step, f.is_step, f.made)); once = st.once };
   looks = record {
     climbs = st.climbs;
-    shows = λ c j x r is at. (let f = st.results c j r at in subst (λ y. LookShows s (record_of v) c y r) (same_step f.step x (sym f.is_step ∙ is)) f.shows);
+    shows = λ c j x r is at. (let f = st.results c j r at in subst (λ y. LookShows s (record_of v) c y r) (some_same f.step x (sym f.is_step ∙ is)) f.shows);
   };
   arguments = st.arguments;
-  locals = λ c j x r is at. (let f = st.results c j r at in subst (λ y. IsLocalAnswer s media (variables_at s media (record_of v) c j) (came_at s media (record_of v) c j) c y r) (same_step f.step x (sym f.is_step ∙ is)) f.answers);
+  locals = λ c j x r is at. (let f = st.results c j r at in subst (λ y. IsLocalAnswer s media (variables_at s media (record_of v) c j) (came_at s media (record_of v) c j) c y r) (some_same f.step x (sym f.is_step ∙ is)) f.answers);
   accounted = st.stand.accounted;
   boxes = subst (λ (l : List CoderId). BoxesAccounted l (opening_at s) (histories v.codecs) v.slots.history) st.same_made (boxes_accounted (opening_at s) v.codecs v.slots st.opened st.boxes);
   legal = legals s media made v st;

@@ -1,7 +1,6 @@
 -- Following an order makes one run, where the same ends want memory and as many boxes of each id are there.
-use Rattle.std.proofs.Common.{ℕ, zero, suc, ◌≡◌, ◌<◌, not, Bool, true, false, List, [], ◌∷◌, ◌++◌, length, map, Option, Some, None, refl, ap, sym, subst, ◌∙◌, arith, append_assoc, append-nil}
-use Rattle.std.specs.Prelude.{slice_get, slice_set, option_map, find}
-use Rattle.std.specs.List.{range_with_len, count_by}
+use Rattle.std.proofs.Common.{ℕ, zero, suc, ◌≡◌, ◌<◌, Bool, true, false, List, [], ◌∷◌, ◌++◌, length, map, Option, Some, None, refl, ap, sym, subst, ◌∙◌, arith, append_assoc, append-nil}
+use Rattle.std.specs.Prelude.{slice_get, slice_set, option_map}
 use Rattle.wc_base.specs.declared.who.By.{By}
 use Rattle.wc_base.specs.declared.who.Who.{Who}
 use Rattle.wc_config.specs.declared.codec.CoderId.{CoderId}
@@ -10,8 +9,8 @@ use Rattle.wc_pool.specs.declared.entry.PoolEntry.{PoolEntry}
 use Rattle.wc_pool.specs.Bag.{held_in}
 use Rattle.media_variables.specs.Variables.{Media}
 use Rattle.coder_api.specs.declared.slot.SlotEntry.{SlotEntry}
-use Rattle.slot_registry.specs.Boxes.{is_out, made_of, out_of, least_free}
-use Rattle.slot_registry.specs.Slots.{SlotsValue, acquire_op, acquire_entry, acquired}
+use Rattle.slot_registry.specs.Boxes.{least_free}
+use Rattle.slot_registry.specs.Slots.{SlotsValue, acquire_entry, acquired}
 use Rattle.codec_definitions.specs.declared.unit.Unit as media
 use Rattle.codec_model.specs.declared.entry.Entry.{Entry}
 use Rattle.codec_model.specs.declared.entry.Opening.{Opening}
@@ -21,7 +20,7 @@ use Rattle.codec_model.specs.Replay.{answer_to}
 use Rattle.codec_model.specs.Shown.{each_shown}
 use Rattle.codec_accounts.specs.Owed.{at}
 use Rattle.codec_accounts.specs.ListLaws.{get_kept, get_end}
-use Rattle.codec_accounts.specs.Codec.{Holding, CodecValue, state_of, codec_at, histories, BoxStep, Keep, Give, Renew, give_of, after_give, holding_by, after_ask, slots_after, holding_after, next_by, step_by}
+use Rattle.codec_accounts.specs.Codec.{Holding, CodecValue, state_of, codec_at, histories, BoxStep, Keep, Give, Renew, give_of, after_give, after_ask, slots_after, holding_after, next_by, step_by}
 use Rattle.codec_accounts.specs.Registry.{BoxOut}
 use Rattle.script_types.specs.declared.script.CodecItem.{CodecItem}
 use Rattle.script_types.specs.declared.script.OrderItem.{OrderItem}
@@ -29,13 +28,12 @@ use Rattle.script_types.specs.declared.script.OrderItem.TheVariants as item
 use Rattle.script_types.specs.declared.script.ScriptData.{ScriptData}
 use Rattle.script_types.specs.declared.steps.Step.{Step}
 use Rattle.script_types.specs.declared.steps.Step.TheVariants as step
-use Rattle.script_types.specs.declared.steps.MediaStep.{MediaStep}
 use Rattle.script_types.specs.declared.steps.MediaStep.TheVariants as on_media
 use Rattle.report_text.specs.declared.result.StepResult.{StepResult}
 use Rattle.trace_text.specs.declared.run.CallerTrace.{CallerTrace}
 use Rattle.trace_text.specs.declared.run.CodecTrace.{CodecTrace}
 use Rattle.trace_text.specs.declared.run.Run.{Run}
-use Rattle.trace_text.specs.Follow.{Recorded, Course, record_of, Move, Idle, Answer, Advance, Ask, Handle, Receive, after_move, with_entry, steps_of, order_items, item_move, next_move, step_move, media_move, done_entry, end_of, outcome_for, advance, follow_item, Follows, nothing_yet}
+use Rattle.trace_text.specs.Follow.{Recorded, Course, record_of, Move, Advance, Ask, Receive, after_move, with_entry, steps_of, order_items, item_move, next_move, step_move, done_entry, end_of, outcome_for, follow_item, Follows, nothing_yet}
 use Rattle.trace_text.specs.Fits.{recorded_of, IsLegalTrace, AreLegalTraces, IsLegalRun, FollowsTheOrder}
 use Rattle.order_laws.specs.Same.{is_want, wants_memory, SameWants, SameBoxes}
 use Rattle.order_laws.proofs.Entries.{longer_history, this_history}
@@ -47,23 +45,10 @@ record SlotsAlike (a b : SlotsValue) : Type 0 where
   boxes : SameBoxes a.made b.made
 
 free_alike : (id : CoderId) (a b : SlotsValue) → SlotsAlike a b → least_free id a.made a.history ≡ least_free id b.made b.history
-free_alike id a b s =
-    ap (λ (n : ℕ). find (λ number. not (is_out id number a.history)) (range_with_len 0 n)) (s.boxes id)
-    ∙ ap (λ (h : List SlotEntry). find (λ number. not (is_out id number h)) (range_with_len 0 (made_of id b.made))) s.history
-
-out_alike : (id : CoderId) (a b : SlotsValue) → SlotsAlike a b → out_of id a.made a.history ≡ out_of id b.made b.history
-out_alike id a b s =
-    ap (λ (n : ℕ). count_by (λ number. is_out id number a.history) (range_with_len 0 n)) (s.boxes id)
-    ∙ ap (λ (h : List SlotEntry). count_by (λ number. is_out id number h) (range_with_len 0 (made_of id b.made))) s.history
+free_alike id a b s = rw (s.boxes id, s.history) refl
 
 entry_alike : (c : By) (id : CoderId) (a b : SlotsValue) → SlotsAlike a b → acquire_entry c id a ≡ acquire_entry c id b
-entry_alike c id a b s =
-    ap (λ (n : ℕ). asks n (made_of id a.made) (least_free id a.made a.history)) (out_alike id a b s)
-    ∙ (ap (λ (n : ℕ). asks (out_of id b.made b.history) n (least_free id a.made a.history)) (s.boxes id)
-    ∙ ap (λ (o : Option ℕ). asks (out_of id b.made b.history) (made_of id b.made) o) (free_alike id a b s))
-  where
-    asks : ℕ → ℕ → Option ℕ → SlotEntry
-    asks out all o = record { by = c; op = acquire_op id out all o }
+entry_alike c id a b s = rw (s.boxes id, s.history) refl
 
 give_alike : (c : By) (box : Option BoxOut) (a b : SlotsValue) → SlotsAlike a b → SlotsAlike (after_give c box a) (after_give c box b)
 give_alike c box a b s = record { history = ap (λ (h : List SlotEntry). h ++ give_of c box) s.history; boxes = s.boxes }
@@ -75,9 +60,7 @@ acquire_alike c id a b s = record {
 }
 
 ask_alike : (c : By) (id : CoderId) (a b : SlotsValue) → SlotsAlike a b → after_ask c id a ≡ after_ask c id b
-ask_alike c id a b s =
-    ap (λ (h : List SlotEntry). holding_by c id (length h) (least_free id a.made a.history)) s.history
-    ∙ ap (λ (o : Option ℕ). holding_by c id (length b.history) o) (free_alike id a b s)
+ask_alike c id a b s = rw (s.boxes id, s.history) refl
 
 holding_alike : (c : By) (st : BoxStep) (h : Holding) (a b : SlotsValue) → SlotsAlike a b → holding_after c st h a ≡ holding_after c st h b
 holding_alike c Keep h a b s = refl
@@ -97,11 +80,10 @@ record Alike (v u : Course) : Type 0 where
   media : v.media ≡ u.media
   slots : SlotsAlike v.slots u.slots
 
-course : List (List StepResult) → List CodecValue → Media → SlotsValue → Course
+abbrev course : List (List StepResult) → List CodecValue → Media → SlotsValue → Course
 course cs ds m a = record { callers = cs; codecs = ds; media = m; slots = a }
 
 entry_moves : (k : ℕ) (e : Entry) (cs : List (List StepResult)) (ds : List CodecValue) (l : Media) (a b : SlotsValue) → SlotsAlike a b → Alike (with_entry k e (course cs ds l a)) (with_entry k e (course cs ds l b))
-unfolding course
 entry_moves k e cs ds l a b s =
     let d = codec_at k ds in
     record {
@@ -112,66 +94,37 @@ entry_moves k e cs ds l a b s =
     }
 
 moves_alike : (m : Move) (cs : List (List StepResult)) (ds : List CodecValue) (l : Media) (a b : SlotsValue) → SlotsAlike a b → Alike (after_move m (course cs ds l a)) (after_move m (course cs ds l b))
-unfolding course
-moves_alike Idle cs ds l a b s = record { callers = refl; codecs = refl; media = refl; slots = s }
-moves_alike (Answer c r) cs ds l a b s = record { callers = refl; codecs = refl; media = refl; slots = s }
 moves_alike (Advance k e) cs ds l a b s = entry_moves k e cs ds l a b s
-moves_alike (Ask c k e error) cs ds l a b s =
-    let one = entry_moves k e cs ds l a b s in
-    record { callers = refl; codecs = one.codecs; media = refl; slots = one.slots }
-moves_alike (Handle who y) cs ds l a b s = record { callers = refl; codecs = refl; media = refl; slots = s }
-moves_alike (Receive who k e y) cs ds l a b s =
-    let one = entry_moves k e cs ds l a b s in
-    record { callers = refl; codecs = one.codecs; media = refl; slots = one.slots }
+moves_alike (Ask c k e error) cs ds l a b s = let one = entry_moves k e cs ds l a b s in record { callers = refl; codecs = one.codecs; media = refl; slots = one.slots }
+moves_alike (Receive who k e y) cs ds l a b s = let one = entry_moves k e cs ds l a b s in record { callers = refl; codecs = one.codecs; media = refl; slots = one.slots }
+moves_alike m cs ds l a b s = record { callers = refl; codecs = refl; media = refl; slots = s }
 
 same_course : (u : Course) (cs : List (List StepResult)) (ds : List CodecValue) (l : Media) → cs ≡ u.callers → ds ≡ u.codecs → l ≡ u.media → course cs ds l u.slots ≡ u
-unfolding course
-same_course u cs ds l callers codecs media =
-    ap (λ (c : List (List StepResult)). course c ds l u.slots) callers
-    ∙ (ap (λ (d : List CodecValue). course u.callers d l u.slots) codecs ∙ ap (λ (m : Media). course u.callers u.codecs m u.slots) media)
+same_course u cs ds l callers codecs media = rw (callers, codecs, media) refl
 
 move_alike : (m : Move) (v u : Course) → Alike v u → Alike (after_move m v) (after_move m u)
-unfolding course
 move_alike m v u al =
     subst (λ (w : Course). Alike (after_move m v) (after_move m w)) (same_course u v.callers v.codecs v.media al.callers al.codecs al.media)
     (moves_alike m v.callers v.codecs v.media v.slots u.slots al.slots)
 
 -- ---- what is made
 
-media_same : (s : ScriptData) (media : List (List Chunk)) (who : Who) (x : MediaStep) (cs : List (List StepResult)) (ds : List CodecValue) (l : Media) (a b : SlotsValue) → media_move s media who x (course cs ds l a) ≡ media_move s media who x (course cs ds l b)
-unfolding course
-media_same s media who (on_media.Take on bind kind) cs ds l a b = refl
-media_same s media who (on_media.Encode on content) cs ds l a b = refl
-media_same s media who x cs ds l a b = refl
-
 step_same : (s : ScriptData) (media : List (List Chunk)) (who : Who) (x : Step) (cs : List (List StepResult)) (ds : List CodecValue) (l : Media) (a b : SlotsValue) → step_move s media who x (course cs ds l a) ≡ step_move s media who x (course cs ds l b)
-unfolding course
-step_same s media who (step.Configure on config) cs ds l a b = refl
-step_same s media who (step.Chunk bind source) cs ds l a b = refl
-step_same s media who (step.Decode on chunk) cs ds l a b = refl
-step_same s media who (step.Flush on bind) cs ds l a b = refl
-step_same s media who (step.Poll promise) cs ds l a b = refl
-step_same s media who (step.Await promise) cs ds l a b = refl
-step_same s media who (step.Reset on) cs ds l a b = refl
-step_same s media who (step.Close on) cs ds l a b = refl
-step_same s media who (step.State on) cs ds l a b = refl
-step_same s media who (step.Media x) cs ds l a b = media_same s media who x cs ds l a b
+step_same s media who (step.Media (on_media.Take on bind kind)) cs ds l a b = refl
+step_same s media who (step.Media (on_media.Encode on content)) cs ds l a b = refl
+step_same s media who (step.Media x) cs ds l a b = refl
+step_same s media who x cs ds l a b = refl
 
 next_same : (s : ScriptData) (media : List (List Chunk)) (who : Who) (o : Option Step) (cs : List (List StepResult)) (ds : List CodecValue) (l : Media) (a b : SlotsValue) → next_move s media who o (course cs ds l a) ≡ next_move s media who o (course cs ds l b)
 next_same s media who None cs ds l a b = refl
 next_same s media who (Some x) cs ds l a b = step_same s media who x cs ds l a b
 
 item_same : (s : ScriptData) (media : List (List Chunk)) (wants : Bool) (x : OrderItem) (cs : List (List StepResult)) (ds : List CodecValue) (l : Media) (a b : SlotsValue) → item_move s media wants x (course cs ds l a) ≡ item_move s media wants x (course cs ds l b)
-unfolding course
 item_same s media wants (item.Caller c) cs ds l a b =
     let j = length (at c cs) in next_same s media (record { caller = c; step = j }) (slice_get (steps_of s c) j) cs ds l a b
-item_same s media wants (item.Start k) cs ds l a b = refl
-item_same s media wants (item.Done k moment) cs ds l a b = refl
-item_same s media wants (item.Turn k) cs ds l a b = refl
-item_same s media wants (item.Reclaim k moment) cs ds l a b = refl
+item_same s media wants x cs ds l a b = refl
 
 same_move : (s : ScriptData) (media : List (List Chunk)) (wants : Bool) (x : OrderItem) (v u : Course) → Alike v u → item_move s media wants x v ≡ item_move s media wants x u
-unfolding course
 same_move s media wants x v u al =
     item_same s media wants x v.callers v.codecs v.media v.slots u.slots
     ∙ ap (item_move s media wants x) (same_course u v.callers v.codecs v.media al.callers al.codecs al.media)
@@ -183,12 +136,10 @@ follow_alike s media wants x v u al =
 -- ---- histories grow at their end
 
 move_grows : (m : Move) (v : Course) (k : ℕ) → (more : List Entry) × (at k (histories (after_move m v).codecs) ≡ at k (histories v.codecs) ++ more)
-move_grows Idle v k = ([], sym (append-nil (at k (histories v.codecs))))
-move_grows (Answer c r) v k = ([], sym (append-nil (at k (histories v.codecs))))
 move_grows (Advance j e) v k = longer_history v j k e
 move_grows (Ask c j e error) v k = longer_history v j k e
-move_grows (Handle who y) v k = ([], sym (append-nil (at k (histories v.codecs))))
 move_grows (Receive who j e y) v k = longer_history v j k e
+move_grows m v k = ([], sym (append-nil (at k (histories v.codecs))))
 
 grows : (s : ScriptData) (media : List (List Chunk)) (xs : List OrderItem) (v w : Course) → Follows s media xs v w → (k : ℕ) → (more : List Entry) × (at k (histories w.codecs) ≡ at k (histories v.codecs) ++ more)
 grows s media [] v w f k = ([], ap (λ (c : Course). at k (histories c.codecs)) f ∙ sym (append-nil (at k (histories v.codecs))))
@@ -237,8 +188,8 @@ wants_agree s media xs k moment a b v u w z r al same runs f g =
     let lt = in_range v.codecs k r runs in
     let ends : done_entry a moment d ≡ Some e = ap (λ (o : Option Running). option_map (end_of a moment refusal (state_of d).running_given) o) runs in
     let other : done_entry b moment (codec_at k u.codecs) ≡ Some c = ap (λ (ds : List CodecValue). done_entry b moment (codec_at k ds)) (sym al.codecs) ∙ ap (λ (o : Option Running). option_map (end_of b moment refusal (state_of d).running_given) o) runs in
-    let one : Follows s media xs (with_entry k e v) w = subst (λ (o : Option Entry). Follows s media xs (after_move (advance k o) v) w) ends f in
-    let two : Follows s media xs (with_entry k c u) z = subst (λ (o : Option Entry). Follows s media xs (after_move (advance k o) u) z) other g in
+    let one : Follows s media xs (with_entry k e v) w = rw ends at f in
+    let two : Follows s media xs (with_entry k c u) z = rw other at g in
     let p = length (at k (histories v.codecs)) in
     let q = length (at k (histories u.codecs)) in
     let places : q ≡ p = ap (λ (ds : List CodecValue). length (at k (histories ds))) (sym al.codecs) in
@@ -252,8 +203,7 @@ wants_agree s media xs k moment a b v u w z r al same runs f g =
 
 idle_end : (s : ScriptData) (media : List (List Chunk)) (a : Bool) (k moment : ℕ) (v : Course) → (state_of (codec_at k v.codecs)).control.running ≡ None → follow_item s media a (item.Done k moment) v ≡ v
 idle_end s media a k moment v none =
-    let d = codec_at k v.codecs in
-    ap (λ (o : Option Running). after_move (advance k (option_map (end_of a moment d.holding.refusal (state_of d).running_given) o)) v) none
+    rw none refl
 
 done_alike : (s : ScriptData) (media : List (List Chunk)) (xs : List OrderItem) (k moment : ℕ) (a b : Bool) (v u w z : Course) → Alike v u → SameWants (histories w.codecs) (histories z.codecs)
     → Follows s media xs (follow_item s media a (item.Done k moment) v) w → Follows s media xs (follow_item s media b (item.Done k moment) u) z → (o : Option Running) → (state_of (codec_at k v.codecs)).control.running ≡ o
@@ -267,11 +217,8 @@ done_alike s media xs k moment a b v u w z al same f g (Some r) runs =
 
 item_alike : (s : ScriptData) (media : List (List Chunk)) (xs : List OrderItem) (x : OrderItem) (a b : Bool) (v u w z : Course) → Alike v u → SameWants (histories w.codecs) (histories z.codecs)
     → Follows s media xs (follow_item s media a x v) w → Follows s media xs (follow_item s media b x u) z → Alike (follow_item s media a x v) (follow_item s media b x u)
-item_alike s media xs (item.Caller c) a b v u w z al same f g = follow_alike s media a (item.Caller c) v u al
-item_alike s media xs (item.Start k) a b v u w z al same f g = follow_alike s media a (item.Start k) v u al
 item_alike s media xs (item.Done k moment) a b v u w z al same f g = done_alike s media xs k moment a b v u w z al same f g (state_of (codec_at k v.codecs)).control.running refl
-item_alike s media xs (item.Turn k) a b v u w z al same f g = follow_alike s media a (item.Turn k) v u al
-item_alike s media xs (item.Reclaim k moment) a b v u w z al same f g = follow_alike s media a (item.Reclaim k moment) v u al
+item_alike s media xs x a b v u w z al same f g = follow_alike s media a x v u al
 
 order_alike : (s : ScriptData) (media : List (List Chunk)) (xs : List OrderItem) (v u w z : Course) → Alike v u → SameWants (histories w.codecs) (histories z.codecs) → Follows s media xs v w → Follows s media xs u z → Alike w z
 order_alike s media [] v u w z al same f g = subst (λ (c : Course). Alike c z) (sym f) (subst (Alike v) (sym g) al)
@@ -286,34 +233,21 @@ codecs_of run v is = ap (λ (r : Recorded). r.codecs) is
 pub recorded_alike : (s : ScriptData) (media : List (List Chunk)) (made others : List CoderId) (run again : Run) → SameBoxes made others → FollowsTheOrder s media made run → FollowsTheOrder s media others again
     → SameWants (recorded_of run).codecs (recorded_of again).codecs → recorded_of run ≡ recorded_of again
 recorded_alike s media made others run again boxes f g same =
-    let wants : SameWants (histories f.course.codecs) (histories g.course.codecs) =
-    subst (λ (hs : List (List Entry)). SameWants hs (histories g.course.codecs)) (codecs_of run f.course f.is_recorded)
-    (subst (SameWants (recorded_of run).codecs) (codecs_of again g.course g.is_recorded) same) in
+    let wants : SameWants (histories f.course.codecs) (histories g.course.codecs) = rw (sym (codecs_of run f.course f.is_recorded), sym (codecs_of again g.course g.is_recorded)) same in
     let al = order_alike s media (order_items s) (nothing_yet s made) (nothing_yet s others) f.course g.course (record { callers = refl; codecs = refl; media = refl; slots = record { history = refl; boxes = boxes } }) wants f.follows g.follows in
     f.is_recorded ∙ (same_record f.course g.course al ∙ sym g.is_recorded)
   where
     same_record : (v u : Course) → Alike v u → record_of v ≡ record_of u
-    same_record v u al =
-        ap (λ (c : List (List StepResult)). record_by c (histories v.codecs) v.media.pool v.slots.history) al.callers
-        ∙ (ap (λ (ds : List CodecValue). record_by u.callers (histories ds) v.media.pool v.slots.history) al.codecs
-        ∙ (ap (λ (m : Media). record_by u.callers (histories u.codecs) m.pool v.slots.history) al.media
-        ∙ ap (λ (h : List SlotEntry). record_by u.callers (histories u.codecs) u.media.pool h) al.slots.history))
-      where
-        record_by : List (List StepResult) → List (List Entry) → List PoolEntry → List SlotEntry → Recorded
-        record_by c hs p l = record { callers = c; codecs = hs; pool = p; slots = l }
-
-with_results : List StepResult → List CallerTrace → List CallerTrace
-with_results r ts = record { results = r } ∷ ts
+    same_record v u al = rw (al.callers, al.codecs, al.media, al.slots.history) refl
 
 callers_same : (ts bs : List CallerTrace) → map (λ (c : CallerTrace). c.results) ts ≡ map (λ (c : CallerTrace). c.results) bs → ts ≡ bs
-unfolding with_results
 callers_same [] [] h = refl
 callers_same [] (b ∷ bs) h = absurd cc
 callers_same (a ∷ ts) [] h = absurd cc
 callers_same (a ∷ ts) (b ∷ bs) h =
     let one : a.results ≡ b.results = cc in
     let rest : map (λ (c : CallerTrace). c.results) ts ≡ map (λ (c : CallerTrace). c.results) bs = cc in
-    ap (λ (r : List StepResult). with_results r ts) one ∙ ap (λ (l : List CallerTrace). b ∷ l) (callers_same ts bs rest)
+    rw (one, callers_same ts bs rest) refl
 
 trace_same : (c : CodecItem) (a b : CodecTrace) → IsLegalTrace c a → IsLegalTrace c b → a.entries ≡ b.entries → a ≡ b
 trace_same c a b p q entries =
@@ -326,10 +260,10 @@ trace_same c a b p q entries =
 
 traces_same : (cs : List CodecItem) (ts bs : List CodecTrace) → AreLegalTraces cs ts → AreLegalTraces cs bs → map (λ (t : CodecTrace). t.entries) ts ≡ map (λ (t : CodecTrace). t.entries) bs → ts ≡ bs
 traces_same [] [] [] p q h = refl
-traces_same [] [] (b ∷ bs) p q h = elim q [ ]
-traces_same [] (a ∷ ts) bs p q h = elim p [ ]
-traces_same (c ∷ cs) [] bs p q h = elim p [ ]
-traces_same (c ∷ cs) (a ∷ ts) [] p q h = elim q [ ]
+traces_same [] [] (b ∷ bs) p q h = absurd q
+traces_same [] (a ∷ ts) bs p q h = absurd p
+traces_same (c ∷ cs) [] bs p q h = absurd p
+traces_same (c ∷ cs) (a ∷ ts) [] p q h = absurd q
 traces_same (c ∷ cs) (a ∷ ts) (b ∷ bs) p q h =
     let one : a.entries ≡ b.entries = cc in
     let rest : map (λ (t : CodecTrace). t.entries) ts ≡ map (λ (t : CodecTrace). t.entries) bs = cc in

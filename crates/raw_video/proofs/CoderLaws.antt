@@ -15,7 +15,7 @@ use Rattle.codec_definitions.specs.Answers.{answer_after}
 use Rattle.codec_definitions.specs.RawVideo.{raw_shape, with_command, chunks_since_drain, last_picture, is_whole_chunk, picture_unit, raw_units}
 use Rattle.coder_api.specs.declared.coder.Input.{Input}
 use Rattle.coder_api.specs.declared.coder.Input.TheVariants as input
-use Rattle.coder_api.specs.Meaning.{CoderState, Configured, IsConfigured, IsAt, Takes, command_of, picture_kept, raw_state, state_after}
+use Rattle.coder_api.specs.Meaning.{CoderState, NothingKept, Configured, IsConfigured, IsAt, Takes, command_of, emptied, renewed, picture_kept, raw_state, state_after}
 use Rattle.raw_video.specs.declared.coder.Setting.{Setting}
 use Rattle.raw_video.specs.declared.coder.Setting.TheVariants as setting
 use Rattle.raw_video.specs.declared.coder.Decoding.{Decoding}
@@ -27,6 +27,10 @@ kept_same None None e = refl
 kept_same (Some x) (Some y) e = cc
 kept_same None (Some y) e = cc
 kept_same (Some x) None e = cc
+
+picture_emptied : (o : Option (List ℕ)) → emptied (picture_kept o) ≡ NothingKept
+picture_emptied None = refl
+picture_emptied (Some p) = refl
 
 same_config : (a b : Config) (s t : CoderState) → Configured a s ≡ Configured b t → (a ≡ b) × (s ≡ t)
 same_config a b s t e = let p : a ≡ b = cc in let q : s ≡ t = cc in (p, q)
@@ -94,3 +98,8 @@ takes_ok f (setting.Decoder d) t (input.Chunk chunk) old new served small ready 
 }
 takes_ok f (setting.Decoder d) t (input.Sound shape bytes) old new served small ready (units, given, out) is = cc
 takes_ok f (setting.Decoder d) t (input.Image shape bytes) old new served small ready (units, given, out) is = cc
+
+-- a drain leaves the config, with no picture
+pub drained_renewed : (s : Setting) → meaning_of (after s command.Drain) ≡ renewed (meaning_of s)
+drained_renewed setting.Stopped = refl
+drained_renewed (setting.Decoder d) = ap (Configured (config.VideoDecoder d.config)) (sym (picture_emptied d.last))

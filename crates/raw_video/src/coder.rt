@@ -108,6 +108,7 @@ impl Coder for RawVideo {
         }
     }
 
+    #[tactic(auto, using(crate::proofs::CoderLaws::drained_renewed))]
     fn drain(&mut self, _alloc: Global, _out: &mut Vec<Unit>) -> Result<(), NoMemory> {
         let setting = mem::replace(&mut self.setting, Setting::Stopped);
         self.setting = drained(self.format, setting);

@@ -1,8 +1,9 @@
 -- Legal runs that fit their scripts are told.
 use Rattle.std.proofs.Common.{◌≡◌, ℕ, zero, suc, ◌+◌, Bool, true, false, cond, List, [], ◌∷◌, ◌++◌, map, Option, Some, None, refl, sym, ap, subst, ◌∙◌, arith}
 use Rattle.std.specs.Prelude.{take, option_map, option_and_then, unwrap_or}
-use Rattle.std.specs.Option.{option_or}
+use Rattle.std.specs.Option.{option_or, is_none}
 use Rattle.std.specs.List.{zip, slice_get}
+use Rattle.wc_base.specs.declared.error.DomError.TheVariants as dom
 use Rattle.wc_base.specs.declared.media.Samples.{Samples}
 use Rattle.wc_base.specs.declared.media.SoundShape.{SoundShape}
 use Rattle.wc_base.specs.declared.who.Who.{Who}
@@ -47,8 +48,9 @@ use Rattle.media_accounts.specs.Samples.{samples_before, chunk_of_unit, SamplesA
 use Rattle.trace_text.specs.declared.run.CallerTrace.{CallerTrace}
 use Rattle.trace_text.specs.declared.run.CodecTrace.{CodecTrace}
 use Rattle.trace_text.specs.declared.run.Run.{Run}
-use Rattle.trace_text.specs.Follow.{Recorded, steps_of, opening_in, opening_at, output_at, chunk_at, chunk_for}
-use Rattle.trace_text.specs.Fits.{HasArguments, Fits, IsLegalTrace, AreLegalTraces, IsLegalRun, recorded_of, entry_in, result_in, taken_by, brought_to, variables_at}
+use Rattle.trace_text.specs.Follow.{Recorded, steps_of, opening_in, opening_at, output_at, chunk_at, chunk_for, is_gone}
+use Rattle.trace_text.specs.Fits.{HasArguments, Fits, IsLegalTrace, AreLegalTraces, IsLegalRun, LocalStepsAnswer, recorded_of, entry_in, result_in, taken_by, brought_to, variables_at}
+use Rattle.trace_text.specs.FitsLaws.{calls_by_places}
 use Rattle.trace_text.specs.Report.{refusal_in, entry_line_of}
 use Rattle.run_ranges.specs.Counts.{traces_count}
 use Rattle.run_ranges.specs.Ranges.{AreWithin, LegalRunsFit}
@@ -57,6 +59,7 @@ use Rattle.report_reader.specs.Arguments.{results_of, output_of, taken_in, chunk
 use Rattle.report_reader.specs.Told.{known_of, HoldAll, IsToldTrace, AreToldTraces, IsTold}
 use Rattle.report_reader.proofs.RunLaws.{shown_units_of}
 use Rattle.report_reader.proofs.KindLaws.{of_media, legal_plain}
+use Rattle.report_reader.proofs.StandingLaws.{IsStanding, stands}
 
 abbrev some : {A : Type 0} → A → Option A
 some x = Some x
@@ -129,13 +132,14 @@ record AreFound (script : ScriptData) (files : List (List Chunk)) (w : Recorded)
   chunks : (c n j : ℕ) (value : Chunk) → chunk_for files (steps_of script c) (variables_at script files w c n) j ≡ Some value → chunk_found files (steps_of script c) (taken_in known c) j ≡ Some value
   sounds : (c n j : ℕ) (x : Sound) (r : MediaRef) → sound_at (variables_at script files w c n) j ≡ Some x → x.held ≡ Some r
       → samples_before (steps_of script c) (taken_in known c) n j ≡ Some (record { shape = x.shape; bytes = r.bytes })
+  standing : (c n j : ℕ) (r : StepResult) (x : Sound) → result_in w c n ≡ Some r → sound_at (variables_at script files w c n) j ≡ Some x → IsStanding (steps_of script c) (results_of known.callers c) n j x
 
 either_found : (made a b : Option Chunk) (value : Chunk) → ((c : Chunk) → a ≡ Some c → b ≡ Some c) → option_or made a ≡ Some value → option_or made b ≡ Some value
 either_found None a b value h e = h value e
 either_found (Some c) a b value h e = e
 
-all_found : SamplesAreKept → ChunksAreTaken → (script : ScriptData) (files : List (List Chunk)) (run : Run) → AreLegalTraces script.codecs run.codecs → AreFound script files (recorded_of run) (known_of run)
-all_found kept taken script files run legal =
+all_found : SamplesAreKept → ChunksAreTaken → (script : ScriptData) (files : List (List Chunk)) (run : Run) → AreLegalTraces script.codecs run.codecs → LocalStepsAnswer script files run → AreFound script files (recorded_of run) (known_of run)
+all_found kept taken script files run legal locals =
     let w = recorded_of run in
     let brought = brought_to script files w in
     let known = known_of run in
@@ -145,6 +149,7 @@ all_found kept taken script files run legal =
           either_found (chunk_at files (steps_of script c) j) (option_and_then chunk_in_medium (medium_at vs j)) (option_and_then chunk_of_unit (taken_in known c j)) value
           (λ chunk is. taken (steps_of script) brought w.pool c (taken_in known c) n j chunk (taken_is script files run legal c) is) e;
       sounds = λ c n j x r is held. kept (steps_of script) brought w.pool c (taken_in known c) n j x r (taken_is script files run legal c) is held;
+      standing = λ c n j r x there sound. subst (λ (rs : List StepResult). IsStanding (steps_of script c) rs n j x) (results_at run.callers c) (stands script files w locals c n j r x there sound);
     }
 
 -- ---- clones
@@ -293,41 +298,57 @@ cloned_held number true shape (Some r) sound e = record {
   samples = ap (λ (x : HeldSound). x.samples) (cloned_same _ sound e);
 }
 
--- what became of the data is told by the exception, and by the clone where there is one
-handed_again : (h : Handed) (a : Option Samples) (b : Option Pair) → ((x : HeldSound) → h ≡ handed.Cloned x → a ≡ Some x.samples) → ((x : HeldSound) → h ≡ handed.Cloned x → b ≡ Some x.pair) → handed_for (handed_error h) (clone_of a b) ≡ Some h
-handed_again handed.Gone a b samples pair = refl
-handed_again handed.Kept a b samples pair = refl
-handed_again (handed.Cloned x) a b samples pair = rw (samples x refl, pair x refl) refl
+-- data is gone where it holds no reference
+gone_is : (number : ℕ) (accepts : Bool) (shape : SoundShape) (held : Option MediaRef) → is_none held ≡ is_gone (handed_by number accepts shape held)
+gone_is number accepts shape None = refl
+gone_is number true shape (Some r) = refl
+gone_is number false shape (Some r) = refl
+
+-- what became of data that is there is told by whether it is detached, by the exception, and by the clone where there is one
+handed_again : (h : Handed) (gone : Bool) (a : Option Samples) (b : Option Pair) → gone ≡ is_gone h → ((x : HeldSound) → h ≡ handed.Cloned x → a ≡ Some x.samples) → ((x : HeldSound) → h ≡ handed.Cloned x → b ≡ Some x.pair)
+    → handed_for true gone (handed_error h) (clone_of a b) ≡ Some h
+handed_again handed.Gone gone a b is samples pair = ap (λ (g : Bool). handed_for true g (Some dom.TypeErr) (clone_of a b)) is
+handed_again handed.Kept gone a b is samples pair = ap (λ (g : Bool). handed_for true g (Some dom.InvalidState) (clone_of a b)) is
+handed_again (handed.Cloned x) gone a b is samples pair =
+    let clone : clone_of a b ≡ Some (handed.Cloned x) = rw (samples x refl, pair x refl) refl in
+    ap (λ (g : Bool). handed_for true g None (clone_of a b)) is ∙ clone
 
 same_handed : (who : Who) (a b : Handed) → entry.Encode who a ≡ entry.Encode who b → a ≡ b
 same_handed who a b e = cc
 
+-- the step that an entry names was made
+abbrev IsMadeBy : Recorded → Who → Type 0
+IsMadeBy w who = (r : StepResult) × (result_in w who.caller who.step ≡ Some r)
+
 encode_made : (script : ScriptData) (files : List (List Chunk)) (w : Recorded) (known : Known) (k place : ℕ) (who : Who) (h : Handed) (s : Step) → AreFound script files w known → HasPair known k place (entry.Encode who h)
-    → HasArguments script files (variables_at script files w who.caller who.step) who (entry.Encode who h) s → encode_of known (steps_of script who.caller) k place who (handed_error h) s ≡ Some (entry.Encode who h)
-encode_made script files w known k place who h (step.Media (on_media.Encode on content)) found pair has =
+    → IsMadeBy w who → HasArguments script files (variables_at script files w who.caller who.step) who (entry.Encode who h) s → encode_of known (steps_of script who.caller) k place who (handed_error h) s ≡ Some (entry.Encode who h)
+encode_made script files w known k place who h (step.Media (on_media.Encode on content)) found pair made has =
     let x = has.0 in
     let given = same_handed who h (handed_of has.1 has.2 x) has.4 in
     let samples : (y : HeldSound) → h ≡ handed.Cloned y → samples_before (steps_of script who.caller) (taken_in known who.caller) who.step content.step ≡ Some y.samples =
     λ y is. let held = cloned_held has.1 has.2 x.shape x.held y (sym given ∙ is) in
     found.sounds who.caller who.step content.step x held.reference has.3 held.is ∙ ap (λ (z : Samples). some z) held.samples in
-    ap (option_map (λ z. entry.Encode who z)) (handed_again h _ (pair_for k place known.pool) samples (λ y is. pair y.pair (ap (λ (z : Handed). adds_held (entry.Encode who z)) is)))
-encode_made script files w known k place who h (step.Media (on_media.Take on bind kind)) found pair has = absurd (let wrong = has.1 in cc)
-encode_made script files w known k place who h (step.Media (on_media.Audio bind init)) found pair has = absurd has
-encode_made script files w known k place who h (step.Media (on_media.Frame bind init)) found pair has = absurd has
-encode_made script files w known k place who h (step.Media (on_media.Clone of bind)) found pair has = absurd has
-encode_made script files w known k place who h (step.Media (on_media.Transfer of bind)) found pair has = absurd has
-encode_made script files w known k place who h (step.Media (on_media.CloseData of)) found pair has = absurd has
-encode_made script files w known k place who h (step.Media (on_media.Copy of options size)) found pair has = absurd has
-encode_made script files w known k place who h (step.Media (on_media.Size of options)) found pair has = absurd has
-encode_made script files w known k place who h (step.Configure on config) found pair has = absurd cc
-encode_made script files w known k place who h (step.Chunk bind source) found pair has = absurd has
-encode_made script files w known k place who h (step.Decode on chunk) found pair has = absurd (let wrong = has.2 in cc)
-encode_made script files w known k place who h (step.Flush on bind) found pair has = absurd cc
-encode_made script files w known k place who h (step.Poll promise) found pair has = absurd has
-encode_made script files w known k place who h (step.Await promise) found pair has = absurd has
-encode_made script files w known k place who h (step.Reset on) found pair has = absurd cc
-encode_made script files w known k place who h (step.Close on) found pair has = absurd cc
-encode_made script files w known k place who h (step.State on) found pair has = absurd has
+    let stand = found.standing who.caller who.step content.step made.0 x made.1 has.3 in
+    let gone = stand.gone ∙ gone_is has.1 has.2 x.shape x.held ∙ ap is_gone (sym given) in
+    let again = handed_again h _ _ (pair_for k place known.pool) gone samples (λ y is. pair y.pair (ap (λ (z : Handed). adds_held (entry.Encode who z)) is)) in
+    ap (λ (q : Bool). option_map (λ z. entry.Encode who z) (handed_for q _ (handed_error h) _)) stand.given ∙ ap (option_map (λ z. entry.Encode who z)) again
+encode_made script files w known k place who h (step.Media (on_media.Take on bind kind)) found pair made has = absurd (let wrong = has.1 in cc)
+encode_made script files w known k place who h (step.Media (on_media.Audio bind init)) found pair made has = absurd has
+encode_made script files w known k place who h (step.Media (on_media.Frame bind init)) found pair made has = absurd has
+encode_made script files w known k place who h (step.Media (on_media.Clone of bind)) found pair made has = absurd has
+encode_made script files w known k place who h (step.Media (on_media.Transfer of bind)) found pair made has = absurd has
+encode_made script files w known k place who h (step.Media (on_media.CloseData of)) found pair made has = absurd has
+encode_made script files w known k place who h (step.Media (on_media.Copy of options size)) found pair made has = absurd has
+encode_made script files w known k place who h (step.Media (on_media.Size of options)) found pair made has = absurd has
+encode_made script files w known k place who h (step.Configure on config) found pair made has = absurd cc
+encode_made script files w known k place who h (step.Chunk bind source) found pair made has = absurd has
+encode_made script files w known k place who h (step.Decode on chunk) found pair made has = absurd (let wrong = has.2 in cc)
+encode_made script files w known k place who h (step.Flush on bind) found pair made has = absurd cc
+encode_made script files w known k place who h (step.Poll promise) found pair made has = absurd has
+encode_made script files w known k place who h (step.Await promise) found pair made has = absurd has
+encode_made script files w known k place who h (step.Reset on) found pair made has = absurd cc
+encode_made script files w known k place who h (step.Close on) found pair made has = absurd cc
+encode_made script files w known k place who h (step.State on) found pair made has = absurd has
 
 -- ---- entries
 
@@ -345,6 +366,7 @@ GetsArguments script files w e =
 record IsGiven (script : ScriptData) (files : List (List Chunk)) (w : Recorded) (known : Known) (k place : ℕ) (e : Entry) : Type 0 where
   arguments : GetsArguments script files w e
   pair : HasPair known k place e
+  made : (who : Who) → who_of e ≡ Some who → IsMadeBy w who
 
 entry_holds : (script : ScriptData) (files : List (List Chunk)) (w : Recorded) (known : Known) (k place : ℕ) (e : Entry) (x : Shown) → AreFound script files w known → ShowsOwn e x → IsGiven script files w known k place e
     → entry_of script files known k place (entry_line_of e x) ≡ Some e
@@ -352,7 +374,7 @@ entry_holds script files w known k place (entry.Configure who given) x found own
     let got = h.arguments who refl in rw got.1 (configure_made script files known (variables_at script files w who.caller who.step) who given got.0 got.2)
 entry_holds script files w known k place (entry.Decode who given) x found own h = let got = h.arguments who refl in rw got.1 (decode_made script files w known who given got.0 found got.2)
 entry_holds script files w known k place (entry.Encode who given) x found own h =
-    let got = h.arguments who refl in rw (own, got.1) (encode_made script files w known k place who given got.0 found h.pair got.2)
+    let got = h.arguments who refl in rw (own, got.1) (encode_made script files w known k place who given got.0 found h.pair (h.made who refl) got.2)
 entry_holds script files w known k place (entry.Flush who) x found own h =
     let got = h.arguments who refl in rw got.1 (flush_made script files known (variables_at script files w who.caller who.step) who got.0 got.2)
 entry_holds script files w known k place (entry.Reset who) x found own h =
@@ -445,13 +467,14 @@ given_at : (script : ScriptData) (files : List (List Chunk)) (made : List CoderI
 given_at script files made run fits k p e is = record {
   arguments = λ who names. fits.arguments k p e who is names;
   pair = pair_found script files made run fits k p e is;
+  made = λ who names. (let by_place = (calls_by_places script (recorded_of run) fits.calls).only k p e who is names in (by_place.0, by_place.1));
 }
 
 pub legal_told : HistoryLaws → (script : ScriptData) (files : List (List Chunk)) (made : List CoderId) (run : Run) → is_sound script ≡ true → AreWithin script files made → IsLegalRun script run → Fits script files made run → IsTold script files run
 legal_told laws script files made run sound within legal fits =
     let w = recorded_of run in
     let known = known_of run in
-    let found = all_found laws.kept laws.taken script files run legal.codecs in
+    let found = all_found laws.kept laws.taken script files run legal.codecs fits.locals in
     record {
       told = record {
         callers = legal.callers;

@@ -10,6 +10,8 @@ pub mod NameLaws
 pub mod ToldLaws
 pub mod FitLaws
 pub mod ReadLaws
+pub mod TableLaws
+pub mod StandingLaws
 pub mod LegalLaws
 pub mod FaultLaws
 pub mod RowLaws

@@ -1,5 +1,5 @@
 -- What lines show is told: each entry holds its arguments and follows, and shows what it shows with its own outputs.
-use Rattle.std.proofs.Common.{◌≡◌, ℕ, zero, suc, ◌+◌, true, List, [], ◌∷◌, ◌++◌, length, map, drop, Option, Some, None, is_some, refl, sym, ap, subst, ◌∙◌}
+use Rattle.std.proofs.Common.{◌≡◌, ℕ, zero, suc, ◌+◌, Bool, true, false, List, [], ◌∷◌, ◌++◌, length, map, drop, Option, Some, None, is_some, refl, sym, ap, subst, ◌∙◌}
 use Rattle.std.specs.Prelude.{option_map, option_and_then}
 use Rattle.std.specs.List.{AllByRecursion, zip, slice_get}
 use Rattle.wc_base.specs.declared.error.DomError.{DomError}
@@ -34,7 +34,7 @@ use Rattle.report_text.specs.declared.line.EntryLine.{EntryLine}
 use Rattle.report_text.specs.declared.line.EntryLine.TheVariants as entry_line
 use Rattle.report_text.specs.declared.line.Line.{Line}
 use Rattle.report_reader.specs.declared.known.Known.{Known}
-use Rattle.report_reader.specs.Arguments.{taken_in, chunk_found, pair_for, clone_of, handed_for, encode_of, call_of, take_of, entry_of}
+use Rattle.report_reader.specs.Arguments.{results_of, taken_in, chunk_found, pair_for, clone_of, handed_for, is_given, is_detached, encode_of, call_of, take_of, entry_of}
 use Rattle.report_reader.specs.Read.{next_of, entry_then, entries_from, trace_of, callers_in, behind_results, codecs_in, all_outputs_in, pool_in, behind_entries, run_of}
 use Rattle.report_reader.specs.Told.{known_of, HoldAll, IsPlainTrace, IsToldTrace, AreToldTraces, IsToldRun}
 use Rattle.report_reader.proofs.RunLaws.{step_of_followed, shown_units_of, all_even, outputs_behind, run_outputs}
@@ -143,11 +143,11 @@ clone_shown None b h e = absurd cc
 clone_shown (Some s) None h e = absurd cc
 clone_shown (Some s) (Some p) h e = let made : Handed = handed.Cloned (record { samples = s; pair = p }) in let same : made ≡ h = some_same e in ap handed_error (sym same)
 
--- what became of the data tells the exception
-handed_told : (error : Option DomError) (a : Option Samples) (b : Option Pair) (h : Handed) → handed_for error (clone_of a b) ≡ Some h → handed_error h ≡ error
+-- what became of data that is not detached tells the exception
+handed_told : (error : Option DomError) (a : Option Samples) (b : Option Pair) (h : Handed) → handed_for true false error (clone_of a b) ≡ Some h → handed_error h ≡ error
 handed_told None a b h e = clone_shown a b h e
-handed_told (Some dom.TypeErr) a b h e = ap handed_error (sym (some_same e))
 handed_told (Some dom.InvalidState) a b h e = ap handed_error (sym (some_same e))
+handed_told (Some dom.TypeErr) a b h e = absurd cc
 handed_told (Some dom.Abort) a b h e = absurd cc
 handed_told (Some dom.NotSupported) a b h e = absurd cc
 handed_told (Some dom.Encoding) a b h e = absurd cc
@@ -156,6 +156,12 @@ handed_told (Some dom.DataClone) a b h e = absurd cc
 handed_told (Some dom.QuotaExceeded) a b h e = absurd cc
 handed_told (Some dom.RangeErr) a b h e = absurd cc
 handed_told (Some dom.OutOfMemory) a b h e = absurd cc
+
+-- so what became of data is read again from the exception that it tells
+handed_again : (given gone : Bool) (error : Option DomError) (a : Option Samples) (b : Option Pair) (h : Handed) → handed_for given gone error (clone_of a b) ≡ Some h → handed_for given gone (handed_error h) (clone_of a b) ≡ Some h
+handed_again false gone error a b h e = absurd cc
+handed_again true true error a b h e = e
+handed_again true false error a b h e = ap (λ (x : Option DomError). handed_for true false x (clone_of a b)) (handed_told error a b h e) ∙ e
 
 refusal_filled : (kind : Kind) (o : Option DomError) (us : List media.Unit) → refusal_in (filled kind (refusal o) us).0 ≡ o
 refusal_filled kind None us = refl
@@ -167,7 +173,7 @@ handed_line who (Some h) e x is = sym (ap (λ (z : Entry). entry_line_of z x) (e
 
 encode_line : (known : Known) (steps : List Step) (k place : ℕ) (who : Who) (error : Option DomError) (s : Step) (e : Entry) (x : Shown) → encode_of known steps k place who error s ≡ Some e → entry_line_of e x ≡ entry_line.Call who call.Encode (refusal_in x.events)
 encode_line known steps k place who error (step.Media (on_media.Encode on content)) e x is =
-    handed_line who (handed_for error (clone_of (samples_before steps (taken_in known who.caller) who.step content.step) (pair_for k place known.pool))) e x is
+    handed_line who _ e x is
 encode_line known steps k place who error (step.Media (on_media.Audio bind init)) e x is = absurd cc
 encode_line known steps k place who error (step.Media (on_media.Frame bind init)) e x is = absurd cc
 encode_line known steps k place who error (step.Media (on_media.Take on bind kind)) e x is = absurd cc
@@ -191,41 +197,43 @@ pub encode_told : (known : Known) (steps : List Step) (k place : ℕ) (who : Who
 encode_told known steps k place who error None e x is = absurd cc
 encode_told known steps k place who error (Some s) e x is = encode_line known steps k place who error s e x is
 
-handed_shows : (kind : Kind) (who : Who) (error : Option DomError) (a : Option Samples) (b : Option Pair) (o : Option Handed) (e : Entry) (t : State) (us : List media.Unit) → handed_for error (clone_of a b) ≡ o → option_map (λ h. entry.Encode who h) o ≡ Some e
-    → refusal_in (filled_at kind e t us).events ≡ error
-handed_shows kind who error a b None e t us found is = absurd cc
-handed_shows kind who error a b (Some h) e t us found is =
-    subst (λ (z : Entry). refusal_in (filled_at kind z t us).events ≡ error) (entry_is (entry.Encode who h) e is) (refusal_filled kind (handed_error h) us ∙ handed_told error a b h found)
+encode_again_by : (kind : Kind) (who : Who) (given gone : Bool) (error : Option DomError) (a : Option Samples) (b : Option Pair) (o : Option Handed) (e : Entry) (t : State) (us : List media.Unit) → handed_for given gone error (clone_of a b) ≡ o
+    → option_map (λ h. entry.Encode who h) o ≡ Some e → option_map (λ h. entry.Encode who h) (handed_for given gone (refusal_in (filled_at kind e t us).events) (clone_of a b)) ≡ Some e
+encode_again_by kind who given gone error a b None e t us found is = absurd cc
+encode_again_by kind who given gone error a b (Some h) e t us found is =
+    subst (λ (z : Entry). option_map (λ h. entry.Encode who h) (handed_for given gone (refusal_in (filled_at kind z t us).events) (clone_of a b)) ≡ Some z) (entry_is (entry.Encode who h) e is)
+    (ap (λ (x : Option DomError). option_map (λ h. entry.Encode who h) (handed_for given gone x (clone_of a b))) (refusal_filled kind (handed_error h) us) ∙ ap (option_map (λ h. entry.Encode who h)) (handed_again given gone error a b h found))
 
-encode_shows : (word : Kind) (known : Known) (steps : List Step) (k place : ℕ) (who : Who) (error : Option DomError) (s : Step) (e : Entry) (t : State) (us : List media.Unit) → encode_of known steps k place who error s ≡ Some e
-    → refusal_in (filled_at word e t us).events ≡ error
-encode_shows word known steps k place who error (step.Media (on_media.Encode on content)) e t us is =
+encode_again : (kind : Kind) (known : Known) (steps : List Step) (k place : ℕ) (who : Who) (error : Option DomError) (s : Step) (e : Entry) (t : State) (us : List media.Unit) → encode_of known steps k place who error s ≡ Some e
+    → encode_of known steps k place who (refusal_in (filled_at kind e t us).events) s ≡ Some e
+encode_again kind known steps k place who error (step.Media (on_media.Encode on content)) e t us is =
+    let results = results_of known.callers who.caller in
     let a = samples_before steps (taken_in known who.caller) who.step content.step in
     let b = pair_for k place known.pool in
-    handed_shows word who error a b (handed_for error (clone_of a b)) e t us refl is
-encode_shows word known steps k place who error (step.Media (on_media.Audio bind init)) e t us is = absurd cc
-encode_shows word known steps k place who error (step.Media (on_media.Frame bind init)) e t us is = absurd cc
-encode_shows word known steps k place who error (step.Media (on_media.Take on bind kind)) e t us is = absurd cc
-encode_shows word known steps k place who error (step.Media (on_media.Clone of bind)) e t us is = absurd cc
-encode_shows word known steps k place who error (step.Media (on_media.Transfer of bind)) e t us is = absurd cc
-encode_shows word known steps k place who error (step.Media (on_media.CloseData of)) e t us is = absurd cc
-encode_shows word known steps k place who error (step.Media (on_media.Copy of options size)) e t us is = absurd cc
-encode_shows word known steps k place who error (step.Media (on_media.Size of options)) e t us is = absurd cc
-encode_shows word known steps k place who error (step.Configure on config) e t us is = absurd cc
-encode_shows word known steps k place who error (step.Chunk bind source) e t us is = absurd cc
-encode_shows word known steps k place who error (step.Decode on chunk) e t us is = absurd cc
-encode_shows word known steps k place who error (step.Flush on bind) e t us is = absurd cc
-encode_shows word known steps k place who error (step.Poll promise) e t us is = absurd cc
-encode_shows word known steps k place who error (step.Await promise) e t us is = absurd cc
-encode_shows word known steps k place who error (step.Reset on) e t us is = absurd cc
-encode_shows word known steps k place who error (step.Close on) e t us is = absurd cc
-encode_shows word known steps k place who error (step.State on) e t us is = absurd cc
+    encode_again_by kind who (is_given results content.step) (is_detached steps results who.step content.step) error a b _ e t us refl is
+encode_again kind known steps k place who error (step.Media (on_media.Audio bind init)) e t us is = absurd cc
+encode_again kind known steps k place who error (step.Media (on_media.Frame bind init)) e t us is = absurd cc
+encode_again kind known steps k place who error (step.Media (on_media.Take on bind kind)) e t us is = absurd cc
+encode_again kind known steps k place who error (step.Media (on_media.Clone of bind)) e t us is = absurd cc
+encode_again kind known steps k place who error (step.Media (on_media.Transfer of bind)) e t us is = absurd cc
+encode_again kind known steps k place who error (step.Media (on_media.CloseData of)) e t us is = absurd cc
+encode_again kind known steps k place who error (step.Media (on_media.Copy of options size)) e t us is = absurd cc
+encode_again kind known steps k place who error (step.Media (on_media.Size of options)) e t us is = absurd cc
+encode_again kind known steps k place who error (step.Configure on config) e t us is = absurd cc
+encode_again kind known steps k place who error (step.Chunk bind source) e t us is = absurd cc
+encode_again kind known steps k place who error (step.Decode on chunk) e t us is = absurd cc
+encode_again kind known steps k place who error (step.Flush on bind) e t us is = absurd cc
+encode_again kind known steps k place who error (step.Poll promise) e t us is = absurd cc
+encode_again kind known steps k place who error (step.Await promise) e t us is = absurd cc
+encode_again kind known steps k place who error (step.Reset on) e t us is = absurd cc
+encode_again kind known steps k place who error (step.Close on) e t us is = absurd cc
+encode_again kind known steps k place who error (step.State on) e t us is = absurd cc
 
--- an encode shows the exception of its line
-encode_error_shown : (kind : Kind) (known : Known) (steps : List Step) (k place : ℕ) (who : Who) (error : Option DomError) (o : Option Step) (e : Entry) (t : State) (us : List media.Unit) → option_and_then (encode_of known steps k place who error) o ≡ Some e
-    → refusal_in (filled_at kind e t us).events ≡ error
-encode_error_shown kind known steps k place who error None e t us is = absurd cc
-encode_error_shown kind known steps k place who error (Some s) e t us is = encode_shows kind known steps k place who error s e t us is
+-- an encode is read again from the exception that it shows
+encode_read_again : (kind : Kind) (known : Known) (steps : List Step) (k place : ℕ) (who : Who) (error : Option DomError) (o : Option Step) (e : Entry) (t : State) (us : List media.Unit) → option_and_then (encode_of known steps k place who error) o ≡ Some e
+    → option_and_then (encode_of known steps k place who (refusal_in (filled_at kind e t us).events)) o ≡ Some e
+encode_read_again kind known steps k place who error None e t us is = absurd cc
+encode_read_again kind known steps k place who error (Some s) e t us is = encode_again kind known steps k place who error s e t us is
 
 -- ---- the entry that its line tells
 
@@ -234,8 +242,7 @@ told_holds : (script : ScriptData) (files : List (List Chunk)) (known : Known) (
 told_holds script files known k place (entry_line.Call who call.Encode error) e kind t us h =
     let steps = steps_of script who.caller in
     let made = slice_get steps who.step in
-    let same = encode_told known steps k place who error made e (filled_at kind e t us) h ∙ ap (λ (o : Option DomError). entry_line.Call who call.Encode o) (encode_error_shown kind known steps k place who error made e t us h) in
-    ap (entry_of script files known k place) same ∙ h
+    ap (entry_of script files known k place) (encode_told known steps k place who error made e (filled_at kind e t us) h) ∙ encode_read_again kind known steps k place who error made e t us h
 told_holds script files known k place (entry_line.Call who call.Configure error) e kind t us h =
     let steps = steps_of script who.caller in
     ap (entry_of script files known k place) (step_told files known steps who call.Configure (slice_get steps who.step) e (filled_at kind e t us) h) ∙ h

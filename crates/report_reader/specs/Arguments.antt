@@ -1,5 +1,5 @@
 -- The arguments of the entries that a report tells: those of the callers' steps.
-use Rattle.std.specs.Prelude.{ℕ, zero, suc, List, [], ◌∷◌, slice_get, Option, Some, None, option_map, option_and_then, if◌then◌else◌}
+use Rattle.std.specs.Prelude.{ℕ, zero, suc, ◌==◌, Bool, true, false, List, [], ◌∷◌, slice_get, Option, Some, None, option_map, option_and_then, if◌then◌else◌}
 use Rattle.std.specs.Option.{option_or}
 use Rattle.wc_base.specs.declared.error.DomError.{DomError}
 use Rattle.wc_base.specs.declared.error.DomError.TheVariants as dom
@@ -74,19 +74,56 @@ abbrev pub clone_of : Option Samples → Option Pair → Option Handed
 clone_of (Some s) (Some p) = Some (handed.Cloned (record { samples = s; pair = p }))
 clone_of _ _ = None
 
--- What became of an encode's data, by its exception: detached data is refused first, then a codec that is not configured; else
--- the codec made a clone.
-abbrev pub handed_for : Option DomError → Option Handed → Option Handed
-handed_for None clone = clone
-handed_for (Some dom.TypeErr) clone = Some handed.Gone
-handed_for (Some dom.InvalidState) clone = Some handed.Kept
-handed_for (Some error) clone = None
+-- ---- audio data that is there, and that is detached
+
+-- a step that is answered without an exception
+abbrev pub is_ok : StepResult → Bool
+is_ok (result.Local None) = true
+is_ok _ = false
+
+-- a step with this result gives its variable something
+abbrev pub gives : StepResult → Bool
+gives (result.Unit k place n) = true
+gives answer = is_ok answer
+
+-- whether the step with this number gave its variable something
+abbrev pub is_given : List StepResult → ℕ → Bool
+is_given results j = elim (slice_get results j) [ None ↦ false | Some answer ↦ gives answer ]
+
+-- the variable, by the step that defines it, whose reference a step with this result handed on or ended
+abbrev pub detached_in : Step → StepResult → Option ℕ
+detached_in (step.Media (on_media.Transfer of bind)) answer = if is_ok answer then Some of.step else None
+detached_in (step.Media (on_media.CloseData of)) answer = if is_ok answer then Some of.step else None
+detached_in x answer = None
+
+-- the one whose reference the step with this number handed on or ended
+abbrev pub detached_by : List Step → List StepResult → ℕ → Option ℕ
+detached_by steps results i = option_and_then (λ x. option_and_then (detached_in x) (slice_get results i)) (slice_get steps i)
+
+abbrev pub is_named : ℕ → Option ℕ → Bool
+is_named j None = false
+is_named j (Some i) = i == j
+
+-- whether one of the first n steps detached the data of the variable that step j defines
+abbrev pub is_detached : List Step → List StepResult → ℕ → ℕ → Bool
+is_detached steps results zero j = false
+is_detached steps results (suc n) j = if is_detached steps results n j then true else is_named j (detached_by steps results n)
+
+-- What became of an encode's data, where it is there: it is gone where it is detached, whatever the exception is; else the exception
+-- says that the codec is not configured, or the codec made a clone.
+abbrev pub handed_for : Bool → Bool → Option DomError → Option Handed → Option Handed
+handed_for false gone error clone = None
+handed_for true true error clone = Some handed.Gone
+handed_for true false None clone = clone
+handed_for true false (Some dom.InvalidState) clone = Some handed.Kept
+handed_for true false (Some error) clone = None
 
 -- the entry of an encode with this exception, at this place of the codec with this number, if the step makes one
 abbrev pub encode_of : Known → List Step → ℕ → ℕ → Who → Option DomError → Step → Option Entry
 encode_of known steps k place who error (step.Media (on_media.Encode on content)) =
+    let results = results_of known.callers who.caller in
     let clone = clone_of (samples_before steps (taken_in known who.caller) who.step content.step) (pair_for k place known.pool) in
-    option_map (λ h. entry.Encode who h) (handed_for error clone)
+    option_map (λ h. entry.Encode who h) (handed_for (is_given results content.step) (is_detached steps results who.step content.step) error clone)
 encode_of known steps k place who error _ = None
 
 -- the entry of another call with the arguments of a step of its caller's steps, if the step makes such a call. `media` has the

@@ -3,9 +3,11 @@ ghost use Rattle.std.specs.Prelude.{◌≡◌, IfOk, Some, None, option_and_then
 ghost use Rattle.media_accounts.specs.Samples.{chunk_of_unit, samples_before};
 ghost use Rattle.trace_text.specs.Follow.{steps_of};
 ghost use Rattle.report_reader.specs.Arguments as spec;
+ghost use Rattle.report_reader.specs.Tables.{AreTables};
 
-use crate::clones::{find_pair, find_samples};
-use crate::known::{Known, taken_in};
+use crate::clones::find_samples;
+use crate::known::{Known, is_given, taken_in};
+use crate::tables::{Tables, is_ended, pair_at};
 use codec_model::{Entry, Handed, HeldSound, Pair};
 use coder_api::Unit;
 use report_text::{CallWord, EntryLine};
@@ -118,27 +120,39 @@ fn clone_of(samples: Option<Samples>, pair: Option<Pair>) -> Option<Handed>
     }
 }
 
-// What became of the data of the variable that the step with this number defines, by the exception of its encode.
+// What became of the data of the variable that the step with this number defines, by the results of its caller and the
+// exception of its encode.
 fn handed_of(
+    script: &ScriptData,
     known: &Known,
-    steps: &[Step],
+    tables: &Tables,
     codec: usize,
     place: u64,
     who: Who,
     error: Option<DomError>,
     content: u32,
 ) -> Result<Option<Handed>, NoMemory>
-    ensures { let samples = samples_before steps.now (spec.taken_in known.now who.caller) in
+    requires { AreTables script.now known.now tables.now }
+    ensures { let steps = steps_of script.now who.caller in
+        let results = spec.results_of known.now.callers who.caller in
+        let samples = samples_before steps (spec.taken_in known.now who.caller) in
         let pair = spec.pair_for codec place known.now.pool in
-        IfOk result
-        (λ o. o ≡ spec.handed_for error (spec.clone_of (samples who.step content) pair)) }
+        IfOk result (λ o. o ≡ spec.handed_for (spec.is_given results content)
+        (spec.is_detached steps results who.step content) error
+        (spec.clone_of (samples who.step content) pair)) }
 {
+    if !is_given(known, who.caller, content) {
+        return Ok(None);
+    }
+    if is_ended(tables, who.caller, who.step, content) {
+        return Ok(Some(Handed::Gone));
+    }
     match error {
         None => {
+            let steps = steps_of(script, who.caller);
             let samples = find_samples(known, steps, who.caller, who.step, content)?;
-            Ok(clone_of(samples, find_pair(codec, place, known.pool.as_slice())))
+            Ok(clone_of(samples, pair_at(tables, codec, place)))
         }
-        Some(DomError::TypeErr) => Ok(Some(Handed::Gone)),
         Some(DomError::InvalidState) => Ok(Some(Handed::Kept)),
         Some(_) => Ok(None),
     }
@@ -156,20 +170,23 @@ fn encode_with(who: Who, handed: Option<Handed>) -> Option<Entry>
 
 // The entry of an encode with this exception, if the step makes one.
 fn encode_of(
+    script: &ScriptData,
     known: &Known,
-    steps: &[Step],
+    tables: &Tables,
     codec: usize,
     place: u64,
     who: Who,
     error: Option<DomError>,
     step: &Step,
 ) -> Result<Option<Entry>, NoMemory>
-    ensures { IfOk result (λ o. o
-        ≡ spec.encode_of known.now steps.now codec place who error step.now) }
+    requires { AreTables script.now known.now tables.now }
+    ensures { IfOk result (λ o. o ≡ spec.encode_of known.now
+        (steps_of script.now who.caller) codec place who error step.now) }
 {
     match step {
         Step::Media(MediaStep::Encode { on: _, content }) => {
-            let handed = handed_of(known, steps, codec, place, who, error, content.step)?;
+            let content = content.step;
+            let handed = handed_of(script, known, tables, codec, place, who, error, content)?;
             Ok(encode_with(who, handed))
         }
         _ => Ok(None),
@@ -180,17 +197,18 @@ fn encode_of(
 fn encode_entry(
     script: &ScriptData,
     known: &Known,
+    tables: &Tables,
     codec: usize,
     place: u64,
     who: Who,
     error: Option<DomError>,
 ) -> Result<Option<Entry>, NoMemory>
+    requires { AreTables script.now known.now tables.now }
     ensures { IfOk result (λ o. o ≡ spec.by_step script.now who (spec.encode_of known.now
         (steps_of script.now who.caller) codec place who error)) }
 {
-    let steps = steps_of(script, who.caller);
-    match steps.get(who.step as usize) {
-        Some(step) => encode_of(known, steps, codec, place, who, error, step),
+    match steps_of(script, who.caller).get(who.step as usize) {
+        Some(step) => encode_of(script, known, tables, codec, place, who, error, step),
         None => Ok(None),
     }
 }
@@ -216,22 +234,24 @@ fn take_entry(script: &ScriptData, who: Who, unit: u64) -> Option<Entry>
 }
 
 /// The entry of a line at this place of the codec with this number, with the arguments of its step. `None` where its step
-/// makes no such call and no take, decodes a chunk that is absent, or encodes with another exception than an encode has, or
-/// data or a clone that the report does not show.
+/// makes no such call and no take, decodes a chunk that is absent, or encodes data that is absent, or with another exception
+/// than an encode of such data has, or data or a clone that the report does not show.
 pub fn entry_of(
     script: &ScriptData,
     media: &[List<Chunk>],
     known: &Known,
+    tables: &Tables,
     codec: usize,
     place: u64,
     line: EntryLine,
 ) -> Result<Option<Entry>, NoMemory>
+    requires { AreTables script.now known.now tables.now }
     ensures { IfOk result
         (λ o. o ≡ spec.entry_of script.now media.now known.now codec place line) }
 {
     match line {
         EntryLine::Call { who, call, error } => match call {
-            CallWord::Encode => encode_entry(script, known, codec, place, who, error),
+            CallWord::Encode => encode_entry(script, known, tables, codec, place, who, error),
             _ => call_entry(script, media, known, who, call),
         },
         EntryLine::Take { who, unit } => Ok(take_entry(script, who, unit)),

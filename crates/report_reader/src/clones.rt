@@ -1,19 +1,16 @@
-// The samples that encodes are given, and the clones that codecs make of their references.
+// The samples that encodes are given.
 ghost use Rattle.std.specs.Prelude.{ℕ, ◌≡◌, IfOk, IfNone, IfSome, None, Option, min, option_and_then};
 ghost use Rattle.wc_base.specs.declared.media.Samples as samples;
 ghost use Rattle.codec_definitions.specs.declared.unit.Unit as unit;
 ghost use Rattle.wc_audio.specs.Sound as sound;
-ghost use Rattle.media_accounts.specs.Accounts.{is_by_entry};
 ghost use Rattle.media_accounts.specs.Samples.{samples_by, samples_before, samples_of_init, sound_of_unit};
 ghost use Rattle.report_reader.specs.Arguments as spec;
 
 use crate::known::{Known, taken_in};
-use codec_model::Pair;
 use coder_api::Unit;
 use sample_conversion::format_size;
 use script_types::{MediaStep, SoundInit, Step};
-use wc_base::{By, NoMemory, Samples, SoundShape};
-use wc_pool::{PoolEntry, PoolOp};
+use wc_base::{NoMemory, Samples, SoundShape};
 
 // As many bytes as the shape needs, or as there are, where there are fewer.
 fn needed(shape: &SoundShape, bytes: usize) -> usize
@@ -129,62 +126,4 @@ pub fn find_samples(
         }
     }
     Ok(None)
-}
-
-// Whether this is the cause of the entry at this place of the codec with this number.
-fn is_by_entry(codec: usize, place: u64, by: By) -> bool
-    ensures { result ≡ is_by_entry codec place by }
-{
-    match by {
-        By::Caller(_) => false,
-        By::Codec {
-            codec: other,
-            place: own,
-        } => other as usize == codec && own == place,
-    }
-}
-
-// The resource and the reference of a clone.
-fn cloned(op: PoolOp) -> Option<Pair>
-    ensures { result ≡ spec.cloned op }
-{
-    match op {
-        PoolOp::Clone {
-            resource,
-            reference,
-        } => Some(Pair {
-            resource,
-            reference,
-        }),
-        _ => None,
-    }
-}
-
-// Those of the clone that the codec with this number made by its entry at this place, if the pool's entry is one.
-fn cloned_by(codec: usize, place: u64, entry: &PoolEntry) -> Option<Pair>
-    ensures { result ≡ spec.cloned_by codec place entry.now }
-{
-    if is_by_entry(codec, place, entry.by) {
-        cloned(entry.op)
-    } else {
-        None
-    }
-}
-
-/// The resource and the reference of the first clone that the codec with this number made by its entry at this place.
-///
-/// The pool's history is searched from its front for each encode, as the definition says it: nothing but a legal run tells
-/// that a codec's clones stand in the order of their entries.
-pub fn find_pair(codec: usize, place: u64, pool: &[PoolEntry]) -> Option<Pair>
-    ensures { result ≡ spec.pair_for codec place pool.now }
-{
-    let mut rest = pool;
-    while let [entry, more @ ..] = rest {
-        let found = cloned_by(codec, place, entry);
-        if found.is_some() {
-            return found;
-        }
-        rest = more;
-    }
-    None
 }

@@ -18,13 +18,43 @@ pub struct Known {
     pub pool: List<PoolEntry>,
 }
 
-// The results of a caller; none where no caller has the number.
-fn results_of(callers: &[CallerTrace], caller: u32) -> &[StepResult]
+/// The results of a caller; none where no caller has the number.
+pub fn results_at(callers: &[CallerTrace], caller: usize) -> &[StepResult]
     ensures { result.now ≡ spec.results_of callers.now caller }
 {
-    match callers.get(caller as usize) {
+    match callers.get(caller) {
         Some(caller) => caller.results.as_slice(),
         None => &[],
+    }
+}
+
+/// Whether a step was answered without an exception.
+pub fn is_ok(answer: &StepResult) -> bool
+    ensures { result ≡ spec.is_ok answer.now }
+{
+    match answer {
+        StepResult::Local { error: None } => true,
+        _ => false,
+    }
+}
+
+// Whether a step with this result gave its variable something.
+fn gives(answer: &StepResult) -> bool
+    ensures { result ≡ spec.gives answer.now }
+{
+    match answer {
+        StepResult::Unit { .. } => true,
+        _ => is_ok(answer),
+    }
+}
+
+/// Whether this step of a caller gave its variable something.
+pub fn is_given(known: &Known, caller: u32, step: u32) -> bool
+    ensures { result ≡ spec.is_given (spec.results_of known.now.callers caller) step }
+{
+    match results_at(known.callers.as_slice(), caller as usize).get(step as usize) {
+        Some(answer) => gives(answer),
+        None => false,
     }
 }
 
@@ -66,7 +96,7 @@ fn output_of<'a>(outputs: &'a [List<Unit>], answer: &StepResult) -> Option<&'a U
 pub fn taken_in(known: &Known, caller: u32, step: u32) -> Option<&Unit>
     ensures { option_copied result ≡ spec.taken_in known.now caller step }
 {
-    match results_of(known.callers.as_slice(), caller).get(step as usize) {
+    match results_at(known.callers.as_slice(), caller as usize).get(step as usize) {
         Some(answer) => output_of(known.outputs.as_slice(), answer),
         None => None,
     }

@@ -14,6 +14,7 @@ mod read;
 mod reading;
 mod rows;
 mod run;
+mod tables;
 mod trace;
 
 pub use fault::ReportFault;

@@ -6,6 +6,7 @@ ghost use Rattle.report_reader.specs.Read as spec;
 
 use crate::build::{all_outputs_of, behind_first, callers_of, held_of, pool_of, slots_of};
 use crate::known::Known;
+use crate::tables::tables_of;
 use crate::trace::codecs_of;
 use report_text::Line;
 use script_types::ScriptData;
@@ -35,7 +36,8 @@ pub fn run_of(
         outputs: List::of(outputs),
         pool: List::of(pool),
     };
-    let codecs = codecs_of(alloc, script, media, &known, count, codec_lines)?;
+    let tables = tables_of(alloc, script, &known)?;
+    let codecs = codecs_of(alloc, script, media, &known, &tables, count, codec_lines)?;
     let rest = behind_first(rest);
     let slots = slots_of(alloc, rest)?;
     let Known {

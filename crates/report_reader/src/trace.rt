@@ -5,10 +5,12 @@ ghost use Rattle.codec_follow.specs.Follow.{filled, with_unit, units_after};
 ghost use Rattle.report_reader.specs.Fits.{FitsEvent, FitsTrace};
 ghost use Rattle.report_reader.specs.Next.{NextIs};
 ghost use Rattle.report_reader.specs.Read as spec;
+ghost use Rattle.report_reader.specs.Tables.{AreTables};
 
 use crate::arguments::entry_of;
 use crate::build::{behind_first, entry_lines_of, opening_of, own_outputs, push};
 use crate::known::Known;
+use crate::tables::Tables;
 use codec_follow::{Follower, empty_output};
 use codec_model::{Entry, Event, Kind, Opening, Shown, TurnWord};
 use coder_api::Unit;
@@ -89,14 +91,16 @@ fn next_entry(
     script: &ScriptData,
     media: &[List<Chunk>],
     known: &Known,
+    tables: &Tables,
     codec: usize,
     place: u64,
     line: EntryLine,
 ) -> Result<Option<(Entry, Shown)>, NoMemory>
+    requires { AreTables script.now known.now tables.now }
     ensures { let next = NextIs script.now media.now known.now codec place line in
         IfOk result (λ found. next follower.old found follower.new) }
 {
-    let Some(entry) = entry_of(script, media, known, codec, place, line)? else {
+    let Some(entry) = entry_of(script, media, known, tables, codec, place, line)? else {
         return Ok(None);
     };
     let shown = follower.follow(&entry)?;
@@ -127,11 +131,13 @@ fn trace_of(
     script: &ScriptData,
     media: &[List<Chunk>],
     known: &Known,
+    tables: &Tables,
     codec: usize,
     opening: Opening,
     lines: &[EntryLine],
     units: &[Unit],
 ) -> Result<CodecTrace, NoMemory>
+    requires { AreTables script.now known.now tables.now }
     ensures trace { let trace_of = spec.trace_of script.now media.now known.now codec in
         IfOk result (λ trace. trace ≡ trace_of opening lines.now units.now) }
     ensures fits { IfOk result FitsTrace }
@@ -143,7 +149,16 @@ fn trace_of(
     let mut rest = lines;
     while let [line, more @ ..] = rest {
         let place = place_behind(&entries);
-        match next_entry(&mut follower, script, media, known, codec, place, *line)? {
+        match next_entry(
+            &mut follower,
+            script,
+            media,
+            known,
+            tables,
+            codec,
+            place,
+            *line,
+        )? {
             None => return Ok(trace_with(opening, entries, shown)),
             Some((entry, blank)) => {
                 let (events, behind) = filled(alloc, opening.kind, blank.events.as_slice(), left)?;
@@ -182,9 +197,11 @@ fn codec_of<'a>(
     script: &ScriptData,
     media: &[List<Chunk>],
     known: &Known,
+    tables: &Tables,
     codec: usize,
     lines: &'a [Line],
 ) -> Result<(CodecTrace, &'a [Line]), NoMemory>
+    requires { AreTables script.now known.now tables.now }
     ensures codec { IfOk result
         (λ x. x.0 ≡ spec.codec_in script.now media.now known.now codec lines.now) }
     ensures fits { IfOk result (λ x. FitsTrace x.0) }
@@ -194,7 +211,7 @@ fn codec_of<'a>(
     let units = own_outputs(alloc, lines)?;
     let opening = opening_of(lines);
     let trace = trace_of(
-        alloc, script, media, known, codec, opening, &entries, &units,
+        alloc, script, media, known, tables, codec, opening, &entries, &units,
     )?;
     Ok((trace, behind))
 }
@@ -205,9 +222,11 @@ pub fn codecs_of(
     script: &ScriptData,
     media: &[List<Chunk>],
     known: &Known,
+    tables: &Tables,
     count: usize,
     lines: &[Line],
 ) -> Result<Vec<CodecTrace>, NoMemory>
+    requires { AreTables script.now known.now tables.now }
     ensures codecs { IfOk result
         (λ v. v.items ≡ spec.codecs_in script.now media.now known.now 0 count lines.now) }
     // The promises whose ends they show have numbers of 64 bits.
@@ -216,7 +235,7 @@ pub fn codecs_of(
     let mut codecs = Vec::new(alloc);
     let mut rest = lines;
     for codec in 0..count {
-        let (trace, behind) = codec_of(alloc, script, media, known, codec, rest)?;
+        let (trace, behind) = codec_of(alloc, script, media, known, tables, codec, rest)?;
         push(&mut codecs, trace)?;
         rest = behind;
     }

@@ -53,6 +53,6 @@ bytes_length zero n = refl
 bytes_length (suc size) n = ap suc (bytes_length size (n / 256))
 
 -- parts of one length
-pub flat_length : (f : ℕ → List ℕ) (k : ℕ) → ((i : ℕ) → length (f i) ≡ k) → (a n : ℕ) → length (flat_map f (range_with_len a n)) ≡ n * k
+pub flat_length : {X : Type 0} (f : ℕ → List X) (k : ℕ) → ((i : ℕ) → length (f i) ≡ k) → (a n : ℕ) → length (flat_map f (range_with_len a n)) ≡ n * k
 flat_length f k h a zero = omega arith
 flat_length f k h a (suc n) = omega (arith, length-append (f a) (flat_map f (range_with_len (a + 1) n)), h a, flat_length f k h (a + 1) n)

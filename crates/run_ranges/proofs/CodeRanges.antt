@@ -28,6 +28,7 @@ use Rattle.g711.specs.Laws.{UlawEncodes, AlawEncodes}
 use Rattle.report_lines.specs.FieldLaws.{Lacks}
 use Rattle.report_lines.specs.Fits.{is_no_feed}
 use Rattle.history_laws.specs.Outputs.{IsLabel}
+use Rattle.history_laws.specs.StreamLaws.{stream_description_fits, described_where}
 use Rattle.run_ranges.specs.Ranges.{IsConfigWithin}
 use Rattle.run_ranges.proofs.ByteRanges.{nothing_small, one_small, drop_small, spelled_small, flat_small}
 
@@ -162,7 +163,8 @@ label_within d label = by label.config label.passed label.has_coder label.decode
   where
     by : (c : Config) → IsConfigWithin c → is_some (coder_id_of c) ≡ true → decoder_config c ≡ Some d → IsLabelWithin d
     by (config.AudioEncoder c) own coder is =
-        subst IsLabelWithin (some_same _ d is) (record { word = codec_word c.codec (named (audio_codec c.codec) coder); rate = own.0; channels = own.1; description = nothing_small })
+        let described = described_where (λ (o : Option (List ℕ)). IsBytes (unwrap_or o [])) c nothing_small (stream_description_fits c) in
+        subst IsLabelWithin (some_same _ d is) (record { word = codec_word c.codec (named (audio_codec c.codec) coder); rate = own.0; channels = own.1; description = described })
     by (config.AudioDecoder c) own coder is = absurd cc
     by (config.VideoDecoder c) own coder is = absurd cc
     by config.Bad own coder is = absurd cc

@@ -2,7 +2,7 @@
 -- codecs were given is within its types.
 use Rattle.std.proofs.Common.{ℕ, zero, suc, ◌≡◌, ◌<◌, ◌≤◌, ◌+◌, ◌*◌, ◌^◌, ◌⊎◌, inl, inr, not, Bool, true, false, cond, List, [], ◌∷◌, ◌++◌, length, length-append, Option, Some, None, refl, ap, sym, subst, ◌∙◌, add-mul, arith}
 use Rattle.std.specs.Prelude.{slice_get, slice_set, option_map, option_and_then, unwrap_or, map}
-use Rattle.std.specs.List.{AllByRecursion, find, range_with_len}
+use Rattle.std.specs.List.{find, range_with_len}
 use Rattle.std.proofs.Math.Nat.{mul-add, mul-one, one-mul}
 use Rattle.std.proofs.lemmas.List.{length-map}
 use Rattle.std.proofs.lemmas.List.Sums.{count_by-le-length}
@@ -63,6 +63,7 @@ use Rattle.trace_text.specs.Follow.{Course, opening_of, steps_of, output_at, chu
 use Rattle.history_laws.specs.Outputs.{HoldsOwn}
 use Rattle.history_laws.specs.OutputLaws.{outputs_are}
 use Rattle.history_laws.specs.CountLaws.{outputs_each}
+use Rattle.run_ranges.specs.Counts.{all_from, all_at}
 use Rattle.run_ranges.specs.Ranges.{IsMoment, IsConfigWithin, IsChunkWithin, IsShapeWithin, AreWithin}
 use Rattle.run_ranges.proofs.CodeRanges.{CodesAreBytes}
 use Rattle.run_ranges.proofs.UnitRanges.{AreSamplesWithin, IsUnitWithin, judge}
@@ -411,15 +412,6 @@ handed_own who number true shape (Some r) own small = (own, small)
 handed_own who number false shape (Some r) own small = tt
 
 -- ---- outputs
-
-pub all_from : {X : Type 0} (P : X → Type 0) (xs : List X) → ((i : ℕ) (x : X) → slice_get xs i ≡ Some x → P x) → AllByRecursion P xs
-all_from P [] h = tt
-all_from P (x ∷ xs) h = (h 0 x refl, all_from P xs (λ i y is. h (suc i) y is))
-
-all_at : {X : Type 0} (P : X → Type 0) (xs : List X) (i : ℕ) (x : X) → AllByRecursion P xs → slice_get xs i ≡ Some x → P x
-all_at P [] i x h is = absurd cc
-all_at P (y ∷ ys) zero x h is = let same : y ≡ x = cc in subst P same h.0
-all_at P (y ∷ ys) (suc i) x h is = all_at P ys i x h.1 is
 
 -- so an entry passes with the judge of outputs
 pub holds_own : (laws : CodesAreBytes) (e : Entry) → IsOwnEntry e → HoldsOwn (judge laws) e

@@ -1,5 +1,5 @@
 -- The lines of one codec's legal history are within their types.
-use Rattle.std.proofs.Common.{ℕ, ◌≡◌, ◌<◌, ◌≤◌, ◌+◌, ◌^◌, ◌&&◌, true, eqb, List, [], ◌∷◌, ◌++◌, length, Option, Some, None, is_some, refl, subst, ◌∙◌, arith}
+use Rattle.std.proofs.Common.{ℕ, ◌≡◌, ◌<◌, ◌≤◌, ◌+◌, ◌^◌, ◌&&◌, true, eqb, List, [], ◌∷◌, ◌++◌, length, Option, Some, None, is_some, refl, subst, ◌∙◌, arith, lit<}
 use Rattle.std.specs.Prelude.{flat_map, option_map, option_and_then, unwrap_or}
 use Rattle.std.specs.List.{AllByRecursion, zip}
 use Rattle.std.proofs.lemmas.Bool.{and_parts, eqb-true}
@@ -9,7 +9,6 @@ use Rattle.wc_base.specs.declared.error.DomError.TheVariants as dom
 use Rattle.codec_definitions.specs.declared.unit.Unit as media
 use Rattle.codec_definitions.specs.declared.unit.Unit.TheVariants as unit
 use Rattle.wc_config.specs.declared.config.AudioDecoderConfig.{AudioDecoderConfig}
-use Rattle.codec_definitions.specs.declared.command.Command.{Command}
 use Rattle.codec_model.specs.declared.entry.Opening.{Opening}
 use Rattle.codec_model.specs.declared.entry.Entry.{Entry}
 use Rattle.codec_model.specs.declared.entry.Entry.TheVariants as entry
@@ -37,8 +36,10 @@ use Rattle.report_lines.specs.Fits.{FitsWho, FitsOutcome, FitsEntryLine, FitsLin
 use Rattle.history_laws.specs.Answers.{answer_where}
 use Rattle.history_laws.specs.Numbers.{AreItemsUpTo, IsUpTo}
 use Rattle.history_laws.specs.NumberLaws.{step_up}
-use Rattle.history_laws.specs.OutputLaws.{all_append}
-use Rattle.run_ranges.proofs.UnitRanges.{IsCarriedWithin, IsUnitWithin, are_given}
+use Rattle.history_laws.specs.Outputs.{HoldsOwn}
+use Rattle.history_laws.specs.OutputLaws.{all_append, IsOwn, IsOwnGiven, Own, step_own}
+use Rattle.run_ranges.proofs.CodeRanges.{CodesAreBytes}
+use Rattle.run_ranges.proofs.UnitRanges.{IsCarriedWithin, IsUnitWithin, are_given, judge}
 
 -- ---- what a history does not tell
 
@@ -71,34 +72,31 @@ started_small n (i ∷ is) epoch number s t e made h =
     let items : AreItemsUpTo n (i ∷ is) = subst (AreItemsUpTo n) e h.queued in
     (omega (arith, h.epoch, eqb-true epoch s.control.epoch first.1), omega (arith, items.0, eqb-true number i.number last.1))
 
-all_any : (xs : List Command) → AllByRecursion (λ x. Unit {0}) xs
-all_any [] = tt
-all_any (x ∷ xs) = (tt, all_any xs)
-
--- a unit is no other one where it carries a config
-labelled_few : (o : Option AudioDecoderConfig) (us : List media.Unit) → length us ≤ 1 → length (labelled o us) ≤ 1
+-- there are as many units where the first carries a config
+labelled_few : (o : Option AudioDecoderConfig) (us : List media.Unit) → length us < 2 ^ 64 → length (labelled o us) < 2 ^ 64
 labelled_few None us few = few
 labelled_few (Some c) [] few = few
 labelled_few (Some c) (unit.Sound samples ∷ us) few = few
 labelled_few (Some c) (unit.Image picture ∷ us) few = few
 labelled_few (Some c) (unit.Coded chunk config ∷ us) few = few
 
--- an item that ran gave one unit at most
-outcome_small : (k : WorkKind) (g : Given) (x : Outcome) (e : Ended) → ended_of k g x ≡ Some e → IsOutcomeWithin x → FitsOutcome x
-outcome_small k g (outcome.Ran units) e is own = by (answer_to k g) refl is
+-- an item that ran gave fewer units than 2^64, by what its coder was given
+outcome_small : (laws : CodesAreBytes) (k : WorkKind) (g : Given) (x : Outcome) (e : Ended) → ended_of k g x ≡ Some e → IsOwnGiven (judge laws) g → IsOutcomeWithin x → FitsOutcome x
+outcome_small laws k g (outcome.Ran units) e is given own = by (answer_to k g) refl is
   where
     by : (a : Option (List media.Unit)) → answer_to k g ≡ a → ended_run units a ≡ Some e → units < 2 ^ 64
     by None same made = absurd cc
     by (Some us) same made =
-        let few : length us ≤ 1 = answer_where (λ x. Unit {0}) (λ vs. length vs ≤ 1) k g us (omega arith) (λ id before x vs any h. (are_given id g.config before x vs h).few) (λ vs some few. labelled_few (decoder_config g.config) vs few) (all_any g.commands) same in
+        let few : length us < 2 ^ 64 = answer_where (IsOwn (judge laws)) (λ vs. length vs < 2 ^ 64) k g us (lit< tt) (λ id before x vs fine h. (are_given id g.config before x vs h).few fine)
+        (λ vs some few. labelled_few (decoder_config g.config) vs few) given.1 same in
         omega (arith, eqb-true units (length us) (cond_is (eqb units (length us)) (Some (ended.Ran us)) e made).0, few)
-outcome_small k g outcome.Refused e is own = tt
-outcome_small k g (outcome.NoSlot n) e is own = own
-outcome_small k g outcome.NoMemory e is own = tt
+outcome_small laws k g outcome.Refused e is given own = tt
+outcome_small laws k g (outcome.NoSlot n) e is given own = own
+outcome_small laws k g outcome.NoMemory e is given own = tt
 
-ended_small : (n : ℕ) (o : Option Running) (epoch number moment : ℕ) (x : Outcome) (s t : State) → s.control.running ≡ o → done_step o epoch number moment x s ≡ Some t → IsUpTo n s.control → IsOutcomeWithin x → (epoch ≤ n) × (number ≤ n) × FitsOutcome x
-ended_small n None epoch number moment x s t busy made h own = absurd cc
-ended_small n (Some r) epoch number moment x s t busy made h own =
+ended_small : (laws : CodesAreBytes) (n : ℕ) (o : Option Running) (epoch number moment : ℕ) (x : Outcome) (s t : State) → s.control.running ≡ o → done_step o epoch number moment x s ≡ Some t → IsUpTo n s.control → IsOwnGiven (judge laws) s.running_given → IsOutcomeWithin x → (epoch ≤ n) × (number ≤ n) × FitsOutcome x
+ended_small laws n None epoch number moment x s t busy made h given own = absurd cc
+ended_small laws n (Some r) epoch number moment x s t busy made h given own =
     let parts = cond_is (eqb r.epoch epoch && eqb r.number number) (done_ended r (ended_of r.kind s.running_given x) moment s) t made in
     let same = and_parts (eqb r.epoch epoch) (eqb r.number number) parts.0 in
     let small = h.running r busy in
@@ -106,22 +104,22 @@ ended_small n (Some r) epoch number moment x s t busy made h own =
   where
     by : (e : Option Ended) → ended_of r.kind s.running_given x ≡ e → done_ended r e moment s ≡ Some t → FitsOutcome x
     by None is done = absurd cc
-    by (Some e) is done = outcome_small r.kind s.running_given x e is own
+    by (Some e) is done = outcome_small laws r.kind s.running_given x e is given own
 
-entry_fits : (script : ScriptData) (n : ℕ) (e : Entry) (s t : State) → step e s ≡ Some t → IsUpTo n s.control → n < 2 ^ 64 → IsEntryWithin script e → FitsEntryLine script (entry_line_of e (shown_at e s))
-entry_fits script n (entry.Configure who config) s t is h few own = own
-entry_fits script n (entry.Decode who chunk) s t is h few own = own
-entry_fits script n (entry.Encode who handed) s t is h few own = own
-entry_fits script n (entry.Flush who) s t is h few own = own
-entry_fits script n (entry.Reset who) s t is h few own = own
-entry_fits script n (entry.Close who) s t is h few own = own
-entry_fits script n (entry.Take who unit) s t is h few own = own
-entry_fits script n (entry.Start epoch number) s t is h few own =
+entry_fits : (laws : CodesAreBytes) (script : ScriptData) (n : ℕ) (e : Entry) (s t : State) → step e s ≡ Some t → IsUpTo n s.control → IsOwnGiven (judge laws) s.running_given → n < 2 ^ 64 → IsEntryWithin script e → FitsEntryLine script (entry_line_of e (shown_at e s))
+entry_fits laws script n (entry.Configure who config) s t is h given few own = own
+entry_fits laws script n (entry.Decode who chunk) s t is h given few own = own
+entry_fits laws script n (entry.Encode who handed) s t is h given few own = own
+entry_fits laws script n (entry.Flush who) s t is h given few own = own
+entry_fits laws script n (entry.Reset who) s t is h given few own = own
+entry_fits laws script n (entry.Close who) s t is h given few own = own
+entry_fits laws script n (entry.Take who unit) s t is h given few own = own
+entry_fits laws script n (entry.Start epoch number) s t is h given few own =
     let small = started_small n s.control.work epoch number s t refl is h in (omega (arith, small.0, few), omega (arith, small.1, few))
-entry_fits script n (entry.Done epoch number moment x) s t is h few own =
-    let small = ended_small n s.control.running epoch number moment x s t refl is h own.1 in (omega (arith, small.0, few), omega (arith, small.1, few), own.0, small.2)
-entry_fits script n entry.Turn s t is h few own = tt
-entry_fits script n (entry.Reclaim moment) s t is h few own = own
+entry_fits laws script n (entry.Done epoch number moment x) s t is h given few own =
+    let small = ended_small laws n s.control.running epoch number moment x s t refl is h given own.1 in (omega (arith, small.0, few), omega (arith, small.1, few), own.0, small.2)
+entry_fits laws script n entry.Turn s t is h given few own = tt
+entry_fits laws script n (entry.Reclaim moment) s t is h given few own = own
 
 -- ---- events
 
@@ -205,11 +203,12 @@ abbrev AreUnits : List Shown → Type 0
 AreUnits xs = AllByRecursion (λ x. AllByRecursion IsUnitWithin (units_in x.events)) xs
 
 -- the entries behind others of a legal history, from the place of the first on
-pub lines_within : (script : ScriptData) (o : Opening) → Always IsNeverStuck → 1 ≤ o.saturation → (before es : List Entry) (s : State) (n : ℕ) → replay o before ≡ Some s → is_some (replay_from es s) ≡ true → IsUpTo n s.control → n + length es < 2 ^ 64
-    → AllByRecursion (IsEntryWithin script) es → AreUnits (each_shown_from es s) → AllByRecursion (FitsLine script) (lines_from entry_lines n (zip es (each_shown_from es s)))
-lines_within script o always some before [] s n r legal h few own units = tt
-lines_within script o always some before (e ∷ es) s n r legal h few own units =
-    by (step e s) refl legal units.1 (λ t made rest shown. lines_within script o always some (before ++ e ∷ []) es t (n + 1) (replay_append o before e s r ∙ made) rest (step_up n e s t made h) (omega (arith, few)) own.1 shown)
+pub lines_within : (laws : CodesAreBytes) (script : ScriptData) (o : Opening) → Always IsNeverStuck → 1 ≤ o.saturation → (before es : List Entry) (s : State) (n : ℕ) → replay o before ≡ Some s → is_some (replay_from es s) ≡ true → IsUpTo n s.control → Own (judge laws) s → n + length es < 2 ^ 64
+    → AllByRecursion (IsEntryWithin script) es → AllByRecursion (HoldsOwn (judge laws)) es → AreUnits (each_shown_from es s) → AllByRecursion (FitsLine script) (lines_from entry_lines n (zip es (each_shown_from es s)))
+lines_within laws script o always some before [] s n r legal h given few own inputs units = tt
+lines_within laws script o always some before (e ∷ es) s n r legal h given few own inputs units =
+    by (step e s) refl legal units.1
+    (λ t made rest shown. lines_within laws script o always some (before ++ e ∷ []) es t (n + 1) (replay_append o before e s r ∙ made) rest (step_up n e s t made h) (step_own (judge laws) e s t made inputs.0 given) (omega (arith, few)) own.1 inputs.1 shown)
   where
     names : NamesEarlier s.control
     names = (always o before s some r).names
@@ -222,6 +221,6 @@ lines_within script o always some before (e ∷ es) s n r legal h few own units 
         → AllByRecursion (FitsLine script) (entry_lines n (e, shown_at e s) ++ lines_from entry_lines (n + 1) (zip es (unwrap_or (option_map (each_shown_from es) next) [])))
     by None is there shown more = absurd cc
     by (Some t) is there shown more = (
-      (small, entry_fits script n e s t is h small own.0),
+      (small, entry_fits laws script n e s t is h given.busy small own.0),
       all_append (FitsLine script) (flat_map event_lines (shows e s)) _ (events_fit script (shows e s) (shown_promises n e s h small names) units.0) (more t is there shown),
     )

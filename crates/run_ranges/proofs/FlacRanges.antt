@@ -1,5 +1,5 @@
 -- The samples of a FLAC frame are within their types.
-use Rattle.std.proofs.Common.{ℕ, ℤ, ◌≡◌, ◌<◌, ◌+◌, ◌^◌, not, Bool, true, false, cond, List, Option, Some, None, Result, Ok, Err, refl, ap, subst, arith, lit<}
+use Rattle.std.proofs.Common.{ℕ, ℤ, ◌≡◌, ◌<◌, ◌+◌, ◌^◌, not, Bool, true, false, cond, List, Option, Some, None, Result, Ok, Err, subst, arith, lit<}
 use Rattle.std.specs.Prelude.{◌==◌}
 use Rattle.wc_base.specs.Options.{cond_is, some_same}
 use Rattle.wc_config.specs.declared.stream_info.StreamInfo.{StreamInfo}
@@ -8,23 +8,15 @@ use Rattle.flac_definitions.specs.declared.fault.HeaderFault.TheVariants as faul
 use Rattle.flac_definitions.specs.declared.fault.HeaderField.TheVariants as field
 use Rattle.flac_definitions.specs.declared.header.FrameHeader.{FrameHeader}
 use Rattle.flac_definitions.specs.Bits.{Place, number_at, start_of}
-use Rattle.flac_definitions.specs.Options.{◌>>=◌}
 use Rattle.flac_definitions.specs.Results.{or_fault, without_fault}
 use Rattle.flac_definitions.specs.Results as result
 use Rattle.flac_definitions.specs.GrammarLaws.{number}
 use Rattle.flac_definitions.specs.Header.{field_at, tested_at, is_long_block_size, common_block_size, block_size_at, codes_at, coded_number_at, sample_rate_at, header_sum_at, channels_of, depth_of, if_described, header_at}
 use Rattle.flac_definitions.specs.Subframe.{channels_at}
-use Rattle.flac_definitions.specs.Frame.{footer_at, with_header, frame_at, if_all_bytes, frame_of}
+use Rattle.flac_definitions.specs.Frame.{footer_at, frame_at, if_all_bytes, frame_of}
+use Rattle.history_laws.specs.WholeLaws.{bind_some, bind_ok, fault_none, given_header}
 
 -- ---- what readers gave, one after another
-
-bind_some : {A B : Type 0} (o : Option A) (f : A → Option B) (y : B) → (o >>= f) ≡ Some y → (x : A) × (o ≡ Some x) × (f x ≡ Some y)
-bind_some None f y h = absurd cc
-bind_some (Some x) f y h = (x, refl, h)
-
-bind_ok : {A B E : Type 0} (r : Result A E) (f : A → Result B E) (y : B) → result.◌>>=◌ r f ≡ Ok y → (x : A) × (r ≡ Ok x) × (f x ≡ Ok y)
-bind_ok (Ok x) f y h = (x, refl, h)
-bind_ok (Err e) f y h = absurd cc
 
 ok_same : {A E : Type 0} (x y : A) → (let r : Result A E = Ok x in r) ≡ Ok y → x ≡ y
 ok_same x y h = cc
@@ -32,10 +24,6 @@ ok_same x y h = cc
 fault_or : {A E : Type 0} (e : E) (o : Option A) (y : A) → or_fault e o ≡ Ok y → o ≡ Some y
 fault_or e None y h = absurd cc
 fault_or e (Some x) y h = cc
-
-fault_none : {A E : Type 0} (r : Result A E) (y : A) → without_fault r ≡ Some y → r ≡ Ok y
-fault_none (Ok x) y h = cc
-fault_none (Err e) y h = absurd cc
 
 -- ---- the block size
 
@@ -96,11 +84,7 @@ header_small info p h is =
     let rate = bind_ok (sample_rate_at info.rate codes.0.0.rate block.0.1) _ h block.2 in
     let sum = bind_ok (header_sum_at p.at rate.0.1) _ h rate.2 in
     let made : FrameHeader × Place = (record { block = block.0.0; rate = rate.0.0; assignment = codes.0.0.assignment; depth = depth_of info.depth codes.0.0.depth; number = number.0.0 }, sum.0.1) in
-    subst (λ (z : FrameHeader × Place). z.0.block < 2 ^ 32) (described_same info made h sum.2) (block_small codes.0.0.block number.0.1 block.0 block.1)
-
-given_header : (h : FrameHeader) (p : Place) (o : Option (List ℤ)) (g : (FrameHeader × List ℤ) × Place) → with_header h p o ≡ Some g → h ≡ g.0.0
-given_header h p None g is = absurd cc
-given_header h p (Some samples) g is = ap (λ (z : (FrameHeader × List ℤ) × Place). z.0.0) (some_same ((h, samples), p) g is)
+    subst (λ (z : FrameHeader × Place). z.0.block < 2 ^ 32) {x = made} (described_same info made h sum.2) (block_small codes.0.0.block number.0.1 block.0 block.1)
 
 frame_small : (info : StreamInfo) (p : Place) (g : (FrameHeader × List ℤ) × Place) → frame_at info p ≡ Some g → g.0.0.block < 2 ^ 32
 unfolding frame_at
@@ -112,8 +96,8 @@ frame_small info p g is =
     subst (λ (z : FrameHeader). z.block < 2 ^ 32) (given_header header.0.0 end.0.1 _ g end.2) (header_small info p header.0 (fault_none (header_at info p) header.0 header.1))
 
 -- a frame has fewer samples of a channel than 2 ^ 32
-pub block_within : (info : StreamInfo) (bytes : List ℕ) (f : FrameHeader × List ℤ) → frame_of info bytes ≡ Some f → f.0.block < 2 ^ 32
-block_within info bytes f is =
+pub frame_within : (info : StreamInfo) (bytes : List ℕ) (f : FrameHeader × List ℤ) → frame_of info bytes ≡ Some f → f.0.block < 2 ^ 32
+frame_within info bytes f is =
     let read = (cond_is _ _ f is).1 in
     let frame = bind_some (frame_at info (start_of bytes)) (if_all_bytes bytes) f read in
     let whole = (cond_is _ (Some frame.0.0) f frame.2).1 in

@@ -1,5 +1,6 @@
 mod ByteRanges
 mod FlacRanges
+mod BlockRanges
 mod CodeRanges
 mod UnitRanges
 mod EntryRanges

@@ -59,8 +59,8 @@ use Rattle.report_lines.specs.Fits.{IsCodec, FitsWho, FitsResult, FitsBy, FitsOp
 use Rattle.history_laws.specs.Outputs.{HoldsOwn}
 use Rattle.history_laws.specs.Numbers.{IsUpTo}
 use Rattle.history_laws.specs.NumberLaws.{step_up, opening_up}
-use Rattle.history_laws.specs.OutputLaws.{all_append, outputs_are}
-use Rattle.run_ranges.specs.Counts.{traces_count, caller_of_step}
+use Rattle.history_laws.specs.OutputLaws.{all_append, opening_own, outputs_are}
+use Rattle.run_ranges.specs.Counts.{traces_count, caller_of_step, all_from}
 use Rattle.run_ranges.specs.Ranges.{AreWithin}
 use Rattle.run_ranges.proofs.CodeRanges.{CodesAreBytes}
 use Rattle.run_ranges.proofs.UnitRanges.{judge}
@@ -68,7 +68,7 @@ use Rattle.run_ranges.proofs.TakenRanges.{takes_small}
 use Rattle.run_ranges.proofs.PoolRanges.{held_up_to, pool_ops_fit, pool_lines_fit, IsMadeBy, entry_made}
 use Rattle.run_ranges.proofs.MediaRanges.{IsChunkThere, IsOutputWithin, IsAnswerWithin, FitsTaken, size_small_of, AreSteps, came_answers, media_fits}
 use Rattle.run_ranges.proofs.EntryRanges.{IsOutcomeWithin, IsEntryWithin, lines_within}
-use Rattle.run_ranges.proofs.CourseRanges.{IsOwnEntry, IsByUpTo, IsOpUpTo, IsCourseUpTo, chunk_made, contents_within, all_from, holds_own, output_own, course_up}
+use Rattle.run_ranges.proofs.CourseRanges.{IsOwnEntry, IsByUpTo, IsOpUpTo, IsCourseUpTo, chunk_made, contents_within, holds_own, output_own, course_up}
 
 -- ---- a script's counts
 
@@ -411,7 +411,7 @@ trace_lines_fit laws s c t always legal some long h =
     let units = outputs_are (judge laws) t.opening t.entries own in
     let open_for : 1 ≤ t.opening.saturation = subst (λ (o : Opening). 1 ≤ o.saturation) (sym legal.opening) some.0 in
     subst (λ (xs : List Shown). AllByRecursion (FitsLine s) (lines_from entry_lines 0 (zip t.entries xs))) (sym legal.shown)
-    (lines_within s t.opening always open_for [] t.entries (opening_state t.opening) 0 refl legal.legal (opening_up t.opening) (omega (arith, long)) (all_from (IsEntryWithin s) t.entries (λ p e is. (h p e is).0)) units)
+    (lines_within laws s t.opening always open_for [] t.entries (opening_state t.opening) 0 refl legal.legal (opening_up t.opening) (opening_own (judge laws) t.opening) (omega (arith, long)) (all_from (IsEntryWithin s) t.entries (λ p e is. (h p e is).0)) own units)
 
 codec_lines_fit : (laws : CodesAreBytes) (s : ScriptData) (k : ℕ) (cs : List CodecItem) (ts : List CodecTrace) → Always IsNeverStuck → AreLegalTraces cs ts → k + length ts ≤ length s.codecs → length s.codecs ≤ most_codecs
     → ((i : ℕ) (c : CodecItem) → slice_get cs i ≡ Some c → (1 ≤ c.saturation) × (c.saturation ≤ 64)) → ((i : ℕ) → length (at i (map (λ t. t.entries) ts)) ≤ most_order)

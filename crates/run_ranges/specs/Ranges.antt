@@ -35,10 +35,10 @@ abbrev pub IsSizeWithin : Option ℕ → Type 0
 IsSizeWithin None = Unit {0}
 IsSizeWithin (Some n) = n < 2 ^ 32
 
--- a codec's rate and channels, or its width and height, have 32 bits
+-- a codec's rate, channels and block size, or its width and height, have 32 bits
 abbrev pub IsConfigWithin : Config → Type 0
 IsConfigWithin (config.AudioDecoder c) = (c.rate < 2 ^ 32) × (c.channels < 2 ^ 32)
-IsConfigWithin (config.AudioEncoder c) = (c.rate < 2 ^ 32) × (c.channels < 2 ^ 32)
+IsConfigWithin (config.AudioEncoder c) = (c.rate < 2 ^ 32) × (c.channels < 2 ^ 32) × (c.block_size < 2 ^ 32)
 IsConfigWithin (config.VideoDecoder c) = IsSizeWithin c.width × IsSizeWithin c.height
 IsConfigWithin x = Unit {0}
 
@@ -50,8 +50,8 @@ IsChunkWithin c = (mag c.timestamp < 2 ^ 63) × FitsOrAbsent c.duration × IsByt
 abbrev pub IsShapeWithin : SoundShape → Type 0
 IsShapeWithin s = (s.frames < 2 ^ 32) × (mag s.timestamp < 2 ^ 63)
 
--- The script's moments, configs, audio data and chunks are within their types, those of its chunk files are, its audio data and
--- its frames hold bytes, and there are no more boxes than a number of 64 bits counts.
+-- The script's moments, configs, audio data and chunks are within their types, and those of its chunk files are: chunks, audio
+-- data and frames hold bytes, audio data has a timestamp of 64 bits and a number of frames of 32. There are fewer boxes than 2^64.
 pub record AreWithin (s : ScriptData) (media : List (List Chunk)) (made : List CoderId) : Type 0 where
   pub moments : (i : ℕ) (x : OrderItem) → slice_get (order_items s) i ≡ Some x → IsMoment x
   pub configs : (c j on : ℕ) (config : Config) → slice_get (steps_of s c) j ≡ Some (step.Configure on config) → IsConfigWithin config

@@ -17,7 +17,9 @@ use Rattle.sample_conversion.specs.declared.size.SampleSize.TheVariants as size
 use Rattle.g711.specs.declared.law.Law.TheVariants as laws
 use Rattle.sample_coder.specs.declared.coding.Coding.{Coding}
 use Rattle.sample_coder.specs.declared.coding.Coding.TheVariants as coding
-use Rattle.sample_coder.specs.Coding.{id_of, definition}
+use Rattle.sample_coder.specs.Coding.{id_of}
+use Rattle.sample_coder.specs.Value.{IsInRange}
+use Rattle.sample_coder.specs.declared.coder.Setting.TheVariants as setting
 
 pub no : false ≡ true → ⊥
 no e = cc
@@ -44,11 +46,15 @@ same_kind _ _ p e = cc
 pub asked_is_sampled : (id : CoderId) (r : Role) (w : CodecId) → is_sampled id.codec ≡ true → asks_for id (id_with r (Some w)) ≡ true → is_sampled w ≡ true
 asked_is_sampled id r w pcm asks = same_kind id.codec w pcm (both (is_role id.role r) (is_codec id.codec w) asks).1
 
+-- of no codec that is coded block by block
+sampled_plain : (id : CoderId) (r : Role) (o : Option CodecId) → is_sampled id.codec ≡ true → asks_for id (id_with r o) ≡ true → is_flac o ≡ false
+sampled_plain id r None pcm asks = absurd (no asks)
+sampled_plain id r (Some codec.Flac) pcm asks = absurd (no (asked_is_sampled id r codec.Flac pcm asks))
+sampled_plain id r (Some _) pcm asks = refl
+
 -- where FLAC has a bound of its own, the other one holds
-pub sampled_bound : (id : CoderId) (r : Role) (o : Option CodecId) (x y : Bool) → is_sampled id.codec ≡ true → asks_for id (id_with r o) ≡ true → cond (is_flac o) x y ≡ true → y ≡ true
-sampled_bound id r None x y pcm asks bound = absurd (no asks)
-sampled_bound id r (Some codec.Flac) x y pcm asks bound = absurd (no (asked_is_sampled id r codec.Flac pcm asks))
-sampled_bound id r (Some _) x y pcm asks bound = bound
+sampled_bound : (o : Option CodecId) (x y : Bool) → is_flac o ≡ false → cond (is_flac o) x y ≡ true → y ≡ true
+sampled_bound o x y plain bound = rw plain at bound
 
 pub raw_text : (id : CoderId) (a b c d : Bool) → is_sampled id.codec ≡ true → asks_for id (id_with role.Decode (cond a (Some codec.RawI420) (cond b (Some codec.RawI422) (cond c (Some codec.RawI444) (cond d (Some codec.RawNv12) None))))) ≡ true → ⊥
 raw_text id true b c d pcm asks = no (asked_is_sampled id role.Decode codec.RawI420 pcm asks)
@@ -71,10 +77,11 @@ decoder_range id c pcm s =
     let valid = both (is_valid (config.AudioDecoder c)) (is_some (coder_id_of (config.AudioDecoder c))) known.0 in
     let numbers = both (not (is_blank c.codec) && nat_le 1 c.rate) (nat_le 1 c.channels) valid.0 in
     let rate = both (not (is_blank c.codec)) (nat_le 1 c.rate) numbers.0 in
-    let bound = sampled_bound id role.Decode (audio_codec c.codec) (has_streaminfo c.description) (nat_le c.channels 32) pcm parts.1 known.1 in
+    let plain = sampled_plain id role.Decode (audio_codec c.codec) pcm parts.1 in
+    let bound = sampled_bound (audio_codec c.codec) (has_streaminfo c.description) (nat_le c.channels 32) plain known.1 in
     (leb-true 1 c.rate rate.1, leb-true 1 c.channels numbers.1, leb-true c.channels 32 bound)
 
-pub encoder_range : (id : CoderId) (c : AudioEncoderConfig) → is_sampled id.codec ≡ true → serves id (config.AudioEncoder c) ≡ true → (0 < c.rate) × (0 < c.channels) × (c.channels ≤ 32)
+pub encoder_range : (id : CoderId) (c : AudioEncoderConfig) → is_sampled id.codec ≡ true → serves id (config.AudioEncoder c) ≡ true → IsInRange (setting.Encoder c)
 encoder_range id c pcm s =
     let parts = both (is_supported (config.AudioEncoder c)) (asks_for id (coder_id_of (config.AudioEncoder c))) s in
     let known = both (is_valid (config.AudioEncoder c) && is_some (coder_id_of (config.AudioEncoder c))) (is_within (config.AudioEncoder c)) parts.0 in
@@ -84,8 +91,9 @@ encoder_range id c pcm s =
     let block = both (not (is_blank c.codec) && nat_le 1 c.rate && nat_le 1 c.channels) (is_block_size c.block_size) level.0 in
     let numbers = both (not (is_blank c.codec) && nat_le 1 c.rate) (nat_le 1 c.channels) block.0 in
     let rate = both (not (is_blank c.codec)) (nat_le 1 c.rate) numbers.0 in
-    let bound = sampled_bound id role.Encode (audio_codec c.codec) (nat_le c.channels 8 && nat_le c.rate 1048575) (nat_le c.channels 32) pcm parts.1 known.1 in
-    (leb-true 1 c.rate rate.1, leb-true 1 c.channels numbers.1, leb-true c.channels 32 bound)
+    let plain = sampled_plain id role.Encode (audio_codec c.codec) pcm parts.1 in
+    let bound = sampled_bound (audio_codec c.codec) (nat_le c.channels 8 && nat_le c.rate 1048575) (nat_le c.channels 32) plain known.1 in
+    (leb-true 1 c.rate rate.1, leb-true 1 c.channels numbers.1, leb-true c.channels 32 bound, plain)
 
 pub sampled : (k : Coding) → is_sampled (id_of k) ≡ true
 sampled (coding.Pcm size.One) = refl
@@ -94,12 +102,3 @@ sampled (coding.Pcm size.Three) = refl
 sampled (coding.Pcm size.Four) = refl
 sampled (coding.G711 laws.Alaw) = refl
 sampled (coding.G711 laws.Ulaw) = refl
-
--- what a codec's definition says is what its coder is told
-pub defined : (k : Coding) → sample_codec (id_of k) ≡ Some (definition k)
-defined (coding.Pcm size.One) = refl
-defined (coding.Pcm size.Two) = refl
-defined (coding.Pcm size.Three) = refl
-defined (coding.Pcm size.Four) = refl
-defined (coding.G711 laws.Alaw) = refl
-defined (coding.G711 laws.Ulaw) = refl

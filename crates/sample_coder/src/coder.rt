@@ -1,8 +1,8 @@
 // The coder.
-ghost use Rattle.std.specs.Prelude.{◌≡◌, true, IfOk};
+ghost use Rattle.std.specs.Prelude.{◌≡◌, [], true, IfOk};
 ghost use Rattle.sample_coder.specs.Coding.{id_of};
 ghost use Rattle.sample_coder.specs.Value.{answer_in, IsInRange, meaning_of};
-ghost use Rattle.coder_api.specs.Meaning.{Stopped, Configured, new_state, Answers, command_of, serves};
+ghost use Rattle.coder_api.specs.Meaning.{Stopped, IsAt, Answers, command_of, serves};
 ghost use Rattle.sample_coder.specs.declared.coder.Setting.TheVariants as setting;
 
 use crate::coding::Coding;
@@ -122,7 +122,8 @@ impl Coder for SampleCoder {
 /// What a config that this coder serves asks for.
 fn setting_of(role: Role, coding: Coding, config: &Config) -> Result<Setting, NoMemory>
     requires { serves (record { role = role; codec = id_of coding }) config.now ≡ true }
-    ensures meaning { IfOk result (λ s. meaning_of s ≡ Configured config.now new_state) }
+    ensures meaning { IfOk result
+        (λ s. IsAt (record { role = role; codec = id_of coding }) config.now [] (meaning_of s)) }
     ensures range { IfOk result IsInRange }
 {
     match config {

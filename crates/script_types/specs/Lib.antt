@@ -1,6 +1,5 @@
 pub mod Names
 pub mod Sound
-pub mod Built
 pub mod Places
 pub mod Limits
 pub mod Reading

@@ -55,8 +55,6 @@ pub enum Wrong {
     Twice,
     /// Nothing has the name.
     UnknownName,
-    /// The kind of the codec or the step is read, and not built.
-    Unbuilt,
 }
 
 /// Why a script is not replayed: its first fault, with its place, or that of its files.

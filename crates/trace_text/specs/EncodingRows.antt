@@ -48,7 +48,7 @@ abbrev pub encoder : CodecItem
 encoder = record { name = codes "e"; kind = word.AudioEncoder; saturation = 4 }
 
 abbrev pub pcm_encoder : Config
-pcm_encoder = config.AudioEncoder (record { codec = codes "pcm-s16"; rate = 8000; channels = 1; block_size = 0; level = 0; depth = 16 })
+pcm_encoder = config.AudioEncoder (record { codec = codes "pcm-s16"; rate = 8000; channels = 1; block_size = 0; level = 5; depth = 16 })
 
 abbrev pub audio : Variable
 audio = record { name = codes "s"; step = 1; kind = holds.Audio }

@@ -162,7 +162,8 @@ taken_by s w (Some (result.Unit k p n)) =
     option_map (λ u. record { unit = u; answer = result.Unit k p n }) (output_at (opening_at s k) (at k w.codecs) n)
 taken_by s w _ = None
 
--- what is given from elsewhere to a caller's step on media: the chunk that it copies, and the output that it takes
+-- what is given from elsewhere to a caller's step on media: the chunk that it copies, if that was made or is of a chunk file, and the
+-- output that it takes
 abbrev pub brought_to : ScriptData → List (List Chunk) → Recorded → ℕ → ℕ → MediaStep → Brought
 brought_to s media w c j x = record { chunk = copied_chunk media (steps_of s c) x; taken = taken_by s w (result_in w c j) }
 
@@ -170,8 +171,9 @@ brought_to s media w c j x = record { chunk = copied_chunk media (steps_of s c) 
 abbrev pub variables_at : ScriptData → List (List Chunk) → Recorded → ℕ → ℕ → List (Option Medium)
 variables_at s media w c j = variables_in (steps_of s) (brought_to s media w) w.pool c j
 
--- An entry has what its step gives, where its caller's variables hold this: which reference an encode clones, and whether it is
--- accepted, the pool's and the codec's histories say.
+-- An entry has what its step gives, where its caller's variables hold this. Of an encode the variable says the samples and the
+-- resource; the number of the clone the pool's history says, and whether it is accepted the codec's. Of a take the codec's
+-- history says which output it takes.
 abbrev pub HasArguments : ScriptData → List (List Chunk) → List (Option Medium) → Who → Entry → Step → Type 0
 HasArguments s media vs who e (step.Configure on config) = e ≡ entry.Configure who config
 HasArguments s media vs who e (step.Decode on chunk) = (value : Chunk) × (chunk_for media (steps_of s who.caller) vs chunk.step ≡ Some value) × (e ≡ entry.Decode who value)

@@ -245,7 +245,7 @@ look_of_flush ds _ = result.Absent
 abbrev pub look_of_state : ℕ → CodecValue → StepResult
 look_of_state k d = let c = (state_of d).control in result.State k (length d.history) c.phase c.size
 
--- a detached sound is handed to no codec
+-- whether the data was detached
 abbrev pub is_gone : Handed → Bool
 is_gone handed.Gone = true
 is_gone handed.Kept = false

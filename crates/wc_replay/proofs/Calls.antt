@@ -4,6 +4,7 @@ use Rattle.std.specs.Prelude.{slice_set, IfSome, if◌then◌else◌}
 use Rattle.wc_base.specs.declared.error.DomError.{DomError}
 use Rattle.wc_base.specs.declared.error.DomError.TheVariants as dom
 use Rattle.wc_base.specs.declared.who.Who.{Who}
+use Rattle.wc_pool.specs.declared.entry.PoolEntry.{PoolEntry}
 use Rattle.wc_pool.specs.declared.reference.MediaRef.{MediaRef}
 use Rattle.wc_pool.specs.Bag.{references_made}
 use Rattle.wc_audio.specs.Sound.{Sound}
@@ -23,14 +24,12 @@ use Rattle.codec_accounts.specs.Codec.{CodecValue, codec_at, state_of, next_by, 
 use Rattle.report_text.specs.declared.result.StepResult.{StepResult}
 use Rattle.report_text.specs.declared.result.StepResult.TheVariants as result
 use Rattle.media_variables.specs.declared.lending.SoundFound.TheVariants as found
-use Rattle.media_variables.specs.Variables.{Media, handed_of}
+use Rattle.media_variables.specs.Variables.{Medium, Media, handed_of}
 use Rattle.media_variables.specs.Held.{clones_of, sound_found}
 use Rattle.trace_text.specs.Follow.{Course, Ask, after_move, call_move, encode_move, hand_move, is_gone, media_by}
 use Rattle.wc_replay.specs.Desk.{more}
 use Rattle.wc_replay.proofs.Lent.{call_media, refused_media}
-
-same_course : (a b : List (List StepResult)) (c d : List CodecValue) (m n : Media) (s t : SlotsValue) → a ≡ b → c ≡ d → m ≡ n → s ≡ t → ◌≡◌ {A = Course} (record { callers = a; codecs = c; media = m; slots = s }) (record { callers = b; codecs = d; media = n; slots = t })
-same_course a b c d m n s t e f g h = cc
+use Rattle.wc_replay.proofs.Looks.{same_course}
 
 -- an entry that leaves its codec's box alone, and what its caller is answered
 asked : (v : Course) (c k place : ℕ) (e : Entry) (error shows : Option DomError) (callers : List (List StepResult)) (codecs : List CodecValue) (m : Media)
@@ -76,10 +75,11 @@ refuses v who k place detached error callers codecs made at shown noted =
 pub accepts : (v : Course) (who : Who) (k place : ℕ) (x : HeldSound) (error : Option DomError) (callers : List (List StepResult)) (codecs : List CodecValue) (m : Media)
     → codecs ≡ slice_set v.codecs k (more (entry.Encode who (handed.Cloned x)) (codec_at k v.codecs)) → place ≡ length (codec_at k v.codecs).history
     → error ≡ encode_error false (state_of (codec_at k v.codecs)).control → callers ≡ append_at who.caller (result.Call k place error) v.callers
-    → m ≡ record v.media { pool = v.media.pool ++ clones_of (next_by k (codec_at k v.codecs)) (x.pair ∷ []) }
+    → m.variables ≡ v.media.variables → m.pool ≡ v.media.pool ++ clones_of (next_by k (codec_at k v.codecs)) (x.pair ∷ [])
     → ◌≡◌ {A = Course} (record { callers = callers; codecs = codecs; media = m; slots = v.slots }) (after_move (hand_move who k (handed.Cloned x) (codec_at k v.codecs)) v)
-accepts v who k place x error callers codecs m made at shown noted lent =
-    asked v who.caller k place (entry.Encode who (handed.Cloned x)) error (encode_error false (state_of (codec_at k v.codecs)).control) callers codecs m refl refl made at shown noted lent
+accepts v who k place x error callers codecs m made at shown noted same lent =
+    asked v who.caller k place (entry.Encode who (handed.Cloned x)) error (encode_error false (state_of (codec_at k v.codecs)).control) callers codecs m refl refl made at shown noted
+    (ap (λ (vs : List (List (Option Medium))). record m { variables = vs }) same ∙ ap (λ (l : List PoolEntry). record v.media { pool = l }) lent)
 
 -- ---- what is handed
 

@@ -46,10 +46,7 @@ pub refused_media : (k : ℕ) (who : Who) (detached : Bool) (d : CodecValue) (m 
 refused_media k who true d m = media_same m
 refused_media k who false d m = media_same m
 
--- an encode clones one reference, and leaves its codec's box alone
-pub encode_media : (k : ℕ) (who : Who) (x : HeldSound) (d : CodecValue) (m : Media) → media_by k (entry.Encode who (handed.Cloned x)) d m ≡ record m { pool = m.pool ++ clones_of (next_by k d) (x.pair ∷ []) }
-encode_media k who x d m = refl
-
+-- an encode leaves its codec's box alone
 pub encode_keeps : (k : ℕ) (who : Who) (h : Handed) (s : SlotsValue) (d : CodecValue) → (after_entry k (entry.Encode who h) s d ≡ more (entry.Encode who h) d) × (slots_by k (entry.Encode who h) s d ≡ s)
 encode_keeps k who h s d = (refl, refl)
 

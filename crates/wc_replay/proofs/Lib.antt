@@ -1,9 +1,9 @@
-pub mod Built
 pub mod Calls
 pub mod Desks
 pub mod Ends
 pub mod Lent
 pub mod Looks
 pub mod Orders
+pub mod Playable
 pub mod Runs
 pub mod Takes

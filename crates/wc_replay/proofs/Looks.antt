@@ -57,11 +57,12 @@ set_same [] k = refl
 set_same (d ∷ ds) zero = refl
 set_same (d ∷ ds) (suc k) = ap (λ (l : List CodecValue). d ∷ l) (set_same ds k)
 
-same_course : (a : List (List StepResult)) (m n : Media) (c d : List CodecValue) (s t : SlotsValue) → c ≡ d → m ≡ n → s ≡ t → ◌≡◌ {A = Course} (record { callers = a; codecs = c; media = m; slots = s }) (record { callers = a; codecs = d; media = n; slots = t })
-same_course a m n c d s t p q r = cc
+-- two courses whose parts are the same
+pub same_course : (a b : List (List StepResult)) (c d : List CodecValue) (m n : Media) (s t : SlotsValue) → a ≡ b → c ≡ d → m ≡ n → s ≡ t → ◌≡◌ {A = Course} (record { callers = a; codecs = c; media = m; slots = s }) (record { callers = b; codecs = d; media = n; slots = t })
+same_course a b c d m n s t e f g h = cc
 
 -- an entry of one codec, or none, is the move that it makes
 pub advance_is : (v : Course) (k : ℕ) (o : Option Entry) (codecs : List CodecValue) (m : Media) (slots : SlotsValue) → codecs ≡ slice_set v.codecs k (codec_by k o v.slots (codec_at k v.codecs)) → slots ≡ registry_by k o v.slots (codec_at k v.codecs)
     → m ≡ media_by_option k o (codec_at k v.codecs) v.media → ◌≡◌ {A = Course} (record { callers = v.callers; codecs = codecs; media = m; slots = slots }) (after_move (advance k o) v)
-advance_is v k None codecs m slots is went left = same_course v.callers m v.media codecs v.codecs slots v.slots (is ∙ set_same v.codecs k) left went
-advance_is v k (Some e) codecs m slots is went left = same_course v.callers m _ codecs _ slots _ is left went
+advance_is v k None codecs m slots is went left = same_course _ _ _ _ _ _ _ _ refl (is ∙ set_same v.codecs k) left went
+advance_is v k (Some e) codecs m slots is went left = same_course _ _ _ _ _ _ _ _ refl is left went

@@ -1,4 +1,4 @@
-// The moves of one codec among all, with the boxes that it takes and gives back.
+// What callers and the order do to one codec among all, with the boxes and the references that it takes and lets go.
 ghost use Rattle.std.specs.Prelude.{◌≡◌, ◌<◌, Bool, IfOk, OnOk, None, false, is_some, length, slice_set, true};
 ghost use Rattle.codec_accounts.specs.Codec.{codec_at, codecs_after, slots_by, state_of, next_by, IsGivable};
 ghost use Rattle.codec_core.specs.Codec.{refused_as};

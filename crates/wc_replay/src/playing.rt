@@ -6,7 +6,6 @@ ghost use Rattle.trace_text.specs.Follow.{Follows, nothing_yet, opening_of, orde
 ghost use Rattle.trace_text.specs.Missing.{missing_in};
 ghost use Rattle.wc_pool.specs.Bag.{held_in};
 ghost use Rattle.wc_replay.specs.Player.{IsPlayable, is_openable, new_desk, new_results, trace_of, caller_trace, IsRunOf, AreShownTraces};
-ghost use Rattle.script_types.specs.Built.{unbuilt_in};
 
 use crate::desk::Desk;
 use crate::results::Results;
@@ -189,8 +188,8 @@ fn play<C: Coder>(
 /// start or end of a work item, the turn of an event task, or a reclaim; one that finds nothing to do is passed over. The
 /// answer is a legal run that fits the script.
 ///
-/// The script has an order, and each of its codec kinds and steps is built. `media` has the chunks of each of the script's
-/// chunk files, in their order, and each chunk that a step takes is there.
+/// The script has an order. `media` has the chunks of each of the script's chunk files, in their order, and each chunk that a
+/// step takes is there.
 pub fn replay<C: Coder>(
     alloc: Global,
     script: &Script,
@@ -198,7 +197,6 @@ pub fn replay<C: Coder>(
     coders: Vec<C>,
 ) -> Result<Run, NoMemory>
     requires order { IsSome script.now.order }
-    requires built { unbuilt_in script.now ≡ None }
     requires files { length media.now ≡ length script.now.chunk_files }
     requires chunks { missing_in script.now media.now ≡ None }
     ensures legal { IfOk result (λ run. IsLegalRun script.now run) }

@@ -1,4 +1,3 @@
-mod Counts
 mod Parts
 mod Files
 mod Outcomes

@@ -174,8 +174,8 @@ status_for (Err stop.NoMemory) = 6
 
 -- Where no read, no write and no memory fails, the words and what the files hold alone give the status: so 2 comes exactly
 -- where the words are no command, 7 exactly where a count is above its limit, and 3 exactly where the bytes spell no script
--- that is built and has an order, a chunk file is none, or a chunk file lacks a chunk that is taken. Whatever the files
--- hold, the file's bytes come to something.
+-- that has an order, a chunk file is none, or a chunk file lacks a chunk that is taken. Whatever the files hold, the file's
+-- bytes come to something.
 pub record Decides (r : Reading) (w : Writing) : Type 0 where
   pub words : r.command ≡ None → w.answer ≢ 5 → w.answer ≢ 6 → w.answer ≡ 2
   pub file : IfFile r (λ files bytes. (outcome : Outcome) → IsOutcome files bytes outcome

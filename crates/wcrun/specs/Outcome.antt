@@ -1,7 +1,6 @@
 -- What the bytes of a script file come to, where the files hold the rest: a script that is replayed and the chunks of its
 -- chunk files, or why there is no replay. The first cause decides: the file's length, the faults of the script in the order
--- of the walk, an order that is absent, a codec kind or a step that is not built, the chunk files in order of first mention,
--- and the first chunk that its file lacks.
+-- of the walk, an order that is absent, the chunk files in order of first mention, and the first chunk that its file lacks.
 use Rattle.std.specs.Prelude.{ℕ, ◌≡◌, nat_lt, if◌then◌else◌, List, [], length, Option, Some, None, unwrap_or, Result, Ok, Err}
 use Rattle.std.specs.List.{slice_get}
 use Rattle.wc_chunk.specs.declared.chunk.Chunk.{Chunk}
@@ -15,7 +14,6 @@ use Rattle.chunk_files.specs.declared.fault.Stop.TheVariants as stop
 use Rattle.script_types.specs.declared.fault.Wrong.TheVariants as wrong
 use Rattle.script_types.specs.declared.script.OrderItem.{OrderItem}
 use Rattle.script_types.specs.declared.script.ScriptData.{ScriptData}
-use Rattle.script_types.specs.Built.{unbuilt_in}
 use Rattle.media_files.specs.Media.{Answers, GivesMedia}
 use Rattle.wc_script.specs.Read.{script_of}
 use Rattle.trace_text.specs.Missing.{missing_in}
@@ -24,14 +22,10 @@ use Rattle.trace_text.specs.Missing.{missing_in}
 abbrev pub Playable : Type 0
 Playable = Result ScriptData (Stop Fault)
 
-abbrev pub if_built : Option Place → ScriptData → Playable
-if_built None s = Ok s
-if_built (Some p) s = Err (stop.Fault (fault.At p wrong.Unbuilt))
-
--- a script without an order is not replayed; that comes before what is not built
+-- a script without an order is not replayed
 abbrev pub if_playable : Option (List OrderItem) → ScriptData → Playable
 if_playable None s = Err (stop.Fault (fault.At place.Top wrong.Shape))
-if_playable (Some items) s = if_built (unbuilt_in s) s
+if_playable (Some items) s = Ok s
 
 abbrev pub if_spelled : Playable → Playable
 if_spelled (Ok s) = if_playable s.order s

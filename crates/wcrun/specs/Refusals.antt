@@ -36,7 +36,6 @@ abbrev pub wrong_text : Wrong → List ℕ
 wrong_text wrong.Shape = codes "shape"
 wrong_text wrong.Twice = codes "twice"
 wrong_text wrong.UnknownName = codes "unknown name"
-wrong_text wrong.Unbuilt = codes "unbuilt"
 
 -- the first fault of a chunk file
 abbrev pub fault_text : ChunkFault → List ℕ

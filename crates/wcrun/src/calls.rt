@@ -133,10 +133,10 @@ fn replay_named<F: Files, S: Sink, C: Coder>(
 ///
 /// `words` are those of the command line, without the program's name. `replay FILE` reads the script in FILE, replays it
 /// with these coders, and writes the report of the run: status 0. Any other words are refused with the line of usage: 2.
-/// A script file that is no JSON or has a fault, a script with no order or with a codec kind or step that is not built, a
-/// chunk file that is none or lacks a chunk that is taken, give 3; a file that is not read 4; a count above its limit 7;
-/// each with one line that names the place. Want of memory gives 6 and the line `out of memory`, also after a part of the
-/// report. A sink that fails gives 5, with no further line.
+/// A script file that is no JSON or has a fault, a script with no order, a chunk file that is none or lacks a chunk that is
+/// taken, give 3; a file that is not read 4; a count above its limit 7; each with one line that names the place. Want of
+/// memory gives 6 and the line `out of memory`, also after a part of the report. A sink that fails gives 5, with no further
+/// line.
 pub fn top<F: Files, S: Sink, C: Coder>(
     alloc: Global,
     words: &[String],

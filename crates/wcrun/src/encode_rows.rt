@@ -223,12 +223,25 @@ held 2
 end
 ";
 
-// An encoder of FLAC is not built: the first step that configures one is named.
+// An encoder that is configured, and given nothing.
 const FLAC_ENCODER: &str =
     r#"{"codecs":[{"name":"e","kind":"audio-encoder"}],"callers":[{"name":"a","steps":[
 {"do":"reset","on":"e"},
 {"do":"configure","on":"e","config":{"codec":"flac","sampleRate":8000,"numberOfChannels":1}}]}],
 "order":["a","a"]}"#;
+
+const FLAC_ENCODER_REPORT: &str = "wcrun report 1
+caller a
+0 e.0 ok
+1 e.1 ok
+codec e audio-encoder 4
+0 a.0 reset = ok
+1 a.1 configure = ok
+pool
+slots
+held 0
+end
+";
 
 #[test]
 fn encodes_go_as_the_order_says(rt: HostRuntime) -> Result<(), Fail> {
@@ -237,7 +250,7 @@ fn encodes_go_as_the_order_says(rt: HostRuntime) -> Result<(), Fail> {
         (GIVEN_BACK_ONCE, 0, GIVEN_BACK_ONCE_REPORT),
         (RESET_AT_WORK, 0, RESET_AT_WORK_REPORT),
         (REFUSED_AND_TAKEN, 0, REFUSED_AND_TAKEN_REPORT),
-        (FLAC_ENCODER, 3, "script: unbuilt at step 0 1\n"),
+        (FLAC_ENCODER, 0, FLAC_ENCODER_REPORT),
     ];
     each_ends(&rt, rt.alloc(), &rows)
 }

@@ -1,13 +1,14 @@
 //! Replays a script of calls on codecs, and writes the report of the run.
 #![tactic(auto)]
 
-mod built;
 mod calls;
 mod command;
 #[cfg(test)]
 mod encode_rows;
 #[cfg(test)]
 mod faults;
+#[cfg(test)]
+mod flac_encode_rows;
 #[cfg(test)]
 mod flac_rows;
 #[cfg(test)]
@@ -28,6 +29,7 @@ pub use calls::top;
 use calls::want_memory;
 use coder_api::CoderBox;
 use flac_decode::FlacDecoder;
+use flac_encode::FlacEncoder;
 use g711::Law;
 use raw_video::RawVideo;
 pub use refusal::Refusal;
@@ -37,7 +39,7 @@ use std::alloc::Global;
 use std::process::ExitCode;
 use std::rt::Env;
 use std::{env, io};
-use wc_base::{NoMemory, Output, PictureFormat, SystemFiles};
+use wc_base::{NoMemory, Output, PictureFormat, Sink, SystemFiles};
 use wc_config::{CodecId, Role};
 
 // How many boxes of each coder there are.
@@ -58,15 +60,17 @@ const CODECS: [CodecId; 11] = [
     CodecId::RawNv12,
 ];
 
-// A coder that is built.
+// A kind of coder.
 #[derive(Clone, Copy)]
 enum CoderKind {
     Samples(Coding),
     FlacDecoder,
+    FlacEncoder,
     RawVideo(PictureFormat),
 }
 
-// The coder of a role and a codec: each codec has an arm here, and None says that its coder is not built.
+// The coder of a role and a codec: each codec has an arm here. Only encoders of raw video have none, since no config asks
+// for one.
 fn kind_of(role: Role, codec: CodecId) -> Option<CoderKind> {
     match codec {
         CodecId::PcmU8 => Some(CoderKind::Samples(Coding::Pcm(SampleSize::One))),
@@ -77,7 +81,7 @@ fn kind_of(role: Role, codec: CodecId) -> Option<CoderKind> {
         CodecId::Ulaw => Some(CoderKind::Samples(Coding::G711(Law::Ulaw))),
         CodecId::Flac => match role {
             Role::Decode => Some(CoderKind::FlacDecoder),
-            Role::Encode => None,
+            Role::Encode => Some(CoderKind::FlacEncoder),
         },
         CodecId::RawI420 => raw_video(role, PictureFormat::I420),
         CodecId::RawI422 => raw_video(role, PictureFormat::I422),
@@ -111,13 +115,9 @@ fn command_words(rt: &(impl Env + Alloc<A = Global>)) -> Result<Vec<String>, NoM
     }
 }
 
-fn main(rt: HostRuntime) -> ExitCode {
+// Carries out the command with eight boxes of each coder.
+fn carry_out<S: Sink>(rt: &HostRuntime, words: &[String], sink: &mut S) -> u8 {
     let alloc = rt.alloc();
-    let mut sink = Output::new(io::writer(&rt));
-    let words = match command_words(&rt) {
-        Ok(words) => words,
-        Err(_) => return ExitCode::from(want_memory(&mut sink)),
-    };
     // A function that handed out boxed coders would be refused: nothing could be told of what is in them.
     let mut coders = Vec::new(alloc);
     for role in [Role::Decode, Role::Encode] {
@@ -127,27 +127,40 @@ fn main(rt: HostRuntime) -> ExitCode {
                     Some(CoderKind::Samples(coding)) => {
                         match Box::new(alloc, SampleCoder::new(role, coding)) {
                             Ok(coder) => CoderBox::of(coder),
-                            Err(_) => return ExitCode::from(want_memory(&mut sink)),
+                            Err(_) => return want_memory(sink),
                         }
                     }
                     Some(CoderKind::FlacDecoder) => match Box::new(alloc, FlacDecoder::new(alloc)) {
                         Ok(coder) => CoderBox::of(coder),
-                        Err(_) => return ExitCode::from(want_memory(&mut sink)),
+                        Err(_) => return want_memory(sink),
+                    },
+                    Some(CoderKind::FlacEncoder) => match Box::new(alloc, FlacEncoder::new()) {
+                        Ok(coder) => CoderBox::of(coder),
+                        Err(_) => return want_memory(sink),
                     },
                     Some(CoderKind::RawVideo(format)) => {
                         match Box::new(alloc, RawVideo::new(format)) {
                             Ok(coder) => CoderBox::of(coder),
-                            Err(_) => return ExitCode::from(want_memory(&mut sink)),
+                            Err(_) => return want_memory(sink),
                         }
                     }
                     None => continue,
                 };
                 if coders.push(coder).is_err() {
-                    return ExitCode::from(want_memory(&mut sink));
+                    return want_memory(sink);
                 }
             }
         }
     }
-    let mut files = SystemFiles::new(alloc, &rt);
-    ExitCode::from(top(alloc, &words, &mut files, &mut sink, coders))
+    let mut files = SystemFiles::new(alloc, rt);
+    top(alloc, words, &mut files, sink, coders)
+}
+
+fn main(rt: HostRuntime) -> ExitCode {
+    let mut sink = Output::new(io::writer(&rt));
+    let status = match command_words(&rt) {
+        Ok(words) => carry_out(&rt, &words, &mut sink),
+        Err(_) => want_memory(&mut sink),
+    };
+    ExitCode::from(status)
 }

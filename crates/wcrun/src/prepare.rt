@@ -1,6 +1,5 @@
 // Reads a script and its chunk files, up to where it can be replayed.
 ghost use Rattle.std.specs.Prelude.{◌≡◌, ◌≤◌, ◌⊎◌, IfOk, IfErr, IfSome, IsSome, IsSomeAnd, Some, None, Ok, Err, length, ◌≢◌};
-ghost use Rattle.script_types.specs.Built.{unbuilt_in};
 ghost use Rattle.trace_text.specs.Missing.{missing_in};
 ghost use Rattle.media_files.specs.Media.{FailedBy};
 ghost use Rattle.wcrun.specs.Headline.{reading, ComesTo};
@@ -10,7 +9,6 @@ ghost use Rattle.wcrun.specs.Outcome as spec;
 ghost use Rattle.wcrun.specs.Stops.{MayStop, MayStopFor};
 ghost use Rattle.script_types.specs.Reading.{Gives};
 
-use crate::built::unbuilt;
 use crate::prepared::Prepared;
 use media_files::read_media;
 use script_types::{Counted, Fault, Place, Script, Stop, Wrong, copied, unread};
@@ -23,11 +21,10 @@ use wc_script::read_script;
 // The most bytes of a script file.
 const LIMIT: u64 = 16_777_216;
 
-// A script that can be replayed: it has an order, and is built.
+// A script that can be replayed: it has an order.
 fn if_playable(script: Script) -> Result<Script, Stop<Fault>>
     ensures ok { IfOk result (λ s. spec.if_playable script.order script ≡ Ok s) }
     ensures order { IfOk result (λ s. IsSome s.order) }
-    ensures built { IfOk result (λ s. unbuilt_in s ≡ None) }
     ensures own { IfErr result (λ e. IsOfScript e) }
     ensures err { IfErr result (λ e. spec.if_playable script.order script ≡ Err e) }
 {
@@ -37,13 +34,7 @@ fn if_playable(script: Script) -> Result<Script, Stop<Fault>>
             wrong: Wrong::Shape,
         }));
     }
-    match unbuilt(&script) {
-        Some(place) => Err(Stop::Fault(Fault::At {
-            place,
-            wrong: Wrong::Unbuilt,
-        })),
-        None => Ok(script),
-    }
+    Ok(script)
 }
 
 // The script that bytes spell, where they are no more than a script may have.
@@ -51,7 +42,6 @@ fn read_playable(alloc: Global, bytes: &[u8]) -> Result<Script, Stop<Fault>>
     requires { length bytes.now ≤ 16777216 }
     ensures given { Gives result (playable_of bytes.now) }
     ensures order { IfOk result (λ s. IsSome s.order) }
-    ensures built { IfOk result (λ s. unbuilt_in s ≡ None) }
     ensures own { IfErr result (λ e. IsOfScript e) }
 {
     let script = read_script(alloc, bytes)?;
@@ -68,7 +58,6 @@ fn read_named<F: Files>(alloc: Global, name: &str, files: &mut F) -> Result<Scri
         (λ s. IfSome (F.content files.old)
         (λ held. IsSomeAnd (held name.now) (λ bytes. playable_of bytes ≡ Ok s))) }
     ensures order { IfOk result (λ s. IsSome s.order) }
-    ensures built { IfOk result (λ s. unbuilt_in s ≡ None) }
     ensures stop { IfErr result (λ e. MayStop (reading (Some name.now) (F.content files.old) (F.faults files.old) (F.faults files.new)
         (F.bytes_read files.old) (F.bytes_read files.new)
         (F.failed_names files.old) (F.failed_names files.new)) e) }
@@ -138,7 +127,6 @@ pub fn prepare<F: Files>(alloc: Global, name: &str, files: &mut F) -> Result<Pre
         (F.bytes_read files.old) (F.bytes_read files.new)
         (F.failed_names files.old) (F.failed_names files.new)) (Ok (record { script = p.script; media = p.media.items }))) }
     ensures order { IfOk result (λ p. IsSome p.script.order) }
-    ensures built { IfOk result (λ p. unbuilt_in p.script ≡ None) }
     ensures each { IfOk result (λ p. length p.media.items ≡ length p.script.chunk_files) }
     ensures there { IfOk result (λ p. missing_in p.script p.media.items ≡ None) }
     ensures stop { IfErr result (λ e. MayStop (reading (Some name.now) (F.content files.old) (F.faults files.old) (F.faults files.new)

@@ -65,7 +65,6 @@ impl fmt::Display for WrongText {
             Wrong::Shape => "shape",
             Wrong::Twice => "twice",
             Wrong::UnknownName => "unknown name",
-            Wrong::Unbuilt => "unbuilt",
         })
     }
 }

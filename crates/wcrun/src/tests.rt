@@ -2,6 +2,7 @@
 use crate::top;
 use coder_api::CoderBox;
 use flac_decode::FlacDecoder;
+use flac_encode::FlacEncoder;
 use g711::Law;
 use raw_video::RawVideo;
 use sample_coder::{Coding, SampleCoder};
@@ -109,7 +110,7 @@ held 0
 end
 ";
 
-// Ends a call on files that hold one script, with these reads and writes failing, and with eleven coders.
+// Ends a call on files that hold one script, with these reads and writes failing, and with twelve coders.
 pub(crate) fn call(
     alloc: Global,
     file: Vec<u8>,
@@ -134,7 +135,7 @@ pub(crate) fn call_on(
         given.push(String::from_str(alloc, word)?)?;
     }
     let mut files = MemFiles::open(alloc, entries, reads);
-    let mut sink = MemSink::open(alloc, 4096, writes)?;
+    let mut sink = MemSink::open(alloc, 131_072, writes)?;
     let mut coders = Vec::new(alloc);
     for role in [Role::Decode, Role::Encode] {
         for coding in [
@@ -147,6 +148,7 @@ pub(crate) fn call_on(
         }
     }
     coders.push(CoderBox::of(Box::new(alloc, FlacDecoder::new(alloc))?))?;
+    coders.push(CoderBox::of(Box::new(alloc, FlacEncoder::new())?))?;
     for format in [
         PictureFormat::I420,
         PictureFormat::I422,

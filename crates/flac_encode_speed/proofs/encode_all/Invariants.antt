@@ -1,9 +1,9 @@
 use Rattle.std.proofs.Common.{length}
-use Rattle.flac_encode_speed.specs.Used.{IsUsed}
+use Rattle.coder_api.specs.Meaning.{IsConfigured}
 use Rattle.flac_encode_speed.proofs.encode_all.Given as goal
 
-abbrev pub invariant-loop-config : goal.invariant-loop-config
-invariant-loop-config g l = IsUsed l.config l.encoder
+abbrev pub invariant-loop-rest : goal.invariant-loop-rest
+invariant-loop-rest g l = IsConfigured l.encoder.meaning
 
-abbrev pub decreases-loop-config : goal.decreases-loop-config
-decreases-loop-config g l = length l.rest
+abbrev pub decreases-loop-rest : goal.decreases-loop-rest
+decreases-loop-rest g l = length l.rest

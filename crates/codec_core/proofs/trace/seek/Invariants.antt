@@ -1,12 +1,12 @@
 use Rattle.std.proofs.Common.{◌≡◌, ◌≤◌, ◌-◌, length, drop, map}
-use Rattle.codec_model.specs.Shown.{shown_of}
-use Rattle.codec_core.specs.Trace.{outputs_in, outputs_behind}
+use Rattle.codec_model.specs.Shown.{shown_of, units_shown}
+use Rattle.codec_core.specs.Trace.{outputs_behind}
 use Rattle.codec_core.proofs.trace.seek.Given as goal
 
 abbrev pub invariant-loop-entry : goal.invariant-loop-entry
 invariant-loop-entry l = record {
   entry : l.entry ≤ length l.shown;
-  unit : l.unit ≤ length (outputs_in (drop l.entry (map shown_of l.shown)));
+  unit : l.unit ≤ length (units_shown (drop l.entry (map shown_of l.shown)));
   same : outputs_behind l.entry l.unit (map shown_of l.shown) ≡ outputs_behind l.initial.entry l.initial.unit (map shown_of l.shown);
 }
 

@@ -1,9 +1,6 @@
-use Rattle.codec_core.proofs.Ends.{coded_ends, ready_still}
+use Rattle.codec_core.proofs.Ends.{coded_ends}
 use Rattle.codec_core.proofs.work.coded_end.Goals as goal
-
-pub label_end-requires-after_bounds : goal.label_end-requires-after_bounds
-label_end-requires-after_bounds g c κs within = ready_still c.input_end-end.result c.input_end-end.new.coder c.input_end-end.ensures.ready
 
 pub returns-in-Some : goal.returns-in-Some
 returns-in-Some g c =
-    rw (c.in-Some.is, c.label_end.ensures.same) (coded_ends c.in-Some.b c.input_end-end.new.coder c.input_end-end.result c.label_end.result c.args.input.now c.input_end-end.ensures c.label_end.ensures.end)
+    rw c.in-Some.is (coded_ends c.in-Some.b c.input_end-end.new.coder c.input_end-end.result c.label_end.result c.args.input.now c.input_end-end.ensures c.label_end.ensures)

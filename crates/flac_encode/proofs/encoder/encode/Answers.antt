@@ -1,6 +1,6 @@
 use Rattle.std.proofs.Common.{◌≡◌, length, rules, ◌++◌}
 use Rattle.wc_base.specs.declared.media.Samples.{Samples}
-use Rattle.flac_encode.specs.Blocks.{values_in}
+use Rattle.codec_definitions.specs.FlacEncoder.{values_in}
 use Rattle.flac_encode.proofs.Counts.{joined_count}
 use Rattle.flac_encode.proofs.encoder.encode.Goals as goal
 

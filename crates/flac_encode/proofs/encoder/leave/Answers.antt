@@ -1,7 +1,7 @@
 use Rattle.std.proofs.Common.{rules, ◌≡◌, ◌+◌, ◌*◌, ◌/◌, drop, length, sym, subst}
 use Rattle.flac_subframes.specs.Spelling.{HaveDepth}
 use Rattle.flac_blocks.specs.CodedLaws.{drop_fits}
-use Rattle.flac_encode.specs.Blocks.{block_samples}
+use Rattle.codec_definitions.specs.FlacCode.{block_samples}
 use Rattle.flac_encode.proofs.Counts.{left_ready}
 use Rattle.flac_encode.proofs.encoder.leave.Goals as goal
 

@@ -1,5 +1,5 @@
 use Rattle.std.proofs.Common.{ℕ, ◌+◌, ◌*◌, ◌<◌, subst, sym}
-use Rattle.flac_encode.specs.Blocks.{block_samples}
+use Rattle.codec_definitions.specs.FlacCode.{block_samples}
 use Rattle.flac_encode.proofs.Counts.{left_frame}
 use Rattle.flac_encode.proofs.encoder.left_place.Goals as goal
 

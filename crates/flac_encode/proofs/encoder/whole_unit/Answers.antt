@@ -1,6 +1,6 @@
 use Rattle.std.proofs.Common.{ℕ, ◌<◌, ◌≤◌, ◌+◌, ◌*◌, ◌%◌, subst, sym, ap, ◌∙◌, length, arith}
 use Rattle.std.proofs.Math.Nat.{mul-mod_left}
-use Rattle.flac_encode.specs.Blocks.{block_frames, block_samples}
+use Rattle.codec_definitions.specs.FlacCode.{block_frames, block_samples}
 use Rattle.flac_encode.proofs.Counts.{block_frame, block_end, total_below}
 use Rattle.flac_encode.proofs.encoder.whole_unit.Goals as goal
 

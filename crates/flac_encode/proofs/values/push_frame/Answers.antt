@@ -1,5 +1,5 @@
 use Rattle.std.proofs.Common.{rules, ◌≡◌, ◌++◌, ◌∷◌, []}
-use Rattle.flac_encode.specs.Blocks.{value_at}
+use Rattle.codec_definitions.specs.FlacEncoder.{value_at}
 use Rattle.flac_encode.proofs.Counts.{more_units}
 use Rattle.flac_encode.proofs.Filled.{fits_more}
 use Rattle.flac_encode.proofs.values.push_frame.Goals as goal

@@ -1,6 +1,6 @@
 use Rattle.std.proofs.Common.{ap, sym, ◌∙◌, ◌++◌, List, ℕ, ℤ, append_assoc}
 use Rattle.std.specs.List.{range_with_len, flat_map}
-use Rattle.flac_encode.specs.Blocks.{frame_values}
+use Rattle.codec_definitions.specs.FlacEncoder.{frame_values}
 use Rattle.flac_encode.proofs.Filled.{one_more}
 use Rattle.flac_encode.proofs.values.push_frames.Goals as goal
 

@@ -7,10 +7,8 @@ use Rattle.script_types.specs.declared.script.CodecItem.{CodecItem}
 use Rattle.report_text.specs.declared.result.StepResult.{StepResult}
 use Rattle.trace_text.specs.Follow.{Course}
 use Rattle.wc_replay.specs.Player.{new_desk, new_results}
+use Rattle.wc_replay.proofs.Looks.{same_course}
 use Rattle.wc_replay.proofs.playing.open_player.Goals as goal
-
-same_course : (a b : List (List StepResult)) (c d : List CodecValue) (m n : Media) (s t : SlotsValue) → a ≡ b → c ≡ d → m ≡ n → s ≡ t → ◌≡◌ {A = Course} (record { callers = a; codecs = c; media = m; slots = s }) (record { callers = b; codecs = d; media = n; slots = t })
-same_course a b c d m n s t e f g h = cc
 
 abbrev no_media : List CallerItem → Media
 no_media cs = record { variables = map (λ c. []) cs; pool = [] }

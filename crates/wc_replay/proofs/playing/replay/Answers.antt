@@ -7,7 +7,7 @@ use Rattle.trace_text.specs.declared.run.Run.{Run}
 use Rattle.trace_text.specs.Fits.{IsLegalRun, Fits, FollowsTheOrder}
 use Rattle.trace_text.specs.Follow.{order_items}
 use Rattle.wc_replay.specs.Player.{IsPlayable, AreShownTraces, is_openable}
-use Rattle.wc_replay.proofs.Built.{playable_of, openable_of}
+use Rattle.wc_replay.proofs.Playable.{playable_of, openable_of}
 use Rattle.wc_replay.proofs.Ends.{if_ok_three}
 use Rattle.wc_replay.proofs.Runs.{legal_run_of}
 use Rattle.wc_replay.proofs.playing.replay.Goals as goal

@@ -1,45 +1,37 @@
-use Rattle.std.proofs.Common.{◌∙◌, None, true, refl, ap, subst, length, rules, arith}
+use Rattle.std.proofs.Common.{◌∙◌, None, true, refl, ap, length, rules, arith}
 use Rattle.codec_model.specs.declared.entry.Entry.TheVariants as entry
 use Rattle.codec_core.proofs.Steps.{Moved, reclaim_moves, makes_more, reclaim_reclaims}
-use Rattle.codec_core.proofs.Recorded.{core_more, next_fits, reclaim_shows_it, reclaim_ends}
-use Rattle.codec_core.proofs.Laws.{reclaim_keeps_running}
+use Rattle.codec_core.proofs.Recorded.{core_next, next_fits, reclaim_shows_it, reclaim_ends}
 use Rattle.codec_core.specs.Job.{stopped_box}
 use Rattle.codec_core.specs.Codec.{Codec}
-use Rattle.codec_core.proofs.Owning.{AtHome, at_home, asked_stays, back_at, back_removal}
+use Rattle.codec_core.proofs.Owning.{at_home, keeps_running, asked_stays, back_at, back_removal}
 use Rattle.codec_core.proofs.codec.Core.reclaim.Given.{Over}
 use Rattle.codec_core.proofs.codec.Core.reclaim.Goals as goal
 
 pub reclaim-requires : goal.reclaim-requires
-reclaim-requires g c = next_fits c.self.inside.trace c.self.inside.slot c.self.inside.machine c.self.inside.spare c.self.invariant
+reclaim-requires g c = next_fits c.self.invariant
 
 pub push-requires-clause-ends : goal.push-requires-clause-ends
-push-requires-clause-ends g c = reclaim_ends c.never_stuck.ensures.facts c.self.inside.trace.entries c.self.inside.slot c.self.inside.machine _ c.self.invariant.kept c.in_ok-answer.ensures.answer.is_shown
+push-requires-clause-ends g c = reclaim_ends c.never_stuck.ensures.facts c.self.invariant.kept _ c.in_ok-answer.ensures.answer.is_shown
 
 moved : (g : Over) (c : goal.After-push g) → Moved None (entry.Reclaim c.args.now) c.self.invariant.kept.state c.reclaim.new.self
-moved g c = reclaim_moves c.self.inside.trace.entries c.self.inside.slot c.self.inside.machine c.reclaim.new.self c.args.now c.self.invariant.kept c.in_ok-answer.ensures.may c.in_ok-answer.ensures.made
+moved g c = reclaim_moves c.self.invariant.kept c.args.now c.in_ok-answer.ensures.may c.in_ok-answer.ensures.made
 
 pub invariant_of-self-2 : goal.invariant_of-self-2
 invariant_of-self-2 g c =
     rw (c.push.ensures, c.hand_back-coder.ensures.left)
-    (core_more c.self.inside.trace c.self.inside.slot None c.self.inside.machine c.reclaim.new.self c.self.inside.spare (entry.Reclaim c.args.now) _ c.self.invariant.kept c.self.invariant.shows c.self.invariant.outputs refl (moved g c)
-    (reclaim_shows_it c.self.inside.trace.entries c.self.inside.slot c.self.inside.machine c.args.now _ c.self.invariant.kept c.in_ok-answer.ensures.answer.is_shown)
-    (omega (arith, c.in_ok-answer.ensures.left, c.self.invariant.places, reclaim_reclaims c.self.inside.machine c.reclaim.new.self c.args.now c.in_ok-answer.ensures.may c.in_ok-answer.ensures.made))
-    c.self.invariant.fits
-    tt)
+    (core_next c.self.invariant _ c.self.inside.spare _ (moved g c) (reclaim_shows_it c.self.invariant.kept c.args.now _ c.in_ok-answer.ensures.answer.is_shown) refl
+    (omega (arith, c.in_ok-answer.ensures.left, c.self.invariant.places, reclaim_reclaims c.self.inside.machine c.reclaim.new.self c.args.now c.in_ok-answer.ensures.may c.in_ok-answer.ensures.made), c.self.invariant.fits) true refl refl)
 
 pub returns-clause-made : goal.returns-clause-made
 returns-clause-made g c =
-    rw (← c.self.view_is, c.push.ensures, c.hand_back-coder.ensures.left)
-    (makes_more c.self.inside.trace.entries c.self.inside.slot None c.self.inside.machine c.reclaim.new.self (entry.Reclaim c.args.now) c.self.invariant.kept (moved g c) c.self.inside.spare c.self.inside.spare)
+    rw (← c.self.view_is, c.push.ensures, c.hand_back-coder.ensures.left) (makes_more c.self.invariant.kept (moved g c) c.self.inside.spare c.self.inside.spare)
 
 pub returns-clause-running : goal.returns-clause-running
-returns-clause-running g c = reclaim_keeps_running c.args.now _ _ (returns-clause-made g c).steps
+returns-clause-running g c = keeps_running true (returns-clause-made g c) refl
 
 pub returns-clause-asked : goal.returns-clause-asked
-returns-clause-asked g c = asked_stays _ _ _ true (returns-clause-made g c) refl
-
-home : (g : Over) (c : goal.After-push g) → AtHome c.args.self.now
-home g c = subst AtHome c.self.view_is (at_home c.self.inside.trace c.self.inside.slot c.self.inside.machine c.self.inside.spare c.self.invariant)
+returns-clause-asked g c = asked_stays true (returns-clause-made g c) refl
 
 new : (g : Over) (c : goal.After-push g) → Codec
 new g c = record { opening = c.reclaim.new.self.opening; history = c.push.new.self.entries; spare = c.self.inside.spare; slot = c.hand_back-coder.new.slot }
@@ -48,4 +40,4 @@ pub returns-clause-lets : goal.returns-clause-lets
 unfolding new
 returns-clause-lets g c =
     back_at (new g c) c.in_ok-answer.answer.place (length c.args.self.now.history) c.hand_back-coder.result (stopped_box c.args.self.now.slot) (search rules) (c.hand_back-coder.ensures.taken ∙ ap (λ (v : Codec). stopped_box v.slot) c.self.view_is)
-    (back_removal c.args.self.now (new g c) (entry.Reclaim c.args.now) true (returns-clause-made g c) refl (home g c))
+    (back_removal c.args.self.now (new g c) (entry.Reclaim c.args.now) true (returns-clause-made g c) refl (at_home c.self.invariant c.self.view_is))

@@ -2,12 +2,10 @@ use Rattle.std.proofs.Common.{◌≡◌, ◌∙◌, Some, false, refl, ap, sym, 
 use Rattle.wc_base.specs.declared.error.DomError.{DomError}
 use Rattle.codec_model.specs.declared.entry.Entry.TheVariants as entry
 use Rattle.codec_model.specs.Replay.{encode_error}
-use Rattle.codec_core.specs.Trace.{TraceValue}
-use Rattle.codec_core.specs.Codec.{Codec, state_at, refused_as}
+use Rattle.codec_core.specs.Codec.{state_at, refused_as}
 use Rattle.codec_core.proofs.Steps.{Moved, refusal_moves, some_error, makes_more, most_reclaims}
-use Rattle.codec_core.proofs.Recorded.{core_more, refusal_shows_it}
-use Rattle.codec_core.proofs.Laws.{refusal_keeps_running}
-use Rattle.codec_core.proofs.Owning.{control_is, own_more, asked_stays}
+use Rattle.codec_core.proofs.Recorded.{core_next, refusal_shows_it}
+use Rattle.codec_core.proofs.Owning.{control_at, keeps_running, asked_stays}
 use Rattle.codec_core.proofs.codec.Core.refuse_encode.Given.{Over}
 use Rattle.codec_core.proofs.codec.Core.refuse_encode.Goals as goal
 
@@ -15,36 +13,28 @@ use Rattle.codec_core.proofs.codec.Core.refuse_encode.Goals as goal
 error : (g : Over) (c : goal.After-push g) → DomError
 error g c = (some_error (encode_error c.args.detached (state_at c.args.self.now).control) c.requires).0
 
-error_is : (g : Over) (c : goal.After-push g) → encode_error c.args.detached (state_at c.args.self.now).control ≡ Some (error g c)
+error_is : (g : Over) (c : goal.After-push g) → encode_error c.args.detached c.self.inside.machine ≡ Some (error g c)
 unfolding error
-error_is g c = (some_error (encode_error c.args.detached (state_at c.args.self.now).control) c.requires).1
-
-error_here : (g : Over) (c : goal.After-push g) → encode_error c.args.detached c.self.inside.machine ≡ Some (error g c)
-error_here g c =
-    let i = c.self.inside in
-    let here : (state_at c.args.self.now).control ≡ i.machine = ap (λ (v : Codec). (state_at v).control) (sym c.self.view_is) ∙ control_is i.trace i.slot i.machine i.spare c.self.invariant in
-    ap (encode_error c.args.detached) (sym here) ∙ error_is g c
+error_is g c =
+    ap (encode_error c.args.detached) (sym (control_at c.self.invariant c.self.view_is)) ∙ (some_error (encode_error c.args.detached (state_at c.args.self.now).control) c.requires).1
 
 moved : (g : Over) (c : goal.After-push g) → Moved c.self.inside.slot (entry.Encode c.args.who (refused_as c.args.detached)) c.self.invariant.kept.state c.refuse_encode.new.self
-moved g c = refusal_moves c.self.inside.trace.entries c.self.inside.slot c.self.inside.machine c.refuse_encode.new.self c.args.who c.args.detached (error g c) c.self.invariant.kept (error_here g c) c.in-Some.ensures.after
+moved g c = refusal_moves c.self.invariant.kept c.args.who c.args.detached (error g c) (error_is g c) c.in-Some.ensures.after
 
 pub invariant_of-self-2 : goal.invariant_of-self-2
 invariant_of-self-2 g c =
-    let t : TraceValue = c.self.inside.trace in
     rw (c.push.ensures, c.in_ok-reserve.ensures.ok, c.refused_as-handed.ensures)
-    (core_more (record t { free = _ }) c.self.inside.slot c.self.inside.slot c.self.inside.machine c.refuse_encode.new.self c.self.inside.spare (entry.Encode c.args.who (refused_as c.args.detached)) _ c.self.invariant.kept c.self.invariant.shows c.self.invariant.outputs refl (moved g c)
-    (refusal_shows_it c.self.inside.trace.entries c.self.inside.slot c.self.inside.machine c.args.who c.args.detached (error g c) _ c.self.invariant.kept (error_here g c) c.in-Some.ensures.answer.is_shown)
-    (omega (arith, c.in-Some.ensures.left, c.in_ok-places.ensures, most_reclaims c.refuse_encode.new.self.phase))
-    (rw c.in_ok-reserve.ensures.ok at c.in_ok-reserve.ensures.fits)
-    (own_more c.self.inside.trace.entries c.self.inside.slot c.self.inside.slot c.self.inside.machine c.refuse_encode.new.self (entry.Encode c.args.who (refused_as c.args.detached)) c.self.invariant.kept false (moved g c) refl refl c.self.invariant.own))
+    (core_next c.self.invariant _ c.self.inside.spare _ (moved g c) (refusal_shows_it c.self.invariant.kept c.args.who c.args.detached (error g c) _ (error_is g c) c.in-Some.ensures.answer.is_shown) refl (
+      omega (arith, c.in-Some.ensures.left, c.in_ok-places.ensures, most_reclaims c.refuse_encode.new.self.phase),
+      rw c.in_ok-reserve.ensures.ok at c.in_ok-reserve.ensures.fits,
+    ) false refl refl)
 
 pub returns-clause-made : goal.returns-clause-made
 returns-clause-made g c =
-    rw (← c.self.view_is, c.push.ensures, c.in_ok-reserve.ensures.ok, c.refused_as-handed.ensures)
-    (makes_more c.self.inside.trace.entries c.self.inside.slot c.self.inside.slot c.self.inside.machine c.refuse_encode.new.self (entry.Encode c.args.who (refused_as c.args.detached)) c.self.invariant.kept (moved g c) c.self.inside.spare c.self.inside.spare)
+    rw (← c.self.view_is, c.push.ensures, c.in_ok-reserve.ensures.ok, c.refused_as-handed.ensures) (makes_more c.self.invariant.kept (moved g c) c.self.inside.spare c.self.inside.spare)
 
 pub returns-clause-running : goal.returns-clause-running
-returns-clause-running g c = refusal_keeps_running c.args.who c.args.detached (error g c) _ _ (error_is g c) (returns-clause-made g c).steps
+returns-clause-running g c = keeps_running false (returns-clause-made g c) refl
 
 pub returns-clause-asked : goal.returns-clause-asked
-returns-clause-asked g c = asked_stays _ _ _ false (returns-clause-made g c) refl
+returns-clause-asked g c = asked_stays false (returns-clause-made g c) refl

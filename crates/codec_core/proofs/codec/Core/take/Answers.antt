@@ -2,49 +2,42 @@ use Rattle.std.proofs.Common.{◌≡◌, ◌∙◌, Some, true, false, refl, ap,
 use Rattle.codec_model.specs.declared.entry.Entry.TheVariants as entry
 use Rattle.codec_model.specs.Control.{Control, may_take}
 use Rattle.codec_model.specs.Shown.{shown, outputs_of}
-use Rattle.codec_core.specs.Trace.{TraceValue}
-use Rattle.codec_core.specs.Codec.{Codec, state_at}
+use Rattle.codec_core.specs.Codec.{Codec}
 use Rattle.codec_core.proofs.Steps.{Moved, take_moves, makes_more, most_reclaims}
 use Rattle.codec_core.proofs.Recorded.{core_taken, none_waits, taken_is}
-use Rattle.codec_core.proofs.Laws.{take_keeps_running}
-use Rattle.codec_core.proofs.Owning.{control_is, own_more, asked_stays}
+use Rattle.codec_core.proofs.Owning.{control_at, keeps_running, asked_stays}
 use Rattle.codec_core.proofs.codec.Core.take.Given.{Over}
 use Rattle.codec_core.proofs.codec.Core.take.Goals as goal
 
 pub returns-in-None-clause-may : goal.returns-in-None-clause-may
 returns-in-None-clause-may g c =
     let i = c.self.inside in
-    let here : (state_at c.args.self.now).control ≡ i.machine = ap (λ (v : Codec). (state_at v).control) (sym c.self.view_is) ∙ control_is i.trace i.slot i.machine i.spare c.self.invariant in
-    sym (ap (λ (k : Control). may_take k.taken k) here ∙ none_waits i.trace.shown i.trace.waiting i.machine c.self.invariant.outputs (sym c.in_ok-unit.ensures.next ∙ c.in-None.is))
+    sym (ap (λ (k : Control). may_take k.taken k) (control_at c.self.invariant c.self.view_is) ∙ none_waits i.trace.shown i.trace.waiting i.machine c.self.invariant.outputs (sym c.in_ok-unit.ensures.next ∙ c.in-None.is))
 
 may : (g : Over) (c : goal.After-push g) → may_take c.in-Some-take.number c.self.inside.machine ≡ true
 may g c = ap (λ n. may_take n c.self.inside.machine) c.in-Some-take.ensures.unit ∙ (sym c.take.ensures.may ∙ ap is_some c.in-Some-take.is)
 
 moved : (g : Over) (c : goal.After-push g) → Moved c.self.inside.slot (entry.Take c.args.who c.in-Some-take.number) c.self.invariant.kept.state c.take.new.self
-moved g c = take_moves c.self.inside.trace.entries c.self.inside.slot c.self.inside.machine c.take.new.self c.args.who c.in-Some-take.number c.self.invariant.kept (may g c) c.in-Some-take.ensures.after
+moved g c = take_moves c.self.invariant.kept c.args.who c.in-Some-take.number (may g c) c.in-Some-take.ensures.after
 
 pub invariant_of-self-2 : goal.invariant_of-self-2
 invariant_of-self-2 g c =
-    let t : TraceValue = c.self.inside.trace in
     rw (c.push.ensures, c.pass_output.ensures, c.in_ok-reserve.ensures.ok, c.in_ok-unit.ensures.same)
-    (core_taken (record t { free = _ }) c.self.inside.slot c.self.inside.machine c.take.new.self c.self.inside.spare c.args.who c.in-Some-take.number c.self.invariant.kept c.self.invariant.shows c.self.invariant.outputs (may g c) c.in-Some-take.ensures.after (moved g c)
+    (core_taken c.self.invariant _ c.args.who c.in-Some-take.number (may g c) c.in-Some-take.ensures.after (moved g c)
     (omega (arith, c.in-Some-take.ensures.left, c.room.ensures.left, c.in_ok-places.ensures, most_reclaims c.take.new.self.phase))
-    (rw (c.in_ok-reserve.ensures.ok, c.in_ok-unit.ensures.same) at c.in_ok-reserve.ensures.fits)
-    (own_more c.self.inside.trace.entries c.self.inside.slot c.self.inside.slot c.self.inside.machine c.take.new.self (entry.Take c.args.who c.in-Some-take.number) c.self.invariant.kept false (moved g c) refl refl c.self.invariant.own))
+    (rw (c.in_ok-reserve.ensures.ok, c.in_ok-unit.ensures.same) at c.in_ok-reserve.ensures.fits))
 
 pub returns-clause-made : goal.returns-clause-made
 returns-clause-made g c =
-    rw (← c.self.view_is, c.push.ensures, c.pass_output.ensures, c.in_ok-reserve.ensures.ok, c.in_ok-unit.ensures.same)
-    (makes_more c.self.inside.trace.entries c.self.inside.slot c.self.inside.slot c.self.inside.machine c.take.new.self (entry.Take c.args.who c.in-Some-take.number) c.self.invariant.kept (moved g c) c.self.inside.spare c.self.inside.spare)
+    rw (← c.self.view_is, c.push.ensures, c.pass_output.ensures, c.in_ok-reserve.ensures.ok, c.in_ok-unit.ensures.same) (makes_more c.self.invariant.kept (moved g c) c.self.inside.spare c.self.inside.spare)
 
 pub returns-clause-unit : goal.returns-clause-unit
 returns-clause-unit g c =
-    let i = c.self.inside in
     subst (λ (v : Codec). slice_get (outputs_of (shown v.opening v.history)) c.in-Some-take.number ≡ Some c.in-Some.unit) c.self.view_is
-    (taken_is i.trace i.slot i.machine i.spare c.in-Some-take.number c.in-Some.unit c.self.invariant c.in-Some-take.ensures.unit (sym c.in_ok-unit.ensures.next ∙ c.in-Some.is))
+    (taken_is c.self.invariant c.in-Some-take.number c.in-Some.unit c.in-Some-take.ensures.unit (sym c.in_ok-unit.ensures.next ∙ c.in-Some.is))
 
 pub returns-clause-running : goal.returns-clause-running
-returns-clause-running g c = take_keeps_running c.args.who c.in-Some-take.number _ _ (returns-clause-made g c).steps
+returns-clause-running g c = keeps_running false (returns-clause-made g c) refl
 
 pub returns-clause-asked : goal.returns-clause-asked
-returns-clause-asked g c = asked_stays _ _ _ false (returns-clause-made g c) refl
+returns-clause-asked g c = asked_stays false (returns-clause-made g c) refl

@@ -25,12 +25,13 @@ returns g c =
     let o = sound_at (variables_of who.caller v.media.variables) c.args.content in
     let there = subst (λ (u : Course). sound_found (sound_at (variables_of who.caller u.media.variables) c.args.content) ≡ found.Open) (sym c.self.view_is) c.requires.open in
     let accepted = subst (λ (u : Course). encode_error false (state_of (codec_at k u.codecs)).control ≡ None) (sym c.self.view_is) c.requires.accepted in
-    let lent = c.in_ok-samples.ensures.media ∙ ap (λ (n : ℕ). record v.media { pool = v.media.pool ++ clones_of (by.Codec k n) (pair_of r ∷ []) }) (rw c.deref.ensures.value at c.place_at-place.ensures) in
+    let lent = c.in_ok-samples.ensures.lent in
+    let history = lent.history ∙ ap (λ (n : ℕ). v.media.pool ++ clones_of (by.Codec k n) (pair_of r ∷ [])) (rw c.deref.ensures.value at c.place_at-place.ensures) in
     on_ok_weaker c.note.result
     (λ noted. accepts v who k c.in_ok-answer.answer.place x c.in_ok-answer.answer.error c.note.new.callers.items c.encode_at.new.desks.items c.lend.new.self
     c.in_ok-answer.ensures.made c.in_ok-answer.ensures.place (c.in_ok-answer.ensures.error ∙ sym accepted)
-    (noted ∙ ap (λ (a : StepResult). append_at who.caller a v.callers) c.call_result.ensures) lent
-    ∙ (after_same (sym (hands_clone v who k o x there accepted c.in_ok-samples.ensures.handed)) v
+    (noted ∙ ap (λ (a : StepResult). append_at who.caller a v.callers) c.call_result.ensures) c.in_ok-samples.ensures.same history
+    ∙ (after_same (sym (hands_clone v who k o x there accepted lent.handed)) v
     ∙ ap (λ (u : Course). after_move (encode_move who k u.media.pool (sound_at (variables_of who.caller u.media.variables) c.args.content) (codec_at k u.codecs)) u) c.self.view_is))
     c.note.ensures
   where

@@ -1,7 +1,7 @@
 use Rattle.std.proofs.Common.{ℕ, ◌<◌, List, ap, sym, subst, ◌∙◌}
 use Rattle.std.specs.Prelude.{slice_get}
 use Rattle.script_types.specs.declared.steps.Step.{Step}
-use Rattle.wc_replay.proofs.Built.{caller_within}
+use Rattle.wc_replay.proofs.Playable.{caller_within}
 use Rattle.wc_replay.proofs.steps.Player.next.Goals as goal
 
 pub step-requires-clause-caller : goal.step-requires-clause-caller

@@ -1,0 +1,190 @@
+// Tables in which what encodes were given is looked up.
+ghost use Rattle.std.specs.Prelude.{ℕ, ◌≡◌, ◌==◌, ◌&&◌, IfOk, OnOk, Some, None, length, if◌then◌else◌};
+ghost use Rattle.std.specs.BTreeMap.{get};
+ghost use Rattle.std.specs.Option.{option_or};
+ghost use Rattle.media_accounts.specs.Accounts.{is_by_entry};
+ghost use Rattle.trace_text.specs.Follow.{steps_of};
+ghost use Rattle.report_reader.specs.Arguments as spec;
+ghost use Rattle.report_reader.specs.Tables.{key_cmp, first_named, end_of, is_before, AreTables};
+
+use crate::known::{Known, is_ok, results_at};
+use codec_model::Pair;
+use script_types::{MediaStep, ScriptData, Step};
+use std::alloc::Global;
+use std::collections::BTreeMap;
+use trace_text::{CallerTrace, StepResult};
+use wc_base::{By, NoMemory};
+use wc_pool::{PoolEntry, PoolOp};
+
+/// The first clone that an entry of a codec made, by the codec's number and the entry's place; and the first step that
+/// detached the data of a variable, by the numbers of its caller and of the step that defines it.
+#[derive(Debug, PartialEq, Drop)]
+pub struct Tables {
+    pub clones: BTreeMap<(u64, u64), Pair>,
+    pub ends: BTreeMap<(u64, u64), u64>,
+}
+
+// This value for the key, unless it has one.
+fn put_first<V: Drop>(
+    table: &mut BTreeMap<(u64, u64), V>,
+    key: (u64, u64),
+    value: V,
+) -> Result<(), NoMemory>
+    ensures { OnOk result ((k n : ℕ) → get key_cmp table.new (k, n)
+        ≡ option_or (get key_cmp table.old (k, n))
+        (if (key.0 == k) && (key.1 == n) then Some value else None)) }
+{
+    if table.contains_key(&key) {
+        return Ok(());
+    }
+    match table.insert(key, value) {
+        Ok(_) => Ok(()),
+        Err(_) => Err(NoMemory),
+    }
+}
+
+// A clone, by the entry of a codec that made it, if one did.
+fn put_pair(clones: &mut BTreeMap<(u64, u64), Pair>, by: By, pair: Pair) -> Result<(), NoMemory>
+    ensures { OnOk result ((k place : ℕ) → get key_cmp clones.new (k, place)
+        ≡ option_or (get key_cmp clones.old (k, place))
+        (if is_by_entry k place by then Some pair else None)) }
+{
+    match by {
+        By::Caller(_) => Ok(()),
+        By::Codec { codec, place } => put_first(clones, (codec as u64, place), pair),
+    }
+}
+
+// The clone of one entry of the pool, if it is one that a codec made.
+fn put_clone(clones: &mut BTreeMap<(u64, u64), Pair>, entry: &PoolEntry) -> Result<(), NoMemory>
+    ensures { OnOk result ((k place : ℕ) → get key_cmp clones.new (k, place)
+        ≡ option_or (get key_cmp clones.old (k, place)) (spec.cloned_by k place entry.now)) }
+{
+    match entry.op {
+        PoolOp::Clone {
+            resource,
+            reference,
+        } => {
+            let pair = Pair {
+                resource,
+                reference,
+            };
+            put_pair(clones, entry.by, pair)
+        }
+        _ => Ok(()),
+    }
+}
+
+// The clones of the pool's entries.
+fn clones_of(alloc: Global, pool: &[PoolEntry]) -> Result<BTreeMap<(u64, u64), Pair>, NoMemory>
+    ensures { IfOk result
+        (λ t. (k place : ℕ) → get key_cmp t (k, place) ≡ spec.pair_for k place pool.now) }
+{
+    let mut clones = BTreeMap::new(alloc);
+    let mut rest = pool;
+    while let [entry, more @ ..] = rest {
+        put_clone(&mut clones, entry)?;
+        rest = more;
+    }
+    Ok(clones)
+}
+
+// The variable whose reference a step with this result handed on or ended, by the step that defines it.
+fn detached_in(step: &Step, answer: &StepResult) -> Option<u32>
+    ensures { result ≡ spec.detached_in step.now answer.now }
+{
+    match step {
+        Step::Media(MediaStep::Transfer { of, bind: _ }) => named_if(is_ok(answer), of.step),
+        Step::Media(MediaStep::CloseData { of }) => named_if(is_ok(answer), of.step),
+        _ => None,
+    }
+}
+
+fn named_if(named: bool, step: u32) -> Option<u32>
+    ensures { result ≡ (if named then Some step else None) }
+{
+    if named { Some(step) } else { None }
+}
+
+// The variable whose reference the step with this number handed on or ended.
+fn detached_by(steps: &[Step], results: &[StepResult], number: usize) -> Option<u32>
+    ensures { result ≡ spec.detached_by steps.now results.now number }
+{
+    match (steps.get(number), results.get(number)) {
+        (Some(step), Some(answer)) => detached_in(step, answer),
+        _ => None,
+    }
+}
+
+// The ends of the variables of one caller.
+fn put_ends(
+    ends: &mut BTreeMap<(u64, u64), u64>,
+    caller: usize,
+    steps: &[Step],
+    results: &[StepResult],
+) -> Result<(), NoMemory>
+    ensures { OnOk result ((k j : ℕ) → get key_cmp ends.new (k, j) ≡ option_or
+        (get key_cmp ends.old (k, j))
+        (end_of caller steps.now results.now (length steps.now) k j)) }
+{
+    for number in 0..steps.len() {
+        if let Some(of) = detached_by(steps, results, number) {
+            put_first(ends, (caller as u64, of as u64), number as u64)?;
+        }
+    }
+    Ok(())
+}
+
+// The steps of a caller; none where no caller has the number.
+fn steps_at(script: &ScriptData, caller: usize) -> &[Step]
+    ensures { result.now ≡ steps_of script.now caller }
+{
+    match script.callers.as_slice().get(caller) {
+        Some(caller) => caller.steps.as_slice(),
+        None => &[],
+    }
+}
+
+// The ends of the variables of all callers.
+fn ends_of(
+    alloc: Global,
+    script: &ScriptData,
+    callers: &[CallerTrace],
+) -> Result<BTreeMap<(u64, u64), u64>, NoMemory>
+    ensures { IfOk result (λ t. (c j : ℕ) → get key_cmp t (c, j) ≡ first_named
+        (spec.detached_by (steps_of script.now c) (spec.results_of callers.now c))
+        (length (steps_of script.now c)) j) }
+{
+    let mut ends = BTreeMap::new(alloc);
+    for caller in 0..script.callers.len() {
+        let steps = steps_at(script, caller);
+        put_ends(&mut ends, caller, steps, results_at(callers, caller))?;
+    }
+    Ok(ends)
+}
+
+/// The tables of what a report shows.
+pub fn tables_of(alloc: Global, script: &ScriptData, known: &Known) -> Result<Tables, NoMemory>
+    ensures { IfOk result (AreTables script.now known.now) }
+{
+    let clones = clones_of(alloc, known.pool.as_slice())?;
+    let ends = ends_of(alloc, script, known.callers.as_slice())?;
+    Ok(Tables { clones, ends })
+}
+
+/// The resource and the reference of the first clone that a codec made by its entry at this place.
+pub fn pair_at(tables: &Tables, codec: usize, place: u64) -> Option<Pair>
+    ensures { result ≡ get key_cmp tables.now.clones (codec, place) }
+{
+    tables.clones.get(&(codec as u64, place)).copied()
+}
+
+/// Whether the data of the variable that the step with this number defines was detached before a step of its caller.
+pub fn is_ended(tables: &Tables, caller: u32, before: u32, step: u32) -> bool
+    ensures { result ≡ is_before (get key_cmp tables.now.ends (caller, step)) before }
+{
+    match tables.ends.get(&(caller as u64, step as u64)) {
+        Some(end) => *end < before as u64,
+        None => false,
+    }
+}
