@@ -1,3 +1,4 @@
 pub mod Rising
 pub mod Room
 pub mod Carried
+mod Roomy

@@ -94,21 +94,11 @@ pub cleared_left : (size : ℕ) (scheduled : Bool) (ms : List Message) (is : Lis
 cleared_left size scheduled ms is r ts h = omega (arith, cleared_tasks size scheduled ms ts h)
 
 -- the count of coded messages where one is queued
-sizes_more : (place : ℕ) (w : Work) (ms : List Message) → count_by (λ x. is_coded x.work) (ms ++ record { place = place; work = w } ∷ []) ≡ count_by (λ x. is_coded x.work) ms + cond (is_coded w) 1 0
+pub sizes_more : (place : ℕ) (w : Work) (ms : List Message) → count_by (λ x. is_coded x.work) (ms ++ record { place = place; work = w } ∷ []) ≡ count_by (λ x. is_coded x.work) ms + cond (is_coded w) 1 0
 sizes_more place w ms =
     let coded : Message → ℕ = λ x. cond (is_coded x.work) 1 0 in
     let m : Message = record { place = place; work = w } in
     omega (arith, sum_by-append coded ms (m ∷ []), sum_by-cons coded m [])
-
-pub sizes_same : (size place : ℕ) (w : Work) (ms : List Message) → is_coded w ≡ false → size ≡ count_by (λ x. is_coded x.work) ms → size ≡ count_by (λ x. is_coded x.work) (ms ++ record { place = place; work = w } ∷ [])
-sizes_same size place w ms is h =
-    let more = sizes_more place w ms in
-    omega (arith, h, rw is at more)
-
-pub sizes_up : (size place : ℕ) (w : Work) (ms : List Message) → is_coded w ≡ true → size ≡ count_by (λ x. is_coded x.work) ms → size + 1 ≡ count_by (λ x. is_coded x.work) (ms ++ record { place = place; work = w } ∷ [])
-sizes_up size place w ms is h =
-    let more = sizes_more place w ms in
-    omega (arith, h, rw is at more)
 
 -- the end of an item queues two tasks of weight 1 at most, or one of weight 2
 heavier : (ts : List Task) (t : Task) → sum_by task_weight (ts ++ t ∷ []) ≡ sum_by task_weight ts + task_weight t

@@ -1,5 +1,5 @@
 -- The decoder config that outputs carry, which the first of an item's outputs alone can have.
-use Rattle.std.specs.Prelude.{List, [], ◌∷◌, Option, None}
+use Rattle.std.specs.Prelude.{List, ◌∷◌, Option, None}
 use Rattle.wc_config.specs.declared.config.AudioDecoderConfig.{AudioDecoderConfig}
 use Rattle.codec_definitions.specs.declared.unit.Unit as media
 use Rattle.codec_definitions.specs.declared.unit.Unit.TheVariants as unit_of

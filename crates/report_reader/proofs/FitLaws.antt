@@ -18,8 +18,9 @@ use Rattle.codec_model.specs.declared.entry.Event.{Event}
 use Rattle.codec_model.specs.declared.entry.Event.TheVariants as event
 use Rattle.codec_model.specs.declared.entry.Shown.{Shown}
 use Rattle.codec_model.specs.Replay.{State, opening_state}
-use Rattle.codec_model.specs.Shown.{shows, event_units, units_in}
-use Rattle.codec_follow.specs.Follow.{follow_step, filled, filled_at, each_filled_from, units_shown}
+use Rattle.codec_model.specs.Shown.{shows, event_units, units_in, units_shown}
+use Rattle.codec_follow.specs.Follow.{follow_step, filled, filled_at, each_filled_from}
+use Rattle.history_laws.specs.OutputLaws.{all_append}
 use Rattle.script_types.specs.declared.script.ScriptData.{ScriptData}
 use Rattle.script_types.specs.Sound.{is_sound, most_codecs, most_callers}
 use Rattle.script_types.specs.SoundLaws.{parts_of}
@@ -56,12 +57,8 @@ use Rattle.report_reader.proofs.ToldLaws.{entry_is, step_told, encode_told, take
 
 -- ---- lists
 
-pub all_both : {X : Type 0} (P : X → Type 0) (xs ys : List X) → AllByRecursion P xs → AllByRecursion P ys → AllByRecursion P (xs ++ ys)
-all_both P [] ys a b = b
-all_both P (x ∷ xs) ys a b = (a.0, all_both P xs ys a.1 b)
-
 pub all_more : {X : Type 0} (P : X → Type 0) (xs : List X) (x : X) → AllByRecursion P xs → P x → AllByRecursion P (xs ++ x ∷ [])
-all_more P xs x all own = all_both P xs (x ∷ []) all (own, tt)
+all_more P xs x all own = all_append P xs (x ∷ []) all (own, tt)
 
 all_behind : {X : Type 0} (P : X → Type 0) (xs : List X) → AllByRecursion P xs → AllByRecursion P (drop 1 xs)
 all_behind P [] all = tt
@@ -139,7 +136,7 @@ caller_lines_fit : (script : ScriptData) (k : ℕ) (cs : List CallerTrace) → k
 caller_lines_fit script k [] le small fits = tt
 caller_lines_fit script k (c ∷ cs) le small fits = (
   (omega arith, omega arith),
-  all_both (FitsLine script) (lines_from result_lines 0 c.results) (lines_from caller_lines (k + 1) cs)
+  all_append (FitsLine script) (lines_from result_lines 0 c.results) (lines_from caller_lines (k + 1) cs)
       (result_lines_fit script 0 c.results (omega (arith, fits.0.few)) fits.0.fits) (caller_lines_fit script (k + 1) cs (omega arith) small fits.1),
 )
 
@@ -189,7 +186,7 @@ outputs_fit : (script : ScriptData) (k : Kind) (ls : List Line) → AreFit scrip
 outputs_fit script k [] fits = tt
 outputs_fit script k (line.Entry place t ∷ ls) fits = outputs_fit script k ls fits.1
 outputs_fit script k (line.Event s ∷ ls) fits =
-    all_both (FitsUnit script k) (option_to_list (unit_of k s (config_in ls))) (outputs_in k ls) (unit_fits script k s ls fits.0 fits.1) (outputs_fit script k ls fits.1)
+    all_append (FitsUnit script k) (option_to_list (unit_of k s (config_in ls))) (outputs_in k ls) (unit_fits script k s ls fits.0 fits.1) (outputs_fit script k ls fits.1)
 outputs_fit script k (l ∷ ls) fits = tt
 
 no_duration : (k : ℕ) → ◌≡◌ {A = Option ℕ} None (Some k) → k < 2 ^ 64
@@ -221,7 +218,7 @@ each_then : (k : Kind) (P : media.Unit → Type 0) → P (empty_output k) → (e
 each_then k P none es e s us None all later = tt
 each_then k P none es e s us (Some t) all later =
     let here = fill_fits k P none (shows e s) us all in
-    all_both P (units_in (filled k (shows e s) us).0) (units_shown (each_filled_from k es t (filled k (shows e s) us).1)) here.shown (later t (filled k (shows e s) us).1 here.left)
+    all_append P (units_in (filled k (shows e s) us).0) (units_shown (each_filled_from k es t (filled k (shows e s) us).1)) here.shown (later t (filled k (shows e s) us).1 here.left)
 
 each_fits : (k : Kind) (P : media.Unit → Type 0) → P (empty_output k) → (es : List Entry) (s : State) (us : List media.Unit) → AllByRecursion P us → AllByRecursion P (units_shown (each_filled_from k es s us))
 each_fits k P none [] s us all = tt
@@ -308,7 +305,7 @@ event_fits script k (event.ErrorCall x) fits units = (tt, tt)
 events_fit : (script : ScriptData) (k : Kind) (es : List Event) → AllByRecursion FitsEvent es → AllByRecursion (FitsUnit script k) (units_in es) → AreFit script (flat_map event_lines es)
 events_fit script k [] fits units = tt
 events_fit script k (e ∷ es) fits units =
-    all_both (FitsLine script) (event_lines e) (flat_map event_lines es) (event_fits script k e fits.0 (all_left (FitsUnit script k) (event_units e) (units_in es) units))
+    all_append (FitsLine script) (event_lines e) (flat_map event_lines es) (event_fits script k e fits.0 (all_left (FitsUnit script k) (event_units e) (units_in es) units))
     (events_fit script k es fits.1 (all_right (FitsUnit script k) (event_units e) (units_in es) units))
 
 entry_lines_fit : (script : ScriptData) (k : Kind) (n : ℕ) (es : List Entry) (xs : List Shown) → n + length es < 2 ^ 64 → AllByRecursion (FitsEntry script) es → AllByRecursion FitsShown xs → AllByRecursion (FitsUnit script k) (units_shown xs)
@@ -317,7 +314,7 @@ entry_lines_fit script k n [] xs few fits promises units = tt
 entry_lines_fit script k n (e ∷ es) [] few fits promises units = tt
 entry_lines_fit script k n (e ∷ es) (x ∷ xs) few fits promises units = (
   (omega arith, fits.0 x),
-  all_both (FitsLine script) (flat_map event_lines x.events) (lines_from entry_lines (n + 1) (zip es xs))
+  all_append (FitsLine script) (flat_map event_lines x.events) (lines_from entry_lines (n + 1) (zip es xs))
       (events_fit script k x.events promises.0 (all_left (FitsUnit script k) (units_in x.events) (units_shown xs) units))
       (entry_lines_fit script k (n + 1) es xs (omega arith) fits.1 promises.1 (all_right (FitsUnit script k) (units_in x.events) (units_shown xs) units)),
 )
@@ -370,7 +367,7 @@ codec_lines_fit : (script : ScriptData) (k : ℕ) (cs : List CodecTrace) → k +
 codec_lines_fit script k [] le small fits promises = tt
 codec_lines_fit script k (c ∷ cs) le small fits promises = (
   ((omega arith, omega arith), fits.0.opening),
-  all_both (FitsLine script) (lines_from entry_lines 0 (zip c.entries c.shown)) (lines_from codec_lines (k + 1) cs)
+  all_append (FitsLine script) (lines_from entry_lines 0 (zip c.entries c.shown)) (lines_from codec_lines (k + 1) cs)
       (entry_lines_fit script c.opening.kind 0 c.entries c.shown (omega (arith, fits.0.few)) fits.0.entries promises.0 fits.0.units) (codec_lines_fit script (k + 1) cs (omega arith) small fits.1 promises.1),
 )
 
@@ -470,16 +467,16 @@ run_fits script files ls sound few fits promises =
     let end = all_behind (FitsLine script) (behind_pool pool) left.fits in
     let count : length slots < 2 ^ 64 = omega (arith, few_pool, left.few, few_behind (behind_pool pool)) in
     let entries = slot_lines_fit script 0 (slots_in slots) (omega (arith, slots_few slots)) (slots_fit script slots end) in
-    let back = all_both (FitsLine script) (lines_from slot_lines 0 (slots_in slots)) (end_lines (held_in slots)) entries (held_fits script slots end, (tt, tt)) in
+    let back = all_append (FitsLine script) (lines_from slot_lines 0 (slots_in slots)) (end_lines (held_in slots)) entries (held_fits script slots end, (tt, tt)) in
     let back_codecs = codec_lines_fit script 0 codecs (omega (arith, codecs_count script files known 0 (length script.codecs) callers.1)) small.codecs made promises in
     let front = caller_lines_fit script 0 callers.0 (omega (arith, callers_count (length script.callers) (drop 1 ls))) small.callers (callers_fit script (length script.callers) (drop 1 ls) (omega (arith, few_behind ls)) own) in
     record {
       plain = codecs_plain script codecs made;
       fits = (
         tt,
-        all_both (FitsLine script) (lines_from caller_lines 0 callers.0) _ front
-            (all_both (FitsLine script) (lines_from codec_lines 0 codecs) _ back_codecs
-            (tt, all_both (FitsLine script) (lines_from pool_lines 0 (pool_in pool)) _ references (tt, back))),
+        all_append (FitsLine script) (lines_from caller_lines 0 callers.0) _ front
+            (all_append (FitsLine script) (lines_from codec_lines 0 codecs) _ back_codecs
+            (tt, all_append (FitsLine script) (lines_from pool_lines 0 (pool_in pool)) _ references (tt, back))),
       );
     }
 

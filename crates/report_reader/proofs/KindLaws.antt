@@ -8,7 +8,7 @@ use Rattle.wc_chunk.specs.declared.chunk.Chunk.{Chunk}
 use Rattle.codec_model.specs.declared.entry.Entry.{Entry}
 use Rattle.codec_model.specs.declared.entry.Entry.TheVariants as entry
 use Rattle.codec_model.specs.declared.entry.Shown.{Shown}
-use Rattle.codec_follow.specs.Follow.{units_shown}
+use Rattle.codec_model.specs.Shown.{units_shown}
 use Rattle.codec_follow.specs.Outputs.{IsOutputOf, IsConfigOf, ConfiguresAs}
 use Rattle.codec_follow.specs.Laws.{OutputsAreOfKind}
 use Rattle.wc_config.specs.declared.kind.Kind.{Kind}
@@ -30,7 +30,7 @@ use Rattle.codec_accounts.specs.Owed.{at}
 use Rattle.trace_text.specs.Follow.{Recorded}
 use Rattle.trace_text.specs.FitsLaws.{made_at, calls_by_places}
 use Rattle.trace_text.specs.Fits.{CallsAreIn, ArgumentsAreIn, HasArguments, variables_at, IsAnswerOf, IsResultOf, entry_in, step_in, Fits, IsLegalTrace, AreLegalTraces, IsLegalRun}
-use Rattle.run_ranges.specs.Counts.{caller_of_step}
+use Rattle.run_ranges.specs.Counts.{caller_of_step, all_from}
 use Rattle.report_reader.specs.Told.{IsPlainTrace}
 
 abbrev some : {A : Type 0} → A → Option A
@@ -38,10 +38,6 @@ some x = Some x
 
 some_same : {A : Type 0} (x y : A) → some x ≡ some y → x ≡ y
 some_same x y e = cc
-
-all_from : {X : Type 0} (P : X → Type 0) (xs : List X) → ((i : ℕ) (x : X) → slice_get xs i ≡ Some x → P x) → AllByRecursion P xs
-all_from P [] h = tt
-all_from P (x ∷ xs) h = (h 0 x refl, all_from P xs (λ i y is. h (suc i) y is))
 
 suits_kind : (c : Config) (k : Kind) → suits c k ≡ true → IsConfigOf k c
 suits_kind (config.AudioDecoder c) word.AudioDecoder h = tt

@@ -24,9 +24,9 @@ use Rattle.codec_model.specs.declared.entry.Entry.{Entry}
 use Rattle.codec_model.specs.declared.entry.Entry.TheVariants as entry
 use Rattle.codec_model.specs.declared.entry.Shown.{Shown}
 use Rattle.codec_model.specs.Replay.{State, opening_state, step as legal_step}
-use Rattle.codec_model.specs.Shown.{refusal, handed_error, shows, units_in, outputs_of, shown, shown_at, shown_from, each_shown_from}
+use Rattle.codec_model.specs.Shown.{refusal, handed_error, shows, units_in, outputs_of, shown, shown_at, shown_from, each_shown_from, units_shown}
 use Rattle.codec_model.specs.Held.{adds_held, lets_go}
-use Rattle.codec_follow.specs.Follow.{each_filled, units_shown}
+use Rattle.codec_follow.specs.Follow.{each_filled}
 use Rattle.codec_follow.specs.Laws.{LegalFollows, LegalFills, OutputsAreOfKind}
 use Rattle.history_laws.specs.CountLaws.{outputs_tagged}
 use Rattle.codec_accounts.specs.Owed.{at}
@@ -55,7 +55,7 @@ use Rattle.trace_text.specs.Report.{refusal_in, entry_line_of}
 use Rattle.run_ranges.specs.Counts.{traces_count}
 use Rattle.run_ranges.specs.Ranges.{AreWithin, LegalRunsFit}
 use Rattle.report_reader.specs.declared.known.Known.{Known}
-use Rattle.report_reader.specs.Arguments.{results_of, output_of, taken_in, chunk_found, cloned, pair_for, clone_of, handed_for, encode_of, call_of, take_of, entry_of}
+use Rattle.report_reader.specs.Arguments.{results_of, output_of, taken_in, chunk_found, cloned, pair_for, clone_of, handed_for, is_detached, encode_of, call_of, take_of, entry_of}
 use Rattle.report_reader.specs.Told.{known_of, HoldAll, IsToldTrace, AreToldTraces, IsTold}
 use Rattle.report_reader.proofs.RunLaws.{shown_units_of}
 use Rattle.report_reader.proofs.KindLaws.{of_media, legal_plain}
@@ -328,10 +328,14 @@ encode_made script files w known k place who h (step.Media (on_media.Encode on c
     let samples : (y : HeldSound) → h ≡ handed.Cloned y → samples_before (steps_of script who.caller) (taken_in known who.caller) who.step content.step ≡ Some y.samples =
     λ y is. let held = cloned_held has.1 has.2 x.shape x.held y (sym given ∙ is) in
     found.sounds who.caller who.step content.step x held.reference has.3 held.is ∙ ap (λ (z : Samples). some z) held.samples in
+    let steps = steps_of script who.caller in
+    let detached = is_detached steps (results_of known.callers who.caller) who.step content.step in
+    let a = samples_before steps (taken_in known who.caller) who.step content.step in
+    let b = pair_for k place known.pool in
     let stand = found.standing who.caller who.step content.step made.0 x made.1 has.3 in
-    let gone = stand.gone ∙ gone_is has.1 has.2 x.shape x.held ∙ ap is_gone (sym given) in
-    let again = handed_again h _ _ (pair_for k place known.pool) gone samples (λ y is. pair y.pair (ap (λ (z : Handed). adds_held (entry.Encode who z)) is)) in
-    ap (λ (q : Bool). option_map (λ z. entry.Encode who z) (handed_for q _ (handed_error h) _)) stand.given ∙ ap (option_map (λ z. entry.Encode who z)) again
+    let gone : detached ≡ is_gone h = stand.gone ∙ gone_is has.1 has.2 x.shape x.held ∙ ap is_gone (sym given) in
+    let again = handed_again h detached a b gone samples (λ y is. pair y.pair (ap (λ (z : Handed). adds_held (entry.Encode who z)) is)) in
+    ap (λ (q : Bool). option_map (λ z. entry.Encode who z) (handed_for q detached (handed_error h) (clone_of a b))) stand.given ∙ ap (option_map (λ z. entry.Encode who z)) again
 encode_made script files w known k place who h (step.Media (on_media.Take on bind kind)) found pair made has = absurd (let wrong = has.1 in cc)
 encode_made script files w known k place who h (step.Media (on_media.Audio bind init)) found pair made has = absurd has
 encode_made script files w known k place who h (step.Media (on_media.Frame bind init)) found pair made has = absurd has

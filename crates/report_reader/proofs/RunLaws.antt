@@ -15,8 +15,8 @@ use Rattle.codec_model.specs.declared.entry.Event.{Event}
 use Rattle.codec_model.specs.declared.entry.Event.TheVariants as event
 use Rattle.codec_model.specs.declared.entry.Shown.{Shown}
 use Rattle.codec_model.specs.Replay.{State, opening_state}
-use Rattle.codec_model.specs.Shown.{shows, units_in}
-use Rattle.codec_follow.specs.Follow.{follow_step, follow_from, filled, each_filled_from, units_shown}
+use Rattle.codec_model.specs.Shown.{shows, units_in, units_shown}
+use Rattle.codec_follow.specs.Follow.{follow_step, follow_from, filled, each_filled_from}
 use Rattle.script_types.specs.declared.script.ScriptData.{ScriptData}
 use Rattle.report_text.specs.declared.result.StepResult.{StepResult}
 use Rattle.trace_text.specs.declared.run.CallerTrace.{CallerTrace}

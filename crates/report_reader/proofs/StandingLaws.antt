@@ -1,6 +1,6 @@
 -- Which variables hold audio data, and which data is detached, by the results of their callers' steps.
 use Rattle.std.proofs.Common.{ℕ, zero, suc, ◌≡◌, ◌<◌, inl, inr, ◌⊎◌, Bool, true, false, cond, List, [], ◌∷◌, Option, Some, None, refl, ap, sym, subst, ◌∙◌, arith}
-use Rattle.std.specs.Prelude.{slice_get, length, take, map, option_map, option_and_then, ◌==◌}
+use Rattle.std.specs.Prelude.{slice_get, length, take, option_map, option_and_then, ◌==◌}
 use Rattle.std.specs.Option.{is_none}
 use Rattle.std.proofs.lemmas.Bool.{eq-eqb, ne_eqb, eqb-true}
 use Rattle.wc_base.specs.declared.media.SoundShape.{SoundShape}
@@ -12,7 +12,6 @@ use Rattle.codec_definitions.specs.declared.unit.Unit as output
 use Rattle.codec_definitions.specs.declared.unit.Unit.TheVariants as unit
 use Rattle.picture_planes.specs.Planes.{picture_size}
 use Rattle.wc_pool.specs.declared.entry.PoolEntry.{PoolEntry}
-use Rattle.wc_pool.specs.declared.reference.MediaRef.{MediaRef}
 use Rattle.wc_audio.specs.Sound.{Sound, needed, is_invalid}
 use Rattle.wc_video.specs.Frames as frames
 use Rattle.codec_accounts.specs.Owed.{at}
@@ -32,7 +31,7 @@ use Rattle.report_text.specs.declared.result.StepResult.TheVariants as result
 use Rattle.media_variables.specs.Variables.{Reference, Shape, SoundOf, PictureOf, ChunkOf, Medium, Came, Taken, Brought, medium_at, with_medium, detached, makes, only_answers, refused, clone_held, transfer_held, close_held, if_there, copy_came, copy_medium, size_of_medium, unit_came, taken_came, chunk_medium, sound_in, sound_at, sound_of, media_ref, media_came}
 use Rattle.media_accounts.specs.Accounts.{step_by, before_step, media_of, variables_by, variables_in}
 use Rattle.trace_text.specs.Follow.{Recorded, steps_of}
-use Rattle.trace_text.specs.Fits.{LocalsAreIn, IsLocalAnswer, IsMediaAnswer, result_in, step_in, taken_by, brought_to, variables_at, came_at}
+use Rattle.trace_text.specs.Fits.{LocalsAreIn, IsLocalAnswer, IsMediaAnswer, result_in, taken_by, brought_to, variables_at, came_at}
 use Rattle.report_reader.specs.Arguments.{is_ok, gives, is_given, detached_in, detached_by, is_named, is_detached}
 
 -- A variable's medium is what its step gave it: of audio data, that it was given, and whether it is detached.

@@ -1,5 +1,5 @@
 -- What a table that keeps the first value of each key has.
-use Rattle.std.proofs.Common.{ℕ, zero, suc, ◌≡◌, ◌<◌, ◌≤◌, nat_lt, Bool, true, false, cond, List, [], ◌∷◌, Option, Some, None, is_some, refl, ap, sym, subst, ◌∙◌, arith}
+use Rattle.std.proofs.Common.{ℕ, zero, suc, ◌≡◌, ◌<◌, ◌≤◌, nat_lt, Bool, true, false, cond, List, Option, Some, None, is_some, refl, ap, sym, subst, ◌∙◌, arith}
 use Rattle.std.specs.Prelude.{◌==◌, ◌&&◌, length, slice_get, option_and_then}
 use Rattle.std.proofs.lemmas.Option.{slice_get_past}
 use Rattle.std.specs.Option.{option_or}
@@ -12,7 +12,7 @@ use Rattle.trace_text.specs.Follow.{steps_of}
 use Rattle.report_text.specs.declared.result.StepResult.{StepResult}
 use Rattle.report_reader.specs.Arguments.{is_named, detached_in, detached_by, is_detached}
 use Rattle.report_reader.proofs.ArgumentLaws.{steps_past}
-use Rattle.report_reader.specs.Tables.{key_cmp, is_before, first_named, end_of}
+use Rattle.report_reader.specs.Tables.{key_cmp, is_before, first_named}
 
 same_key : (a b k n : ℕ) → is_at (key_cmp (a, b)) (k, n) ≡ ((a == k) && (b == n))
 same_key a b k n = grind (arith, nat_tests)
@@ -156,46 +156,7 @@ pub ends_tell : (steps : List Step) (results : List StepResult) (o : Option ℕ)
 ends_tell steps results o n j is =
     ap (λ (x : Option ℕ). is_before x n) is ∙ first_tells_all (detached_by steps results) (length steps) j n (none_behind steps results) ∙ same_ended steps results n j
 
--- one step more of a caller, which detached nothing
-pub end_none : (c : ℕ) (steps : List Step) (results : List StepResult) (n k j : ℕ) → detached_by steps results n ≡ None → end_of c steps results (suc n) k j ≡ end_of c steps results n k j
-end_none c steps results n k j none = ap (λ (o : Option ℕ). cond (c == k) o None) (ap (λ (x : Option ℕ). option_or (first_named (detached_by steps results) n j) (step_here (is_named j x) n)) none ∙ sym (or_none _))
-
-or_or : {V : Type 0} (a b c : Option V) → option_or (option_or a b) c ≡ option_or a (option_or b c)
-or_or None b c = refl
-or_or (Some v) b c = refl
-
-end_by : (old first : Option ℕ) (n : ℕ) (own named : Bool) → option_or (option_or old (cond own first None)) (cond (own && named) (Some n) None) ≡ option_or old (cond own (option_or first (step_here named n)) None)
-end_by old first n true named = or_or old first (step_here named n)
-end_by old first n false named = sym (or_none (option_or old None))
-
--- one that detached this variable
-pub end_some : (c : ℕ) (steps : List Step) (results : List StepResult) (n of k j : ℕ) (old : Option ℕ) → detached_by steps results n ≡ Some of
-    → option_or (option_or old (end_of c steps results n k j)) (cond ((c == k) && (of == j)) (Some n) None) ≡ option_or old (end_of c steps results (suc n) k j)
-end_some c steps results n of k j old is =
-    let first = first_named (detached_by steps results) n j in
-    end_by old first n (c == k) (of == j) ∙ ap (λ (x : Option ℕ). option_or old (cond (c == k) (option_or first (step_here (is_named j x) n)) None)) (sym is)
-
 -- ---- callers
-
--- one caller more
-pub caller_more : (f : ℕ → Option ℕ) (c k : ℕ) → option_or (cond (nat_lt k c) (f k) None) (cond (c == k) (f c) None) ≡ cond (nat_lt k (suc c)) (f k) None
-caller_more f c k = by_place (c == k) refl
-  where
-    by_less : (q : Bool) → nat_lt k c ≡ q → (c ≡ k → ⊥) → option_or (cond q (f k) None) None ≡ cond (nat_lt k (suc c)) (f k) None
-    by_less true is apart =
-        let lt : k < c = grind (arith, nat_tests, is) in
-        sym (or_none (f k)) ∙ ap (λ (b : Bool). cond b (f k) None) (sym (lt_true k (suc c) (omega (arith, lt))))
-    by_less false is apart =
-        let le : c ≤ k = grind (arith, nat_tests, is) in
-        ap (λ (b : Bool). cond b (f k) None) (sym (lt_false k (suc c) (omega (arith, le, apart))))
-
-    by_place : (q : Bool) → (c == k) ≡ q → option_or (cond (nat_lt k c) (f k) None) (cond q (f c) None) ≡ cond (nat_lt k (suc c)) (f k) None
-    by_place true is =
-        let same = eqb-true c k is in
-        ap (λ (b : Bool). option_or (cond b (f k) None) (f c)) (lt_false k c (omega (arith, same))) ∙ ap f same ∙ ap (λ (b : Bool). cond b (f k) None) (sym (lt_true k (suc c) (omega (arith, same))))
-    by_place false is =
-        let apart = eqb-false c k is in
-        ap (λ (o : Option ℕ). option_or o None) refl ∙ by_less (nat_lt k c) refl apart
 
 no_steps : (s : ScriptData) (results : List StepResult) (k j : ℕ) → length s.callers ≤ k → first_named (detached_by (steps_of s k) results) (length (steps_of s k)) j ≡ None
 no_steps s results k j le = ap (λ (steps : List Step). first_named (detached_by steps results) (length steps) j) (steps_past k s.callers le)

@@ -19,8 +19,8 @@ use Rattle.codec_model.specs.declared.entry.Event.{Event}
 use Rattle.codec_model.specs.declared.entry.Event.TheVariants as event
 use Rattle.codec_model.specs.declared.entry.Shown.{Shown}
 use Rattle.codec_model.specs.Replay.{State, opening_state}
-use Rattle.codec_model.specs.Shown.{refusal, handed_error, shows, units_in}
-use Rattle.codec_follow.specs.Follow.{follow_from, filled, filled_at, each_filled_from, units_shown}
+use Rattle.codec_model.specs.Shown.{refusal, handed_error, shows, units_in, units_shown}
+use Rattle.codec_follow.specs.Follow.{follow_from, filled, filled_at, each_filled_from}
 use Rattle.script_types.specs.declared.script.ScriptData.{ScriptData}
 use Rattle.script_types.specs.declared.steps.Step.{Step}
 use Rattle.script_types.specs.declared.steps.Step.TheVariants as step
@@ -204,30 +204,30 @@ encode_again_by kind who given gone error a b (Some h) e t us found is =
     subst (λ (z : Entry). option_map (λ h. entry.Encode who h) (handed_for given gone (refusal_in (filled_at kind z t us).events) (clone_of a b)) ≡ Some z) (entry_is (entry.Encode who h) e is)
     (ap (λ (x : Option DomError). option_map (λ h. entry.Encode who h) (handed_for given gone x (clone_of a b))) (refusal_filled kind (handed_error h) us) ∙ ap (option_map (λ h. entry.Encode who h)) (handed_again given gone error a b h found))
 
-encode_again : (kind : Kind) (known : Known) (steps : List Step) (k place : ℕ) (who : Who) (error : Option DomError) (s : Step) (e : Entry) (t : State) (us : List media.Unit) → encode_of known steps k place who error s ≡ Some e
-    → encode_of known steps k place who (refusal_in (filled_at kind e t us).events) s ≡ Some e
-encode_again kind known steps k place who error (step.Media (on_media.Encode on content)) e t us is =
+encode_again : (word : Kind) (known : Known) (steps : List Step) (k place : ℕ) (who : Who) (error : Option DomError) (s : Step) (e : Entry) (t : State) (us : List media.Unit) → encode_of known steps k place who error s ≡ Some e
+    → encode_of known steps k place who (refusal_in (filled_at word e t us).events) s ≡ Some e
+encode_again word known steps k place who error (step.Media (on_media.Encode on content)) e t us is =
     let results = results_of known.callers who.caller in
     let a = samples_before steps (taken_in known who.caller) who.step content.step in
     let b = pair_for k place known.pool in
-    encode_again_by kind who (is_given results content.step) (is_detached steps results who.step content.step) error a b _ e t us refl is
-encode_again kind known steps k place who error (step.Media (on_media.Audio bind init)) e t us is = absurd cc
-encode_again kind known steps k place who error (step.Media (on_media.Frame bind init)) e t us is = absurd cc
-encode_again kind known steps k place who error (step.Media (on_media.Take on bind kind)) e t us is = absurd cc
-encode_again kind known steps k place who error (step.Media (on_media.Clone of bind)) e t us is = absurd cc
-encode_again kind known steps k place who error (step.Media (on_media.Transfer of bind)) e t us is = absurd cc
-encode_again kind known steps k place who error (step.Media (on_media.CloseData of)) e t us is = absurd cc
-encode_again kind known steps k place who error (step.Media (on_media.Copy of options size)) e t us is = absurd cc
-encode_again kind known steps k place who error (step.Media (on_media.Size of options)) e t us is = absurd cc
-encode_again kind known steps k place who error (step.Configure on config) e t us is = absurd cc
-encode_again kind known steps k place who error (step.Chunk bind source) e t us is = absurd cc
-encode_again kind known steps k place who error (step.Decode on chunk) e t us is = absurd cc
-encode_again kind known steps k place who error (step.Flush on bind) e t us is = absurd cc
-encode_again kind known steps k place who error (step.Poll promise) e t us is = absurd cc
-encode_again kind known steps k place who error (step.Await promise) e t us is = absurd cc
-encode_again kind known steps k place who error (step.Reset on) e t us is = absurd cc
-encode_again kind known steps k place who error (step.Close on) e t us is = absurd cc
-encode_again kind known steps k place who error (step.State on) e t us is = absurd cc
+    encode_again_by word who (is_given results content.step) (is_detached steps results who.step content.step) error a b _ e t us refl is
+encode_again word known steps k place who error (step.Media (on_media.Audio bind init)) e t us is = absurd cc
+encode_again word known steps k place who error (step.Media (on_media.Frame bind init)) e t us is = absurd cc
+encode_again word known steps k place who error (step.Media (on_media.Take on bind kind)) e t us is = absurd cc
+encode_again word known steps k place who error (step.Media (on_media.Clone of bind)) e t us is = absurd cc
+encode_again word known steps k place who error (step.Media (on_media.Transfer of bind)) e t us is = absurd cc
+encode_again word known steps k place who error (step.Media (on_media.CloseData of)) e t us is = absurd cc
+encode_again word known steps k place who error (step.Media (on_media.Copy of options size)) e t us is = absurd cc
+encode_again word known steps k place who error (step.Media (on_media.Size of options)) e t us is = absurd cc
+encode_again word known steps k place who error (step.Configure on config) e t us is = absurd cc
+encode_again word known steps k place who error (step.Chunk bind source) e t us is = absurd cc
+encode_again word known steps k place who error (step.Decode on chunk) e t us is = absurd cc
+encode_again word known steps k place who error (step.Flush on bind) e t us is = absurd cc
+encode_again word known steps k place who error (step.Poll promise) e t us is = absurd cc
+encode_again word known steps k place who error (step.Await promise) e t us is = absurd cc
+encode_again word known steps k place who error (step.Reset on) e t us is = absurd cc
+encode_again word known steps k place who error (step.Close on) e t us is = absurd cc
+encode_again word known steps k place who error (step.State on) e t us is = absurd cc
 
 -- an encode is read again from the exception that it shows
 encode_read_again : (kind : Kind) (known : Known) (steps : List Step) (k place : ℕ) (who : Who) (error : Option DomError) (o : Option Step) (e : Entry) (t : State) (us : List media.Unit) → option_and_then (encode_of known steps k place who error) o ≡ Some e

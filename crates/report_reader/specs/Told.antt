@@ -4,7 +4,8 @@ use Rattle.std.specs.List.{AllByRecursion, zip}
 use Rattle.wc_chunk.specs.declared.chunk.Chunk.{Chunk}
 use Rattle.codec_model.specs.declared.entry.Entry.{Entry}
 use Rattle.codec_model.specs.declared.entry.Shown.{Shown}
-use Rattle.codec_follow.specs.Follow.{IsFollowed, each_filled, units_shown}
+use Rattle.codec_model.specs.Shown.{units_shown}
+use Rattle.codec_follow.specs.Follow.{IsFollowed, each_filled}
 use Rattle.codec_follow.specs.Outputs.{IsOutputOf}
 use Rattle.script_types.specs.declared.script.ScriptData.{ScriptData}
 use Rattle.trace_text.specs.declared.run.CodecTrace.{CodecTrace}

@@ -23,9 +23,9 @@ pub fn names_of_sound_scripts()
 /// Laws: a legal run that fits its script, in which nothing is at fault, is told by its report. So two such runs of one
 /// script with the same report are equal, whatever boxes were made for each.
 ///
-/// That holds where the script's moments, rates, channels, sizes, timestamps and durations, and those of its chunk files,
-/// are within their types, what its chunks and frames hold is bytes, and the boxes are fewer than 2^64 (`AreWithin`): nothing is
-/// asked of the run itself.
+/// That holds where the script's moments, rates, channels, block sizes, sizes, counts of frames, timestamps and durations, and
+/// those of its chunk files, are within their types, what its chunks, its audio data and its frames hold is bytes, and the boxes are
+/// fewer than 2^64 (`AreWithin`): nothing is asked of the run itself.
 pub fn legal_runs_are_told()
     ensures told { LegalRunsAreTold }
     ensures determine { LegalReportsDetermineRuns }

@@ -1,5 +1,5 @@
 use Rattle.std.proofs.Common.{ℕ, ◌≡◌, length}
-use Rattle.std.specs.Prelude.{Some, None, nat_lt, if◌then◌else◌}
+use Rattle.std.specs.Prelude.{None, nat_lt, if◌then◌else◌}
 use Rattle.std.specs.BTreeMap.{get}
 use Rattle.trace_text.specs.Follow.{steps_of}
 use Rattle.report_reader.specs.Arguments.{results_of, detached_by}

@@ -1,4 +1,3 @@
-use Rattle.std.proofs.Common.{length}
 use Rattle.std.specs.BTreeMap.{get}
 use Rattle.trace_text.specs.Follow.{steps_of}
 use Rattle.report_reader.specs.Arguments.{results_of}

@@ -1,21 +1,12 @@
 use Rattle.std.proofs.Common.{rules, arith, refl}
-use Rattle.codec_queues.proofs.Room.{room_left, sizes_same}
 use Rattle.codec_queues.proofs.Rising.{rising_next}
+use Rattle.codec_queues.proofs.Roomy.{roomy_queued}
 use Rattle.codec_model.specs.declared.entry.Work.TheVariants as work
 use Rattle.codec_queues.proofs.machine.Machine.configure.Goals as goal
 
 pub invariant_of-self-2 : goal.invariant_of-self-2
-invariant_of-self-2 c = record {
-  counted = rw (c.push_back_reserved.ensures.items, c.reserve_places.ensures.messages, c.reserve_places.ensures.work, c.reserve_places.ensures.tasks) (room_left c.self.inside.messages.items _ c.self.inside.work.items c.self.inside.running c.self.inside.tasks.items c.in_ok-room.room (search rules));
-  small = c.in_ok-room.ensures.small;
-  for_work = search rules;
-  for_tasks = search rules;
-  epochs = search rules;
-  ran = c.self.invariant.ran;
-  items = search rules;
-  sizes = rw (c.push_back_reserved.ensures.items, c.reserve_places.ensures.messages) (sizes_same c.self.inside.size c.self.inside.place (work.Configure c.args.config) c.self.inside.messages.items refl c.self.invariant.sizes);
-  coded = rw c.reserve_places.ensures.work c.self.invariant.coded;
-  promises = rw c.reserve_places.ensures.pending (rising_next c.self.inside.pending.items c.self.inside.place c.self.invariant.promises);
-  outputs = omega (arith, c.self.invariant.outputs);
-  takes = omega (arith, c.self.invariant.takes);
-}
+invariant_of-self-2 c =
+    roomy_queued c.self.inside _ (work.Configure c.args.config) c.self.invariant refl
+    (rw (c.push_back_reserved.ensures.items, c.reserve_places.ensures.messages) refl) c.reserve_places.ensures.work c.reserve_places.ensures.tasks (omega arith)
+    (rw c.reserve_places.ensures.pending (rising_next c.self.inside.pending.items c.self.inside.place c.self.invariant.promises))
+    (search rules) c.in_ok-room.ensures.small (search rules) (search rules)

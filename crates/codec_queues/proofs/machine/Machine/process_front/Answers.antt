@@ -1,6 +1,7 @@
-use Rattle.std.proofs.Common.{rules, arith}
+use Rattle.std.proofs.Common.{rules, arith, refl}
 use Rattle.codec_queues.specs.Kept.{control_of}
-use Rattle.codec_queues.proofs.Room.{coded_fits, taken_left, dequeue_weighs, sizes_down, coded_more}
+use Rattle.codec_queues.proofs.Room.{coded_fits, taken_left, dequeue_weighs}
+use Rattle.codec_queues.proofs.Roomy.{roomy_processed}
 use Rattle.codec_queues.proofs.machine.Machine.process_front.Goals.{in-Configure, in-Coded, in-Flush}
 use Rattle.codec_queues.proofs.machine.Machine.process_front.Goals as goal
 
@@ -10,65 +11,15 @@ overflow_add-self c = omega (arith, c.self.invariant.coded, coded_fits (control_
 pub invariant_of-self : goal.invariant_of-self
 invariant_of-self c = elim c.match-m.branch [
   | in-Configure w ↦
-      let front = c.in-Some.ensures.items in
       let back = rw w.self-inside-is at c.push_back_reserved.ensures.items in
-      let less = taken_left c.self.inside.messages.items c.pop_front.new.self.items c.in-Some.m c.self.inside.work.items c.push_back_reserved.new.self.items _ c.self.inside.running c.self.inside.tasks.items c.self.inside.tasks.items front back (omega arith) in
-      let sizes = rw w.in-Configure.is at (sizes_down c.self.inside.size c.self.inside.messages.items c.pop_front.new.self.items c.in-Some.m front c.self.invariant.sizes) in
-      let coded = rw w.in-Configure.is at (coded_more c.self.inside.work.items c.push_back_reserved.new.self.items _ back) in
-      rw w.self-inside-is (record {
-        counted = omega (arith, less, c.self.invariant.counted);
-        small = search rules;
-        for_work = search rules;
-        for_tasks = search rules;
-        epochs = search rules;
-        ran = search rules;
-        items = search rules;
-        sizes = omega (arith, sizes);
-        coded = omega (arith, coded, c.self.invariant.coded);
-        promises = search rules;
-        outputs = search rules;
-        takes = search rules;
-      })
+      rw w.self-inside-is (roomy_processed c.self.inside _ c.in-Some.m c.self.invariant refl c.in-Some.ensures.items back (omega arith) (search rules) (search rules) (rw w.in-Configure.is (omega arith)) (rw w.in-Configure.is (omega arith)))
   | in-Coded w ↦
-      let front = c.in-Some.ensures.items in
       let back = rw w.self-inside-is at c.push_back_reserved.ensures.items in
-      let less = taken_left c.self.inside.messages.items c.pop_front.new.self.items c.in-Some.m c.self.inside.work.items c.push_back_reserved.new.self.items _ c.self.inside.running c.self.inside.tasks.items w.schedule_dequeue.new.tasks.items front back (dequeue_weighs c.self.inside.scheduled c.self.inside.tasks.items w.schedule_dequeue.new.tasks.items w.schedule_dequeue.ensures.items) in
-      let sizes = rw w.in-Coded.is at (sizes_down c.self.inside.size c.self.inside.messages.items c.pop_front.new.self.items c.in-Some.m front c.self.invariant.sizes) in
-      let coded = rw w.in-Coded.is at (coded_more c.self.inside.work.items c.push_back_reserved.new.self.items _ back) in
-      rw w.self-inside-is (record {
-        counted = omega (arith, less, c.self.invariant.counted);
-        small = search rules;
-        for_work = search rules;
-        for_tasks = search rules;
-        epochs = search rules;
-        ran = search rules;
-        items = search rules;
-        sizes = omega (arith, sizes);
-        coded = omega (arith, coded, c.self.invariant.coded);
-        promises = search rules;
-        outputs = search rules;
-        takes = search rules;
-      })
+      let less = dequeue_weighs c.self.inside.scheduled c.self.inside.tasks.items w.schedule_dequeue.new.tasks.items w.schedule_dequeue.ensures.items in
+      rw w.self-inside-is (roomy_processed c.self.inside _ c.in-Some.m c.self.invariant refl c.in-Some.ensures.items back less (search rules) (search rules) (rw w.in-Coded.is (omega arith)) (rw w.in-Coded.is (omega arith)))
   | in-Flush w ↦
-      let front = c.in-Some.ensures.items in
       let back = rw w.self-inside-is at c.push_back_reserved.ensures.items in
-      let less = taken_left c.self.inside.messages.items c.pop_front.new.self.items c.in-Some.m c.self.inside.work.items c.push_back_reserved.new.self.items _ c.self.inside.running c.self.inside.tasks.items c.self.inside.tasks.items front back (omega arith) in
-      let sizes = rw w.in-Flush.is at (sizes_down c.self.inside.size c.self.inside.messages.items c.pop_front.new.self.items c.in-Some.m front c.self.invariant.sizes) in
-      let coded = rw w.in-Flush.is at (coded_more c.self.inside.work.items c.push_back_reserved.new.self.items _ back) in
-      rw w.self-inside-is (record {
-        counted = omega (arith, less, c.self.invariant.counted);
-        small = search rules;
-        for_work = search rules;
-        for_tasks = search rules;
-        epochs = search rules;
-        ran = search rules;
-        items = search rules;
-        sizes = omega (arith, sizes);
-        coded = omega (arith, coded, c.self.invariant.coded);
-        promises = search rules;
-        outputs = search rules;
-        takes = search rules;
-      })
+      rw w.self-inside-is (roomy_processed c.self.inside _ c.in-Some.m c.self.invariant refl c.in-Some.ensures.items back (omega arith) (search rules) (search rules) (rw w.in-Flush.is (omega arith)) (rw w.in-Flush.is (omega arith)))
 ]
 
 pub returns-after-m-clause-left : goal.returns-after-m-clause-left
