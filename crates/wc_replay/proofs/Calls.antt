@@ -8,9 +8,7 @@ use Rattle.wc_pool.specs.declared.entry.PoolEntry.{PoolEntry}
 use Rattle.wc_pool.specs.declared.reference.MediaRef.{MediaRef}
 use Rattle.wc_pool.specs.Bag.{references_made}
 use Rattle.wc_audio.specs.Sound.{Sound}
-use Rattle.slot_registry.specs.Slots.{SlotsValue}
 use Rattle.codec_model.specs.declared.entry.Call.{Call}
-use Rattle.codec_model.specs.declared.entry.Call.TheVariants as call
 use Rattle.codec_model.specs.declared.entry.Entry.{Entry}
 use Rattle.codec_model.specs.declared.entry.Entry.TheVariants as entry
 use Rattle.codec_model.specs.declared.entry.Handed.{Handed}
@@ -28,6 +26,7 @@ use Rattle.media_variables.specs.Variables.{Medium, Media, handed_of}
 use Rattle.media_variables.specs.Held.{clones_of, sound_found}
 use Rattle.trace_text.specs.Follow.{Course, Ask, after_move, call_move, encode_move, hand_move, is_gone, media_by}
 use Rattle.wc_replay.specs.Desk.{more}
+use Rattle.wc_replay.proofs.Desks.{call_keeps}
 use Rattle.wc_replay.proofs.Lent.{call_media, refused_media}
 use Rattle.wc_replay.proofs.Looks.{same_course}
 
@@ -41,11 +40,6 @@ asked v c k place e error shows callers codecs m keeps stays made at shown noted
     same_course callers _ codecs _ m _ v.slots _
     (noted ∙ (ap (λ (n : ℕ). append_at c (result.Call k n error) v.callers) at ∙ ap (λ (o : Option DomError). append_at c (result.Call k (length (codec_at k v.codecs).history) o) v.callers) shown))
     (made ∙ ap (λ (d : CodecValue). slice_set v.codecs k d) (sym keeps)) media_is (sym stays)
-
-call_keeps : (k : ℕ) (who : Who) (x : Call) (s : SlotsValue) (d : CodecValue) → (after_entry k (entry_of who x) s d ≡ more (entry_of who x) d) × (slots_by k (entry_of who x) s d ≡ s)
-call_keeps k who (call.Configure config) s d = (refl, refl)
-call_keeps k who (call.Decode chunk) s d = (refl, refl)
-call_keeps k who call.Flush s d = (refl, refl)
 
 -- a configure, decode or flush
 pub calls : (v : Course) (who : Who) (k place : ℕ) (x : Call) (error : Option DomError) (callers : List (List StepResult)) (codecs : List CodecValue)

@@ -1,6 +1,7 @@
 -- What a desk keeps as its codec's history grows, and what becomes of its box.
 use Rattle.std.proofs.Common.{ℕ, ◌≡◌, Bool, true, false, not, cond, List, [], ◌∷◌, ◌++◌, length, Option, Some, None, is_some, is_none, refl, ap, sym, subst, ◌∙◌, option_map, append-nil}
 use Rattle.std.specs.Prelude.{◌==◌, ◌||◌}
+use Rattle.wc_base.specs.Options.{some_same, cond_is}
 use Rattle.wc_base.specs.declared.error.DomError.{DomError}
 use Rattle.wc_base.specs.declared.who.Who.{Who}
 use Rattle.wc_base.specs.declared.who.By.{By}
@@ -18,7 +19,6 @@ use Rattle.codec_model.specs.declared.entry.Entry.{Entry}
 use Rattle.codec_model.specs.declared.entry.Entry.TheVariants as entry
 use Rattle.codec_model.specs.declared.entry.Item.{Item}
 use Rattle.codec_model.specs.declared.entry.Opening.{Opening}
-use Rattle.codec_model.specs.declared.entry.Outcome.{Outcome}
 use Rattle.codec_model.specs.declared.entry.Removal.{Removal}
 use Rattle.codec_model.specs.declared.entry.Removal.TheVariants as removal
 use Rattle.codec_model.specs.declared.entry.Running.{Running}
@@ -29,12 +29,12 @@ use Rattle.codec_model.specs.Replay.{State, missing_coder, entry_of, removal_ent
 use Rattle.codec_core.specs.Codec.{Codec, item_parts, state_at, Makes, KeepsRunning, kept_box, handed_back, closes_now}
 use Rattle.codec_core.specs.Owning.{IsOwnJob, KeepsAsked}
 use Rattle.codec_core.specs.Job.{JobValue, DoneValue, IsJobOf, EndsBy, outcome_of, stopped_box, missing_id}
-use Rattle.codec_accounts.specs.Boxes.{Act, Other, act_of, lacking, start_act, removal_act}
+use Rattle.codec_accounts.specs.Boxes.{Act, Other, act_of, start_act, removal_act}
 use Rattle.codec_model.specs.declared.entry.Pair.{Pair}
 use Rattle.codec_model.specs.Held.{running_pairs}
 use Rattle.media_variables.specs.Variables.{Media}
 use Rattle.codec_accounts.specs.Registry.{BoxOut}
-use Rattle.codec_accounts.specs.Codec.{Holding, CodecValue, state_of, next_by, BoxStep, Keep, Give, Renew, is_old, box_step, after_give, slots_after, holding_after, step_by, after_entry, slots_by, IsGivable}
+use Rattle.codec_accounts.specs.Codec.{Holding, CodecValue, state_of, next_by, BoxStep, Keep, Give, Renew, box_step, after_give, slots_after, holding_after, step_by, after_entry, slots_by, IsGivable}
 use Rattle.trace_text.specs.Follow.{outcome_for, start_entry, end_of, done_entry, turn_on, turn_entry, reclaim_entry, media_by}
 use Rattle.wc_replay.specs.Desk as desk
 use Rattle.wc_replay.specs.Desk.{box_out, holding_with, box_of, holding_of, JobMatches, LacksBox, IsRefused, OwnsJob, IsDesk, more, renewal, codec_by, registry_by, media_by_option, media_without}
@@ -155,25 +155,16 @@ parts_of k e old new job refusal goes d made keeps asked act slot =
     record {
       desk = desk_stays old new e job refusal (not goes) d made keeps asked slot;
       codec = λ s. seen_more old new e job job refusal refusal (holding_after (next_by k (seen old job refusal)) (step_by e (seen old job refusal)) h s) made
-          (ap (λ (x : Option Lent). holding_of x job refusal) slot
-          ∙ (part_holding goes old.slot job refusal t (next_by k (seen old job refusal)) s d.matches d.refused
-          ∙ ap (λ (b : BoxStep). holding_after (next_by k (seen old job refusal)) b h s) (sym step)));
-      givable = λ history place box at is may.
-          subst (λ (n : ℕ). IsGivable history (by.Codec k n) box) (sym at) (subst (λ (b : Option BoxOut). IsGivable history (next_by k (seen old job refusal)) b) (sym (is ∙ lets))
-          (givable_part (box_step (removal_act goes) t.control refusal) history (next_by k (seen old job refusal)) h.box may));
-      registry = λ s place box at is.
-          ap (λ (n : ℕ). after_give (by.Codec k n) box s) at
-          ∙ (ap (λ (b : Option BoxOut). after_give (next_by k (seen old job refusal)) b s) (is ∙ lets)
-          ∙ (gave (box_step (removal_act goes) t.control refusal) (next_by k (seen old job refusal)) h.box s (no_ask goes t.control refusal)
-          ∙ ap (λ (b : BoxStep). slots_after (next_by k (seen old job refusal)) b h.box s) (sym step)));
+          (rw (slot, step) (part_holding goes old.slot job refusal t (next_by k (seen old job refusal)) s d.matches d.refused));
+      givable = λ history place box at is may. rw (at, is ∙ lets) (givable_part (box_step (removal_act goes) t.control refusal) history (next_by k (seen old job refusal)) h.box may);
+      registry = λ s place box at is. rw (at, is ∙ lets, step) (gave (box_step (removal_act goes) t.control refusal) (next_by k (seen old job refusal)) h.box s (no_ask goes t.control refusal));
     }
 
 -- ---- which entries are removals
 
 pub call_act : (who : Who) (x : Call) (t : State) → act_of (entry_of who x) t ≡ Other
-call_act who (call.Configure config) t = refl
-call_act who (call.Decode chunk) t = refl
 call_act who call.Flush t = refl
+call_act who x t = refl
 
 pub removal_goes : (who : Who) (r : Removal) (t : State) → act_of (removal_entry who r) t ≡ removal_act (is_none (removal_error t.control))
 removal_goes who removal.Reset t = refl
@@ -194,9 +185,8 @@ turn_goes t = ap removal_act (sym (closes_same t.control.tasks t refl))
 
 -- a call leaves the codec's box alone
 pub call_keeps : (k : ℕ) (who : Who) (x : Call) (s : SlotsValue) (d : CodecValue) → (after_entry k (entry_of who x) s d ≡ more (entry_of who x) d) × (slots_by k (entry_of who x) s d ≡ s)
-call_keeps k who (call.Configure config) s d = (refl, refl)
-call_keeps k who (call.Decode chunk) s d = (refl, refl)
 call_keeps k who call.Flush s d = (refl, refl)
+call_keeps k who x s d = (refl, refl)
 
 -- ---- what is done where there is nothing to do
 
@@ -213,12 +203,8 @@ turn_there old new job refusal made = by_tasks (state_at old).control.tasks refl
 pub no_reclaim : (d : CodecValue) (moment : ℕ) → may_reclaim moment (state_of d).control ≡ false → reclaim_entry moment d ≡ None
 no_reclaim d moment is = ap (λ (b : Bool). cond b (Some (entry.Reclaim moment)) None) is
 
-may_by : (b : Bool) (s t : State) → cond b (Some s) None ≡ Some t → b ≡ true
-may_by true s t h = refl
-may_by false s t h = absurd cc
-
 pub reclaim_there : (old new : Codec) (moment : ℕ) (job : Option JobValue) (refusal : Option ℕ) → Makes old new (entry.Reclaim moment) → reclaim_entry moment (seen old job refusal) ≡ Some (entry.Reclaim moment)
-reclaim_there old new moment job refusal made = ap (λ (b : Bool). cond b (Some (entry.Reclaim moment)) None) (may_by (may_reclaim moment (state_at old).control) _ (state_at new) made.steps)
+reclaim_there old new moment job refusal made = ap (λ (b : Bool). cond b (Some (entry.Reclaim moment)) None) (cond_is (may_reclaim moment (state_at old).control) _ (state_at new) made.steps).0
 
 pub no_start : (d : CodecValue) → start_item (state_of d).control ≡ None → start_entry d ≡ None
 no_start d is = ap (λ o. option_map (λ (i : Item). entry.Start (state_of d).control.epoch i.number) o) is
@@ -228,18 +214,10 @@ no_done wants moment d is = ap (λ o. option_map (end_of wants moment d.holding.
 
 -- nothing was made
 pub makes_none : (k : ℕ) (o : Option Entry) (s : SlotsValue) (m : Media) (d new : CodecValue) → o ≡ None → new ≡ d → desk.Makes k o s s m m d new
-makes_none k o s m d new is same = record {
-  codec = same ∙ sym (ap (λ (x : Option Entry). codec_by k x s d) is);
-  registry = sym (ap (λ (x : Option Entry). registry_by k x s d) is);
-  media = sym (ap (λ (x : Option Entry). media_by_option k x d m) is);
-}
+makes_none k o s m d new is same = record { codec = rw is same; registry = rw is refl; media = rw is refl }
 
 pub makes_some : (k : ℕ) (o : Option Entry) (e : Entry) (s next : SlotsValue) (m after : Media) (d new : CodecValue) → o ≡ Some e → new ≡ after_entry k e s d → next ≡ slots_by k e s d → after ≡ media_by k e d m → desk.Makes k o s next m after d new
-makes_some k o e s next m after d new is codec registry media = record {
-  codec = codec ∙ sym (ap (λ (x : Option Entry). codec_by k x s d) is);
-  registry = registry ∙ sym (ap (λ (x : Option Entry). registry_by k x s d) is);
-  media = media ∙ sym (ap (λ (x : Option Entry). media_by_option k x d m) is);
-}
+makes_some k o e s next m after d new is codec registry media = record { codec = rw is codec; registry = rw is registry; media = rw is media }
 
 -- what a desk made, said of what contracts see of it
 pub makes_seen : (k : ℕ) (o : CodecValue → Option Entry) (s next : SlotsValue) (m after : Media) (c d new : CodecValue) → c ≡ d → desk.Makes k (o c) s next m after c new → desk.Makes k (o d) s next m after d new
@@ -289,36 +267,20 @@ ended_makes k old new job d refusal moment wants s next m after ps place back is
     let b = d.epoch == t.control.epoch in
     let e = entry.Done d.epoch d.number moment (outcome_of d.ended) in
     let runs = is.matches in
-    let entry_is : done_entry wants moment v ≡ Some e =
-    ap (λ (o : Option Running). option_map (end_of wants moment refusal t.running_given) o) runs.is_running
-    ∙ ap (λ x. Some x) (done_same runs.running.epoch job.epoch d.epoch runs.running.number job.number d.number moment (outcome_for wants refusal (answer_to runs.running.kind t.running_given)) (outcome_of d.ended)
-    runs.same_epoch epoch runs.same_number number (ap (λ q. outcome_for wants refusal (answer_to q t.running_given)) runs.same_kind ∙ sym ends)) in
-    let old_is : is_old t.control.running t.control.epoch ≡ not b = ap (λ (o : Option Running). is_old o t.control.epoch) runs.is_running ∙ ap (λ n. not (n == t.control.epoch)) (runs.same_epoch ∙ sym epoch) in
-    let step : step_by e v ≡ cond (not b || is_some refusal) Give Keep = ap (λ (c : Bool). cond (c || is_some refusal) Give Keep) old_is in
+    let entry_is : done_entry wants moment v ≡ Some e = rw (runs.is_running, runs.same_epoch, runs.same_number, runs.same_kind, epoch, number, ends) refl in
+    let step : step_by e v ≡ cond (not b || is_some refusal) Give Keep = rw (runs.is_running, runs.same_epoch, epoch) refl in
     let codec : seen new None None ≡ after_entry k e s v =
     seen_more old new e (Some job) None refusal None (holding_after (next_by k v) (step_by e v) v.holding s) made
-    (ap (λ (x : Option Lent). holding_of x None None) slot ∙ (end_holding b refusal old.slot d.coder job (next_by k v) s box is.refused ∙ ap (λ (c : BoxStep). holding_after (next_by k v) c v.holding s) (sym step))) in
-    let registry : next ≡ slots_by k e s v =
-    gave_back
-    ∙ (ap (λ (n : ℕ). after_give (by.Codec k n) (option_map box_out back) s) at
-    ∙ (ap (λ (x : Option BoxOut). after_give (next_by k v) x s) (ap (option_map box_out) handed ∙ end_box b refusal d.coder job box is.refused)
-    ∙ (gave (cond (not b || is_some refusal) Give Keep) (next_by k v) v.holding.box s (not_end b refusal)
-    ∙ ap (λ (c : BoxStep). slots_after (next_by k v) c v.holding.box s) (sym step)))) in
+    (rw (slot, step) (end_holding b refusal old.slot d.coder job (next_by k v) s box is.refused)) in
+    let registry : next ≡ slots_by k e s v = rw (gave_back, at, handed, end_box b refusal d.coder job box is.refused, step) (gave (cond (not b || is_some refusal) Give Keep) (next_by k v) v.holding.box s (not_end b refusal)) in
     makes_some k (done_entry wants moment v) e s next m after v (seen new None None) entry_is codec registry (ended ∙ ended_media k e v place ps m refl at pairs)
-  where
-    done_same : (a b c m n o moment : ℕ) (x y : Outcome) → a ≡ b → c ≡ b → m ≡ n → o ≡ n → x ≡ y → entry.Done a m moment x ≡ entry.Done c o moment y
-    done_same a b c m n o moment x y p q r s t = cc
 
 -- ---- starts
 
 idle_job : (s : State) (job : Option JobValue) (i : Item) → JobMatches s job → start_item s.control ≡ Some i → job ≡ None
 idle_job s None i matches is = refl
-idle_job s (Some job) i matches is = absurd (busy s.control matches.running matches.is_running (may_of (may_start s.control) (front s.control.work) i is))
+idle_job s (Some job) i matches is = absurd (busy s.control matches.running matches.is_running (cond_is (may_start s.control) (front s.control.work) i is).0)
   where
-    may_of : (b : Bool) (o : Option Item) (x : Item) → cond b o None ≡ Some x → b ≡ true
-    may_of true o x h = refl
-    may_of false o x h = absurd cc
-
     busy : (c : Control) (r : Running) → c.running ≡ Some r → may_start c ≡ true → ⊥
     busy c r is may = let no : false ≡ true = sym (rw is refl) ∙ may in absurd cc
 
@@ -332,15 +294,7 @@ pub record IsStarted (old : Codec) (job : JobValue) : Type 0 where
 
 some_item : (o : Option Item) (n : ℕ) (w : Work) → option_map item_parts o ≡ Some (n, w) → (i : Item) × (o ≡ Some i) × (i.number ≡ n) × (i.work ≡ w)
 some_item None n w is = absurd cc
-some_item (Some i) n w is = (i, refl, ap number_of is, ap (λ o. work_of i.work o) is)
-  where
-    number_of : Option (ℕ × Work) → ℕ
-    number_of None = 0
-    number_of (Some x) = x.0
-
-    work_of : Work → Option (ℕ × Work) → Work
-    work_of w None = w
-    work_of w (Some x) = x.1
+some_item (Some i) n w is = let same = some_same (item_parts i) (n, w) is in (i, refl, ap (λ x. x.0) same, ap (λ x. x.1) same)
 
 start_step_is : (o : Option CoderId) (c : Control) (refusal : Option ℕ) → box_step (start_act o) c refusal ≡ renewal o
 start_step_is None c refusal = refl
@@ -356,25 +310,12 @@ started_makes k old new job0 refusal r job job' place s next m is st at made hol
     let idle : job0 ≡ None = idle_job t job0 i.0 is.matches i.1 in
     let none : refusal ≡ None = subst (λ (o : Option JobValue). IsRefused o refusal) idle is.refused in
     let e = entry.Start job.epoch job.number in
-    let entry_is : start_entry v ≡ Some e =
-    ap (λ (o : Option Item). option_map (λ (x : Item). entry.Start t.control.epoch x.number) o) i.1
-    ∙ (ap (λ (n : ℕ). Some (entry.Start t.control.epoch n)) i.2 ∙ ap (λ (n : ℕ). Some (entry.Start n job.number)) (sym st.epoch)) in
-    let step : step_by e v ≡ renewal (missing_id job) =
-    ap (λ (o : Option Item). box_step (start_act (lacking t.given o)) t.control refusal) i.1
-    ∙ (ap (λ (w : Work). box_step (start_act (missing_coder t.given w)) t.control refusal) i.3
-    ∙ (start_step_is (missing_coder t.given job.work) t.control refusal ∙ ap renewal (sym st.lacks))) in
-    let there : by.Codec k place ≡ next_by k v = ap (λ n. by.Codec k n) (at ∙ st.place) in
-    let held : holding_with job.coder None ≡ v.holding =
-    ap (λ (c : Option Lent). holding_with c None) st.coder ∙ (ap (λ (q : Option ℕ). holding_with old.slot q) (sym none) ∙ ap (λ (o : Option JobValue). holding_of old.slot o refusal) (sym idle)) in
-    let holding_is : holding_with job'.coder r ≡ holding_after (next_by k v) (step_by e v) v.holding s =
-    holding ∙ (ap (λ (c : By). holding_after c (renewal (missing_id job)) (holding_with job.coder None) s) there
-    ∙ (ap (λ (h : Holding). holding_after (next_by k v) (renewal (missing_id job)) h s) held ∙ ap (λ (b : BoxStep). holding_after (next_by k v) b v.holding s) (sym step))) in
-    let slots_are : next ≡ slots_by k e s v =
-    slots ∙ (ap (λ (c : By). slots_after c (renewal (missing_id job)) (option_map box_out job.coder) s) there
-    ∙ (ap (λ (h : Holding). slots_after (next_by k v) (renewal (missing_id job)) h.box s) held ∙ ap (λ (b : BoxStep). slots_after (next_by k v) b v.holding.box s) (sym step))) in
+    let entry_is : start_entry v ≡ Some e = rw (i.1, i.2, st.epoch) refl in
+    let step : step_by e v ≡ renewal (missing_id job) = rw (i.1, i.3, st.lacks) (start_step_is (missing_coder t.given job.work) t.control refusal) in
+    let holding_is : holding_with job'.coder r ≡ holding_after (next_by k v) (step_by e v) v.holding s = rw (step, none, idle, sym st.coder, sym (at ∙ st.place)) holding in
+    let slots_are : next ≡ slots_by k e s v = rw (step, idle, sym st.coder, sym (at ∙ st.place)) slots in
     makes_some k (start_entry v) e s next m m v (seen new (Some job') r) entry_is (seen_more old new e job0 (Some job') refusal r _ made holding_is) slots_are (sym (start_media k job.epoch job.number v m))
 
 -- an item that lacked a box: the older one went back, and the registry was asked for one
 pub renewed : (s t u : SlotsValue) (cause : By) (id : CoderId) (missing : Option CoderId) (box handed : Option BoxOut) → missing ≡ Some id → handed ≡ box → t ≡ after_give cause handed s → u ≡ acquired cause id t → u ≡ slots_after cause (renewal missing) box s
-renewed s t u cause id missing box handed lacks same gave_back got =
-    got ∙ (ap (acquired cause id) gave_back ∙ (ap (λ (b : Option BoxOut). acquired cause id (after_give cause b s)) same ∙ sym (ap (λ (o : Option CoderId). slots_after cause (renewal o) box s) lacks)))
+renewed s t u cause id missing box handed lacks same gave_back got = rw (got, gave_back, same, lacks) refl

@@ -9,8 +9,6 @@ use Rattle.codec_model.specs.declared.entry.Call.TheVariants as call
 use Rattle.codec_model.specs.declared.entry.Entry.{Entry}
 use Rattle.codec_model.specs.declared.entry.Entry.TheVariants as entry
 use Rattle.codec_model.specs.declared.entry.Handed.{Handed}
-use Rattle.codec_model.specs.declared.entry.Handed.TheVariants as handed
-use Rattle.codec_model.specs.declared.entry.HeldSound.{HeldSound}
 use Rattle.codec_model.specs.declared.entry.Pair.{Pair}
 use Rattle.codec_model.specs.declared.entry.Removal.{Removal}
 use Rattle.codec_model.specs.declared.entry.Removal.TheVariants as removal
@@ -32,9 +30,8 @@ media_same : (m : Media) → record m { pool = m.pool ++ [] } ≡ m
 media_same m = ap (λ (l : List PoolEntry). record m { pool = l }) (append-nil m.pool)
 
 pub call_media : (k : ℕ) (who : Who) (x : Call) (d : CodecValue) (m : Media) → media_by k (entry_of who x) d m ≡ m
-call_media k who (call.Configure config) d m = media_same m
-call_media k who (call.Decode chunk) d m = media_same m
 call_media k who call.Flush d m = media_same m
+call_media k who x d m = media_same m
 
 pub take_media : (k : ℕ) (who : Who) (n : ℕ) (d : CodecValue) (m : Media) → media_by k (entry.Take who n) d m ≡ m
 take_media k who n d m = media_same m

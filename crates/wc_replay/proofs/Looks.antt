@@ -6,12 +6,11 @@ use Rattle.slot_registry.specs.Slots.{SlotsValue}
 use Rattle.codec_model.specs.declared.entry.Entry.{Entry}
 use Rattle.codec_model.specs.declared.entry.PromiseState.{PromiseState}
 use Rattle.codec_model.specs.declared.entry.PromiseState.TheVariants.{Pending}
-use Rattle.codec_model.specs.declared.entry.CodecState.{CodecState}
-use Rattle.codec_accounts.specs.Codec.{CodecValue, codec_at, state_of}
+use Rattle.codec_accounts.specs.Codec.{CodecValue, codec_at}
 use Rattle.media_variables.specs.Variables.{Media}
 use Rattle.report_text.specs.declared.result.StepResult.{StepResult}
 use Rattle.report_text.specs.declared.result.StepResult.TheVariants as result
-use Rattle.trace_text.specs.Follow.{Course, after_move, advance, look_of_flush, look_of_state, promise_after}
+use Rattle.trace_text.specs.Follow.{Course, after_move, advance, look_of_flush, promise_after}
 use Rattle.wc_replay.specs.Desk.{codec_by, registry_by, media_by_option}
 use Rattle.wc_replay.specs.Player.{call_in}
 
@@ -30,23 +29,11 @@ look_of_call ds None k place is = absurd cc
 look_of_call ds (Some (result.Call n p error)) k place is =
     let parts = some_pair_parts n k p place is in
     sym (ap (λ (m : ℕ). look_at ds m p) parts.0 ∙ ap (λ (q : ℕ). look_at ds k q) parts.1)
-look_of_call ds (Some (result.Local error)) k place is = absurd cc
-look_of_call ds (Some (result.Look n m end)) k place is = absurd cc
-look_of_call ds (Some (result.State n m state size)) k place is = absurd cc
-look_of_call ds (Some (result.Unit n p number)) k place is = absurd cc
-look_of_call ds (Some (result.NoUnit n m)) k place is = absurd cc
-look_of_call ds (Some (result.Copied n bytes)) k place is = absurd cc
-look_of_call ds (Some (result.CopiedFrame n layouts bytes)) k place is = absurd cc
-look_of_call ds (Some (result.Size n)) k place is = absurd cc
-look_of_call ds (Some result.Absent) k place is = absurd cc
+look_of_call ds (Some r) k place is = absurd cc
 
 -- a codec that was read, looked at
 pub look_read : (ds : List CodecValue) (k place n : ℕ) (d : CodecValue) (end : PromiseState) → codec_at k ds ≡ d → n ≡ length d.history → end ≡ promise_after d.opening d.history place → result.Look k n end ≡ look_at ds k place
 look_read ds k place n d end is at_end ends = rw (at_end, ends, is) refl
-
--- the state of a codec that was read
-pub state_read : (ds : List CodecValue) (k n size : ℕ) (d : CodecValue) (phase : CodecState) → codec_at k ds ≡ d → n ≡ length d.history → phase ≡ (state_of d).control.phase → size ≡ (state_of d).control.size → result.State k n phase size ≡ look_of_state k (codec_at k ds)
-state_read ds k n size d phase is at_end phases sizes = rw (at_end, phases, sizes, is) refl
 
 -- a codec that is not there has no entry
 pub look_past : (ds : List CodecValue) (k place : ℕ) → length ds ≤ k → result.Look k 0 Pending ≡ look_at ds k place

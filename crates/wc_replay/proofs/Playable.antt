@@ -11,12 +11,13 @@ use Rattle.script_types.specs.declared.script.ScriptData.{ScriptData}
 use Rattle.script_types.specs.declared.steps.Step.{Step}
 use Rattle.script_types.specs.declared.steps.Step.TheVariants as step
 use Rattle.script_types.specs.declared.steps.MediaStep.TheVariants as on_media
-use Rattle.script_types.specs.Sound.{is_sound, are_sound_codecs, is_sound_step, is_sound_item, any_kind, gives}
+use Rattle.script_types.specs.Names.{decodes}
+use Rattle.script_types.specs.Sound.{is_sound, are_sound_codecs, is_sound_step, is_sound_item, any_kind, suits, encodes, gives}
 use Rattle.script_types.specs.SoundLaws.{parts_of, codec_within, few_steps, item_at}
 use Rattle.trace_text.specs.Follow.{steps_of}
 use Rattle.trace_text.specs.Fits.{step_in}
 use Rattle.order_laws.specs.SoundSteps.{stands_in, sound_step, sound_of}
-use Rattle.wc_replay.specs.Player.{IsPlayable, IsInRange, LooksInRange, is_openable}
+use Rattle.wc_replay.specs.Player.{IsPlayable, IsInRange, NamesInRange, is_openable}
 
 few_before : (s : ScriptData) (c j : ℕ) (x : Step) → is_sound s ≡ true → step_in s c j ≡ Some x → j < 4294967296
 few_before s c j x h is =
@@ -29,25 +30,17 @@ caller_within s c j x is = let there = stands_in s.callers c j x is in slice_get
 
 -- ---- what steps name
 
-looks_within : (codecs : List CodecItem) (before : List Step) (x : Step) → is_sound_step codecs before x ≡ true → LooksInRange (length codecs) x
-looks_within codecs before (step.State on) h = codec_within codecs any_kind on h
-looks_within codecs before (step.Configure on config) h = tt
-looks_within codecs before (step.Chunk bind source) h = tt
-looks_within codecs before (step.Decode on chunk) h = tt
-looks_within codecs before (step.Flush on bind) h = tt
-looks_within codecs before (step.Poll promise) h = tt
-looks_within codecs before (step.Await promise) h = tt
-looks_within codecs before (step.Reset on) h = tt
-looks_within codecs before (step.Close on) h = tt
-looks_within codecs before (step.Media (on_media.Take on bind kind)) h = codec_within codecs (gives kind) on (and_parts _ _ h).0
-looks_within codecs before (step.Media (on_media.Audio bind init)) h = tt
-looks_within codecs before (step.Media (on_media.Frame bind init)) h = tt
-looks_within codecs before (step.Media (on_media.Encode on content)) h = tt
-looks_within codecs before (step.Media (on_media.Clone of bind)) h = tt
-looks_within codecs before (step.Media (on_media.Transfer of bind)) h = tt
-looks_within codecs before (step.Media (on_media.CloseData of)) h = tt
-looks_within codecs before (step.Media (on_media.Copy of o size)) h = tt
-looks_within codecs before (step.Media (on_media.Size of o)) h = tt
+names_within : (codecs : List CodecItem) (before : List Step) (x : Step) → is_sound_step codecs before x ≡ true → NamesInRange (length codecs) x
+names_within codecs before (step.Configure on config) h = codec_within codecs (suits config) on h
+names_within codecs before (step.Decode on chunk) h = codec_within codecs decodes on (and_parts _ _ h).0
+names_within codecs before (step.Flush on bind) h = codec_within codecs any_kind on (and_parts _ _ h).0
+names_within codecs before (step.Reset on) h = codec_within codecs any_kind on h
+names_within codecs before (step.Close on) h = codec_within codecs any_kind on h
+names_within codecs before (step.State on) h = codec_within codecs any_kind on h
+names_within codecs before (step.Media (on_media.Encode on content)) h = codec_within codecs encodes on (and_parts _ _ h).0
+names_within codecs before (step.Media (on_media.Take on bind kind)) h = codec_within codecs (gives kind) on (and_parts _ _ h).0
+names_within codecs before (step.Media x) h = tt
+names_within codecs before x h = tt
 
 -- ---- the order
 
@@ -66,7 +59,7 @@ pub playable_of : (s : ScriptData) → is_sound s ≡ true → IsPlayable s
 playable_of s h = record {
   sound = sound_of s h;
   faultless = h;
-  looks = λ c j x is. looks_within s.codecs (take j (steps_of s c)) x (sound_step s c j x h is);
+  names = λ c j x is. names_within s.codecs (take j (steps_of s c)) x (sound_step s c j x h is);
   few = λ c j x is. few_before s c j x h is;
   items = λ i x at. items_within s s.order i x h refl at;
 }

@@ -6,7 +6,6 @@ use Rattle.std.proofs.lemmas.Bool.{ltb-false}
 use Rattle.std.proofs.lemmas.Option.{slice_get_past, some_pair_parts}
 use Rattle.wc_base.specs.Options.{some_same}
 use Rattle.wc_base.specs.declared.error.NoMemory.{NoMemory}
-use Rattle.slot_registry.specs.Slots.{SlotsValue}
 use Rattle.report_text.specs.declared.result.StepResult.{StepResult}
 use Rattle.report_text.specs.declared.result.StepResult.TheVariants as result
 use Rattle.codec_accounts.specs.Owed.{append_at}
@@ -25,7 +24,7 @@ use Rattle.media_variables.specs.Held.{IsEnoughUnit}
 use Rattle.wc_replay.specs.Desk.{holding_of, IsDesk, Takes, Received, more}
 use Rattle.wc_replay.proofs.Desks.{seen, seen_more}
 use Rattle.wc_replay.proofs.Lent.{take_media}
-use Rattle.wc_replay.proofs.Looks.{set_same}
+use Rattle.wc_replay.proofs.Looks.{set_same, same_course}
 use Rattle.wc_base.specs.declared.who.Who.{Who}
 use Rattle.wc_chunk.specs.declared.chunk.Chunk.{Chunk}
 use Rattle.script_types.specs.declared.script.ScriptData.{ScriptData}
@@ -36,22 +35,14 @@ use Rattle.codec_accounts.specs.Codec.{CodecValue, codec_at, state_of}
 use Rattle.media_variables.specs.Variables as variables
 use Rattle.media_variables.specs.Variables.{Media, Came, IsCome, media_came, sound_at, taken_came, unit_came, after_came, variables_of}
 use Rattle.trace_text.specs.Follow.{Course, after_move, encode_move, media_by, media_move, take_move, found_at, handle_move, copied_chunk, steps_of}
-use Rattle.trace_text.specs.Fits.{called, taken_from}
-use Rattle.wc_replay.specs.Player.{LooksInRange, encode_of}
+use Rattle.trace_text.specs.Fits.{taken_from}
+use Rattle.wc_replay.specs.Player.{NamesInRange, encode_of}
 
 pub takes : (s : ScriptData) (media : List (List Chunk)) (who : Who) (x : MediaStep) (k : ℕ) (v : Course) → taken_from (step.Media x) ≡ Some k
     → media_move s media who x v ≡ take_move who k (codec_at k v.codecs) (taken_came v.media.pool who.step (found_at k (codec_at k v.codecs)) (variables_of who.caller v.media.variables))
 takes s media who (on_media.Take on bind kind) k v is =
-    let same : on ≡ k = cc in
-    ap (λ (n : ℕ). take_move who n (codec_at n v.codecs) (taken_came v.media.pool who.step (found_at n (codec_at n v.codecs)) (variables_of who.caller v.media.variables))) same
-takes s media who (on_media.Audio bind init) k v is = absurd cc
-takes s media who (on_media.Frame bind init) k v is = absurd cc
-takes s media who (on_media.Encode on content) k v is = absurd cc
-takes s media who (on_media.Clone of bind) k v is = absurd cc
-takes s media who (on_media.Transfer of bind) k v is = absurd cc
-takes s media who (on_media.CloseData of) k v is = absurd cc
-takes s media who (on_media.Copy of o size) k v is = absurd cc
-takes s media who (on_media.Size of o) k v is = absurd cc
+    ap (λ (n : ℕ). take_move who n (codec_at n v.codecs) (taken_came v.media.pool who.step (found_at n (codec_at n v.codecs)) (variables_of who.caller v.media.variables))) (some_same on k is)
+takes s media who x k v is = absurd cc
 
 pub encodes : (s : ScriptData) (media : List (List Chunk)) (who : Who) (x : MediaStep) (k j : ℕ) (v : Course) → encode_of x ≡ Some (k, j)
     → media_move s media who x v ≡ encode_move who k v.media.pool (sound_at (variables_of who.caller v.media.variables) j) (codec_at k v.codecs)
@@ -59,50 +50,23 @@ encodes s media who (on_media.Encode on content) k j v is =
     let parts = some_pair_parts on k content.step j is in
     ap (λ (n : ℕ). encode_move who n v.media.pool (sound_at (variables_of who.caller v.media.variables) content.step) (codec_at n v.codecs)) parts.0
     ∙ ap (λ (i : ℕ). encode_move who k v.media.pool (sound_at (variables_of who.caller v.media.variables) i) (codec_at k v.codecs)) parts.1
-encodes s media who (on_media.Take on bind kind) k j v is = absurd cc
-encodes s media who (on_media.Audio bind init) k j v is = absurd cc
-encodes s media who (on_media.Frame bind init) k j v is = absurd cc
-encodes s media who (on_media.Clone of bind) k j v is = absurd cc
-encodes s media who (on_media.Transfer of bind) k j v is = absurd cc
-encodes s media who (on_media.CloseData of) k j v is = absurd cc
-encodes s media who (on_media.Copy of o size) k j v is = absurd cc
-encodes s media who (on_media.Size of o) k j v is = absurd cc
+encodes s media who x k j v is = absurd cc
 
--- a codec that an encode names is called
-pub encodes_on : (n : ℕ) (x : MediaStep) (k j : ℕ) → encode_of x ≡ Some (k, j) → ((i : ℕ) → called (step.Media x) ≡ Some i → i < n) → k < n
-encodes_on n (on_media.Encode on content) k j is h = subst (λ (i : ℕ). i < n) (some_pair_parts on k content.step j is).0 (h on refl)
-encodes_on n (on_media.Take on bind kind) k j is h = absurd cc
-encodes_on n (on_media.Audio bind init) k j is h = absurd cc
-encodes_on n (on_media.Frame bind init) k j is h = absurd cc
-encodes_on n (on_media.Clone of bind) k j is h = absurd cc
-encodes_on n (on_media.Transfer of bind) k j is h = absurd cc
-encodes_on n (on_media.CloseData of) k j is h = absurd cc
-encodes_on n (on_media.Copy of o size) k j is h = absurd cc
-encodes_on n (on_media.Size of o) k j is h = absurd cc
+-- a codec that an encode names is one of so many
+pub encodes_on : (n : ℕ) (x : MediaStep) (k j : ℕ) → encode_of x ≡ Some (k, j) → NamesInRange n (step.Media x) → k < n
+encodes_on n (on_media.Encode on content) k j is h = subst (λ (i : ℕ). i < n) (some_pair_parts on k content.step j is).0 h
+encodes_on n x k j is h = absurd cc
 
 pub handles : (s : ScriptData) (media : List (List Chunk)) (who : Who) (x : MediaStep) (v : Course) → taken_from (step.Media x) ≡ None → encode_of x ≡ None
     → media_move s media who x v ≡ handle_move who (media_came v.media.pool who (record { chunk = copied_chunk media (steps_of s who.caller) x; taken = None }) x (variables_of who.caller v.media.variables))
 handles s media who (on_media.Take on bind kind) v is none = absurd cc
-handles s media who (on_media.Audio bind init) v is none = refl
-handles s media who (on_media.Frame bind init) v is none = refl
 handles s media who (on_media.Encode on content) v is none = absurd cc
-handles s media who (on_media.Clone of bind) v is none = refl
-handles s media who (on_media.Transfer of bind) v is none = refl
-handles s media who (on_media.CloseData of) v is none = refl
-handles s media who (on_media.Copy of o size) v is none = refl
-handles s media who (on_media.Size of o) v is none = refl
+handles s media who x v is none = refl
 
--- a codec that is named is one of so many
-pub named_within : (n : ℕ) (x : MediaStep) (k : ℕ) → taken_from (step.Media x) ≡ Some k → LooksInRange n (step.Media x) → k < n
-named_within n (on_media.Take on bind kind) k is h = let same : on ≡ k = cc in subst (λ (i : ℕ). i < n) same h
-named_within n (on_media.Audio bind init) k is h = absurd cc
-named_within n (on_media.Frame bind init) k is h = absurd cc
-named_within n (on_media.Encode on content) k is h = absurd cc
-named_within n (on_media.Clone of bind) k is h = absurd cc
-named_within n (on_media.Transfer of bind) k is h = absurd cc
-named_within n (on_media.CloseData of) k is h = absurd cc
-named_within n (on_media.Copy of o size) k is h = absurd cc
-named_within n (on_media.Size of o) k is h = absurd cc
+-- and so is one that a take names
+pub named_within : (n : ℕ) (x : MediaStep) (k : ℕ) → taken_from (step.Media x) ≡ Some k → NamesInRange n (step.Media x) → k < n
+named_within n (on_media.Take on bind kind) k is h = subst (λ (i : ℕ). i < n) (some_same on k is) h
+named_within n x k is h = absurd cc
 
 -- ---- a codec's next output
 
@@ -153,20 +117,9 @@ receives (Err e) who old new job refusal v d is may made place number unit none 
 
 -- ---- the move of a take
 
-same_all : (a b : List (List StepResult)) (c d : List CodecValue) (m n : Media) (s : SlotsValue) → a ≡ b → c ≡ d → m ≡ n → ◌≡◌ {A = Course} (record { callers = a; codecs = c; media = m; slots = s }) (record { callers = b; codecs = d; media = n; slots = s })
-same_all a b c d m n s p q r = cc
-
 -- what a take finds, where the next output is this one
 found : (k : ℕ) (d : CodecValue) (who : Who) (new : CodecValue) (t : Taken) → Takes who d new t → found_at k d ≡ Some (record { unit = t.unit; answer = result.Unit k t.place t.number })
-found k d who new t is =
-    ap (λ (o : Option media.Unit). option_map (λ u. record { unit = u; answer = result.Unit k (length d.history) (state_of d).control.taken }) o) is.next
-    ∙ ap (λ (x : ℕ × ℕ). Some (taken_with t.unit (result.Unit k x.0 x.1))) (pair_is (length d.history) t.place (state_of d).control.taken t.number (sym is.place) (sym is.number))
-  where
-    taken_with : media.Unit → StepResult → variables.Taken
-    taken_with u r = record { unit = u; answer = r }
-
-    pair_is : (a b c d : ℕ) → a ≡ b → c ≡ d → ◌≡◌ {A = ℕ × ℕ} (a, c) (b, d)
-    pair_is a b c d p q = cc
+found k d who new t is = rw (is.place, is.number, is.next) refl
 
 -- a take that found an output is its move
 pub took : (v : Course) (who : Who) (k : ℕ) (t : Taken) (new : CodecValue) (callers : List (List StepResult)) (codecs : List CodecValue) (m : Media) (r : StepResult)
@@ -180,8 +133,8 @@ took v who k t new callers codecs m r is set come noted =
     let answer : r ≡ y.answer = some_same r y.answer come.0 in
     let entry_is : new ≡ more (entry.Take who (state_of d).control.taken) d = is.made ∙ ap (λ (n : ℕ). more (entry.Take who n) d) is.number in
     let stays : media_by k (entry.Take who (state_of d).control.taken) d v.media ≡ v.media = take_media k who (state_of d).control.taken d v.media in
-    same_all callers (append_at who.caller y.answer v.callers) codecs (slice_set v.codecs k (more (entry.Take who (state_of d).control.taken) d)) m (after_came who y (media_by k (entry.Take who (state_of d).control.taken) d v.media)) v.slots
-    (noted ∙ ap (λ (x : StepResult). append_at who.caller x v.callers) answer) (set ∙ ap (λ (x : CodecValue). slice_set v.codecs k x) entry_is) (come.1 ∙ ap (λ (z : Media). after_came who y z) (sym stays))
+    same_course _ _ _ _ _ _ _ _
+    (noted ∙ ap (λ (x : StepResult). append_at who.caller x v.callers) answer) (set ∙ ap (λ (x : CodecValue). slice_set v.codecs k x) entry_is) (come.1 ∙ ap (λ (z : Media). after_came who y z) (sym stays)) refl
     ∙ ap (λ (o : Option variables.Taken). after_move (take_move who k d (taken_came v.media.pool who.step o (variables_of who.caller v.media.variables))) v) (sym (found k d who new t is))
 
 -- a take that found none is a look
@@ -191,7 +144,7 @@ pub found_none : (v : Course) (who : Who) (k : ℕ) (new : CodecValue) (callers 
 found_none v who k new callers codecs r is set came noted =
     let d = codec_at k v.codecs in
     let none : found_at k d ≡ None = ap (λ (o : Option media.Unit). option_map (λ u. record { unit = u; answer = result.Unit k (length d.history) (state_of d).control.taken }) o) is.0 in
-    same_all callers (append_at who.caller (result.NoUnit k (length d.history)) v.callers) codecs v.codecs v.media v.media v.slots
+    same_course _ _ _ _ _ _ _ _
     (noted ∙ ap (λ (x : StepResult). append_at who.caller x v.callers) (came ∙ ap (λ (x : CodecValue). result.NoUnit k (length x.history)) is.1))
-    (set ∙ (ap (λ (x : CodecValue). slice_set v.codecs k x) is.1 ∙ set_same v.codecs k)) refl
+    (set ∙ (ap (λ (x : CodecValue). slice_set v.codecs k x) is.1 ∙ set_same v.codecs k)) refl refl
     ∙ ap (λ (o : Option variables.Taken). after_move (take_move who k d (taken_came v.media.pool who.step o (variables_of who.caller v.media.variables))) v) (sym none)

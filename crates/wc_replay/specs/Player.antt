@@ -1,5 +1,7 @@
 -- A replay: its codecs, its callers and its registry.
-use Rattle.std.specs.Prelude.{ℕ, ◌≡◌, ◌<◌, ◌&&◌, nat_le, Bool, true, List, [], ◌∷◌, map, length, slice_get, Option, Some, None}
+use Rattle.std.specs.Prelude.{ℕ, ◌≡◌, ◌<◌, ◌&&◌, nat_le, Bool, true, List, [], map, length, slice_get, Option, Some, None}
+use Rattle.wc_config.specs.declared.codec.CoderId.{CoderId}
+use Rattle.wc_chunk.specs.declared.chunk.Chunk.{Chunk}
 use Rattle.script_types.specs.declared.script.OrderItem.{OrderItem}
 use Rattle.script_types.specs.declared.script.OrderItem.TheVariants as item
 use Rattle.script_types.specs.Sound.{is_sound}
@@ -18,7 +20,7 @@ use Rattle.report_text.specs.declared.result.StepResult.{StepResult}
 use Rattle.report_text.specs.declared.result.StepResult.TheVariants as result
 use Rattle.trace_text.specs.Fits.{step_in}
 use Rattle.codec_accounts.specs.Codec.{CodecValue, new_codec}
-use Rattle.trace_text.specs.Follow.{order_items, Course, opening_of}
+use Rattle.trace_text.specs.Follow.{order_items, Course, Follows, nothing_yet, opening_of}
 use Rattle.order_laws.specs.Sound.{IsSound}
 use Rattle.wc_pool.specs.Bag.{held_in}
 
@@ -30,18 +32,24 @@ IsInRange n (item.Done k moment) = k < n
 IsInRange n (item.Turn k) = k < n
 IsInRange n (item.Reclaim k moment) = k < n
 
--- a step that looks at a codec's state, or takes an output of a codec, names one of so many
-abbrev pub LooksInRange : ℕ → Step → Type 0
-LooksInRange n (step.State k) = k < n
-LooksInRange n (step.Media (on_media.Take k bind kind)) = k < n
-LooksInRange n x = Unit {0}
+-- a step names one of so many codecs, if it names one
+abbrev pub NamesInRange : ℕ → Step → Type 0
+NamesInRange n (step.Configure k config) = k < n
+NamesInRange n (step.Decode k chunk) = k < n
+NamesInRange n (step.Flush k bind) = k < n
+NamesInRange n (step.Reset k) = k < n
+NamesInRange n (step.Close k) = k < n
+NamesInRange n (step.State k) = k < n
+NamesInRange n (step.Media (on_media.Encode k content)) = k < n
+NamesInRange n (step.Media (on_media.Take k bind kind)) = k < n
+NamesInRange n x = Unit {0}
 
--- The script is sound, each look at a state and each take names one of its codecs, each step's number fits in 32 bits, and every item of
--- the order names one of the codecs, if it names one.
+-- The script is sound, each step's number fits in 32 bits, and every step and every item of the order names one of the codecs, if it
+-- names one.
 pub record IsPlayable (s : ScriptData) : Type 0 where
   pub faultless : is_sound s ≡ true
   pub sound : IsSound s
-  pub looks : (c j : ℕ) (x : Step) → step_in s c j ≡ Some x → LooksInRange (length s.codecs) x
+  pub names : (c j : ℕ) (x : Step) → step_in s c j ≡ Some x → NamesInRange (length s.codecs) x
   pub few : (c j : ℕ) (x : Step) → step_in s c j ≡ Some x → j < 4294967296
   pub items : (i : ℕ) (x : OrderItem) → slice_get (order_items s) i ≡ Some x → IsInRange (length s.codecs) x
 
@@ -83,12 +91,8 @@ pub record IsRunOf (v : Course) (run : Run) : Type 0 where
   pub pool : run.pool ≡ v.media.pool
   pub held : run.held ≡ held_in v.media.pool
 
--- a trace is opened as the script says, and shows what its entries show
-pub record IsShownTrace (c : CodecItem) (t : CodecTrace) : Type 0 where
-  pub opening : t.opening ≡ opening_of c
-  pub shown : t.shown ≡ each_shown t.opening t.entries
-
-abbrev pub AreShownTraces : List CodecItem → List CodecTrace → Type 0
-AreShownTraces [] [] = Unit {0}
-AreShownTraces (c ∷ cs) (t ∷ ts) = IsShownTrace c t × AreShownTraces cs ts
-AreShownTraces _ _ = ⊥
+-- The run holds what following the script's order from its beginning made. `made` has the ids of the coders that were handed in.
+pub record IsPlayed (s : ScriptData) (media : List (List Chunk)) (made : List CoderId) (run : Run) : Type 0 where
+  pub course : Course
+  pub follows : Follows s media (order_items s) (nothing_yet s made) course
+  pub holds : IsRunOf course run

@@ -65,18 +65,24 @@ pub(crate) fn receive_at<C: Coder>(
     }
 }
 
+/// The codec with this number.
+pub(crate) fn desk_at<C: Coder>(desks: &[Desk<C>], codec: u32) -> &Desk<C>
+    requires { codec < length desks.now }
+    ensures { result.now ≡ codec_at codec desks.now }
+{
+    match desks.get(codec as usize) {
+        Some(desk) => desk,
+        None => unreachable!(),
+    }
+}
+
 /// The place of the next entry of the codec with this number.
 pub(crate) fn place_at<C: Coder>(desks: &[Desk<C>], codec: u32) -> u64
     requires { codec < length desks.now }
     ensures { result ≡ length (codec_at codec desks.now).history }
 {
-    match desks.get(codec as usize) {
-        Some(desk) => {
-            let (length, _, _) = desk.look();
-            length
-        }
-        None => unreachable!(),
-    }
+    let (length, _, _) = desk_at(desks, codec).look();
+    length
 }
 
 /// The error with which the codec with this number would refuse an encode now, of detached data or of other.
@@ -88,10 +94,7 @@ pub(crate) fn refusal_at<C: Coder>(
     requires { codec < length desks.now }
     ensures { result ≡ encode_error detached (state_of (codec_at codec desks.now)).control }
 {
-    match desks.get(codec as usize) {
-        Some(desk) => desk.encode_refusal(detached),
-        None => unreachable!(),
-    }
+    desk_at(desks, codec).encode_refusal(detached)
 }
 
 /// An encode that the codec with this number refuses.

@@ -1,11 +1,10 @@
 // Replays a script.
 ghost use Rattle.std.specs.Prelude.{◌≡◌, ◌≤◌, IfOk, OnOk, IsSome, None, map, length, true};
 ghost use Rattle.std.specs.List.{list_all};
-ghost use Rattle.trace_text.specs.Fits.{IsLegalRun, Fits, FollowsTheOrder};
+ghost use Rattle.trace_text.specs.Fits.{IsLegalRun, Fits};
 ghost use Rattle.trace_text.specs.Follow.{Follows, nothing_yet, opening_of, order_items};
 ghost use Rattle.trace_text.specs.Missing.{missing_in};
-ghost use Rattle.wc_pool.specs.Bag.{held_in};
-ghost use Rattle.wc_replay.specs.Player.{IsPlayable, is_openable, new_desk, new_results, trace_of, caller_trace, IsRunOf, AreShownTraces};
+ghost use Rattle.wc_replay.specs.Player.{IsPlayable, is_openable, new_desk, new_results, trace_of, caller_trace, IsRunOf, IsPlayed};
 
 use crate::desk::Desk;
 use crate::results::Results;
@@ -55,11 +54,8 @@ fn open_desks<C: Coder>(alloc: Global, codecs: &[CodecItem]) -> Result<Vec<Desk<
 fn open_callers(alloc: Global, callers: &[CallerItem]) -> Result<Vec<Results>, NoMemory>
     ensures { IfOk result (λ results. results.items ≡ map new_results callers.now) }
 {
-    let mut results = Vec::new(alloc);
-    for _caller in callers {
-        try_push(&mut results, Results::new(alloc))?;
-    }
-    Ok(results)
+    let results = callers.iter().map(|_| Results::new(alloc));
+    Ok(results.collect(alloc)?)
 }
 
 /// The items of the script's order; none where there is no order.
@@ -119,12 +115,10 @@ fn codec_traces<C: Coder>(alloc: Global, desks: Vec<Desk<C>>) -> Result<Vec<Code
 fn caller_traces(alloc: Global, callers: Vec<Results>) -> Result<Vec<CallerTrace>, NoMemory>
     ensures { IfOk result (λ traces. traces.items ≡ map caller_trace callers.items) }
 {
-    let mut traces = Vec::new(alloc);
-    for results in callers {
-        let results = List::of(results.into_steps());
-        try_push(&mut traces, CallerTrace { results })?;
-    }
-    Ok(traces)
+    let traces = callers.into_iter().map(|results| CallerTrace {
+        results: List::of(results.into_steps()),
+    });
+    Ok(traces.collect(alloc)?)
 }
 
 /// A replay of a script that has nothing recorded yet.
@@ -173,14 +167,10 @@ fn play<C: Coder>(
 ) -> Result<Run, NoMemory>
     requires codecs { list_all is_openable script.now.codecs ≡ true }
     requires playable { IsPlayable script.now }
-    ensures follows { IfOk result
-        (λ run. FollowsTheOrder script.now media.now (map C.coder coders.items) run) }
-    ensures shows { IfOk result (λ run. AreShownTraces script.now.codecs run.codecs) }
-    ensures held { IfOk result (λ run. run.held ≡ held_in run.pool) }
+    ensures { IfOk result (IsPlayed script.now media.now (map C.coder coders.items)) }
 {
     let mut player = open_player(alloc, script, coders)?;
     take_items(&mut player, alloc, script, media)?;
-    following_stands();
     run_of(alloc, player)
 }
 

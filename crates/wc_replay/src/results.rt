@@ -37,18 +37,6 @@ impl Results {
         try_push(&mut self.steps, came)
     }
 
-    pub(crate) fn len(&self) -> usize
-        ensures { result ≡ length self.now }
-    {
-        self.steps.len()
-    }
-
-    pub(crate) fn get(&self, step: u32) -> Option<&StepResult>
-        ensures { option_copied result ≡ slice_get self.now step }
-    {
-        self.steps.get(step as usize)
-    }
-
     pub(crate) fn into_steps(self) -> Vec<StepResult>
         ensures { result.items ≡ self }
     {
@@ -70,22 +58,26 @@ pub(crate) fn note(
     }
 }
 
+/// What a caller's steps came to so far; nothing where it is not there.
+fn results_at(callers: &[Results], caller: u32) -> &[StepResult]
+    ensures { result.now ≡ at caller callers.now }
+{
+    match callers.get(caller as usize) {
+        Some(results) => results.steps.as_slice(),
+        None => &[],
+    }
+}
+
 /// How many steps a caller made.
 pub(crate) fn made_by(callers: &[Results], caller: u32) -> usize
     ensures { result ≡ length (at caller callers.now) }
 {
-    match callers.get(caller as usize) {
-        Some(results) => results.len(),
-        None => 0,
-    }
+    results_at(callers, caller).len()
 }
 
 /// What a step of a caller came to, if it was made.
 pub(crate) fn result_of(callers: &[Results], caller: u32, step: u32) -> Option<&StepResult>
     ensures { option_copied result ≡ slice_get (at caller callers.now) step }
 {
-    match callers.get(caller as usize) {
-        Some(results) => results.get(step),
-        None => None,
-    }
+    results_at(callers, caller).get(step as usize)
 }

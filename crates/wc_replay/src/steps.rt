@@ -1,5 +1,5 @@
 // The steps of the callers, and the items of the order.
-ghost use Rattle.std.specs.Prelude.{◌≡◌, ◌≤◌, ◌<◌, ℕ, Bool, false, true, Some, OnOk, IfOk, is_some, length, slice_get, option_copied, None};
+ghost use Rattle.std.specs.Prelude.{◌≡◌, ◌≤◌, ◌<◌, Bool, false, true, Some, OnOk, IfOk, is_some, length, slice_get, option_copied, None};
 ghost use Rattle.codec_accounts.specs.Codec.{codec_at, state_of, AreGivable};
 ghost use Rattle.codec_accounts.specs.Owed.{at};
 ghost use Rattle.codec_core.specs.Codec.{refused_as};
@@ -8,18 +8,18 @@ ghost use Rattle.media_accounts.specs.Accounts.{AreLent};
 ghost use Rattle.media_variables.specs.Held.{sound_found};
 ghost use Rattle.media_variables.specs.declared.lending.SoundFound.TheVariants as found;
 ghost use Rattle.order_laws.specs.Course.{held_by_codecs};
-ghost use Rattle.trace_text.specs.Fits.{called, taken_from};
+ghost use Rattle.trace_text.specs.Fits.{taken_from};
 ghost use Rattle.script_types.specs.declared.steps.Step.TheVariants as a_step;
 ghost use Rattle.media_variables.specs.Variables.{Brought, media_came, sound_at, taken_came, variables_of};
-ghost use Rattle.trace_text.specs.Follow.{with_result, after_move, advance, chunk_for, item_entry, call_move, decode_move, encode_move, hand_move, handle_move, media_move, take_move, found_at, removal_move, look_of_flush, look_of_state, step_move, follow_item, steps_of, source_error};
+ghost use Rattle.trace_text.specs.Follow.{with_result, after_move, advance, chunk_for, item_entry, call_move, decode_move, encode_move, hand_move, handle_move, media_move, take_move, found_at, removal_move, look_of_flush, look_of_state, promise_after, step_move, follow_item, steps_of, source_error};
 ghost use Rattle.report_text.specs.declared.result.StepResult.TheVariants as came;
 ghost use Rattle.script_types.specs.declared.script.OrderItem.TheVariants as item;
-ghost use Rattle.wc_replay.specs.Player.{IsInRange, LooksInRange, IsPlayable, call_in, encode_of};
+ghost use Rattle.wc_replay.specs.Player.{IsInRange, NamesInRange, IsPlayable, call_in, encode_of};
 
 use crate::copied::copied_chunk;
 use crate::desk::{Answer, Desk};
 use crate::moving::{
-    call_at, encode_at, place_at, receive_at, refusal_at, refuse_at, remove_at, take_at,
+    call_at, desk_at, encode_at, place_at, receive_at, refusal_at, refuse_at, remove_at, take_at,
 };
 use crate::results::{Results, made_by, note, result_of};
 use codec_core::Taken;
@@ -90,6 +90,27 @@ fn call_result(codec: u32, answer: Answer) -> StepResult
     }
 }
 
+/// What a look shows at the promise of the flush of this codec at this place.
+fn look_at<C: Coder>(desks: &[Desk<C>], codec: u32, place: u64) -> StepResult
+    ensures { let d = codec_at codec desks.now in
+        result
+        ≡ came.Look codec (length d.history) (promise_after d.opening d.history place) }
+{
+    match desks.get(codec as usize) {
+        Some(desk) => {
+            let (length, _, _) = desk.look();
+            let end = desk.end_of(place);
+            StepResult::Look { codec, length, end }
+        }
+        // A codec that is not there has no entry.
+        None => StepResult::Look {
+            codec,
+            length: 0,
+            end: PromiseState::Pending,
+        },
+    }
+}
+
 /// What a look shows at the promise of the flush that came to this result.
 fn look_result<C: Coder>(desks: &[Desk<C>], flush: Option<&StepResult>) -> StepResult
     ensures { result ≡ look_of_flush desks.now (option_copied flush.entry) }
@@ -97,15 +118,7 @@ fn look_result<C: Coder>(desks: &[Desk<C>], flush: Option<&StepResult>) -> StepR
     let Some((codec, place)) = call_in(flush) else {
         return StepResult::Absent;
     };
-    let (length, end) = match desks.get(codec as usize) {
-        Some(desk) => {
-            let (length, _, _) = desk.look();
-            (length, desk.end_of(place))
-        }
-        // A codec that is not there has no entry.
-        None => (0, PromiseState::Pending),
-    };
-    StepResult::Look { codec, length, end }
+    look_at(desks, codec, place)
 }
 
 /// What a look shows of a codec's state.
@@ -113,17 +126,12 @@ fn state_result<C: Coder>(desks: &[Desk<C>], codec: u32) -> StepResult
     requires { codec < length desks.now }
     ensures { result ≡ look_of_state codec (codec_at codec desks.now) }
 {
-    match desks.get(codec as usize) {
-        Some(desk) => {
-            let (length, state, size) = desk.look();
-            StepResult::State {
-                codec,
-                length,
-                state,
-                size,
-            }
-        }
-        None => unreachable!(),
+    let (length, state, size) = desk_at(desks, codec).look();
+    StepResult::State {
+        codec,
+        length,
+        state,
+        size,
     }
 }
 
@@ -143,13 +151,8 @@ fn no_unit<C: Coder>(desks: &[Desk<C>], codec: u32) -> StepResult
     requires { codec < length desks.now }
     ensures { result ≡ came.NoUnit codec (length (codec_at codec desks.now).history) }
 {
-    match desks.get(codec as usize) {
-        Some(desk) => {
-            let (length, _, _) = desk.look();
-            StepResult::NoUnit { codec, length }
-        }
-        None => unreachable!(),
-    }
+    let length = place_at(desks, codec);
+    StepResult::NoUnit { codec, length }
 }
 
 /// The codec that a step on media takes an output of, if it takes one.
@@ -390,9 +393,7 @@ impl<C: Coder> Player<C> {
         script: &ScriptData,
     ) -> Result<(), NoMemory>
         requires steps { steps_of script.now who.caller ≡ steps.now }
-        requires range { LooksInRange (length self.old.codecs) (a_step.Media step.now) }
-        requires called { (k : ℕ)
-            → called (a_step.Media step.now) ≡ Some k → k < length self.old.codecs }
+        requires range { NamesInRange (length self.old.codecs) (a_step.Media step.now) }
         requires caller { who.caller < length self.old.media.variables }
         ensures { OnOk result
             (self.new
@@ -421,8 +422,7 @@ impl<C: Coder> Player<C> {
         script: &ScriptData,
     ) -> Result<(), NoMemory>
         requires steps { steps_of script.now who.caller ≡ steps.now }
-        requires range { (k : ℕ) → called step.now ≡ Some k → k < length self.old.codecs }
-        requires state { LooksInRange (length self.old.codecs) step.now }
+        requires range { NamesInRange (length self.old.codecs) step.now }
         requires caller { who.caller < length self.old.media.variables }
         requires givable { AreGivable self.old.codecs self.old.slots.history }
         requires lent { AreLent self.old.media.pool self.old.media.variables

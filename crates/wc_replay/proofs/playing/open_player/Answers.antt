@@ -1,11 +1,7 @@
-use Rattle.std.proofs.Common.{◌≡◌, List, [], map, ap, ◌∙◌}
-use Rattle.slot_registry.specs.Slots.{SlotsValue}
-use Rattle.codec_accounts.specs.Codec.{CodecValue}
+use Rattle.std.proofs.Common.{List, [], map, ap, ◌∙◌}
 use Rattle.media_variables.specs.Variables.{Media}
 use Rattle.script_types.specs.declared.script.CallerItem.{CallerItem}
 use Rattle.script_types.specs.declared.script.CodecItem.{CodecItem}
-use Rattle.report_text.specs.declared.result.StepResult.{StepResult}
-use Rattle.trace_text.specs.Follow.{Course}
 use Rattle.wc_replay.specs.Player.{new_desk, new_results}
 use Rattle.wc_replay.proofs.Looks.{same_course}
 use Rattle.wc_replay.proofs.playing.open_player.Goals as goal
