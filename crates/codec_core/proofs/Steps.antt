@@ -34,7 +34,7 @@ use Rattle.codec_model.specs.Control.{Control, is_decoder, after_message, proces
 use Rattle.codec_model.specs.Replay.{State, Given, missing_coder, opening_state, step, with_control, removed, accepted, after_call, call_error, entry_of, removal_error, removal_entry, remove_or_refuse, is_configured, encode_error}
 use Rattle.codec_model.specs.Shown.{handed_error}
 use Rattle.codec_model.specs.ShownLaws.{replay_more}
-use Rattle.history_laws.specs.StepLaws.{by_queue, begun, start_made}
+use Rattle.codec_model.specs.StepLaws.{by_queue, begun, start_made}
 use Rattle.codec_core.specs.Job.{JobValue, DoneValue, missing_for, CoderAt, CoderFor, StillAt, IsEndOf, IsJobOf, outcome_of}
 use Rattle.codec_core.specs.Codec.{state_at, Makes, CoderHome, IsKept, kept_box, reclaims, refused_as}
 

@@ -425,12 +425,6 @@ fn a_transcode_is_read_and_written_again(rt: HostRuntime) -> Result<(), Fail> {
         // a block more than the encoder gave, and none
         ("12 done 0.2 0 ran 1", "12 done 0.2 0 ran 2", Some(73)),
         ("15 done 0.3 0 ran 1", "15 done 0.3 0 ran 0", Some(76)),
-        // the config comes once
-        (
-            "  resolve 3\n17 a.15",
-            "  config flac 8000 1 -\n  resolve 3\n17 a.15",
-            Some(77),
-        ),
         // a chunk that was not taken
         ("15 e.17 unit 0", "15 e:17 none", Some(82)),
     ];
