@@ -31,6 +31,10 @@ else
   (cd crates/wcrun && rt try --cases "$work/cases" "${data[@]}" -- replay '{}' > "$work/all" 2> "$work/log") || { cat "$work/log" >&2; exit 2; }
   awk -v to="$work/" '/^== / {name = $2; sub(/\.json$/, "", name); file = to name; printf "" > file; next} {print > file}' "$work/all"
 fi
+for script in demo/*.json; do
+  name=$(basename "$script" .json)
+  [ -e "demo/$name.report" ] || { echo "demo/$name.json has no report" >&2; touch "$work/bad"; }
+done
 for report in demo/*.report; do
   name=$(basename "$report" .report)
   if ! cmp -s "$work/$name" "$report"; then
