@@ -127,8 +127,12 @@ fn samples_of_another_rate(rt: HostRuntime) -> Result<(), Fail> {
 
 /// A config of 44100 frames a second, 2 channels and 16 bits.
 fn stereo(alloc: Global, block_size: u32) -> Result<Config, Fail> {
+    stereo_of(alloc, "flac", block_size)
+}
+
+fn stereo_of(alloc: Global, codec: &str, block_size: u32) -> Result<Config, Fail> {
     Ok(Config::AudioEncoder(AudioEncoderConfig {
-        codec: Text::of(String::from_str(alloc, "flac")?),
+        codec: Text::of(String::from_str(alloc, codec)?),
         rate: 44100,
         channels: 2,
         block_size,
@@ -194,15 +198,24 @@ fn outputs_are_decoded_with_a_description(rt: HostRuntime) -> Result<(), Fail> {
     Ok(())
 }
 
-/// It serves FLAC's encoder configs alone.
 #[test]
-fn a_config_is_served_of_an_encoder_of_flac(rt: HostRuntime) -> Result<(), Fail> {
+fn configs_of_encoders_of_flac_alone_are_served(rt: HostRuntime) -> Result<(), Fail> {
     let alloc = rt.alloc();
-    let mut encoder = FlacEncoder::new();
+    let encoder = FlacEncoder::new();
+    let own = stereo(alloc, 16)?;
+    let short = stereo(alloc, 15)?;
+    let other = stereo_of(alloc, "pcm-s16", 16)?;
+    let decoder = Config::AudioDecoder(AudioDecoderConfig {
+        codec: Text::of(String::from_str(alloc, "flac")?),
+        rate: 44100,
+        channels: 2,
+        description: Some(Bytes::from_vec(Vec::from_slice(alloc, &BLOCKS_OF_16)?)?),
+    });
     assert!(rt; encoder.id().role == Role::Encode && encoder.id().codec == CodecId::Flac);
-    assert!(rt; encoder.supports(&stereo(alloc, 16)?));
-    assert!(rt; !encoder.supports(&stereo(alloc, 15)?));
+    assert!(rt; encoder.supports(&own));
+    assert!(rt; !encoder.supports(&short));
+    assert!(rt; !encoder.supports(&other));
+    assert!(rt; decoder.supported() && !encoder.supports(&decoder));
     assert!(rt; !encoder.supports(&Config::Bad));
-    encoder.stop();
     Ok(())
 }

@@ -1,17 +1,16 @@
-// Whole replays in which FLAC is encoded. The reports are written by hand from the rules of docs/FORMATS.md and RFC 9639;
-// frames that are no constant ones are written by another encoder of the same rules, and the two long ones are compared by
-// their beginning, their length and their CRC-16 alone.
+// Whole replays in which FLAC is encoded. The reports come from the rules of docs/FORMATS.md and RFC 9639, apart from the
+// program: by hand, and the places and frames of the longer ones by a second reading of these rules. The two long frames
+// are compared by their beginning, their length and their CRC-16 alone.
 use crate::tests::call_on;
 use std::alloc::Global;
 use std::process::Abort;
 use std::test::Fail;
 
-// A piece of a text: so many times, and each `#` in it stands for the next of these numbers, which grow by their steps from
-// one time to the next. `<` and `>` stand for the two parts of the sound that the bytes 0 to 159 of mu-law are, and `*` of a
-// report for any byte.
+// A piece of a text, so many times. Each `#` in it stands for the next of these numbers, which grow by their steps from one
+// time to the next; `<` and `>` stand for `FIRST_VALUES` and `OTHER_VALUES`, and `*` in a report for any byte.
 type Piece = (&'static str, u64, &'static [(u64, u64)]);
 
-// The values of the bytes 0 to 95, and those of the bytes 96 to 159.
+// The values of the bytes 0 to 95 of mu-law, and those of the bytes 96 to 159.
 const FIRST_VALUES: &str =
     "84828486848a848e84928496849a849e84a284a684aa84ae84b284b684ba84be84c184c384c584c784c984cb84cd84cf84d184d384d584d784d984db84dd84df04e104e204e304e404e504e604e704e804e904ea04eb04ec04ed04ee04ef04f0c4f044f1c4f144f2c4f244f3c4f344f4c4f444f5c4f544f6c4f644f7c4f744f8a4f8e4f824f964f9a4f9e4f924fa64faa4fae4fa24fb64fba4fbe4fb24fc64fc94fcb4fcd4fcf4fc14fd34fd54fd74fd94fdb4fdd4fdf4fd14fe34fe54fe74fe";
 
