@@ -1,15 +1,17 @@
 #!/usr/bin/env python3
 """Compares the program's FLAC encoder with the system's `flac`, sample by sample.
 
-    tools/flac-encodings.py [--program PATH] [--count N] [--keep FOLDER]
+    tools/flac-encodings.py [--program PATH | --replay WCRUN] [--count N] [--keep FOLDER]
 
-Encodes 500 signals by crates/flac_encode_speed: each depth, channel count and level, blocks of 16 to 65,535 frames and the
+Encodes 500 signals by crates/flac_encode_speed, or by scripts that wcrun replays: each depth, channel count and level, blocks of 16 to 65,535 frames and the
 block size 0, silence, noise, tones, wasted bits, extreme values, lengths that are no multiple of the block, samples in each
 format and brought to each depth, pushed in pieces of odd sizes. The frames go behind a native head (`fLaC` and a
-STREAMINFO with the block size as the least and the greatest, and no total and no sum of the samples); `flac -t` must pass,
-and `flac -d` must give the samples that were made. Ends with 1 where one differs; --keep keeps the files of those.
+STREAMINFO with the block size as the least and the greatest, and no total and no sum of the samples), which is compared with
+the description that wcrun reports; `flac -t` must pass, and `flac -d` must give the samples that were made. Ends with 1
+where one differs; --keep keeps the files of those.
 """
 import argparse
+import json
 import math
 import os
 import random
@@ -123,6 +125,50 @@ def head(case):
     return b"fLaC\x80" + len(info).to_bytes(3, "big") + info
 
 
+def script_of(case, samples, bits, planar):
+    """A script that encodes the samples, in at most 200 pieces, and flushes."""
+    size = max(case["piece"], len(samples) // 200 + 1)
+    format_ = f"{case['format'].split('-')[-1]}{'-planar' if planar else ''}"
+    shape = {"sampleRate": case["rate"], "numberOfChannels": case["channels"]}
+    flac = {"blockSize": case["block"], "compressLevel": case["level"], "bitsPerSample": case["depth"]}
+    steps = [{"do": "configure", "on": "e", "config": {"codec": "flac", **shape, "flac": flac}}]
+    for begin in range(0, len(samples), size):
+        rows, name = samples[begin : begin + size], f"x{begin}"
+        data = stored(rows, bits, planar, size).hex()
+        init = {"format": format_, **shape, "numberOfFrames": len(rows), "timestamp": begin, "data": data}
+        steps += [{"do": "audio", "as": name, "init": init}, {"do": "encode", "on": "e", "data": name}]
+    steps.append({"do": "flush", "on": "e", "as": "p"})
+    rounds = [{"start": "e"}, {"done": "e", "at": 0}, {"turn": "e"}, {"turn": "e"}, {"turn": "e"}] * len(steps)
+    codec, caller = {"name": "e", "kind": "audio-encoder"}, {"name": "a", "steps": steps}
+    return json.dumps({"codecs": [codec], "callers": [caller], "order": ["a"] * len(steps) + rounds})
+
+
+def replayed(case, samples, bits, planar, program, work):
+    """The head and the frames that a replay reports, or what is wrong."""
+    with open(f"{work}/s.json", "w") as it:
+        it.write(script_of(case, samples, bits, planar))
+    made = subprocess.run([program, "replay", "s.json"], cwd=work, capture_output=True, text=True)
+    if made.returncode != 0 or not made.stdout.endswith("\nend\n"):
+        return None, f"wcrun ends with {made.returncode} {made.stdout[-200:]!r}"
+    lines = [line.split() for line in made.stdout.splitlines() if line.startswith("  ")]
+    described = [line[4] for line in lines if line[0] == "config"]
+    if described != [head(case).hex()] or any(line[0] == "error" for line in lines):
+        return None, f"another description or an error: {described}"
+    return bytes.fromhex("".join(line[5] for line in lines if line[:2] == ["output", "chunk"])), None
+
+
+def encoded(case, samples, bits, planar, options, work):
+    """The frames of an encoding, or what is wrong."""
+    if options.replay:
+        return replayed(case, samples, bits, planar, options.replay, work)
+    names = ("format", "rate", "channels", "depth", "level", "block", "piece")
+    words = [options.program, "write", *(str(case[name]) for name in names), f"{work}/samples"]
+    made = subprocess.run(words, capture_output=True)
+    if made.returncode != 0:
+        return None, f"the encoder ends with {made.returncode} {made.stderr!r}"
+    return made.stdout, None
+
+
 def first_difference(case, wanted, found):
     size = case["depth"] // 8
     for at in range(0, max(len(wanted), len(found)), size):
@@ -134,45 +180,47 @@ def first_difference(case, wanted, found):
     return "nothing"
 
 
-def fault_of(case, program, work):
-    """What is wrong with an encoding, or None; and the size of the file."""
+def fault_of(case, options, work):
+    """What is wrong with an encoding, or None; and the size of the frames."""
     words = case["format"].split("-")
-    bits = BITS[words[-1]]
+    bits, planar = BITS[words[-1]], len(words) > 1
     samples = samples_of(case, bits)
     with open(f"{work}/samples", "wb") as it:
-        it.write(stored(samples, bits, len(words) > 1, case["piece"]))
-    names = ("format", "rate", "channels", "depth", "level", "block", "piece")
-    made = subprocess.run([program, "write", *(str(case[name]) for name in names), f"{work}/samples"], capture_output=True)
-    if made.returncode != 0:
-        return f"the encoder ends with {made.returncode} {made.stderr!r}", 0
+        it.write(stored(samples, bits, planar, case["piece"]))
+    frames, fault = encoded(case, samples, bits, planar, options, work)
+    if frames is None:
+        return fault, 0
     with open(f"{work}/it.flac", "wb") as it:
-        it.write(head(case) + made.stdout)
+        it.write(head(case) + frames)
     tested = subprocess.run(["flac", "-s", "-t", f"{work}/it.flac"], capture_output=True, text=True)
     if tested.returncode != 0:
-        return f"flac -t: {tested.stderr.strip()}", len(made.stdout)
+        return f"flac -t: {tested.stderr.strip()}", len(frames)
     form = ["--force-raw-format", "--endian=little", "--sign=signed"]
     decoded = subprocess.run(["flac", "-s", "-d", "-c", *form, f"{work}/it.flac"], capture_output=True)
     if decoded.returncode != 0:
-        return f"flac -d: {decoded.stderr!r}", len(made.stdout)
+        return f"flac -d: {decoded.stderr!r}", len(frames)
     wanted = raw(at_depth(samples, bits, case["depth"]), case["depth"])
     if decoded.stdout != wanted:
-        return first_difference(case, wanted, decoded.stdout), len(made.stdout)
-    return None, len(made.stdout)
+        return first_difference(case, wanted, decoded.stdout), len(frames)
+    return None, len(frames)
 
 
 def main():
     parser = argparse.ArgumentParser(description=__doc__.splitlines()[0])
     parser.add_argument("--program", default="crates/flac_encode_speed/out/flac_encode_speed")
+    parser.add_argument("--replay", help="a wcrun, by whose replays to encode")
     parser.add_argument("--count", type=int, default=500, help="how many encodings")
     parser.add_argument("--keep", help="a folder for what differs")
     options = parser.parse_args()
+    if options.replay:
+        options.replay = os.path.realpath(options.replay)
     bad = samples = size = 0
     seen = {name: set() for name in ("kind", "format", "channels", "depth", "level", "block", "piece")}
     with tempfile.TemporaryDirectory() as work:
         for number in range(options.count):
             random.seed(number)
             case = case_of(number)
-            fault, count = fault_of(case, options.program, work)
+            fault, count = fault_of(case, options, work)
             samples += case["frames"] * case["channels"]
             size += count
             for name, values in seen.items():

@@ -1,5 +1,8 @@
 // The report of a transcode, read back as the run that was replayed: 50 chunks of mu-law are decoded, encoded as FLAC in two
 // blocks, and decoded again.
+ghost use Rattle.std.specs.Prelude.{◌≡◌, None, IsSome, length};
+ghost use Rattle.trace_text.specs.Missing.{missing_in};
+
 use bytes::Bytes;
 use coder_api::CoderBox;
 use flac_decode::FlacDecoder;
@@ -118,25 +121,33 @@ fn chunks(alloc: Global) -> Result<List<Chunk>, Fail> {
     Ok(List::of(chunks))
 }
 
-fn coders(alloc: Global) -> Result<Vec<CoderBox>, Fail> {
+// The script has an order, and `media` the chunks of its files, with each chunk that a step takes.
+fn played(alloc: Global, script: &Script, media: &[List<Chunk>]) -> Result<Run, Fail>
+    requires order { IsSome script.now.order }
+    requires files { length media.now ≡ length script.now.chunk_files }
+    requires chunks { missing_in script.now media.now ≡ None }
+{
     let ulaw = SampleCoder::new(Role::Decode, Coding::G711(Law::Ulaw));
     let mut coders = Vec::new(alloc);
     coders.push(CoderBox::of(Box::new(alloc, ulaw)?))?;
     coders.push(CoderBox::of(Box::new(alloc, FlacEncoder::new())?))?;
     coders.push(CoderBox::of(Box::new(alloc, FlacDecoder::new(alloc))?))?;
-    Ok(coders)
+    match replay(alloc, script, media, coders) {
+        Ok(run) => Ok(run),
+        Err(_) => Err(Fail::from("memory")),
+    }
 }
 
 fn replayed(alloc: Global, script: &Script, media: &[List<Chunk>]) -> Result<Run, Fail> {
-    if script.data().order.is_none()
-        || media.len() != script.data().chunk_files.len()
-        || missing_chunk(script, media).is_some()
-    {
-        return Err(Fail::from("a script that can be replayed"));
+    if script.data().order.is_none() {
+        return Err(Fail::from("an order"));
     }
-    match replay(alloc, script, media, coders(alloc)?) {
-        Ok(run) => Ok(run),
-        Err(_) => Err(Fail::from("memory")),
+    if media.len() != script.data().chunk_files.len() {
+        return Err(Fail::from("a chunk file"));
+    }
+    match missing_chunk(script, media) {
+        None => played(alloc, script, media),
+        Some(_) => Err(Fail::from("a chunk")),
     }
 }
 

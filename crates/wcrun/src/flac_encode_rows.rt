@@ -832,35 +832,30 @@ fn agrees(bytes: &[u8], text: &[u8]) -> bool {
     bytes.len() == text.len() && bytes.iter().zip(text).all(|(b, t)| b == t || *t == b'*')
 }
 
-// Replays each script, and compares what is written.
-fn each_is_told(rt: &impl Abort, alloc: Global, rows: &[(&[Piece], &[Piece])]) -> Result<(), Fail> {
-    for (script, report) in rows {
-        let script = text_of(alloc, script)?;
-        let report = text_of(alloc, report)?;
-        let name = String::from_str(alloc, "s.json")?;
-        let media = (String::from_str(alloc, "f")?, chunk_file(alloc)?);
-        let files = vec![in alloc; (name, script.into_bytes()), media]?;
-        let words = ["replay", "s.json"];
-        let (answer, sink) = call_on(alloc, files, &words, Vec::new(alloc), Vec::new(alloc))?;
-        assert!(rt; agrees(sink.bytes(), report.as_bytes()), "at {report}");
-        assert_eq!(rt; answer, 0, "at {report}");
-    }
+// Replays a script, and compares what is written.
+fn is_told(rt: &impl Abort, alloc: Global, script: &[Piece], report: &[Piece]) -> Result<(), Fail> {
+    let script = text_of(alloc, script)?;
+    let report = text_of(alloc, report)?;
+    let name = String::from_str(alloc, "s.json")?;
+    let media = (String::from_str(alloc, "f")?, chunk_file(alloc)?);
+    let files = vec![in alloc; (name, script.into_bytes()), media]?;
+    let words = ["replay", "s.json"];
+    let (answer, sink) = call_on(alloc, files, &words, Vec::new(alloc), Vec::new(alloc))?;
+    assert!(rt; agrees(sink.bytes(), report.as_bytes()), "at {report}");
+    assert_eq!(rt; answer, 0, "at {report}");
     Ok(())
 }
 
 #[test]
 fn flac_is_encoded_or_refused(rt: HostRuntime) -> Result<(), Fail> {
-    let rows: [(&[Piece], &[Piece]); 4] = [
-        (&ENCODING, &ENCODING_REPORT),
-        (&BLOCKS, &BLOCKS_REPORT),
-        (&OTHER_CHANNELS, &OTHER_CHANNELS_REPORT),
-        (&NINE_CHANNELS, &NINE_CHANNELS_REPORT),
-    ];
-    each_is_told(&rt, rt.alloc(), &rows)
+    let alloc = rt.alloc();
+    is_told(&rt, alloc, &ENCODING, &ENCODING_REPORT)?;
+    is_told(&rt, alloc, &BLOCKS, &BLOCKS_REPORT)?;
+    is_told(&rt, alloc, &OTHER_CHANNELS, &OTHER_CHANNELS_REPORT)?;
+    is_told(&rt, alloc, &NINE_CHANNELS, &NINE_CHANNELS_REPORT)
 }
 
 #[test]
 fn a_transcode_keeps_each_sample(rt: HostRuntime) -> Result<(), Fail> {
-    let rows: [(&[Piece], &[Piece]); 1] = [(&TRANSCODE, &TRANSCODE_REPORT)];
-    each_is_told(&rt, rt.alloc(), &rows)
+    is_told(&rt, rt.alloc(), &TRANSCODE, &TRANSCODE_REPORT)
 }
