@@ -152,7 +152,7 @@ first_none : (f : ℕ → ℕ) → first_least f 0 ≡ 0
 unfolding first_least
 first_none f = refl
 
-first_more : (f : ℕ → ℕ) (n : ℕ) → first_least f (suc n) ≡ cond (nat_lt (f (suc n)) (f (first_least f n))) (suc n) (first_least f n)
+pub first_more : (f : ℕ → ℕ) (n : ℕ) → first_least f (suc n) ≡ cond (nat_lt (f (suc n)) (f (first_least f n))) (suc n) (first_least f n)
 unfolding first_least
 first_more f n = refl
 

@@ -1,5 +1,5 @@
 -- Rice codes of residuals, and the plan with the fewest bits (RFC 9639, section 9.2.7; the choice is ours).
-use Rattle.std.specs.Prelude.{ℕ, zero, suc, ◌≡◌, ◌≤◌, ◌<◌, ◌+◌, ◌-◌, ◌*◌, ◌/◌, ◌%◌, ◌^◌, ◌==◌, ◌&&◌, nat_lt, Bool, true, List, length, take, drop, map, sum_by, slice_index, if◌then◌else◌}
+use Rattle.std.specs.Prelude.{ℕ, zero, suc, ◌≡◌, ◌≤◌, ◌<◌, ◌+◌, ◌-◌, ◌*◌, ◌/◌, ◌%◌, ◌^◌, ◌==◌, ◌&&◌, nat_lt, min, Bool, true, List, length, take, drop, map, sum_by, slice_index, if◌then◌else◌}
 use Rattle.std.specs.List.{flat_map, range_with_len}
 use Rattle.flac_plans.specs.declared.plan.RicePlan.{RicePlan}
 
@@ -95,6 +95,30 @@ IsBelow b zs = (k : ℕ) → k ≤ 14 → b ≤ length zs * k + (total zs + leng
 abbrev pub NoPlanIsBelow : Type 0
 NoPlanIsBelow =
     (block order : ℕ) (zs : List ℕ) (finest p : ℕ) (bound : ℕ → ℕ) → fits block order finest ≡ true → p ≤ finest → ((j : ℕ) → j < 2 ^ finest → IsBelow (bound j) (part_of (block / 2 ^ finest) order zs j)) → 10 + sum_by bound (range_with_len 0 (2 ^ finest)) ≤ plan_bits block order zs p
+
+-- `f` at the first of 0 to `n` at which it is least
+abbrev pub least_value : (ℕ → ℕ) → ℕ → ℕ
+least_value f n = f (first_least f n)
+
+-- how far a value is from 0, by its folded value, but at most `most`
+abbrev pub distance_within : ℕ → ℕ → ℕ
+distance_within most z = min ((z + 1) / 2) most
+
+-- bits below which parameter `k` is not, for so many values that are twice so far from 0 in all; and so none of 0 to 14
+abbrev pub bound_at : ℕ → ℕ → ℕ → ℕ
+bound_at count twice k = count * k + twice / 2 ^ k
+
+abbrev pub part_bound : ℕ → List ℕ → ℕ
+part_bound most zs = least_value (bound_at (length zs) (2 * sum_by (distance_within most) zs)) 14
+
+-- bits below which no plan is: ten, and those of each of the finest parts, whose sums are to fit 32 bits
+abbrev pub part_bounds : ℕ → ℕ → List ℕ → ℕ → ℕ
+part_bounds size order zs parts = sum_by (λ j. part_bound ((2 ^ 32 - 1) / size) (part_of size order zs j)) (range_with_len 0 parts)
+
+abbrev pub plan_bound : ℕ → ℕ → ℕ → List ℕ → ℕ
+plan_bound block order most zs =
+    let p = finest block order most in
+    10 + part_bounds (block / 2 ^ p) order zs (2 ^ p)
 
 -- the bits of all parts, each with its best parameter, without what stands before them
 abbrev pub least : List ℕ → ℕ

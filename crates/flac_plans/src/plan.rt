@@ -2,7 +2,7 @@
 ghost use Rattle.std.specs.Prelude.{◌≡◌, ◌<◌, ◌≤◌, ◌+◌, ◌-◌, ◌*◌, ◌/◌, ◌%◌, ◌^◌, ℕ, true, length, ◌++◌, map, take, drop, sum_by, IfOk, IfSome, IfNone, OnOk};
 ghost use Rattle.std.specs.List.{range_with_len};
 ghost use Rattle.flac_definitions.specs.ResidualSpelling.{folded_value};
-ghost use Rattle.flac_plans.specs.Plans.{fits, finest, best_partition, best_parameter, cost, part_of, part_bits, row, table, plan_bits, IsPlan, IsUsable, IsWindow, leasts};
+ghost use Rattle.flac_plans.specs.Plans.{fits, finest, best_partition, best_parameter, cost, part_of, part_bits, part_bounds, row, table, plan_bits, plan_bound, IsPlan, IsUsable, IsWindow, leasts};
 
 use crate::sums::{
     Window, all_folded, best_of, bound_for, narrowed_by, part, part_of, push_joined, push_row,
@@ -19,7 +19,7 @@ pub struct RicePlan {
     pub bits: u64,
 }
 
-/// The plan that `best_parameters` gives; none where it has no fewer bits than `limit`.
+/// The plan that `best_parameters` gives; none exactly where it has no fewer bits than `limit`.
 pub fn best_below(
     alloc: Global,
     residual: &[i32],
@@ -37,15 +37,18 @@ pub fn best_below(
     ensures none { IfOk result (λ o. IfNone o
         (limit ≤ plan_bits block order (map folded_value residual.now)
         (best_partition block order most (map folded_value residual.now)))) }
+    ensures fewer { IfOk result (λ o. IfSome o (λ plan. plan.bits < limit)) }
     ensures usable { IfOk result (λ o. IfSome o (IsUsable block order)) }
     ensures small { IfOk result (λ o. IfSome o (λ plan. plan.bits < 2 ^ 63)) }
 {
     if limit <= least_bits(residual, block, order, most) {
         return Ok(None);
     }
-    match best_parameters(alloc, residual, block, order, most) {
-        Ok(plan) => Ok(Some(plan)),
-        Err(e) => Err(e),
+    let plan = best_parameters(alloc, residual, block, order, most)?;
+    if plan.bits < limit {
+        Ok(Some(plan))
+    } else {
+        Ok(None)
     }
 }
 
@@ -55,6 +58,7 @@ pub fn least_bits(residual: &[i32], block: u32, order: u32, most: u32) -> u64
     requires order { order < block }
     requires count { length residual.now + order ≡ block }
     requires most { most ≤ 15 }
+    ensures value { result ≡ plan_bound block order most (map folded_value residual.now) }
     ensures least { result ≤ plan_bits block order (map folded_value residual.now)
         (best_partition block order most (map folded_value residual.now)) }
     ensures small { result < 2 ^ 63 + 2 ^ 32 }
@@ -111,6 +115,7 @@ fn least_of(residual: &[i32], size: usize, order: usize, parts: usize) -> u64
     requires order { order < size }
     requires count { parts * size ≡ length residual.now + order }
     requires few { parts ≤ 32768 }
+    ensures value { result ≡ part_bounds size order (map folded_value residual.now) parts }
     ensures least { result ≤ leasts size order (map folded_value residual.now) parts }
     ensures small { result ≤ 2 ^ 63 + 2 ^ 31 }
 {
@@ -126,7 +131,8 @@ fn least_of(residual: &[i32], size: usize, order: usize, parts: usize) -> u64
 fn most_of(size: usize) -> u32
     requires some { 0 < size }
     requires few { size ≤ 65535 }
-    ensures { result * size < 2 ^ 32 }
+    ensures value { result ≡ (2 ^ 32 - 1) / size }
+    ensures small { result * size < 2 ^ 32 }
 {
     0xffff_ffff / size as u32
 }

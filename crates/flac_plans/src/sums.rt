@@ -2,7 +2,7 @@
 ghost use Rattle.std.specs.Prelude.{ℕ, ◌≡◌, ◌<◌, ◌≤◌, ◌+◌, ◌-◌, ◌*◌, ◌/◌, ◌^◌, ◌++◌, ◌∷◌, [], length, map, IfOk, OnOk, sum_by};
 ghost use Rattle.std.specs.List.{range_with_len};
 ghost use Rattle.flac_definitions.specs.ResidualSpelling.{folded_value};
-ghost use Rattle.flac_plans.specs.Plans.{quotients, total, cost, best_parameter, part_of, row, table, IsFirstLeast, IsWindow, least};
+ghost use Rattle.flac_plans.specs.Plans.{quotients, total, cost, best_parameter, part_of, row, table, IsFirstLeast, IsWindow, bound_at, distance_within, least, least_value, part_bound};
 
 use std::alloc::Global;
 use wc_base::NoMemory;
@@ -105,6 +105,9 @@ pub fn narrowed(window: Window, sum: u64, count: u64) -> Window
     ensures most { result.high ≤ 14 }
     ensures low { 0 < result.low → 3 * count * 2 ^ (result.low - 1) ≤ sum }
     ensures high { result.high < 14 → sum ≤ count * 2 ^ result.high }
+    ensures greatest_low { (k : ℕ) → result.low < k → k ≤ window.low
+        → sum < 3 * count * 2 ^ (k - 1) }
+    ensures least_high { (k : ℕ) → window.high ≤ k → k < result.high → count * 2 ^ k < sum }
 {
     Window {
         low: lowered(window.low, sum, count),
@@ -117,6 +120,7 @@ fn lowered(from: u32, sum: u64, count: u64) -> u32
     requires count { count ≤ 65535 }
     ensures below { result ≤ from }
     ensures low { 0 < result → 3 * count * 2 ^ (result - 1) ≤ sum }
+    ensures greatest { (k : ℕ) → result < k → k ≤ from → sum < 3 * count * 2 ^ (k - 1) }
 {
     let mut low = from;
     while low > 0 && sum < 3 * count * (1 << (low - 1)) {
@@ -131,6 +135,7 @@ fn raised(from: u32, sum: u64, count: u64) -> u32
     ensures above { from ≤ result }
     ensures most { result ≤ 14 }
     ensures high { result < 14 → sum ≤ count * 2 ^ result }
+    ensures least { (k : ℕ) → from ≤ k → k < result → count * 2 ^ k < sum }
 {
     let mut high = from;
     while high < 14 && count * (1 << high) < sum {
@@ -250,6 +255,10 @@ pub fn narrowed_by(window: Window, zs: &[u32]) -> Window
     ensures high_above { window.high ≤ result.high }
     ensures most { result.high ≤ 14 }
     ensures fits { IsWindow result.low result.high zs.now }
+    ensures greatest_low { (k : ℕ) → result.low < k → k ≤ window.low
+        → total zs.now < 3 * length zs.now * 2 ^ (k - 1) }
+    ensures least_high { (k : ℕ) → window.high ≤ k → k < result.high
+        → length zs.now * 2 ^ k < total zs.now }
 {
     narrowed(window, quotients(zs, 0), zs.len() as u64)
 }
@@ -302,6 +311,7 @@ fn sum_at(
 fn bound_of(count: u64, twice: u64) -> u64
     requires count { count ≤ 65535 }
     requires twice { twice ≤ 2 ^ 48 }
+    ensures value { result ≡ least_value (bound_at count twice) 14 }
     ensures below { (k : ℕ) → k ≤ 14 → result ≤ count * k + twice / 2 ^ k }
     ensures small { result ≤ 2 ^ 48 + 2 ^ 16 }
 {
@@ -316,6 +326,7 @@ fn bound_of(count: u64, twice: u64) -> u64
 pub fn bound_for(values: &[i32], most: u32) -> u64
     requires count { length values.now ≤ 65535 }
     requires small { length values.now * most < 2 ^ 32 }
+    ensures value { result ≡ part_bound most (map folded_value values.now) }
     ensures below { result ≤ least (map folded_value values.now) }
     ensures small { result ≤ 2 ^ 48 + 2 ^ 16 }
 {
@@ -326,7 +337,8 @@ pub fn bound_for(values: &[i32], most: u32) -> u64
 /// once.
 fn size_of(values: &[i32], most: u32) -> u32
     requires { length values.now * most < 2 ^ 32 }
-    ensures { 2 * result ≤ total (map folded_value values.now) + length values.now }
+    ensures value { result ≡ sum_by (distance_within most) (map folded_value values.now) }
+    ensures below { 2 * result ≤ total (map folded_value values.now) + length values.now }
 {
     let mut sum = 0u32;
     for value in values {
@@ -338,8 +350,9 @@ fn size_of(values: &[i32], most: u32) -> u32
 /// A value without its sign, but at most `most`.
 #[inline]
 fn size_at(value: i32, most: u32) -> u32
+    ensures value { result ≡ distance_within most (folded_value value) }
     ensures most { result ≤ most }
-    ensures value { 2 * result ≤ folded_value value + 1 }
+    ensures below { 2 * result ≤ folded_value value + 1 }
 {
     value.unsigned_abs().min(most)
 }

@@ -1,5 +1,5 @@
 use Rattle.std.proofs.Common.{length, rules, arith}
-use Rattle.flac_plans.proofs.Sizes.{size_fits, size_more, size_whole}
+use Rattle.flac_plans.proofs.Sizes.{distances_more, distances_whole, size_fits, size_more, size_whole}
 use Rattle.flac_plans.proofs.sums.size_of.Goals as goal
 
 pub overflow_add-sum : goal.overflow_add-sum
@@ -11,9 +11,13 @@ pub loop-value-preserved : goal.loop-value-preserved
 loop-value-preserved c =
     let v = c.loop-value.invariant in
     record {
-      below = size_more c.args.values.now c.loop-value.value-index _ c.loop-value.sum c.size_at-sum.result c.loop-value-test.true (search rules) v.below c.size_at-sum.ensures.value;
+      below = size_more c.args.values.now c.loop-value.value-index _ c.loop-value.sum c.size_at-sum.result c.loop-value-test.true (search rules) v.below c.size_at-sum.ensures.below;
+      value = distances_more c.args.most c.args.values.now c.loop-value.value-index _ c.loop-value.sum c.size_at-sum.result c.loop-value-test.true (search rules) v.value c.size_at-sum.ensures.value;
       small = omega (arith, v.small, c.size_at-sum.ensures.most);
     }
 
-pub returns : goal.returns
-returns c = size_whole c.args.values.now c.loop-value.value-index c.loop-value.sum c.loop-value-test.false c.loop-value.invariant.below
+pub returns-clause-value : goal.returns-clause-value
+returns-clause-value c = distances_whole c.args.most c.args.values.now c.loop-value.value-index c.loop-value.sum c.loop-value-test.false c.loop-value.invariant.value
+
+pub returns-clause-below : goal.returns-clause-below
+returns-clause-below c = size_whole c.args.values.now c.loop-value.value-index c.loop-value.sum c.loop-value-test.false c.loop-value.invariant.below
