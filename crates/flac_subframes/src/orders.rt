@@ -248,7 +248,8 @@ pub fn small_residual(alloc: Global, samples: &[i32], order: u32) -> Result<Vec<
 /// Whether each is at most `most`, above and below 0.
 pub fn are_within(values: &[i32], most: u32) -> bool
     requires { most ≤ 2 ^ 30 }
-    ensures { result ≡ true → AreWithin most values.now }
+    ensures yes { result ≡ true → AreWithin most values.now }
+    ensures no { result ≡ false → AreWithin most values.now → ⊥ }
 {
     let mut all = true;
     for value in values {
@@ -262,7 +263,8 @@ pub fn are_within(values: &[i32], most: u32) -> bool
 #[inline]
 fn is_within(value: i32, most: u32) -> bool
     requires { most ≤ 2 ^ 30 }
-    ensures { result ≡ true → IsWithin most value }
+    ensures yes { result ≡ true → IsWithin most value }
+    ensures no { result ≡ false → IsWithin most value → ⊥ }
 {
     let high = most as i32;
     value <= high && -high <= value
