@@ -148,16 +148,13 @@ leads_starts [] h = refl
 leads_starts (w ∷ ws) h = h
 
 leads_push : (ws : List Work) (w : Work) → leads ws ≡ true → leads (ws ++ w ∷ []) ≡ true
-leads_push [] w h = absurd cc
 leads_push (work.Configure config ∷ ws) w h = refl
-leads_push (work.Coded chunk ∷ ws) w h = absurd cc
-leads_push (work.Flush ∷ ws) w h = absurd cc
+leads_push _ w h = absurd cc
 
 starts_push : (ws : List Work) (config : Config) → starts ws ≡ true → leads (ws ++ work.Configure config ∷ []) ≡ true
 starts_push [] config h = refl
 starts_push (work.Configure c ∷ ws) config h = refl
-starts_push (work.Coded chunk ∷ ws) config h = absurd cc
-starts_push (work.Flush ∷ ws) config h = absurd cc
+starts_push _ config h = absurd cc
 
 -- a codec's definition answers each drain
 flac_drains : (s : Option StreamInfo) → is_some (flac_decoder s command.Drain) ≡ true
@@ -183,8 +180,7 @@ encoder_drains k c before = coded_drains (sample_codec k) c
 drain_answered : (id : CoderId) (c : Config) (before : List Command) → is_some (answer_after id c before command.Drain) ≡ true
 drain_answered id (config.AudioDecoder c) before = decoder_drains id.codec c
 drain_answered id (config.AudioEncoder c) before = encoder_drains id.codec c before
-drain_answered id (config.VideoDecoder c) before = refl
-drain_answered id config.Bad before = refl
+drain_answered id _ before = refl
 
 open_drains : (g : Given) → IsOpen g → is_some (last_answer (answers_to (more command.Drain g))) ≡ true
 open_drains g k = ap (λ (o : Option (List media.Unit)). is_some o) (last_is g command.Drain k) ∙ drain_answered k.id g.config g.commands
@@ -280,14 +276,12 @@ pushed_other c m given busy configured h =
     (queued_as c.phase c.phase c.epoch c.halted (works c) (works c ++ m.work ∷ []) c.running given busy h (λ b. leads_push (works c) m.work (h.calls configured b)))
 
 decodes_configured : (p : CodecState) (b : Bool) → ◌≡◌ {A = Option DomError} (elim p [ Unconfigured ↦ Some dom.InvalidState | Configured ↦ cond b (Some dom.Data) None | Closed ↦ Some dom.InvalidState ]) None → p ≡ Configured
-decodes_configured Unconfigured b h = absurd cc
 decodes_configured Configured b h = refl
-decodes_configured Closed b h = absurd cc
+decodes_configured _ b h = absurd cc
 
 flushes_configured : (p : CodecState) → ◌≡◌ {A = Option DomError} (elim p [ Unconfigured ↦ Some dom.InvalidState | Configured ↦ None | Closed ↦ Some dom.InvalidState ]) None → p ≡ Configured
-flushes_configured Unconfigured h = absurd cc
 flushes_configured Configured h = refl
-flushes_configured Closed h = absurd cc
+flushes_configured _ h = absurd cc
 
 accepted_at : (x : Call) (c : Control) (given busy : Given) → call_error x c ≡ None → At c given busy → At (accepted x c) given busy
 accepted_at (call.Configure config) c given busy e h = processed _ given busy (pushed_configure c c.place config given busy h)
@@ -295,9 +289,8 @@ accepted_at (call.Decode chunk) c given busy e h = processed _ given busy (pushe
 accepted_at call.Flush c given busy e h = processed _ given busy (pushed_other c (record { place = c.place; work = work.Flush }) given busy (flushes_configured c.phase e) h)
 
 encodes_configured : (p : CodecState) → ◌≡◌ {A = Bool} (elim p [ Unconfigured ↦ false | Configured ↦ true | Closed ↦ false ]) true → p ≡ Configured
-encodes_configured Unconfigured h = absurd cc
 encodes_configured Configured h = refl
-encodes_configured Closed h = absurd cc
+encodes_configured _ h = absurd cc
 
 encoded_at : (sound : HeldSound) (c : Control) (given busy : Given) → is_configured c ≡ true → At c given busy → At (after_encode c.place sound (at_next_place c)) given busy
 encoded_at sound c given busy e h = processed _ given busy (pushed_other c (record { place = c.place; work = work.Coded (coded.Sound sound) }) given busy (encodes_configured c.phase e) h)

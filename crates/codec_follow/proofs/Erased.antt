@@ -72,19 +72,16 @@ pushed : (ts : List Task) (t : Task) → map erased_task (ts ++ t ∷ []) ≡ ma
 pushed ts t = map-append erased_task ts (t ∷ [])
 
 event_erased : (wanted later : Bool) (ts : List Task) → with_event wanted later (map erased_task ts) ≡ map erased_task (with_event wanted later ts)
-event_erased true true ts = refl
 event_erased true false ts = sym (pushed ts task.Dequeue)
-event_erased false true ts = refl
-event_erased false false ts = refl
+event_erased _ _ ts = refl
 
 cond_erased : (b : Bool) (x y c : Control) → x ≡ erased y → cond b x (erased c) ≡ erased (cond b y c)
 cond_erased true x y c h = h
 cond_erased false x y c h = refl
 
 taken_erased : (w : Work) (at : ℕ) (ms : List Message) (c : Control) → record (after_message (record { place = at; work = w }) (erased c)) { messages = ms } ≡ erased (record (after_message (record { place = at; work = w }) c) { messages = ms })
-taken_erased (work.Configure config) at ms c = refl
 taken_erased (work.Coded chunk) at ms c = ap (λ (ts : List Task). record (after_message (record { place = at; work = work.Coded chunk }) (erased c)) { messages = ms; tasks = ts }) (event_erased true c.scheduled c.tasks)
-taken_erased work.Flush at ms c = refl
+taken_erased _ at ms c = refl
 
 process_erased : (ms : List Message) (c : Control) → process_queue ms (erased c) ≡ erased (process_queue ms c)
 process_erased [] c = refl
@@ -214,8 +211,7 @@ configure_none false us h = absurd cc
 
 gives_none : (k : WorkKind) (g : Given) → k ≡ kind.Configure → (us : List media.Unit) → answer_to k g ≡ Some us → us ≡ []
 gives_none kind.Configure g is us h = configure_none (is_supported g.config) us h
-gives_none kind.Coded g is us h = absurd cc
-gives_none kind.Flush g is us h = absurd cc
+gives_none _ g is us h = absurd cc
 
 refused_ends : (a : Option (List media.Unit)) (e : Ended) → ended_refused a ≡ Some e → Some ended.Refused ≡ Some (erased_end e)
 refused_ends None e h = ap (λ (x : Ended). Some (erased_end x)) (some_same ended.Refused e h)
@@ -235,8 +231,7 @@ no_slot_ends kind.Configure g n e h = h ∙ ap (λ (x : Ended). Some x) (same e 
   where
     same : (x : Ended) → ended.NoSlot n ≡ x → x ≡ erased_end x
     same x is = subst (λ (y : Ended). y ≡ erased_end y) is refl
-no_slot_ends kind.Coded g n e h = absurd cc
-no_slot_ends kind.Flush g n e h = absurd cc
+no_slot_ends _ g n e h = absurd cc
 
 pub ends_erased : (k : WorkKind) (g : Given) (o : Outcome) (e : Ended) → (k ≡ kind.Flush → is_some (answer_to kind.Flush g) ≡ true) → ended_of k g o ≡ Some e → ended_as k g o ≡ Some (erased_end e)
 ends_erased k g (outcome.Ran units) e answered h = ran_ends_by k units (answer_to k g) e (gives_none k g) h

@@ -62,12 +62,11 @@ carried_erased n active us =
     ∙ (ap (λ (m : ℕ). outputs_from n (blanks m)) (sym (length-carried active us)) ∙ outputs_erased n (carried active us))
 
 task_shown : (ts : List Task) (c : Control) → turn_shows (map erased_task ts) (erased c) ≡ map erased_event (turn_shows ts c)
-task_shown [] c = refl
 task_shown (task.Output units ∷ ts) c = carried_erased c.shown c.active units
 task_shown (task.Flushed promise units ∷ ts) c =
     ap (λ (xs : List Event). xs ++ event.Resolve promise ∷ []) (carried_erased c.shown c.active units) ∙ sym (map-append erased_event (outputs_from c.shown (carried c.active units)) (event.Resolve promise ∷ []))
 task_shown (task.Close x ∷ ts) c = closes_erased x c.pending
-task_shown (t ∷ ts) c = refl
+task_shown _ c = refl
 
 shows_erased : (e : Entry) (s : State) → shows e (erased_state s) ≡ map erased_event (shows e s)
 shows_erased (entry.Configure who config) s = refusal_erased (configure_error config s.control)
@@ -81,9 +80,8 @@ shows_erased (entry.Reclaim moment) s = closes_erased dom.QuotaExceeded s.contro
 shows_erased e s = refl
 
 word_erased_on : (ts : List Task) → turn_word (map erased_task ts) ≡ turn_word ts
-word_erased_on [] = refl
 word_erased_on (task.Unblock ∷ ts) = refl
-word_erased_on (t ∷ ts) = refl
+word_erased_on _ = refl
 
 word_erased : (e : Entry) (s : State) → word_at e (erased_state s) ≡ word_at e s
 word_erased entry.Turn s = word_erased_on s.control.tasks

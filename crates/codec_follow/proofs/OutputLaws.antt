@@ -53,8 +53,7 @@ IsOwn k c = ⊥
 
 bad_own : (k : Kind) → IsOwn k config.Bad
 bad_own kind.AudioDecoder = tt
-bad_own kind.AudioEncoder = tt
-bad_own kind.VideoDecoder = tt
+bad_own _ = tt
 
 -- a stream that is described has a rate
 read_rate : (d : List ℕ) (info : StreamInfo) → streaminfo_of d ≡ Some info → 0 < info.rate
@@ -72,18 +71,15 @@ described_rate (Some d) info h = read_rate d info h
 -- what a codec gives is of its kind, where its config is
 sound_own : (k : Kind) (c : AudioDecoderConfig) (samples : Samples) → IsOwn k (config.AudioDecoder c) → (0 < c.rate → 0 < samples.shape.rate) → IsOutputOf k (unit.Sound samples)
 sound_own kind.AudioDecoder c samples own rate = rate own
-sound_own kind.AudioEncoder c samples own rate = absurd own
-sound_own kind.VideoDecoder c samples own rate = absurd own
+sound_own _ c samples own rate = absurd own
 
 chunk_own : (k : Kind) (c : AudioEncoderConfig) (chunk : Chunk) → IsOwn k (config.AudioEncoder c) → IsOutputOf k (unit.Coded chunk None)
-chunk_own kind.AudioDecoder c chunk own = absurd own
 chunk_own kind.AudioEncoder c chunk own = tt
-chunk_own kind.VideoDecoder c chunk own = absurd own
+chunk_own _ c chunk own = absurd own
 
 picture_own : (k : Kind) (c : VideoDecoderConfig) (picture : Picture) → IsOwn k (config.VideoDecoder c) → IsOutputOf k (unit.Image picture)
-picture_own kind.AudioDecoder c picture own = absurd own
-picture_own kind.AudioEncoder c picture own = absurd own
 picture_own kind.VideoDecoder c picture own = tt
+picture_own _ c picture own = absurd own
 
 each_own : (k : Kind) → EachAnswer (λ c before x us. IsOwn k c → AllOf k us)
 each_own k = record {
@@ -98,21 +94,15 @@ each_own k = record {
 -- ---- a config that is valid and of the codec's kind
 
 rate_of : (a : Bool) (rate : ℕ) (b : Bool) → (a && nat_le 1 rate && b) ≡ true → 0 < rate
-rate_of true zero b h = absurd cc
 rate_of true (suc n) b h = omega arith
-rate_of false rate b h = absurd cc
+rate_of _ _ b h = absurd cc
 
 own_config : (k : Kind) (c : Config) → IsConfigOf k c → is_valid c ≡ true → IsOwn k c
 own_config kind.AudioDecoder (config.AudioDecoder c) own h = rate_of (not (is_blank c.codec)) c.rate (nat_le 1 c.channels) h
 own_config kind.AudioEncoder (config.AudioEncoder c) own h = tt
 own_config kind.VideoDecoder (config.VideoDecoder c) own h = tt
-own_config kind.AudioDecoder (config.AudioEncoder c) own h = absurd own
-own_config kind.AudioDecoder (config.VideoDecoder c) own h = absurd own
-own_config kind.AudioEncoder (config.AudioDecoder c) own h = absurd own
-own_config kind.AudioEncoder (config.VideoDecoder c) own h = absurd own
-own_config kind.VideoDecoder (config.AudioDecoder c) own h = absurd own
-own_config kind.VideoDecoder (config.AudioEncoder c) own h = absurd own
 own_config k config.Bad own h = absurd cc
+own_config _ _ own h = absurd own
 
 -- ---- the config that an encoded output carries
 
@@ -133,18 +123,15 @@ plain_description c = described_where IsPlainDescription c tt (plain_bytes 41 (s
 
 plain_label : (c : Config) (d : AudioDecoderConfig) → is_some (coder_id_of c) ≡ true → decoder_config c ≡ Some d → IsPlainConfig (Some d)
 plain_label (config.AudioEncoder c) d coder is = subst (λ (x : AudioDecoderConfig). IsPlainConfig (Some x)) (some_same _ d is) (known_text c.codec coder, plain_description c)
-plain_label (config.AudioDecoder c) d coder is = absurd cc
-plain_label (config.VideoDecoder c) d coder is = absurd cc
-plain_label config.Bad d coder is = absurd cc
+plain_label _ d coder is = absurd cc
 
 plain_carried : (k : Kind) (new : Option AudioDecoderConfig) → MayCarry (IsOwn k) new → IsPlainConfig new
 plain_carried k None may = tt
 plain_carried k (Some d) may = plain_label may.config d may.has_coder may.decodes
 
 relabelled : (k : Kind) (c : Chunk) (old new : Option AudioDecoderConfig) → MayCarry (IsOwn k) new → IsOutputOf k (unit.Coded c old) → IsOutputOf k (unit.Coded c new)
-relabelled kind.AudioDecoder c old new may h = h
 relabelled kind.AudioEncoder c old new may h = plain_carried kind.AudioEncoder new may
-relabelled kind.VideoDecoder c old new may h = h
+relabelled _ c old new may h = h
 
 -- the outputs of a codec of this kind
 abbrev judge_of : Kind → Judge

@@ -26,7 +26,8 @@ use Rattle.script_types.specs.declared.steps.MediaStep.TheVariants as media
 use Rattle.script_types.specs.declared.steps.Step.{Step}
 use Rattle.script_types.specs.declared.steps.Step.TheVariants as step
 use Rattle.report_text.specs.declared.result.StepResult.{StepResult}
-use Rattle.media_variables.specs.Variables.{Reference, Shape, SoundOf, PictureOf, ChunkOf, Medium, Taken, Brought, medium_at, with_medium, detached, makes, only_answers, refused, clone_held, transfer_held, close_held, if_there, copy_came, copy_medium, size_of_medium, unit_came, taken_came, chunk_medium, chunk_in_medium, sound_in, sound_of, media_ref, media_came}
+use Rattle.media_variables.specs.CameLaws.{EachCame, by_came}
+use Rattle.media_variables.specs.Variables.{Reference, Shape, SoundOf, PictureOf, ChunkOf, Medium, Came, Taken, Brought, medium_at, with_medium, detached, makes, only_answers, refused, clone_held, transfer_held, close_held, if_there, copy_came, copy_medium, size_of_medium, unit_came, taken_came, chunk_medium, chunk_in_medium, sound_in, sound_of, media_ref, media_came}
 use Rattle.media_accounts.specs.Accounts.{step_by, before_step, media_of, variables_by, variables_in}
 use Rattle.media_accounts.specs.Samples.{sound_of_unit, chunk_of_unit, samples_of_init, samples_by, samples_before, IsTakenBy, SamplesAreKept, ChunksAreTaken}
 
@@ -44,10 +45,8 @@ AreAll samples taken n vs = (j : ℕ) (m : Medium) → medium_at vs j ≡ Some m
 
 with_at : (i : ℕ) (m : Medium) (vs : List (Option Medium)) (j : ℕ) (x : Medium) → medium_at (with_medium i m vs) j ≡ Some x → ((j ≡ i) × (x ≡ m)) ⊎ (medium_at vs j ≡ Some x)
 with_at zero m [] zero x h = inl (refl, cc)
-with_at zero m [] (suc j) x h = absurd cc
 with_at zero m (v ∷ vs) zero x h = inl (refl, cc)
 with_at zero m (v ∷ vs) (suc j) x h = inr h
-with_at (suc i) m [] zero x h = absurd cc
 with_at (suc i) m [] (suc j) x h = next (with_at i m [] j x h)
   where
     next : ((j ≡ i) × (x ≡ m)) ⊎ (medium_at [] j ≡ Some x) → ((suc j ≡ suc i) × (x ≡ m)) ⊎ (medium_at [] (suc j) ≡ Some x)
@@ -59,6 +58,7 @@ with_at (suc i) m (v ∷ vs) (suc j) x h = next (with_at i m vs j x h)
     next : ((j ≡ i) × (x ≡ m)) ⊎ (medium_at vs j ≡ Some x) → ((suc j ≡ suc i) × (x ≡ m)) ⊎ (medium_at (v ∷ vs) (suc j) ≡ Some x)
     next (inl e) = inl (ap suc e.0, e.1)
     next (inr e) = inr e
+with_at _ m _ _ x h = absurd cc
 
 -- what is known of earlier variables stays where one step more is counted
 abbrev Later : (ℕ → Option Samples) → (ℕ → Option Samples) → ℕ → Type 0
@@ -132,22 +132,6 @@ record More (f g : ℕ → Option Samples) (taken : ℕ → Option output.Unit) 
 same_all : (f g : ℕ → Option Samples) (taken : ℕ → Option output.Unit) (n : ℕ) (vs ws : List (Option Medium)) → More f g taken n vs → ws ≡ vs → AreAll g taken (suc n) ws
 same_all f g taken n vs ws s same = subst (λ (l : List (Option Medium)). AreAll g taken (suc n) l) (sym same) (one_more f g taken n vs s.later s.all)
 
--- of an init that is invalid nothing is made
-audio_all : (p : List PoolEntry) (f g : ℕ → Option Samples) (taken : ℕ → Option output.Unit) (n : ℕ) (vs : List (Option Medium)) (i : SoundInit) (b : Bool) → g n ≡ Some (samples_of_init i) → More f g taken n vs
-    → AreAll g taken (suc n) (cond b (only_answers (refused dom.TypeErr) vs) (makes p n (SoundOf i.shape) (take (needed i.shape) i.content) vs)).variables
-audio_all p f g taken n vs i true gives s = same_all f g taken n vs vs s refl
-audio_all p f g taken n vs i false gives s =
-    let r : Reference = record { resource = resources_made p; number = references_made p; bytes = take (needed i.shape) i.content } in
-    let m : Medium = record { shape = SoundOf i.shape; held = Some r } in
-    given_one f g taken n vs m s.later (is_sound (taken n) (samples_of_init i) (g n) m r gives refl refl refl) s.all
-
-frame_all : (p : List PoolEntry) (f g : ℕ → Option Samples) (taken : ℕ → Option output.Unit) (n : ℕ) (vs : List (Option Medium)) (i : PictureInit) (b : Bool) → More f g taken n vs
-    → AreAll g taken (suc n) (cond b (only_answers (refused dom.TypeErr) vs) (makes p n (PictureOf i.shape) (take (picture_size i.shape) i.content) vs)).variables
-frame_all p f g taken n vs i true s = same_all f g taken n vs vs s refl
-frame_all p f g taken n vs i false s =
-    let m : Medium = record { shape = PictureOf i.shape; held = Some (record { resource = resources_made p; number = references_made p; bytes = take (picture_size i.shape) i.content }) } in
-    given_one f g taken n vs m s.later (is_picture (taken n) (g n) m i.shape refl) s.all
-
 unit_all : (p : List PoolEntry) (f g : ℕ → Option Samples) (taken : ℕ → Option output.Unit) (n : ℕ) (vs : List (Option Medium)) (answer : StepResult) (u : output.Unit) → taken n ≡ Some u → g n ≡ option_and_then sound_of_unit (taken n) → More f g taken n vs
     → AreAll g taken (suc n) (unit_came p n answer u vs).variables
 unit_all p f g taken n vs answer (unit.Sound x) is gives s =
@@ -160,11 +144,6 @@ unit_all p f g taken n vs answer (unit.Image x) is gives s =
 unit_all p f g taken n vs answer (unit.Coded chunk config) is gives s =
     given_one f g taken n vs (chunk_medium chunk) s.later (is_chunk (taken n) (g n) chunk (ap (option_and_then chunk_of_unit) is)) s.all
 
-taken_all : (p : List PoolEntry) (f g : ℕ → Option Samples) (taken : ℕ → Option output.Unit) (n : ℕ) (vs : List (Option Medium)) (o : Option Taken) → ((t : Taken) → o ≡ Some t → taken n ≡ Some t.unit) → g n ≡ option_and_then sound_of_unit (taken n) → More f g taken n vs
-    → AreAll g taken (suc n) (variables_by (taken_came p n o vs) vs)
-taken_all p f g taken n vs None is gives s = same_all f g taken n vs vs s refl
-taken_all p f g taken n vs (Some t) is gives s = unit_all p f g taken n vs t.answer t.unit (is t refl) gives s
-
 -- a clone has the samples of what it clones; a chunk holds no reference, and is not cloned
 cloned_is : (f g : ℕ → Option Samples) (taken : ℕ → Option output.Unit) (n i number : ℕ) (m : Medium) (r : Reference) → g n ≡ f i → m.held ≡ Some r → Is (f i) (taken i) m → Is (g n) (taken n) (record { shape = m.shape; held = Some (record r { number = number }) })
 cloned_is f g taken n i number m r gives holds old = record {
@@ -175,12 +154,6 @@ cloned_is f g taken n i number m r gives holds old = record {
   chunk = λ chunk is. (let none = (old.chunk chunk is).0 in absurd cc);
 }
 
-clone_all : (p : List PoolEntry) (f g : ℕ → Option Samples) (taken : ℕ → Option output.Unit) (n i : ℕ) (vs : List (Option Medium)) (m : Medium) (h : Option Reference) → m.held ≡ h → medium_at vs i ≡ Some m → g n ≡ f i → More f g taken n vs
-    → AreAll g taken (suc n) (clone_held p n m.shape h vs).variables
-clone_all p f g taken n i vs m None holds there gives s = same_all f g taken n vs vs s refl
-clone_all p f g taken n i vs m (Some r) holds there gives s =
-    given_one f g taken n vs (record { shape = m.shape; held = Some (record r { number = references_made p }) }) s.later (cloned_is f g taken n i (references_made p) m r gives holds (s.all i m there).1) s.all
-
 -- what is handed on is the same medium
 moved_is : (f g : ℕ → Option Samples) (taken : ℕ → Option output.Unit) (n i : ℕ) (m : Medium) (r : Reference) → g n ≡ f i → m.held ≡ Some r → Is (f i) (taken i) m → Is (g n) (taken n) m
 moved_is f g taken n i m r gives holds old = record {
@@ -188,67 +161,35 @@ moved_is f g taken n i m r gives holds old = record {
   chunk = λ chunk is. (let none = (old.chunk chunk is).0 in absurd cc);
 }
 
-transfer_all : (f g : ℕ → Option Samples) (taken : ℕ → Option output.Unit) (n i : ℕ) (vs : List (Option Medium)) (m : Medium) (h : Option Reference) → m.held ≡ h → medium_at vs i ≡ Some m → g n ≡ f i → More f g taken n vs
-    → AreAll g taken (suc n) (transfer_held n i m h vs).variables
-transfer_all f g taken n i vs m None holds there gives s = same_all f g taken n vs vs s refl
-transfer_all f g taken n i vs m (Some r) holds there gives s =
-    given_one f g taken n (with_medium i (detached m) vs) m s.later (moved_is f g taken n i m r gives holds (s.all i m there).1) (detached_one f taken n vs i m there s.all)
-
-close_all : (p : List PoolEntry) (who : Who) (f g : ℕ → Option Samples) (taken : ℕ → Option output.Unit) (n i : ℕ) (vs : List (Option Medium)) (m : Medium) (h : Option Reference) → medium_at vs i ≡ Some m → More f g taken n vs
-    → AreAll g taken (suc n) (close_held p who i m h vs).variables
-close_all p who f g taken n i vs m None there s = same_all f g taken n vs vs s refl
-close_all p who f g taken n i vs m (Some r) there s = one_more f g taken n (with_medium i (detached m) vs) s.later (detached_one f taken n vs i m there s.all)
-
--- ---- steps on what may be absent
-
-clone_there : (p : List PoolEntry) (f g : ℕ → Option Samples) (taken : ℕ → Option output.Unit) (n i : ℕ) (vs : List (Option Medium)) (o : Option Medium) → medium_at vs i ≡ o → g n ≡ f i → More f g taken n vs
-    → AreAll g taken (suc n) (if_there o vs (λ m. clone_held p n m.shape m.held vs)).variables
-clone_there p f g taken n i vs None there gives s = same_all f g taken n vs vs s refl
-clone_there p f g taken n i vs (Some m) there gives s = clone_all p f g taken n i vs m m.held refl there gives s
-
-transfer_there : (f g : ℕ → Option Samples) (taken : ℕ → Option output.Unit) (n i : ℕ) (vs : List (Option Medium)) (o : Option Medium) → medium_at vs i ≡ o → g n ≡ f i → More f g taken n vs
-    → AreAll g taken (suc n) (if_there o vs (λ m. transfer_held n i m m.held vs)).variables
-transfer_there f g taken n i vs None there gives s = same_all f g taken n vs vs s refl
-transfer_there f g taken n i vs (Some m) there gives s = transfer_all f g taken n i vs m m.held refl there gives s
-
-close_there : (p : List PoolEntry) (who : Who) (f g : ℕ → Option Samples) (taken : ℕ → Option output.Unit) (n i : ℕ) (vs : List (Option Medium)) (o : Option Medium) → medium_at vs i ≡ o → More f g taken n vs
-    → AreAll g taken (suc n) (if_there o vs (λ m. close_held p who i m m.held vs)).variables
-close_there p who f g taken n i vs None there s = same_all f g taken n vs vs s refl
-close_there p who f g taken n i vs (Some m) there s = close_all p who f g taken n i vs m m.held there s
-
--- a copy and a size only answer
-answered : (o : Option Medium) (vs : List (Option Medium)) (answer : Medium → StepResult) → (if_there o vs (λ m. only_answers (answer m) vs)).variables ≡ vs
-answered None vs answer = refl
-answered (Some m) vs answer = refl
-
-copied : (chunk : Option Chunk) (i size : ℕ) (o : Options) (vs : List (Option Medium)) → (copy_came chunk i o size vs).variables ≡ vs
-copied chunk i size options.Nothing vs = refl
-copied chunk i size (options.Audio o) vs = answered (medium_at vs i) vs (λ m. copy_medium m (options.Audio o) size)
-copied chunk i size (options.Frame o) vs = answered (medium_at vs i) vs (λ m. copy_medium m (options.Frame o) size)
-
 -- ---- every step
 
--- `gives` has the samples that the step gives its variable
-came_all : (p : List PoolEntry) (who : Who) (b : Brought) (x : MediaStep) (f g : ℕ → Option Samples) (taken : ℕ → Option output.Unit) (vs : List (Option Medium))
-    → ((on : ℕ) (bind : List ℕ) (kind : VariableKind) (t : Taken) → x ≡ media.Take on bind kind → b.taken ≡ Some t → taken who.step ≡ Some t.unit)
-    → g who.step ≡ samples_by f (taken who.step) (step.Media x) → More f g taken who.step vs → AreAll g taken (suc who.step) (variables_by (media_came p who b x vs) vs)
-came_all p who b (media.Audio bind None) f g taken vs took gives s = same_all f g taken who.step vs vs s refl
-came_all p who b (media.Audio bind (Some i)) f g taken vs took gives s = audio_all p f g taken who.step vs i (is_invalid i.shape (length i.content)) gives s
-came_all p who b (media.Frame bind None) f g taken vs took gives s = same_all f g taken who.step vs vs s refl
-came_all p who b (media.Frame bind (Some i)) f g taken vs took gives s = frame_all p f g taken who.step vs i (frames.is_invalid i.shape (length i.content)) s
-came_all p who b (media.Encode on content) f g taken vs took gives s = same_all f g taken who.step vs vs s refl
-came_all p who b (media.Take on bind kind) f g taken vs took gives s = taken_all p f g taken who.step vs b.taken (λ t is. took on bind kind t refl is) gives s
-came_all p who b (media.Clone of bind) f g taken vs took gives s = clone_there p f g taken who.step of.step vs (medium_at vs of.step) refl gives s
-came_all p who b (media.Transfer of bind) f g taken vs took gives s = transfer_there f g taken who.step of.step vs (medium_at vs of.step) refl gives s
-came_all p who b (media.CloseData of) f g taken vs took gives s = close_there p who f g taken who.step of.step vs (medium_at vs of.step) refl s
-came_all p who b (media.Copy of o size) f g taken vs took gives s = same_all f g taken who.step vs (copy_came b.chunk of.step o size vs).variables s (copied b.chunk of.step size o vs)
-came_all p who b (media.Size of o) f g taken vs took gives s =
-    same_all f g taken who.step vs (if_there (medium_at vs of.step) vs (λ m. only_answers (size_of_medium m o) vs)).variables s (answered (medium_at vs of.step) vs (λ m. size_of_medium m o))
+-- what is known of a step: the output that it takes, and the samples that it gives its variable
+record IsStep (f g : ℕ → Option Samples) (taken : ℕ → Option output.Unit) (n : ℕ) (b : Brought) (x : MediaStep) : Type 0 where
+  took : (on : ℕ) (bind : List ℕ) (kind : VariableKind) (t : Taken) → x ≡ media.Take on bind kind → b.taken ≡ Some t → taken n ≡ Some t.unit
+  gives : g n ≡ samples_by f (taken n) (step.Media x)
 
--- a step that is none on media changes no variable
-other_all : (p : List PoolEntry) (who : Who) (brings : MediaStep → Brought) (x : Step) (f g : ℕ → Option Samples) (taken : ℕ → Option output.Unit) (vs : List (Option Medium)) → media_of x ≡ None → More f g taken who.step vs
-    → AreAll g taken (suc who.step) (variables_by (option_and_then (λ y. media_came p who (brings y) y vs) (media_of x)) vs)
-other_all p who brings x f g taken vs none s = same_all f g taken who.step vs _ s (ap (λ o. variables_by (option_and_then (λ y. media_came p who (brings y) y vs) o) vs) none)
+each_all : (p : List PoolEntry) (who : Who) (b : Brought) (f g : ℕ → Option Samples) (taken : ℕ → Option output.Unit) (vs : List (Option Medium)) → More f g taken who.step vs
+    → EachCame p who b vs (λ x y. IsStep f g taken who.step b x → AreAll g taken (suc who.step) y.variables)
+each_all p who b f g taken vs s = record {
+  refuses = λ x e k. same_all f g taken who.step vs vs s refl;
+  absent = λ x k. same_all f g taken who.step vs vs s refl;
+  audio = λ bind i k. given_one f g taken who.step vs _ s.later (is_sound (taken who.step) (samples_of_init i) (g who.step) _ _ k.gives refl refl refl) s.all;
+  frame = λ bind i k. given_one f g taken who.step vs _ s.later (is_picture (taken who.step) (g who.step) _ i.shape refl) s.all;
+  takes = λ on bind kind t is k. unit_all p f g taken who.step vs t.answer t.unit (k.took on bind kind t refl is) k.gives s;
+  clones = λ of bind m r is holds k. given_one f g taken who.step vs _ s.later (cloned_is f g taken who.step of.step (references_made p) m r k.gives holds (s.all of.step m is).1) s.all;
+  transfers = λ of bind m r is holds k.
+      given_one f g taken who.step (with_medium of.step (detached m) vs) m s.later (moved_is f g taken who.step of.step m r k.gives holds (s.all of.step m is).1) (detached_one f taken who.step vs of.step m is s.all);
+  closed = λ of m is holds k. same_all f g taken who.step vs vs s refl;
+  closes = λ of m r is holds k. one_more f g taken who.step (with_medium of.step (detached m) vs) s.later (detached_one f taken who.step vs of.step m is s.all);
+  copies_chunk = λ of size k. same_all f g taken who.step vs vs s refl;
+  copies = λ of o size m is k. same_all f g taken who.step vs vs s refl;
+  sizes = λ of o m is k. same_all f g taken who.step vs vs s refl;
+}
+
+came_all : (p : List PoolEntry) (who : Who) (b : Brought) (x : MediaStep) (f g : ℕ → Option Samples) (taken : ℕ → Option output.Unit) (vs : List (Option Medium)) → IsStep f g taken who.step b x → More f g taken who.step vs
+    → (o : Option Came) → media_came p who b x vs ≡ o → AreAll g taken (suc who.step) (variables_by o vs)
+came_all p who b x f g taken vs k s None is = same_all f g taken who.step vs vs s refl
+came_all p who b x f g taken vs k s (Some y) is = by_came p who b vs _ (each_all p who b f g taken vs s) x y is k
 
 step_all : (p : List PoolEntry) (who : Who) (brings : MediaStep → Brought) (o : Option Step) (f g : ℕ → Option Samples) (taken : ℕ → Option output.Unit) (vs : List (Option Medium))
     → ((on : ℕ) (bind : List ℕ) (kind : VariableKind) (t : Taken) → o ≡ Some (step.Media (media.Take on bind kind)) → (brings (media.Take on bind kind)).taken ≡ Some t → taken who.step ≡ Some t.unit)
@@ -256,16 +197,9 @@ step_all : (p : List PoolEntry) (who : Who) (brings : MediaStep → Brought) (o 
     → AreAll g taken (suc who.step) (variables_by (option_and_then (λ y. media_came p who (brings y) y vs) (option_and_then media_of o)) vs)
 step_all p who brings None f g taken vs took gives s = same_all f g taken who.step vs vs s refl
 step_all p who brings (Some (step.Media x)) f g taken vs took gives s =
-    came_all p who (brings x) x f g taken vs (λ on bind kind t is has. took on bind kind t (ap (λ (y : MediaStep). Some (step.Media y)) is) (subst (λ (y : MediaStep). (brings y).taken ≡ Some t) is has)) gives s
-step_all p who brings (Some (step.Configure on config)) f g taken vs took gives s = other_all p who brings (step.Configure on config) f g taken vs refl s
-step_all p who brings (Some (step.Chunk bind source)) f g taken vs took gives s = other_all p who brings (step.Chunk bind source) f g taken vs refl s
-step_all p who brings (Some (step.Decode on chunk)) f g taken vs took gives s = other_all p who brings (step.Decode on chunk) f g taken vs refl s
-step_all p who brings (Some (step.Flush on bind)) f g taken vs took gives s = other_all p who brings (step.Flush on bind) f g taken vs refl s
-step_all p who brings (Some (step.Poll promise)) f g taken vs took gives s = other_all p who brings (step.Poll promise) f g taken vs refl s
-step_all p who brings (Some (step.Await promise)) f g taken vs took gives s = other_all p who brings (step.Await promise) f g taken vs refl s
-step_all p who brings (Some (step.Reset on)) f g taken vs took gives s = other_all p who brings (step.Reset on) f g taken vs refl s
-step_all p who brings (Some (step.Close on)) f g taken vs took gives s = other_all p who brings (step.Close on) f g taken vs refl s
-step_all p who brings (Some (step.State on)) f g taken vs took gives s = other_all p who brings (step.State on) f g taken vs refl s
+    came_all p who (brings x) x f g taken vs
+    (record { took = λ on bind kind t is has. took on bind kind t (ap (λ (y : MediaStep). Some (step.Media y)) is) (subst (λ (y : MediaStep). (brings y).taken ≡ Some t) is has); gives = gives }) s _ refl
+step_all p who brings (Some _) f g taken vs took gives s = same_all f g taken who.step vs vs s refl
 
 -- ---- all steps
 
@@ -292,14 +226,12 @@ all_steps steps brought pool c taken (suc n) took =
 -- audio data, by the medium that a variable holds
 sound_kept : (f : ℕ → Option Samples) (taken : ℕ → Option output.Unit) (n : ℕ) (vs : List (Option Medium)) (j : ℕ) (x : Sound) (r : MediaRef) (m : Medium) (shape : Shape) (h : Option Reference)
     → AreAll f taken n vs → medium_at vs j ≡ Some m → m.shape ≡ shape → m.held ≡ h → sound_in (record { shape = shape; held = h }) ≡ Some x → x.held ≡ Some r → f j ≡ Some (record { shape = x.shape; bytes = r.bytes })
-sound_kept f taken n vs j x r m (SoundOf s) None all there shaped holds sound is = absurd cc
 sound_kept f taken n vs j x r m (SoundOf s) (Some q) all there shaped holds sound is =
     let same : sound_of s (Some q) ≡ x = cc in
     let held : Some (media_ref q) ≡ Some r = ap (λ (y : Sound). y.held) same ∙ is in
     let ref : media_ref q ≡ r = cc in
     (all j m there).1.sound s q shaped holds ∙ (λ i. Some (record { shape = (same i).shape; bytes = (ref i).bytes }))
-sound_kept f taken n vs j x r m (PictureOf s) h all there shaped holds sound is = absurd cc
-sound_kept f taken n vs j x r m (ChunkOf s) h all there shaped holds sound is = absurd cc
+sound_kept f taken n vs j x r m _ _ all there shaped holds sound is = absurd cc
 
 sound_there : (f : ℕ → Option Samples) (taken : ℕ → Option output.Unit) (n : ℕ) (vs : List (Option Medium)) (j : ℕ) (x : Sound) (r : MediaRef) (o : Option Medium)
     → AreAll f taken n vs → medium_at vs j ≡ o → option_and_then sound_in o ≡ Some x → x.held ≡ Some r → f j ≡ Some (record { shape = x.shape; bytes = r.bytes })
@@ -308,9 +240,8 @@ sound_there f taken n vs j x r (Some m) all there sound is = sound_kept f taken 
 
 chunk_kept : (f : ℕ → Option Samples) (taken : ℕ → Option output.Unit) (n : ℕ) (vs : List (Option Medium)) (j : ℕ) (chunk : Chunk) (m : Medium) (shape : Shape)
     → AreAll f taken n vs → medium_at vs j ≡ Some m → m.shape ≡ shape → chunk_in_medium (record { shape = shape; held = m.held }) ≡ Some chunk → option_and_then chunk_of_unit (taken j) ≡ Some chunk
-chunk_kept f taken n vs j chunk m (SoundOf s) all there shaped is = absurd cc
-chunk_kept f taken n vs j chunk m (PictureOf s) all there shaped is = absurd cc
 chunk_kept f taken n vs j chunk m (ChunkOf x) all there shaped is = ((all j m there).1.chunk x shaped).1 ∙ is
+chunk_kept f taken n vs j chunk m _ all there shaped is = absurd cc
 
 chunk_there : (f : ℕ → Option Samples) (taken : ℕ → Option output.Unit) (n : ℕ) (vs : List (Option Medium)) (j : ℕ) (chunk : Chunk) (o : Option Medium)
     → AreAll f taken n vs → medium_at vs j ≡ o → option_and_then chunk_in_medium o ≡ Some chunk → option_and_then chunk_of_unit (taken j) ≡ Some chunk

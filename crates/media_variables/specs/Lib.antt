@@ -1,3 +1,4 @@
+pub mod CameLaws
 pub mod Given
 pub mod Held
 pub mod Variables

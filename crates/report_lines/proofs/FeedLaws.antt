@@ -114,9 +114,8 @@ look_plain : (script : ScriptData) (n len : ℕ) → AreNames script → IsCodec
 look_plain script n len names fits lt = both _ _ (word_plain (codec_name script.codecs n) (names.codecs_are_words n fits.0)) (both (codes ":") (decimal len) (sure refl) (number len lt))
 
 promise_plain : (p : PromiseState) → Plain (promise_text p)
-promise_plain promise.Pending = sure refl
-promise_plain promise.Resolved = sure refl
 promise_plain (promise.Rejected e) = both (codes "rejected ") _ (sure refl) (word_plain (error_name e) (error_is_word e))
+promise_plain _ = sure refl
 
 layout_plain : (l : PlaneLayout) → FitsLayout l → Plain (layout_text l)
 layout_plain l fits = both _ _ (short_number l.offset fits.0) (both (codes ":") _ (sure refl) (short_number l.stride fits.1))
@@ -145,19 +144,12 @@ result_plain script result.Absent names fits = sure refl
 
 outcome_plain : (o : Outcome) → FitsOutcome o → Plain (outcome_text o)
 outcome_plain (outcome.Ran n) fits = both (codes "ran ") _ (sure refl) (number n fits)
-outcome_plain outcome.Refused fits = sure refl
 outcome_plain (outcome.NoSlot n) fits = both (codes "no-slot ") _ (sure refl) (number n fits)
-outcome_plain outcome.NoMemory fits = sure refl
+outcome_plain _ fits = sure refl
 
 turn_plain : (t : Option TurnWord) → Plain (turn_text t)
-turn_plain None = sure refl
-turn_plain (Some turn.Unblock) = sure refl
-turn_plain (Some turn.Process) = sure refl
-turn_plain (Some turn.Desaturate) = sure refl
-turn_plain (Some turn.Output) = sure refl
-turn_plain (Some turn.Flushed) = sure refl
-turn_plain (Some turn.Dequeue) = sure refl
 turn_plain (Some (turn.Close e)) = both (codes "close ") _ (sure refl) (word_plain (error_name e) (error_is_word e))
+turn_plain _ = sure refl
 
 item_plain : (epoch item : ℕ) → epoch < 2 ^ 64 → item < 2 ^ 64 → Plain (item_text epoch item)
 item_plain epoch item a b = both _ _ (number epoch a) (both (codes ".") _ (sure refl) (number item b))

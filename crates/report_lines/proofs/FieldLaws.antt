@@ -31,8 +31,7 @@ utf8_digits w h = IsUtf8-from_ascii w (IsAscii-from_digits w (own.to w h))
 
 none_of : (a b : Bool) (v : ℕ) → ((a ≡ true) → (b ≡ true) → ⊥) → None ≡ cond (a && b) (Some v) None
 none_of true true v h = absurd (h refl refl)
-none_of true false v h = refl
-none_of false b v h = refl
+none_of _ _ v h = refl
 
 value_cases : {E : Type 0} (r : Result ℕ E) (w : List ℕ) → OkIff r ((0 < length w) × (digits_value 10 w < 2 ^ 64)) (digits_value 10 w) → result_ok r ≡ value_of w
 value_cases (Ok n) w h = rw (lt-ltb _ _ h.0.0, lt-ltb _ _ h.0.1) (ap (λ (x : ℕ). Some x) h.1)

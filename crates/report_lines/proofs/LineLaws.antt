@@ -134,15 +134,13 @@ answer_at_again a rest = rw (word_again 10 (answer_text a) rest (answer_is_word 
 
 promise_at_again : (p : PromiseState) (rest : List ℕ) → promise_at (promise_text p ++ 10 ∷ rest) ≡ Some p
 unfolding promise_at
-promise_at_again promise.Pending rest = refl
-promise_at_again promise.Resolved rest = refl
 promise_at_again (promise.Rejected e) rest = rw (error_at_again e rest) refl
+promise_at_again _ rest = refl
 
 look_again : (n len : ℕ) (p : PromiseState) (rest : List ℕ) → look_at n len (promise_text p ++ 10 ∷ rest) ≡ Some (result.Look n len p)
 unfolding look_at promise_at
-look_again n len promise.Pending rest = refl
-look_again n len promise.Resolved rest = refl
 look_again n len (promise.Rejected e) rest = rw (error_at_again e rest) refl
+look_again n len _ rest = refl
 
 no_unit_again : (n len : ℕ) (rest : List ℕ) → look_at n len (codes "none" ++ 10 ∷ rest) ≡ Some (result.NoUnit n len)
 unfolding look_at
@@ -151,8 +149,7 @@ no_unit_again n len rest = refl
 -- a state's word is not that of a take without an output
 state_alone : (s : CodecState) (x y : Option StepResult) → cond (bytes_eq (state_text s) (codes "none")) x y ≡ y
 state_alone state.Unconfigured x y = refl
-state_alone state.Configured x y = refl
-state_alone state.Closed x y = refl
+state_alone _ x y = refl
 
 state_look_again : (n len size : ℕ) (s : CodecState) (rest : List ℕ) → size < 2 ^ 64 → look_at n len (state_text s ++ 32 ∷ (decimal size ++ 10 ∷ rest)) ≡ Some (result.State n len s size)
 unfolding look_at
@@ -167,14 +164,8 @@ outcome_again outcome.NoMemory rest fits = refl
 
 turn_again : (t : Option TurnWord) (rest : List ℕ) → turn_at (turn_text t ++ 10 ∷ rest) ≡ Some t
 unfolding turn_at
-turn_again None rest = refl
-turn_again (Some turn.Unblock) rest = refl
-turn_again (Some turn.Process) rest = refl
-turn_again (Some turn.Desaturate) rest = refl
-turn_again (Some turn.Output) rest = refl
-turn_again (Some turn.Flushed) rest = refl
-turn_again (Some turn.Dequeue) rest = refl
 turn_again (Some (turn.Close e)) rest = rw (error_at_again e rest) refl
+turn_again _ rest = refl
 
 -- ---- copies
 
@@ -291,31 +282,13 @@ looked_next script n name rest lt word =
 
 -- an answer is not the word of a copy
 answer_no_copy : (a : Option DomError) (x y : Option Line) → cond (bytes_eq (answer_text a) (codes "copied")) x y ≡ y
-answer_no_copy None x y = refl
-answer_no_copy (Some dom.Abort) x y = refl
-answer_no_copy (Some dom.InvalidState) x y = refl
-answer_no_copy (Some dom.NotSupported) x y = refl
-answer_no_copy (Some dom.Encoding) x y = refl
-answer_no_copy (Some dom.Data) x y = refl
-answer_no_copy (Some dom.DataClone) x y = refl
 answer_no_copy (Some dom.QuotaExceeded) x y = refl
-answer_no_copy (Some dom.TypeErr) x y = refl
-answer_no_copy (Some dom.RangeErr) x y = refl
-answer_no_copy (Some dom.OutOfMemory) x y = refl
+answer_no_copy _ x y = refl
 
 worded_answer : (n : ℕ) (a : Option DomError) (rest : List ℕ) → worded_line_at n (answer_text a) rest ≡ Some (line.Result n (result.Local a))
 unfolding worded_line_at worded_result_at
-worded_answer n None rest = refl
-worded_answer n (Some dom.Abort) rest = refl
-worded_answer n (Some dom.InvalidState) rest = refl
-worded_answer n (Some dom.NotSupported) rest = refl
-worded_answer n (Some dom.Encoding) rest = refl
-worded_answer n (Some dom.Data) rest = refl
-worded_answer n (Some dom.DataClone) rest = refl
 worded_answer n (Some dom.QuotaExceeded) rest = refl
-worded_answer n (Some dom.TypeErr) rest = refl
-worded_answer n (Some dom.RangeErr) rest = refl
-worded_answer n (Some dom.OutOfMemory) rest = refl
+worded_answer n _ rest = refl
 
 copied_next : (script : ScriptData) (n : ℕ) (r : StepResult) (text : List ℕ) → n < 2 ^ 64 → copied_at text ≡ Some r → only_line_at script (decimal n ++ 32 ∷ (codes "copied " ++ text)) ≡ Some (line.Result n r)
 unfolding numbered_line_at copied_line_at
@@ -356,11 +329,7 @@ result_again script step result.Absent rest names lt fits = simp append_assoc (
 call_alone : (c : CallWord) (v w x y z : Option Line)
     → cond (is_slot_word (call_word c)) v (cond (is_pool_word (call_word c)) w (cond (bytes_eq (call_word c) (codes "unit")) x (cond (bytes_eq (call_word c) (codes "take")) y z))) ≡ z
 call_alone call.Configure v w x y z = refl
-call_alone call.Decode v w x y z = refl
-call_alone call.Encode v w x y z = refl
-call_alone call.Flush v w x y z = refl
-call_alone call.Reset v w x y z = refl
-call_alone call.Close v w x y z = refl
+call_alone _ v w x y z = refl
 
 called_again : (script : ScriptData) (place : ℕ) (who : Who) (c : CallWord) (error : Option DomError) (rest : List ℕ) → AreNames script → FitsWho script who
     → dotted_line_at script place (caller_name script.callers who.caller) (decimal who.step ++ 32 ∷ (call_word c ++ 32 ∷ 61 ∷ 32 ∷ (answer_text error ++ 10 ∷ rest))) ≡ Some (line.Entry place (entry_line.Call who c error))
@@ -543,19 +512,16 @@ event_again script (event_line.Error e) rest fits = simp append_assoc (rw (error
 
 parsed_again : (script : ScriptData) (l : Line) (rest : List ℕ) → AreNames script → FitsLine script l → only_line_at script (line_text script l ++ rest) ≡ Some l
 unfolding only_line_at headed_line_at caller_at codec_at
-parsed_again script line.Header rest names fits = refl
 parsed_again script (line.Caller n) rest names fits = simp append_assoc (rw (word_again 10 (caller_name script.callers n) rest (names.callers_are_words n fits.0) refl, caller_again script n names fits) refl)
 parsed_again script (line.Result step found) rest names fits = result_again script step found rest names fits.0 fits.1
 parsed_again script (line.Codec n opening) rest names fits = simp append_assoc (
     rw (word_again 32 (codec_name script.codecs n) _ (names.codecs_are_words n fits.0.0) refl, codec_again script n names fits.0, word_again 32 (kind_text opening.kind) _ (kind_is_word opening.kind) refl, kind_again opening.kind, short_again 10 opening.saturation rest fits.1 refl) refl)
 parsed_again script (line.Entry place entry) rest names fits = entry_again script place entry rest names fits.0 fits.1
 parsed_again script (line.Event s) rest names fits = event_again script s rest fits
-parsed_again script line.Pool rest names fits = refl
 parsed_again script (line.Reference place entry) rest names fits = reference_again script place entry.by entry.op rest names fits.0 fits.1 fits.2
-parsed_again script line.Slots rest names fits = refl
 parsed_again script (line.Slot place entry) rest names fits = slot_again script place entry.by entry.op rest names fits.0 fits.1 fits.2
 parsed_again script (line.Held n) rest names fits = simp append_assoc (rw (number_again 10 n rest fits refl) refl)
-parsed_again script line.End rest names fits = refl
+parsed_again script _ rest names fits = refl
 
 pub line_again : (script : ScriptData) (l : Line) (rest : List ℕ) → AreNames script → FitsLine script l → line_at script (line_text script l ++ rest) ≡ Some (l, rest)
 unfolding line_at

@@ -53,13 +53,12 @@ upto_again t (b ∷ w) rest lacks = upto_head (eqb b t) t w rest b (not_equal b 
 -- ---- behind a prefix
 
 pub after_strips : (ps bs : List ℕ) → after ps bs ≡ cond (pointwise nat_eq (take (length ps) bs) ps) (Some (drop (length ps) bs)) None
-after_strips [] bs = refl
-after_strips (p ∷ ps) [] = refl
 after_strips (p ∷ ps) (b ∷ bs) =
     elim (eqb b p) as (λ q. cond q (after ps bs) None ≡ cond (q && pointwise nat_eq (take (length ps) bs) ps) (Some (drop (length ps) bs)) None) [
       | true ↦ after_strips ps bs
       | false ↦ refl
     ]
+after_strips _ _ = refl
 
 pub after_again : (w rest : List ℕ) → after w (w ++ rest) ≡ Some rest
 after_again [] rest = refl

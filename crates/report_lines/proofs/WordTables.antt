@@ -24,118 +24,60 @@ use Rattle.report_text.specs.Text.{last_text}
 use Rattle.report_lines.specs.Vocabulary.{error_of, answer_of, kind_of, state_of, call_of, sample_format_of, picture_format_of, codec_id_of, role_of, key_of, last_of}
 
 pub error_is_word : (x : DomError) → list_all is_word_byte (error_name x) ≡ true
-error_is_word dom.Abort = refl
-error_is_word dom.InvalidState = refl
-error_is_word dom.NotSupported = refl
-error_is_word dom.Encoding = refl
-error_is_word dom.Data = refl
-error_is_word dom.DataClone = refl
 error_is_word dom.QuotaExceeded = refl
-error_is_word dom.TypeErr = refl
-error_is_word dom.RangeErr = refl
-error_is_word dom.OutOfMemory = refl
+error_is_word _ = refl
 
 pub error_again : (x : DomError) → error_of (error_name x) ≡ Some x
-error_again dom.Abort = refl
-error_again dom.InvalidState = refl
-error_again dom.NotSupported = refl
-error_again dom.Encoding = refl
-error_again dom.Data = refl
-error_again dom.DataClone = refl
 error_again dom.QuotaExceeded = refl
-error_again dom.TypeErr = refl
-error_again dom.RangeErr = refl
-error_again dom.OutOfMemory = refl
+error_again _ = refl
 
 pub kind_is_word : (x : Kind) → list_all is_word_byte (kind_text x) ≡ true
 kind_is_word kind.AudioDecoder = refl
-kind_is_word kind.AudioEncoder = refl
-kind_is_word kind.VideoDecoder = refl
+kind_is_word _ = refl
 
 pub kind_again : (x : Kind) → kind_of (kind_text x) ≡ Some x
 kind_again kind.AudioDecoder = refl
-kind_again kind.AudioEncoder = refl
-kind_again kind.VideoDecoder = refl
+kind_again _ = refl
 
 pub state_is_word : (x : CodecState) → list_all is_word_byte (state_text x) ≡ true
 state_is_word state.Unconfigured = refl
-state_is_word state.Configured = refl
-state_is_word state.Closed = refl
+state_is_word _ = refl
 
 pub state_again : (x : CodecState) → state_of (state_text x) ≡ Some x
 state_again state.Unconfigured = refl
-state_again state.Configured = refl
-state_again state.Closed = refl
+state_again _ = refl
 
 pub call_is_word : (x : CallWord) → list_all is_word_byte (call_word x) ≡ true
 call_is_word call.Configure = refl
-call_is_word call.Decode = refl
-call_is_word call.Encode = refl
-call_is_word call.Flush = refl
-call_is_word call.Reset = refl
-call_is_word call.Close = refl
+call_is_word _ = refl
 
 pub call_again : (x : CallWord) → call_of (call_word x) ≡ Some x
 call_again call.Configure = refl
-call_again call.Decode = refl
-call_again call.Encode = refl
-call_again call.Flush = refl
-call_again call.Reset = refl
-call_again call.Close = refl
+call_again _ = refl
 
 pub sample_format_is_word : (x : SampleFormat) → list_all is_word_byte (sample_format_text x) ≡ true
-sample_format_is_word sample.U8 = refl
-sample_format_is_word sample.S16 = refl
-sample_format_is_word sample.S32 = refl
-sample_format_is_word sample.U8Planar = refl
 sample_format_is_word sample.S16Planar = refl
-sample_format_is_word sample.S32Planar = refl
+sample_format_is_word _ = refl
 
 pub sample_format_again : (x : SampleFormat) → sample_format_of (sample_format_text x) ≡ Some x
-sample_format_again sample.U8 = refl
-sample_format_again sample.S16 = refl
-sample_format_again sample.S32 = refl
-sample_format_again sample.U8Planar = refl
 sample_format_again sample.S16Planar = refl
-sample_format_again sample.S32Planar = refl
+sample_format_again _ = refl
 
 pub picture_format_is_word : (x : PictureFormat) → list_all is_word_byte (picture_format_text x) ≡ true
 picture_format_is_word picture.I420 = refl
-picture_format_is_word picture.I422 = refl
-picture_format_is_word picture.I444 = refl
-picture_format_is_word picture.Nv12 = refl
+picture_format_is_word _ = refl
 
 pub picture_format_again : (x : PictureFormat) → picture_format_of (picture_format_text x) ≡ Some x
 picture_format_again picture.I420 = refl
-picture_format_again picture.I422 = refl
-picture_format_again picture.I444 = refl
-picture_format_again picture.Nv12 = refl
+picture_format_again _ = refl
 
 pub codec_id_is_word : (x : CodecId) → list_all is_word_byte (codec_text x) ≡ true
-codec_id_is_word codec.PcmU8 = refl
-codec_id_is_word codec.PcmS16 = refl
-codec_id_is_word codec.PcmS24 = refl
-codec_id_is_word codec.PcmS32 = refl
-codec_id_is_word codec.Alaw = refl
-codec_id_is_word codec.Ulaw = refl
-codec_id_is_word codec.Flac = refl
 codec_id_is_word codec.RawI420 = refl
-codec_id_is_word codec.RawI422 = refl
-codec_id_is_word codec.RawI444 = refl
-codec_id_is_word codec.RawNv12 = refl
+codec_id_is_word _ = refl
 
 pub codec_id_again : (x : CodecId) → codec_id_of (codec_text x) ≡ Some x
-codec_id_again codec.PcmU8 = refl
-codec_id_again codec.PcmS16 = refl
-codec_id_again codec.PcmS24 = refl
-codec_id_again codec.PcmS32 = refl
-codec_id_again codec.Alaw = refl
-codec_id_again codec.Ulaw = refl
-codec_id_again codec.Flac = refl
 codec_id_again codec.RawI420 = refl
-codec_id_again codec.RawI422 = refl
-codec_id_again codec.RawI444 = refl
-codec_id_again codec.RawNv12 = refl
+codec_id_again _ = refl
 
 pub role_is_word : (x : Role) → list_all is_word_byte (role_text x) ≡ true
 role_is_word role.Decode = refl
@@ -150,17 +92,8 @@ answer_is_word None = refl
 answer_is_word (Some e) = error_is_word e
 
 pub answer_again : (x : Option DomError) → answer_of (answer_text x) ≡ Some x
-answer_again None = refl
-answer_again (Some dom.Abort) = refl
-answer_again (Some dom.InvalidState) = refl
-answer_again (Some dom.NotSupported) = refl
-answer_again (Some dom.Encoding) = refl
-answer_again (Some dom.Data) = refl
-answer_again (Some dom.DataClone) = refl
 answer_again (Some dom.QuotaExceeded) = refl
-answer_again (Some dom.TypeErr) = refl
-answer_again (Some dom.RangeErr) = refl
-answer_again (Some dom.OutOfMemory) = refl
+answer_again _ = refl
 
 pub key_is_word : (x : Bool) → list_all is_word_byte (chunk_type_text x) ≡ true
 key_is_word true = refl

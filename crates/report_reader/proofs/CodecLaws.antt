@@ -31,14 +31,8 @@ either : (a b c d e f g h i j k : Bool)
     → is_some (cond a (Some codec.PcmU8) (cond b (Some codec.PcmS16) (cond c (Some codec.PcmS24) (cond d (Some codec.PcmS32) (cond e (Some codec.Alaw) (cond f (Some codec.Ulaw) (cond g (Some codec.Flac) (cond h (Some codec.RawI420) (cond i (Some codec.RawI422) (cond j (Some codec.RawI444) (cond k (Some codec.RawNv12) None)))))))))))
     ≡ (is_some (cond a (Some codec.PcmU8) (cond b (Some codec.PcmS16) (cond c (Some codec.PcmS24) (cond d (Some codec.PcmS32) (cond e (Some codec.Alaw) (cond f (Some codec.Ulaw) (cond g (Some codec.Flac) None)))))))
     || is_some (cond h (Some codec.RawI420) (cond i (Some codec.RawI422) (cond j (Some codec.RawI444) (cond k (Some codec.RawNv12) None)))))
-either true b c d e f g h i j k = refl
-either false true c d e f g h i j k = refl
-either false false true d e f g h i j k = refl
-either false false false true e f g h i j k = refl
-either false false false false true f g h i j k = refl
-either false false false false false true g h i j k = refl
-either false false false false false false true h i j k = refl
 either false false false false false false false h i j k = refl
+either _ _ _ _ _ _ _ h i j k = refl
 
 named : (w : List ℕ) → is_some (codec_id_of w) ≡ is_codec_string w
 named w =

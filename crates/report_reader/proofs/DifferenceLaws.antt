@@ -22,13 +22,12 @@ some_differs false o n e = absurd cc
 
 same_from : (n : ℕ) (a b : List ℕ) → difference_from n a b ≡ None → a ≡ b
 same_from n [] [] e = refl
-same_from n [] (y ∷ b) e = absurd cc
-same_from n (x ∷ a) [] e = absurd cc
 same_from n (x ∷ a) (y ∷ b) e =
     let both = some_differs (eqb x y) (difference_from (cond (eqb x 10) (n + 1) n) a b) n e in
     let head : x ≡ y = eqb-true x y both.0 in
     let tail : a ≡ b = same_from (cond (eqb x 10) (n + 1) n) a b both.1 in
     cc
+same_from n _ _ e = absurd cc
 
 pub none_from_same : (n : ℕ) (a : List ℕ) → difference_from n a a ≡ None
 none_from_same n [] = refl

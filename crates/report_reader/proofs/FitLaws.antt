@@ -48,12 +48,14 @@ use Rattle.report_reader.specs.Read.{results_in, behind_results, callers_in, nex
 use Rattle.report_reader.specs.Told.{IsPlainTrace, IsWithoutLoss, IsTold}
 use Rattle.codec_follow.specs.Outputs.{is_codec_string, IsPlainDescription, IsPlainConfig, IsOutputOf, empty_output}
 use Rattle.report_reader.specs.Fits.{FitsEvent, FitsShown, FitsTrace}
+use Rattle.report_reader.proofs.KindLaws.{AreFit, FitsUnit, unit_fits, empty_fits}
 use Rattle.report_reader.proofs.RunLaws.{all_left, all_right}
 use Rattle.report_reader.proofs.FormLaws.{form_parts, forms_again}
 use Rattle.report_reader.proofs.PassLaws.{run_passes}
 use Rattle.report_reader.proofs.NameLaws.{sound_names}
-use Rattle.report_reader.proofs.TraceLaws.{next_entry_is}
-use Rattle.report_reader.proofs.ToldLaws.{entry_is, step_told, encode_told, take_told, run_told, callers_count, codecs_count, run_callers, run_codecs}
+use Rattle.report_reader.proofs.TraceLaws.{by_next}
+use Rattle.report_reader.proofs.CallLaws.{line_with, entry_told}
+use Rattle.report_reader.proofs.ToldLaws.{run_told, callers_count, codecs_count, run_callers, run_codecs}
 
 -- ---- lists
 
@@ -67,9 +69,6 @@ all_behind P (x ∷ xs) all = all.1
 few_behind : {X : Type 0} (xs : List X) → length (drop 1 xs) ≤ length xs
 few_behind [] = omega arith
 few_behind (x ∷ xs) = omega arith
-
-abbrev AreFit : ScriptData → List Line → Type 0
-AreFit script ls = AllByRecursion (FitsLine script) ls
 
 -- lines that fit, and are no more than some others
 record IsLeft (script : ScriptData) (ls left : List Line) : Type 0 where
@@ -87,9 +86,8 @@ reads_fit fits script s bs (l ∷ ls) end left r =
 -- ---- callers
 
 results_fit : (script : ScriptData) (ls : List Line) → AreFit script ls → AllByRecursion (FitsResult script) (results_in ls)
-results_fit script [] fits = tt
 results_fit script (line.Result step found ∷ ls) fits = (fits.0.1, results_fit script ls fits.1)
-results_fit script (l ∷ ls) fits = tt
+results_fit script _ fits = tt
 
 results_few : (ls : List Line) → length (results_in ls) ≤ length ls
 results_few [] = omega arith
@@ -142,60 +140,11 @@ caller_lines_fit script k (c ∷ cs) le small fits = (
 
 -- ---- outputs
 
-record FitsUnit (script : ScriptData) (k : Kind) (u : media.Unit) : Type 0 where
-  plain : IsOutputOf k u
-  fits : AreFit script (output_lines u)
-
-record FitsConfig (script : ScriptData) (c : Option AudioDecoderConfig) : Type 0 where
-  plain : IsPlainConfig c
-  fits : AreFit script (config_lines c)
-
-description_plain : (d : List ℕ) → IsPlainDescription (description_of d)
-description_plain [] = tt
-description_plain (b ∷ bs) = tt
-
-description_same : (d : List ℕ) → unwrap_or (description_of d) [] ≡ d
-description_same [] = refl
-description_same (b ∷ bs) = refl
-
-config_of_fits : (script : ScriptData) (codec : List ℕ) (rate channels : ℕ) (description : List ℕ) (q : Bool) → is_codec_string codec ≡ q → FitsEventLine (event_line.Config codec rate channels description)
-    → FitsConfig script (cond q (Some (record { codec = codec; rate = rate; channels = channels; description = description_of description })) None)
-config_of_fits script codec rate channels description true is fits = record { plain = (is, description_plain description); fits = (rw (description_same description) fits, tt) }
-config_of_fits script codec rate channels description false is fits = record { plain = tt; fits = tt }
-
-config_fits : (script : ScriptData) (ls : List Line) → AreFit script ls → FitsConfig script (config_in ls)
-config_fits script (line.Event (event_line.Config codec rate channels description) ∷ ls) fits = config_of_fits script codec rate channels description (is_codec_string codec) refl fits.0
-config_fits script ls fits = record { plain = tt; fits = tt }
-
-sound_fits : (script : ScriptData) (samples : Samples) (q : Bool) → nat_lt 0 samples.shape.rate ≡ q → FitsEventLine (event_line.Sound samples)
-    → AllByRecursion (FitsUnit script kind.AudioDecoder) (option_to_list (cond q (Some (unit.Sound samples)) None))
-sound_fits script samples true is own = (record { plain = ltb-true 0 samples.shape.rate is; fits = (own, tt) }, tt)
-sound_fits script samples false is own = tt
-
-unit_fits : (script : ScriptData) (k : Kind) (s : EventLine) (ls : List Line) → FitsEventLine s → AreFit script ls → AllByRecursion (FitsUnit script k) (option_to_list (unit_of k s (config_in ls)))
-unit_fits script kind.AudioDecoder (event_line.Sound samples) ls own fits = sound_fits script samples (nat_lt 0 samples.shape.rate) refl own
-unit_fits script kind.AudioDecoder s ls own fits = tt
-unit_fits script kind.VideoDecoder (event_line.Image picture) ls own fits = (record { plain = tt; fits = (own, tt) }, tt)
-unit_fits script kind.VideoDecoder s ls own fits = tt
-unit_fits script kind.AudioEncoder (event_line.Chunk chunk) ls own fits =
-    let config = config_fits script ls fits in
-    (record { plain = config.plain; fits = (own, config.fits) }, tt)
-unit_fits script kind.AudioEncoder s ls own fits = tt
-
 outputs_fit : (script : ScriptData) (k : Kind) (ls : List Line) → AreFit script ls → AllByRecursion (FitsUnit script k) (outputs_in k ls)
-outputs_fit script k [] fits = tt
 outputs_fit script k (line.Entry place t ∷ ls) fits = outputs_fit script k ls fits.1
 outputs_fit script k (line.Event s ∷ ls) fits =
     all_append (FitsUnit script k) (option_to_list (unit_of k s (config_in ls))) (outputs_in k ls) (unit_fits script k s ls fits.0 fits.1) (outputs_fit script k ls fits.1)
-outputs_fit script k (l ∷ ls) fits = tt
-
-no_duration : (k : ℕ) → ◌≡◌ {A = Option ℕ} None (Some k) → k < 2 ^ 64
-no_duration k e = absurd cc
-
-empty_fits : (script : ScriptData) (k : Kind) → FitsUnit script k (empty_output k)
-empty_fits script kind.AudioDecoder = record { plain = omega arith; fits = (record { rate = omega arith; channels = omega arith; frames = omega arith; timestamp = omega arith; are_bytes = λ i. omega arith }, tt) }
-empty_fits script kind.AudioEncoder = record { plain = tt; fits = ((omega arith, no_duration, λ i. omega arith), tt) }
-empty_fits script kind.VideoDecoder = record { plain = tt; fits = (record { width = omega arith; height = omega arith; timestamp = omega arith; duration = no_duration; are_bytes = λ i. omega arith }, tt) }
+outputs_fit script k _ fits = tt
 
 -- each output that is filled in is one of the units, or has nothing in it
 record AreFilled (k : Kind) (P : media.Unit → Type 0) (xs : List Event) (us : List media.Unit) : Type 0 where
@@ -204,13 +153,9 @@ record AreFilled (k : Kind) (P : media.Unit → Type 0) (xs : List Event) (us : 
 
 fill_fits : (k : Kind) (P : media.Unit → Type 0) → P (empty_output k) → (xs : List Event) (us : List media.Unit) → AllByRecursion P us → AreFilled k P xs us
 fill_fits k P none [] us all = record { shown = tt; left = all }
-fill_fits k P none (event.Refusal x ∷ xs) us all = let more = fill_fits k P none xs us all in record { shown = more.shown; left = more.left }
 fill_fits k P none (event.Output n u ∷ xs) [] all = let more = fill_fits k P none xs [] all in record { shown = (none, more.shown); left = more.left }
 fill_fits k P none (event.Output n u ∷ xs) (v ∷ us) all = let more = fill_fits k P none xs us all.1 in record { shown = (all.0, more.shown); left = more.left }
-fill_fits k P none (event.Resolve p ∷ xs) us all = let more = fill_fits k P none xs us all in record { shown = more.shown; left = more.left }
-fill_fits k P none (event.Reject p x ∷ xs) us all = let more = fill_fits k P none xs us all in record { shown = more.shown; left = more.left }
-fill_fits k P none (event.Dequeue ∷ xs) us all = let more = fill_fits k P none xs us all in record { shown = more.shown; left = more.left }
-fill_fits k P none (event.ErrorCall x ∷ xs) us all = let more = fill_fits k P none xs us all in record { shown = more.shown; left = more.left }
+fill_fits k P none (x ∷ xs) us all = let more = fill_fits k P none xs us all in record { shown = more.shown; left = more.left }
 
 each_then : (k : Kind) (P : media.Unit → Type 0) → P (empty_output k) → (es : List Entry) (e : Entry) (s : State) (us : List media.Unit) (o : Option State) → AllByRecursion P us
     → ((t : State) (vs : List media.Unit) → AllByRecursion P vs → AllByRecursion P (units_shown (each_filled_from k es t vs)))
@@ -227,10 +172,9 @@ each_fits k P none (e ∷ es) s us all = each_then k P none es e s us (follow_st
 -- ---- entries
 
 entry_lines_fit_in : (script : ScriptData) (ls : List Line) → AreFit script ls → AllByRecursion (FitsEntryLine script) (entry_lines_in ls)
-entry_lines_fit_in script [] fits = tt
 entry_lines_fit_in script (line.Entry place t ∷ ls) fits = (fits.0.1, entry_lines_fit_in script ls fits.1)
 entry_lines_fit_in script (line.Event s ∷ ls) fits = entry_lines_fit_in script ls fits.1
-entry_lines_fit_in script (l ∷ ls) fits = tt
+entry_lines_fit_in script _ fits = tt
 
 entry_lines_few : (ls : List Line) → length (entry_lines_in ls) ≤ length ls
 entry_lines_few [] = omega arith
@@ -252,47 +196,23 @@ behind_entries_left script (l ∷ ls) fits = record { fits = fits; few = omega a
 abbrev FitsEntry : ScriptData → Entry → Type 0
 FitsEntry script e = (x : Shown) → FitsEntryLine script (entry_line_of e x)
 
+line_fits : (script : ScriptData) (t : EntryLine) (x : Shown) → FitsEntryLine script t → FitsEntryLine script (line_with t x)
+line_fits script (entry_line.Call who word error) x fits = fits
+line_fits script t x fits = fits
+
 entry_fits : (script : ScriptData) (files : List (List Chunk)) (known : Known) (k place : ℕ) (t : EntryLine) (e : Entry) → FitsEntryLine script t → entry_of script files known k place t ≡ Some e → FitsEntry script e
-entry_fits script files known k place (entry_line.Call who call.Encode error) e fits is x =
-    let steps = steps_of script who.caller in
-    subst (FitsEntryLine script) (sym (encode_told known steps k place who error (slice_get steps who.step) e x is)) fits
-entry_fits script files known k place (entry_line.Call who call.Configure error) e fits is x =
-    let steps = steps_of script who.caller in
-    subst (FitsEntryLine script) (sym (step_told files known steps who call.Configure (slice_get steps who.step) e x is)) fits
-entry_fits script files known k place (entry_line.Call who call.Decode error) e fits is x =
-    let steps = steps_of script who.caller in
-    subst (FitsEntryLine script) (sym (step_told files known steps who call.Decode (slice_get steps who.step) e x is)) fits
-entry_fits script files known k place (entry_line.Call who call.Flush error) e fits is x =
-    let steps = steps_of script who.caller in
-    subst (FitsEntryLine script) (sym (step_told files known steps who call.Flush (slice_get steps who.step) e x is)) fits
-entry_fits script files known k place (entry_line.Call who call.Reset error) e fits is x =
-    let steps = steps_of script who.caller in
-    subst (FitsEntryLine script) (sym (step_told files known steps who call.Reset (slice_get steps who.step) e x is)) fits
-entry_fits script files known k place (entry_line.Call who call.Close error) e fits is x =
-    let steps = steps_of script who.caller in
-    subst (FitsEntryLine script) (sym (step_told files known steps who call.Close (slice_get steps who.step) e x is)) fits
-entry_fits script files known k place (entry_line.Take who n) e fits is x = subst (FitsEntryLine script) (sym (take_told who n (slice_get (steps_of script who.caller) who.step) e x is)) fits
-entry_fits script files known k place (entry_line.Start epoch item) e fits is x = subst (λ (z : Entry). FitsEntryLine script (entry_line_of z x)) (entry_is (entry.Start epoch item) e is) fits
-entry_fits script files known k place (entry_line.Done epoch item moment outcome) e fits is x = subst (λ (z : Entry). FitsEntryLine script (entry_line_of z x)) (entry_is (entry.Done epoch item moment outcome) e is) fits
-entry_fits script files known k place (entry_line.Turn word) e fits is x = subst (λ (z : Entry). FitsEntryLine script (entry_line_of z x)) (entry_is entry.Turn e is) tt
-entry_fits script files known k place (entry_line.Reclaim moment) e fits is x = subst (λ (z : Entry). FitsEntryLine script (entry_line_of z x)) (entry_is (entry.Reclaim moment) e is) fits
+entry_fits script files known k place t e fits is x = subst (FitsEntryLine script) (sym (entry_told script files known k place t x e is)) (line_fits script t x fits)
 
 -- entries that fit, and are no more than those that are told
 record AreEntries (script : ScriptData) (ts : List EntryLine) (es : List Entry) : Type 0 where
   fits : AllByRecursion (FitsEntry script) es
   few : length es ≤ length ts
 
-entries_then : (script : ScriptData) (files : List (List Chunk)) (known : Known) (k place : ℕ) (t : EntryLine) (ts : List EntryLine) (s : State) → FitsEntryLine script t
-    → ((u : State) → AreEntries script ts (entries_from script files known k (place + 1) u ts))
-    → (o : Option (Entry × State)) → next_of script files known k place s t ≡ o → AreEntries script (t ∷ ts) (entry_then (λ u. entries_from script files known k (place + 1) u ts) o)
-entries_then script files known k place t ts s fits later None is = record { fits = tt; few = omega arith }
-entries_then script files known k place t ts s fits later (Some (e, u)) is =
-    let more = later u in
-    record { fits = (entry_fits script files known k place t e fits (next_entry_is script files known k place t s e u is), more.fits); few = omega (arith, more.few) }
-
 entries_fit : (script : ScriptData) (files : List (List Chunk)) (known : Known) (k place : ℕ) (ts : List EntryLine) (s : State) → AllByRecursion (FitsEntryLine script) ts → AreEntries script ts (entries_from script files known k place s ts)
 entries_fit script files known k place [] s fits = record { fits = tt; few = omega arith }
-entries_fit script files known k place (t ∷ ts) s fits = entries_then script files known k place t ts s fits.0 (λ u. entries_fit script files known k (place + 1) ts u fits.1) (next_of script files known k place s t) refl
+entries_fit script files known k place (t ∷ ts) s fits =
+    by_next script files known k place t ts s (AreEntries script (t ∷ ts)) (record { fits = tt; few = omega arith })
+    (λ e u is step. (let more = entries_fit script files known k (place + 1) ts u fits.1 in record { fits = (entry_fits script files known k place t e fits.0 is, more.fits); few = omega (arith, more.few) }))
 
 event_fits : (script : ScriptData) (k : Kind) (e : Event) → FitsEvent e → AllByRecursion (FitsUnit script k) (event_units e) → AreFit script (event_lines e)
 event_fits script k (event.Refusal x) fits units = tt
@@ -310,14 +230,13 @@ events_fit script k (e ∷ es) fits units =
 
 entry_lines_fit : (script : ScriptData) (k : Kind) (n : ℕ) (es : List Entry) (xs : List Shown) → n + length es < 2 ^ 64 → AllByRecursion (FitsEntry script) es → AllByRecursion FitsShown xs → AllByRecursion (FitsUnit script k) (units_shown xs)
     → AreFit script (lines_from entry_lines n (zip es xs))
-entry_lines_fit script k n [] xs few fits promises units = tt
-entry_lines_fit script k n (e ∷ es) [] few fits promises units = tt
 entry_lines_fit script k n (e ∷ es) (x ∷ xs) few fits promises units = (
   (omega arith, fits.0 x),
   all_append (FitsLine script) (flat_map event_lines x.events) (lines_from entry_lines (n + 1) (zip es xs))
       (events_fit script k x.events promises.0 (all_left (FitsUnit script k) (units_in x.events) (units_shown xs) units))
       (entry_lines_fit script k (n + 1) es xs (omega arith) fits.1 promises.1 (all_right (FitsUnit script k) (units_in x.events) (units_shown xs) units)),
 )
+entry_lines_fit script k n _ _ few fits promises units = tt
 
 -- ---- codecs
 
@@ -386,9 +305,8 @@ record FitsReference (script : ScriptData) (e : PoolEntry) : Type 0 where
   op : FitsPoolOp e.op
 
 pool_fit : (script : ScriptData) (ls : List Line) → AreFit script ls → AllByRecursion (FitsReference script) (pool_in ls)
-pool_fit script [] fits = tt
 pool_fit script (line.Reference place e ∷ ls) fits = (record { by = fits.0.1; op = fits.0.2 }, pool_fit script ls fits.1)
-pool_fit script (l ∷ ls) fits = tt
+pool_fit script _ fits = tt
 
 pool_few : (ls : List Line) → length (pool_in ls) ≤ length ls
 pool_few [] = omega arith
@@ -413,9 +331,8 @@ record FitsSlot (script : ScriptData) (e : SlotEntry) : Type 0 where
   op : FitsOp e.op
 
 slots_fit : (script : ScriptData) (ls : List Line) → AreFit script ls → AllByRecursion (FitsSlot script) (slots_in ls)
-slots_fit script [] fits = tt
 slots_fit script (line.Slot place e ∷ ls) fits = (record { by = fits.0.1; op = fits.0.2 }, slots_fit script ls fits.1)
-slots_fit script (l ∷ ls) fits = tt
+slots_fit script _ fits = tt
 
 slots_few : (ls : List Line) → length (slots_in ls) ≤ length ls
 slots_few [] = omega arith

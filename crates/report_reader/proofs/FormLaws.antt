@@ -45,39 +45,19 @@ bind_some (Some x) f y e = (x, refl, e)
 
 result_long : (script : ScriptData) (step : ℕ) (r : StepResult) → 0 < length (line_text script (line.Result step r))
 result_long script step (result.Call codec place error) = simp length-append (omega arith)
-result_long script step (result.Local error) = simp length-append (omega arith)
-result_long script step (result.Look codec count end) = simp length-append (omega arith)
-result_long script step (result.State codec count state size) = simp length-append (omega arith)
-result_long script step (result.Unit codec place number) = simp length-append (omega arith)
-result_long script step (result.NoUnit codec count) = simp length-append (omega arith)
-result_long script step (result.Copied count bytes) = simp length-append (omega arith)
-result_long script step (result.CopiedFrame count layouts bytes) = simp length-append (omega arith)
-result_long script step (result.Size size) = simp length-append (omega arith)
-result_long script step result.Absent = simp length-append (omega arith)
+result_long script step _ = simp length-append (omega arith)
 
 event_long : (script : ScriptData) (e : EventLine) → 0 < length (line_text script (line.Event e))
 event_long script (event_line.Sound samples) = omega arith
-event_long script (event_line.Image picture) = omega arith
-event_long script (event_line.Chunk chunk) = omega arith
-event_long script (event_line.Config codec rate channels description) = omega arith
-event_long script (event_line.Resolve p) = omega arith
-event_long script (event_line.Reject p e) = omega arith
-event_long script event_line.Dequeue = omega arith
-event_long script (event_line.Error e) = omega arith
+event_long script _ = omega arith
 
 pub line_long : (script : ScriptData) (l : Line) → 0 < length (line_text script l)
-line_long script line.Header = omega arith
-line_long script (line.Caller n) = omega arith
 line_long script (line.Result step r) = result_long script step r
-line_long script (line.Codec n opening) = omega arith
-line_long script (line.Entry place told) = simp length-append (omega arith)
 line_long script (line.Event s) = event_long script s
-line_long script line.Pool = omega arith
+line_long script (line.Entry place told) = simp length-append (omega arith)
 line_long script (line.Reference place entry) = simp length-append (omega arith)
-line_long script line.Slots = omega arith
 line_long script (line.Slot place entry) = simp length-append (omega arith)
-line_long script (line.Held n) = omega arith
-line_long script line.End = omega arith
+line_long script _ = omega arith
 
 line_shorter : LineSound → (script : ScriptData) (bs : List ℕ) (y : Line × List ℕ) → line_at script bs ≡ Some y → length y.1 < length bs
 line_shorter sound script bs y e =

@@ -1,74 +1,135 @@
--- The outputs of a legal run that fits its script are of their codecs' kinds.
-use Rattle.std.proofs.Common.{ℕ, suc, ◌≡◌, true, List, [], ◌∷◌, map, Option, Some, None, refl, ap, sym, subst, ◌∙◌}
+-- Outputs by the kinds of their codecs: the lines that show them, and those of a legal run that fits its script.
+use Rattle.std.proofs.Common.{ℕ, suc, ◌≡◌, ◌+◌, ◌^◌, ◌<◌, Bool, true, false, cond, List, [], ◌∷◌, ◌++◌, map, Option, Some, None, refl, ap, sym, subst, ◌∙◌, arith}
+use Rattle.std.specs.Prelude.{nat_lt, flat_map, unwrap_or, option_to_list}
 use Rattle.std.specs.List.{AllByRecursion, slice_get}
+use Rattle.std.proofs.lemmas.Bool.{lt-ltb, ltb-true}
+use Rattle.wc_base.specs.Options.{some_same}
+use Rattle.wc_base.specs.declared.media.Samples.{Samples}
 use Rattle.wc_base.specs.declared.who.Who.{Who}
+use Rattle.wc_config.specs.declared.config.AudioDecoderConfig.{AudioDecoderConfig}
 use Rattle.wc_config.specs.declared.config.Config.{Config}
 use Rattle.wc_config.specs.declared.config.Config.TheVariants as config
-use Rattle.wc_chunk.specs.declared.chunk.Chunk.{Chunk}
-use Rattle.codec_model.specs.declared.entry.Entry.{Entry}
-use Rattle.codec_model.specs.declared.entry.Entry.TheVariants as entry
-use Rattle.codec_model.specs.declared.entry.Shown.{Shown}
-use Rattle.codec_model.specs.Shown.{units_shown}
-use Rattle.codec_follow.specs.Outputs.{IsOutputOf, IsConfigOf, ConfiguresAs}
-use Rattle.codec_follow.specs.Laws.{OutputsAreOfKind}
 use Rattle.wc_config.specs.declared.kind.Kind.{Kind}
 use Rattle.wc_config.specs.declared.kind.Kind.TheVariants as word
+use Rattle.wc_chunk.specs.declared.chunk.Chunk.{Chunk}
+use Rattle.codec_definitions.specs.declared.unit.Unit as media
+use Rattle.codec_definitions.specs.declared.unit.Unit.TheVariants as unit
+use Rattle.codec_model.specs.declared.entry.Entry.{Entry}
+use Rattle.codec_model.specs.declared.entry.Entry.TheVariants as entry
+use Rattle.codec_model.specs.declared.entry.Event.{Event}
+use Rattle.codec_model.specs.declared.entry.Event.TheVariants as event
+use Rattle.codec_model.specs.declared.entry.Shown.{Shown}
+use Rattle.codec_model.specs.Shown.{units_in, units_shown}
+use Rattle.codec_follow.specs.Outputs.{is_codec_string, IsPlainDescription, IsPlainConfig, IsOutputOf, IsConfigOf, ConfiguresAs, empty_output}
+use Rattle.codec_follow.specs.Laws.{OutputsAreOfKind}
 use Rattle.script_types.specs.declared.script.ScriptData.{ScriptData}
 use Rattle.script_types.specs.declared.script.CodecItem.{CodecItem}
 use Rattle.script_types.specs.declared.steps.Step.{Step}
 use Rattle.script_types.specs.declared.steps.Step.TheVariants as step
-use Rattle.script_types.specs.declared.steps.MediaStep.{MediaStep}
 use Rattle.script_types.specs.declared.steps.MediaStep.TheVariants as on_media
 use Rattle.script_types.specs.Sound.{is_sound, suits}
 use Rattle.script_types.specs.SoundLaws.{step_at, codec_there}
 use Rattle.report_text.specs.declared.result.StepResult.{StepResult}
 use Rattle.report_text.specs.declared.result.StepResult.TheVariants as result
+use Rattle.report_text.specs.declared.line.EventLine.{EventLine}
+use Rattle.report_text.specs.declared.line.EventLine.TheVariants as event_line
+use Rattle.report_text.specs.declared.line.Line.{Line}
+use Rattle.report_text.specs.declared.line.Line.TheVariants as line
+use Rattle.report_lines.specs.Fits.{FitsEventLine, FitsLine}
 use Rattle.media_variables.specs.Variables.{Medium}
+use Rattle.codec_accounts.specs.Owed.{at}
 use Rattle.trace_text.specs.declared.run.CodecTrace.{CodecTrace}
 use Rattle.trace_text.specs.declared.run.Run.{Run}
-use Rattle.codec_accounts.specs.Owed.{at}
 use Rattle.trace_text.specs.Follow.{Recorded}
 use Rattle.trace_text.specs.FitsLaws.{made_at, calls_by_places}
 use Rattle.trace_text.specs.Fits.{CallsAreIn, ArgumentsAreIn, HasArguments, variables_at, IsAnswerOf, IsResultOf, entry_in, step_in, Fits, IsLegalTrace, AreLegalTraces, IsLegalRun}
+use Rattle.trace_text.specs.Report.{config_lines, output_lines, event_lines}
 use Rattle.run_ranges.specs.Counts.{caller_of_step, all_from}
+use Rattle.report_reader.specs.Read.{description_of, config_in, unit_of, outputs_in}
 use Rattle.report_reader.specs.Told.{IsPlainTrace}
 
-abbrev some : {A : Type 0} → A → Option A
-some x = Some x
+-- ---- the outputs that lines show
 
-some_same : {A : Type 0} (x y : A) → some x ≡ some y → x ≡ y
-some_same x y e = cc
+-- no config stands in front, since each stands behind its chunk
+config_events : (es : List Event) (ls : List Line) → config_in ls ≡ None → config_in (flat_map event_lines es ++ ls) ≡ None
+config_events [] ls none = none
+config_events (event.Refusal x ∷ es) ls none = config_events es ls none
+config_events (event.Output n (unit.Sound samples) ∷ es) ls none = refl
+config_events _ ls none = refl
+
+description_again : (d : Option (List ℕ)) → IsPlainDescription d → description_of (unwrap_or d []) ≡ d
+description_again (Some []) plain = absurd plain
+description_again _ plain = refl
+
+pub outputs_events : (k : Kind) (es : List Event) (ls : List Line) → config_in ls ≡ None → AllByRecursion (IsOutputOf k) (units_in es) → outputs_in k (flat_map event_lines es ++ ls) ≡ units_in es ++ outputs_in k ls
+outputs_events word.AudioDecoder (event.Output n (unit.Sound samples) ∷ es) ls none plain = rw (lt-ltb 0 samples.shape.rate plain.0) (ap (λ (us : List media.Unit). unit.Sound samples ∷ us) (outputs_events word.AudioDecoder es ls none plain.1))
+outputs_events word.VideoDecoder (event.Output n (unit.Image picture) ∷ es) ls none plain = ap (λ (us : List media.Unit). unit.Image picture ∷ us) (outputs_events word.VideoDecoder es ls none plain.1)
+outputs_events word.AudioEncoder (event.Output n (unit.Coded chunk None) ∷ es) ls none plain = rw (config_events es ls none) (ap (λ (us : List media.Unit). unit.Coded chunk None ∷ us) (outputs_events word.AudioEncoder es ls none plain.1))
+outputs_events word.AudioEncoder (event.Output n (unit.Coded chunk (Some c)) ∷ es) ls none plain = rw (plain.0.0, description_again c.description plain.0.1) (ap (λ (us : List media.Unit). unit.Coded chunk (Some c) ∷ us) (outputs_events word.AudioEncoder es ls none plain.1))
+outputs_events k (event.Output n u ∷ es) ls none plain = absurd plain.0
+outputs_events k (e ∷ es) ls none plain = outputs_events k es ls none plain
+outputs_events k [] ls none plain = refl
+
+-- ---- the lines of outputs fit
+
+abbrev pub AreFit : ScriptData → List Line → Type 0
+AreFit script ls = AllByRecursion (FitsLine script) ls
+
+pub record FitsUnit (script : ScriptData) (k : Kind) (u : media.Unit) : Type 0 where
+  pub plain : IsOutputOf k u
+  pub fits : AreFit script (output_lines u)
+
+record FitsConfig (script : ScriptData) (c : Option AudioDecoderConfig) : Type 0 where
+  plain : IsPlainConfig c
+  fits : AreFit script (config_lines c)
+
+description_plain : (d : List ℕ) → IsPlainDescription (description_of d)
+description_plain [] = tt
+description_plain (b ∷ bs) = tt
+
+description_same : (d : List ℕ) → unwrap_or (description_of d) [] ≡ d
+description_same [] = refl
+description_same (b ∷ bs) = refl
+
+config_of_fits : (script : ScriptData) (codec : List ℕ) (rate channels : ℕ) (description : List ℕ) (q : Bool) → is_codec_string codec ≡ q → FitsEventLine (event_line.Config codec rate channels description)
+    → FitsConfig script (cond q (Some (record { codec = codec; rate = rate; channels = channels; description = description_of description })) None)
+config_of_fits script codec rate channels description true is fits = record { plain = (is, description_plain description); fits = (rw (description_same description) fits, tt) }
+config_of_fits script codec rate channels description false is fits = record { plain = tt; fits = tt }
+
+config_fits : (script : ScriptData) (ls : List Line) → AreFit script ls → FitsConfig script (config_in ls)
+config_fits script (line.Event (event_line.Config codec rate channels description) ∷ ls) fits = config_of_fits script codec rate channels description (is_codec_string codec) refl fits.0
+config_fits script ls fits = record { plain = tt; fits = tt }
+
+sound_fits : (script : ScriptData) (samples : Samples) (q : Bool) → nat_lt 0 samples.shape.rate ≡ q → FitsEventLine (event_line.Sound samples)
+    → AllByRecursion (FitsUnit script word.AudioDecoder) (option_to_list (cond q (Some (unit.Sound samples)) None))
+sound_fits script samples true is own = (record { plain = ltb-true 0 samples.shape.rate is; fits = (own, tt) }, tt)
+sound_fits script samples false is own = tt
+
+pub unit_fits : (script : ScriptData) (k : Kind) (s : EventLine) (ls : List Line) → FitsEventLine s → AreFit script ls → AllByRecursion (FitsUnit script k) (option_to_list (unit_of k s (config_in ls)))
+unit_fits script word.AudioDecoder (event_line.Sound samples) ls own fits = sound_fits script samples (nat_lt 0 samples.shape.rate) refl own
+unit_fits script word.VideoDecoder (event_line.Image picture) ls own fits = (record { plain = tt; fits = (own, tt) }, tt)
+unit_fits script word.AudioEncoder (event_line.Chunk chunk) ls own fits =
+    let config = config_fits script ls fits in
+    (record { plain = config.plain; fits = (own, config.fits) }, tt)
+unit_fits script _ _ ls own fits = tt
+
+no_duration : (k : ℕ) → ◌≡◌ {A = Option ℕ} None (Some k) → k < 2 ^ 64
+no_duration k e = absurd cc
+
+pub empty_fits : (script : ScriptData) (k : Kind) → FitsUnit script k (empty_output k)
+empty_fits script word.AudioDecoder = record { plain = omega arith; fits = (record { rate = omega arith; channels = omega arith; frames = omega arith; timestamp = omega arith; are_bytes = λ i. omega arith }, tt) }
+empty_fits script word.AudioEncoder = record { plain = tt; fits = ((omega arith, no_duration, λ i. omega arith), tt) }
+empty_fits script word.VideoDecoder = record { plain = tt; fits = (record { width = omega arith; height = omega arith; timestamp = omega arith; duration = no_duration; are_bytes = λ i. omega arith }, tt) }
+
+-- ---- the outputs of a legal run
 
 suits_kind : (c : Config) (k : Kind) → suits c k ≡ true → IsConfigOf k c
 suits_kind (config.AudioDecoder c) word.AudioDecoder h = tt
-suits_kind (config.AudioDecoder c) word.AudioEncoder h = absurd cc
-suits_kind (config.AudioDecoder c) word.VideoDecoder h = absurd cc
-suits_kind (config.AudioEncoder c) word.AudioDecoder h = absurd cc
 suits_kind (config.AudioEncoder c) word.AudioEncoder h = tt
-suits_kind (config.AudioEncoder c) word.VideoDecoder h = absurd cc
-suits_kind (config.VideoDecoder c) word.AudioDecoder h = absurd cc
-suits_kind (config.VideoDecoder c) word.AudioEncoder h = absurd cc
 suits_kind (config.VideoDecoder c) word.VideoDecoder h = tt
 suits_kind config.Bad word.AudioDecoder h = tt
-suits_kind config.Bad word.AudioEncoder h = tt
-suits_kind config.Bad word.VideoDecoder h = tt
-
--- takes and encodes alone are made by steps on media
-abbrev pub IsMediaEntry : Entry → Type 0
-IsMediaEntry (entry.Take who n) = Unit {0}
-IsMediaEntry (entry.Encode who handed) = Unit {0}
-IsMediaEntry _ = ⊥
-
-pub of_media : (script : ScriptData) (files : List (List Chunk)) (vs : List (Option Medium)) (who : Who) (e : Entry) (m : MediaStep) → HasArguments script files vs who e (step.Media m) → IsMediaEntry e
-of_media script files vs who e (on_media.Take on bind kind) has = subst IsMediaEntry (sym has.1) tt
-of_media script files vs who e (on_media.Encode on content) has = subst IsMediaEntry (sym has.4) tt
-of_media script files vs who e (on_media.Audio bind init) has = absurd has
-of_media script files vs who e (on_media.Frame bind init) has = absurd has
-of_media script files vs who e (on_media.Clone of bind) has = absurd has
-of_media script files vs who e (on_media.Transfer of bind) has = absurd has
-of_media script files vs who e (on_media.CloseData of) has = absurd has
-of_media script files vs who e (on_media.Copy of options size) has = absurd has
-of_media script files vs who e (on_media.Size of options) has = absurd has
+suits_kind config.Bad _ h = tt
+suits_kind _ _ h = absurd cc
 
 codec_of : Option (ℕ × ℕ) → ℕ
 codec_of None = 0
@@ -80,15 +141,18 @@ unfolding codec_of
 same_codec script w on k p (result.Call n q error) kept is =
     let codec : n ≡ k = ap codec_of is in
     sym kept.0 ∙ codec
-same_codec script w on k p (result.Local error) kept is = absurd kept
-same_codec script w on k p (result.Look n q end) kept is = absurd kept
-same_codec script w on k p (result.State n q state size) kept is = absurd kept
-same_codec script w on k p (result.Unit n q number) kept is = absurd kept
-same_codec script w on k p (result.NoUnit n q) kept is = absurd kept
-same_codec script w on k p (result.Copied n bytes) kept is = absurd kept
-same_codec script w on k p (result.CopiedFrame n layouts bytes) kept is = absurd kept
-same_codec script w on k p (result.Size n) kept is = absurd kept
 same_codec script w on k p result.Absent kept is = absurd cc
+same_codec script w on k p _ kept is = absurd kept
+
+abbrev IsConfigure : Step → Type 0
+IsConfigure (step.Configure on config) = Unit {0}
+IsConfigure _ = ⊥
+
+-- a configure is made by a step that configures
+configures_only : (script : ScriptData) (files : List (List Chunk)) (vs : List (Option Medium)) (who : Who) (given : Config) (x : Step) → HasArguments script files vs who (entry.Configure who given) x → IsConfigure x
+configures_only script files vs who given (step.Configure on config) has = tt
+configures_only script files vs who given (step.Media (on_media.Take on bind kind)) has = absurd (grind arith)
+configures_only script files vs who given _ has = absurd (grind arith)
 
 -- the step of a configure, which names its codec, has a config of that codec's kind
 step_suits : (script : ScriptData) (files : List (List Chunk)) (vs : List (Option Medium)) (w : Recorded) (who : Who) (k p : ℕ) (r : StepResult) (c : CodecItem) (given : Config) (x : Step)
@@ -101,15 +165,7 @@ step_suits script files vs w who k p r c given (step.Configure on config) sound 
     let own = subst (λ (y : CodecItem). IsConfigOf y.kind config) same (suits_kind config there.0.kind there.2) in
     let kept_config : config ≡ given = cc in
     subst (λ (y : Config). IsConfigOf c.kind y) kept_config own
-step_suits script files vs w who k p r c given (step.Chunk bind source) sound is kept named has at = absurd has
-step_suits script files vs w who k p r c given (step.Decode on chunk) sound is kept named has at = absurd (let wrong = has.2 in cc)
-step_suits script files vs w who k p r c given (step.Flush on bind) sound is kept named has at = absurd cc
-step_suits script files vs w who k p r c given (step.Poll promise) sound is kept named has at = absurd has
-step_suits script files vs w who k p r c given (step.Await promise) sound is kept named has at = absurd has
-step_suits script files vs w who k p r c given (step.Reset on) sound is kept named has at = absurd cc
-step_suits script files vs w who k p r c given (step.Close on) sound is kept named has at = absurd cc
-step_suits script files vs w who k p r c given (step.State on) sound is kept named has at = absurd has
-step_suits script files vs w who k p r c given (step.Media m) sound is kept named has at = absurd (of_media script files vs who (entry.Configure who given) m has)
+step_suits script files vs w who k p r c given x sound is kept named has at = absurd (configures_only script files vs who given x has)
 
 configures : (script : ScriptData) (files : List (List Chunk)) (w : Recorded) (k p : ℕ) (c : CodecItem) (e : Entry)
     → is_sound script ≡ true → CallsAreIn script w → ArgumentsAreIn script files w → entry_in w k p ≡ Some e → slice_get script.codecs k ≡ Some c → ConfiguresAs c.kind e
@@ -120,16 +176,7 @@ configures script files w k p c (entry.Configure who given) sound calls argument
     let same : gave.0 ≡ made.0 = some_same gave.0 made.0 (sym gave.1 ∙ made.1) in
     let vs = variables_at script files w who.caller who.step in
     step_suits script files vs w who k p kept.0 c given made.0 sound made.1 made.2 kept.2 (subst (λ (x : Step). HasArguments script files vs who (entry.Configure who given) x) same gave.2) at
-configures script files w k p c (entry.Decode who chunk) sound calls arguments is at = tt
-configures script files w k p c (entry.Encode who handed) sound calls arguments is at = tt
-configures script files w k p c (entry.Flush who) sound calls arguments is at = tt
-configures script files w k p c (entry.Reset who) sound calls arguments is at = tt
-configures script files w k p c (entry.Close who) sound calls arguments is at = tt
-configures script files w k p c (entry.Take who unit) sound calls arguments is at = tt
-configures script files w k p c (entry.Start epoch item) sound calls arguments is at = tt
-configures script files w k p c (entry.Done epoch item moment outcome) sound calls arguments is at = tt
-configures script files w k p c entry.Turn sound calls arguments is at = tt
-configures script files w k p c (entry.Reclaim moment) sound calls arguments is at = tt
+configures script files w k p c _ sound calls arguments is at = tt
 
 trace_plain : OutputsAreOfKind → (c : CodecItem) (t : CodecTrace) → IsLegalTrace c t → ((p : ℕ) (e : Entry) → slice_get t.entries p ≡ Some e → ConfiguresAs c.kind e) → IsPlainTrace t
 trace_plain kinds c t legal h =
@@ -138,10 +185,9 @@ trace_plain kinds c t legal h =
 
 traces_plain : OutputsAreOfKind → (cs : List CodecItem) (ts : List CodecTrace) → AreLegalTraces cs ts
     → ((k p : ℕ) (c : CodecItem) (e : Entry) → slice_get (at k (map (λ t. t.entries) ts)) p ≡ Some e → slice_get cs k ≡ Some c → ConfiguresAs c.kind e) → AllByRecursion IsPlainTrace ts
-traces_plain kinds [] [] legal h = tt
 traces_plain kinds [] (t ∷ ts) legal h = absurd legal
-traces_plain kinds (c ∷ cs) [] legal h = tt
 traces_plain kinds (c ∷ cs) (t ∷ ts) legal h = (trace_plain kinds c t legal.0 (λ p e is. h 0 p c e is refl), traces_plain kinds cs ts legal.1 (λ k p d e is at. h (suc k) p d e is at))
+traces_plain kinds _ _ legal h = tt
 
 pub legal_plain : OutputsAreOfKind → (script : ScriptData) (files : List (List Chunk)) (made : List Rattle.wc_config.specs.declared.codec.CoderId.CoderId) (run : Run) → is_sound script ≡ true → IsLegalRun script run → Fits script files made run → AllByRecursion IsPlainTrace run.codecs
 legal_plain kinds script files made run sound legal fits =

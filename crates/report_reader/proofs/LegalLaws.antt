@@ -58,8 +58,9 @@ use Rattle.report_reader.specs.declared.known.Known.{Known}
 use Rattle.report_reader.specs.Arguments.{results_of, output_of, taken_in, chunk_found, cloned, pair_for, clone_of, handed_for, is_detached, encode_of, call_of, take_of, entry_of}
 use Rattle.report_reader.specs.Told.{known_of, HoldAll, IsToldTrace, AreToldTraces, IsTold}
 use Rattle.report_reader.proofs.RunLaws.{shown_units_of}
-use Rattle.report_reader.proofs.KindLaws.{of_media, legal_plain}
+use Rattle.report_reader.proofs.KindLaws.{legal_plain}
 use Rattle.report_reader.proofs.StandingLaws.{IsStanding, stands}
+use Rattle.report_reader.proofs.CallLaws.{AreFound, HasPair, ShowsOwn, shows_own, IsGiven, entry_holds}
 
 abbrev some : {A : Type 0} → A → Option A
 some x = Some x
@@ -92,9 +93,8 @@ outputs_are (c ∷ cs) (t ∷ ts) legal (suc k) = outputs_are cs ts legal.1 k
 -- ---- outputs that were taken
 
 results_at : (callers : List CallerTrace) (c : ℕ) → at c (map (λ t. t.results) callers) ≡ results_of callers c
-results_at [] c = refl
-results_at (t ∷ ts) zero = refl
 results_at (t ∷ ts) (suc c) = results_at ts c
+results_at _ _ = refl
 
 unit_of_taken : (answer : StepResult) (o : Option media.Unit) (t : Taken) → option_map (λ u. let y : Taken = record { unit = u; answer = answer } in y) o ≡ Some t → o ≡ Some t.unit
 unit_of_taken answer None t e = absurd cc
@@ -104,19 +104,10 @@ unit_of_taken answer (Some u) t e =
     ap (λ (y : Taken). some y.unit) same
 
 taken_output : (script : ScriptData) (run : Run) → AreLegalTraces script.codecs run.codecs → (o : Option StepResult) (t : Taken) → taken_by script (recorded_of run) o ≡ Some t → output_of (map shown_units_of run.codecs) o ≡ Some t.unit
-taken_output script run legal None t e = absurd cc
 taken_output script run legal (Some (result.Unit k p n)) t e =
     let found = unit_of_taken (result.Unit k p n) (output_at (opening_at script k) (at k (recorded_of run).codecs) n) t e in
     ap (λ (us : List media.Unit). slice_get us n) (sym (outputs_are script.codecs run.codecs legal k)) ∙ found
-taken_output script run legal (Some (result.Call k p error)) t e = absurd cc
-taken_output script run legal (Some (result.Local error)) t e = absurd cc
-taken_output script run legal (Some (result.Look k n end)) t e = absurd cc
-taken_output script run legal (Some (result.State k n state size)) t e = absurd cc
-taken_output script run legal (Some (result.NoUnit k n)) t e = absurd cc
-taken_output script run legal (Some (result.Copied n bytes)) t e = absurd cc
-taken_output script run legal (Some (result.CopiedFrame n layouts bytes)) t e = absurd cc
-taken_output script run legal (Some (result.Size n)) t e = absurd cc
-taken_output script run legal (Some result.Absent) t e = absurd cc
+taken_output script run legal _ t e = absurd cc
 
 -- what a report shows of taken outputs is what the run brings to its callers' steps
 taken_is : (script : ScriptData) (files : List (List Chunk)) (run : Run) → AreLegalTraces script.codecs run.codecs → (c j on : ℕ) (bind : List ℕ) (kind : VariableKind) (t : Taken)
@@ -126,13 +117,6 @@ taken_is script files run legal c j on bind kind t is brought =
     ap (λ (rs : List StepResult). output_of (known_of run).outputs (slice_get rs j)) (sym results) ∙ taken_output script run legal (result_in (recorded_of run) c j) t brought
 
 -- ---- what arguments are found in
-
--- what a run's variables hold is found in what its report shows
-record AreFound (script : ScriptData) (files : List (List Chunk)) (w : Recorded) (known : Known) : Type 0 where
-  chunks : (c n j : ℕ) (value : Chunk) → chunk_for files (steps_of script c) (variables_at script files w c n) j ≡ Some value → chunk_found files (steps_of script c) (taken_in known c) j ≡ Some value
-  sounds : (c n j : ℕ) (x : Sound) (r : MediaRef) → sound_at (variables_at script files w c n) j ≡ Some x → x.held ≡ Some r
-      → samples_before (steps_of script c) (taken_in known c) n j ≡ Some (record { shape = x.shape; bytes = r.bytes })
-  standing : (c n j : ℕ) (r : StepResult) (x : Sound) → result_in w c n ≡ Some r → sound_at (variables_at script files w c n) j ≡ Some x → IsStanding (steps_of script c) (results_of known.callers c) n j x
 
 either_found : (made a b : Option Chunk) (value : Chunk) → ((c : Chunk) → a ≡ Some c → b ≡ Some c) → option_or made a ≡ Some value → option_or made b ≡ Some value
 either_found None a b value h e = h value e
@@ -161,9 +145,8 @@ is_pair r f p e =
     rw (resource, reference) refl
 
 clone_first : (o : PoolOp) (p : Pair) → without_last o ≡ op.Clone p.resource p.reference → (rest : Option Pair) → option_or (cloned o) rest ≡ Some p
-clone_first (op.Make r f) p e rest = absurd cc
 clone_first (op.Clone r f) p e rest = is_pair r f p e
-clone_first (op.End r f last) p e rest = absurd cc
+clone_first _ p e rest = absurd cc
 
 first_op : (a b : PoolOp) (more rest : List PoolOp) → a ∷ more ≡ b ∷ rest → a ≡ b
 first_op a b more rest e = cc
@@ -182,9 +165,6 @@ pair_is : (k place : ℕ) (pool : List PoolEntry) (p : Pair) (rest : List PoolOp
 pair_is k place [] p rest e = absurd (no_ops (op.Clone p.resource p.reference) rest e)
 pair_is k place (x ∷ xs) p rest e = pair_by k place x xs p rest (pair_is k place xs p rest) (is_by_entry k place x.by) refl e
 
-abbrev HasPair : Known → ℕ → ℕ → Entry → Type 0
-HasPair known k place e = (p : Pair) → adds_held e ≡ p ∷ [] → pair_for k place known.pool ≡ Some p
-
 -- an entry's clone is found
 pair_found : (script : ScriptData) (files : List (List Chunk)) (made : List CoderId) (run : Run) → Fits script files made run → (k place : ℕ) (e : Entry) → entry_in (recorded_of run) k place ≡ Some e → HasPair (known_of run) k place e
 pair_found script files made run fits k place e is p adds =
@@ -195,230 +175,16 @@ pair_found script files made run fits k place e is p adds =
     let ops : ops_of_entry k place run.pool ≡ called_for e s = fits.accounted.codecs k place ∙ ap (called_at o h place) is in
     pair_is k place run.pool p ends (ops ∙ ap (λ (ps : List Pair). map (λ (x : Pair). op.Clone x.resource x.reference) ps ++ ends) adds)
 
--- ---- arguments
-
-configure_made : (script : ScriptData) (files : List (List Chunk)) (known : Known) (vs : List (Option Medium)) (who : Who) (given : Config) (s : Step) → HasArguments script files vs who (entry.Configure who given) s → call_of files known (steps_of script who.caller) who call.Configure s ≡ Some (entry.Configure who given)
-configure_made script files known vs who given (step.Configure on config) has = ap some (sym has)
-configure_made script files known vs who given (step.Chunk bind source) has = absurd has
-configure_made script files known vs who given (step.Decode on chunk) has = absurd (let wrong = has.2 in cc)
-configure_made script files known vs who given (step.Flush on bind) has = absurd cc
-configure_made script files known vs who given (step.Poll promise) has = absurd has
-configure_made script files known vs who given (step.Await promise) has = absurd has
-configure_made script files known vs who given (step.Reset on) has = absurd cc
-configure_made script files known vs who given (step.Close on) has = absurd cc
-configure_made script files known vs who given (step.State on) has = absurd has
-configure_made script files known vs who given (step.Media m) has = absurd (of_media script files vs who (entry.Configure who given) m has)
-
-decode_made : (script : ScriptData) (files : List (List Chunk)) (w : Recorded) (known : Known) (who : Who) (given : Chunk) (s : Step) → AreFound script files w known → HasArguments script files (variables_at script files w who.caller who.step) who (entry.Decode who given) s
-    → call_of files known (steps_of script who.caller) who call.Decode s ≡ Some (entry.Decode who given)
-decode_made script files w known who given (step.Configure on config) found has = absurd cc
-decode_made script files w known who given (step.Chunk bind source) found has = absurd has
-decode_made script files w known who given (step.Decode on chunk) found has = rw (found.chunks who.caller who.step chunk.step has.0 has.1) (ap some (sym has.2))
-decode_made script files w known who given (step.Flush on bind) found has = absurd cc
-decode_made script files w known who given (step.Poll promise) found has = absurd has
-decode_made script files w known who given (step.Await promise) found has = absurd has
-decode_made script files w known who given (step.Reset on) found has = absurd cc
-decode_made script files w known who given (step.Close on) found has = absurd cc
-decode_made script files w known who given (step.State on) found has = absurd has
-decode_made script files w known who given (step.Media m) found has = absurd (of_media script files (variables_at script files w who.caller who.step) who (entry.Decode who given) m has)
-
-flush_made : (script : ScriptData) (files : List (List Chunk)) (known : Known) (vs : List (Option Medium)) (who : Who) (s : Step) → HasArguments script files vs who (entry.Flush who) s → call_of files known (steps_of script who.caller) who call.Flush s ≡ Some (entry.Flush who)
-flush_made script files known vs who (step.Configure on config) has = absurd cc
-flush_made script files known vs who (step.Chunk bind source) has = absurd has
-flush_made script files known vs who (step.Decode on chunk) has = absurd (let wrong = has.2 in cc)
-flush_made script files known vs who (step.Flush on bind) has = ap some (sym has)
-flush_made script files known vs who (step.Poll promise) has = absurd has
-flush_made script files known vs who (step.Await promise) has = absurd has
-flush_made script files known vs who (step.Reset on) has = absurd cc
-flush_made script files known vs who (step.Close on) has = absurd cc
-flush_made script files known vs who (step.State on) has = absurd has
-flush_made script files known vs who (step.Media m) has = absurd (of_media script files vs who (entry.Flush who) m has)
-
-reset_made : (script : ScriptData) (files : List (List Chunk)) (known : Known) (vs : List (Option Medium)) (who : Who) (s : Step) → HasArguments script files vs who (entry.Reset who) s → call_of files known (steps_of script who.caller) who call.Reset s ≡ Some (entry.Reset who)
-reset_made script files known vs who (step.Configure on config) has = absurd cc
-reset_made script files known vs who (step.Chunk bind source) has = absurd has
-reset_made script files known vs who (step.Decode on chunk) has = absurd (let wrong = has.2 in cc)
-reset_made script files known vs who (step.Flush on bind) has = absurd cc
-reset_made script files known vs who (step.Poll promise) has = absurd has
-reset_made script files known vs who (step.Await promise) has = absurd has
-reset_made script files known vs who (step.Reset on) has = ap some (sym has)
-reset_made script files known vs who (step.Close on) has = absurd cc
-reset_made script files known vs who (step.State on) has = absurd has
-reset_made script files known vs who (step.Media m) has = absurd (of_media script files vs who (entry.Reset who) m has)
-
-close_made : (script : ScriptData) (files : List (List Chunk)) (known : Known) (vs : List (Option Medium)) (who : Who) (s : Step) → HasArguments script files vs who (entry.Close who) s → call_of files known (steps_of script who.caller) who call.Close s ≡ Some (entry.Close who)
-close_made script files known vs who (step.Configure on config) has = absurd cc
-close_made script files known vs who (step.Chunk bind source) has = absurd has
-close_made script files known vs who (step.Decode on chunk) has = absurd (let wrong = has.2 in cc)
-close_made script files known vs who (step.Flush on bind) has = absurd cc
-close_made script files known vs who (step.Poll promise) has = absurd has
-close_made script files known vs who (step.Await promise) has = absurd has
-close_made script files known vs who (step.Reset on) has = absurd cc
-close_made script files known vs who (step.Close on) has = ap some (sym has)
-close_made script files known vs who (step.State on) has = absurd has
-close_made script files known vs who (step.Media m) has = absurd (of_media script files vs who (entry.Close who) m has)
-
-take_made : (script : ScriptData) (files : List (List Chunk)) (vs : List (Option Medium)) (who : Who) (n : ℕ) (s : Step) → HasArguments script files vs who (entry.Take who n) s → take_of who n s ≡ Some (entry.Take who n)
-take_made script files vs who n (step.Media (on_media.Take on bind kind)) has = refl
-take_made script files vs who n (step.Media (on_media.Encode on content)) has = absurd (let wrong = has.4 in cc)
-take_made script files vs who n (step.Media (on_media.Audio bind init)) has = absurd has
-take_made script files vs who n (step.Media (on_media.Frame bind init)) has = absurd has
-take_made script files vs who n (step.Media (on_media.Clone of bind)) has = absurd has
-take_made script files vs who n (step.Media (on_media.Transfer of bind)) has = absurd has
-take_made script files vs who n (step.Media (on_media.CloseData of)) has = absurd has
-take_made script files vs who n (step.Media (on_media.Copy of options size)) has = absurd has
-take_made script files vs who n (step.Media (on_media.Size of options)) has = absurd has
-take_made script files vs who n (step.Configure on config) has = absurd cc
-take_made script files vs who n (step.Chunk bind source) has = absurd has
-take_made script files vs who n (step.Decode on chunk) has = absurd (let wrong = has.2 in cc)
-take_made script files vs who n (step.Flush on bind) has = absurd cc
-take_made script files vs who n (step.Poll promise) has = absurd has
-take_made script files vs who n (step.Await promise) has = absurd has
-take_made script files vs who n (step.Reset on) has = absurd cc
-take_made script files vs who n (step.Close on) has = absurd cc
-take_made script files vs who n (step.State on) has = absurd has
-
--- ---- encodes
-
--- data of which a clone is made is not detached
-record IsCloned (shape : SoundShape) (held : Option MediaRef) (sound : HeldSound) : Type 0 where
-  reference : MediaRef
-  is : held ≡ Some reference
-  samples : (let own : Samples = record { shape = shape; bytes = reference.bytes } in own) ≡ sound.samples
-
-cloned_same : (a b : HeldSound) → handed.Cloned a ≡ handed.Cloned b → a ≡ b
-cloned_same a b e = cc
-
-cloned_held : (number : ℕ) (accepts : Bool) (shape : SoundShape) (held : Option MediaRef) (sound : HeldSound) → handed_by number accepts shape held ≡ handed.Cloned sound → IsCloned shape held sound
-cloned_held number accepts shape None sound e = absurd cc
-cloned_held number false shape (Some r) sound e = absurd cc
-cloned_held number true shape (Some r) sound e = record {
-  reference = r;
-  is = refl;
-  samples = ap (λ (x : HeldSound). x.samples) (cloned_same _ sound e);
-}
-
--- data is gone where it holds no reference
-gone_is : (number : ℕ) (accepts : Bool) (shape : SoundShape) (held : Option MediaRef) → is_none held ≡ is_gone (handed_by number accepts shape held)
-gone_is number accepts shape None = refl
-gone_is number true shape (Some r) = refl
-gone_is number false shape (Some r) = refl
-
--- what became of data that is there is told by whether it is detached, by the exception, and by the clone where there is one
-handed_again : (h : Handed) (gone : Bool) (a : Option Samples) (b : Option Pair) → gone ≡ is_gone h → ((x : HeldSound) → h ≡ handed.Cloned x → a ≡ Some x.samples) → ((x : HeldSound) → h ≡ handed.Cloned x → b ≡ Some x.pair)
-    → handed_for true gone (handed_error h) (clone_of a b) ≡ Some h
-handed_again handed.Gone gone a b is samples pair = ap (λ (g : Bool). handed_for true g (Some dom.TypeErr) (clone_of a b)) is
-handed_again handed.Kept gone a b is samples pair = ap (λ (g : Bool). handed_for true g (Some dom.InvalidState) (clone_of a b)) is
-handed_again (handed.Cloned x) gone a b is samples pair =
-    let clone : clone_of a b ≡ Some (handed.Cloned x) = rw (samples x refl, pair x refl) refl in
-    ap (λ (g : Bool). handed_for true g None (clone_of a b)) is ∙ clone
-
-same_handed : (who : Who) (a b : Handed) → entry.Encode who a ≡ entry.Encode who b → a ≡ b
-same_handed who a b e = cc
-
--- the step that an entry names was made
-abbrev IsMadeBy : Recorded → Who → Type 0
-IsMadeBy w who = (r : StepResult) × (result_in w who.caller who.step ≡ Some r)
-
-encode_made : (script : ScriptData) (files : List (List Chunk)) (w : Recorded) (known : Known) (k place : ℕ) (who : Who) (h : Handed) (s : Step) → AreFound script files w known → HasPair known k place (entry.Encode who h)
-    → IsMadeBy w who → HasArguments script files (variables_at script files w who.caller who.step) who (entry.Encode who h) s → encode_of known (steps_of script who.caller) k place who (handed_error h) s ≡ Some (entry.Encode who h)
-encode_made script files w known k place who h (step.Media (on_media.Encode on content)) found pair made has =
-    let x = has.0 in
-    let given = same_handed who h (handed_of has.1 has.2 x) has.4 in
-    let samples : (y : HeldSound) → h ≡ handed.Cloned y → samples_before (steps_of script who.caller) (taken_in known who.caller) who.step content.step ≡ Some y.samples =
-    λ y is. let held = cloned_held has.1 has.2 x.shape x.held y (sym given ∙ is) in
-    found.sounds who.caller who.step content.step x held.reference has.3 held.is ∙ ap (λ (z : Samples). some z) held.samples in
-    let steps = steps_of script who.caller in
-    let detached = is_detached steps (results_of known.callers who.caller) who.step content.step in
-    let a = samples_before steps (taken_in known who.caller) who.step content.step in
-    let b = pair_for k place known.pool in
-    let stand = found.standing who.caller who.step content.step made.0 x made.1 has.3 in
-    let gone : detached ≡ is_gone h = stand.gone ∙ gone_is has.1 has.2 x.shape x.held ∙ ap is_gone (sym given) in
-    let again = handed_again h detached a b gone samples (λ y is. pair y.pair (ap (λ (z : Handed). adds_held (entry.Encode who z)) is)) in
-    ap (λ (q : Bool). option_map (λ z. entry.Encode who z) (handed_for q detached (handed_error h) (clone_of a b))) stand.given ∙ ap (option_map (λ z. entry.Encode who z)) again
-encode_made script files w known k place who h (step.Media (on_media.Take on bind kind)) found pair made has = absurd (let wrong = has.1 in cc)
-encode_made script files w known k place who h (step.Media (on_media.Audio bind init)) found pair made has = absurd has
-encode_made script files w known k place who h (step.Media (on_media.Frame bind init)) found pair made has = absurd has
-encode_made script files w known k place who h (step.Media (on_media.Clone of bind)) found pair made has = absurd has
-encode_made script files w known k place who h (step.Media (on_media.Transfer of bind)) found pair made has = absurd has
-encode_made script files w known k place who h (step.Media (on_media.CloseData of)) found pair made has = absurd has
-encode_made script files w known k place who h (step.Media (on_media.Copy of options size)) found pair made has = absurd has
-encode_made script files w known k place who h (step.Media (on_media.Size of options)) found pair made has = absurd has
-encode_made script files w known k place who h (step.Configure on config) found pair made has = absurd cc
-encode_made script files w known k place who h (step.Chunk bind source) found pair made has = absurd has
-encode_made script files w known k place who h (step.Decode on chunk) found pair made has = absurd (let wrong = has.2 in cc)
-encode_made script files w known k place who h (step.Flush on bind) found pair made has = absurd cc
-encode_made script files w known k place who h (step.Poll promise) found pair made has = absurd has
-encode_made script files w known k place who h (step.Await promise) found pair made has = absurd has
-encode_made script files w known k place who h (step.Reset on) found pair made has = absurd cc
-encode_made script files w known k place who h (step.Close on) found pair made has = absurd cc
-encode_made script files w known k place who h (step.State on) found pair made has = absurd has
-
 -- ---- entries
-
--- an encode shows the exception that what became of its data tells
-abbrev ShowsOwn : Entry → Shown → Type 0
-ShowsOwn (entry.Encode who h) x = refusal_in x.events ≡ handed_error h
-ShowsOwn _ x = Unit {0}
-
--- the entry of a call has a step, and what that gives
-abbrev GetsArguments : ScriptData → List (List Chunk) → Recorded → Entry → Type 0
-GetsArguments script files w e =
-    (who : Who) → who_of e ≡ Some who → (x : Step) × (slice_get (steps_of script who.caller) who.step ≡ Some x) × HasArguments script files (variables_at script files w who.caller who.step) who e x
-
--- what is known of the entry at a place
-record IsGiven (script : ScriptData) (files : List (List Chunk)) (w : Recorded) (known : Known) (k place : ℕ) (e : Entry) : Type 0 where
-  arguments : GetsArguments script files w e
-  pair : HasPair known k place e
-  made : (who : Who) → who_of e ≡ Some who → IsMadeBy w who
-
-entry_holds : (script : ScriptData) (files : List (List Chunk)) (w : Recorded) (known : Known) (k place : ℕ) (e : Entry) (x : Shown) → AreFound script files w known → ShowsOwn e x → IsGiven script files w known k place e
-    → entry_of script files known k place (entry_line_of e x) ≡ Some e
-entry_holds script files w known k place (entry.Configure who given) x found own h =
-    let got = h.arguments who refl in rw got.1 (configure_made script files known (variables_at script files w who.caller who.step) who given got.0 got.2)
-entry_holds script files w known k place (entry.Decode who given) x found own h = let got = h.arguments who refl in rw got.1 (decode_made script files w known who given got.0 found got.2)
-entry_holds script files w known k place (entry.Encode who given) x found own h =
-    let got = h.arguments who refl in rw (own, got.1) (encode_made script files w known k place who given got.0 found h.pair (h.made who refl) got.2)
-entry_holds script files w known k place (entry.Flush who) x found own h =
-    let got = h.arguments who refl in rw got.1 (flush_made script files known (variables_at script files w who.caller who.step) who got.0 got.2)
-entry_holds script files w known k place (entry.Reset who) x found own h =
-    let got = h.arguments who refl in rw got.1 (reset_made script files known (variables_at script files w who.caller who.step) who got.0 got.2)
-entry_holds script files w known k place (entry.Close who) x found own h =
-    let got = h.arguments who refl in rw got.1 (close_made script files known (variables_at script files w who.caller who.step) who got.0 got.2)
-entry_holds script files w known k place (entry.Take who n) x found own h =
-    let got = h.arguments who refl in rw got.1 (take_made script files (variables_at script files w who.caller who.step) who n got.0 got.2)
-entry_holds script files w known k place (entry.Start epoch item) x found own h = refl
-entry_holds script files w known k place (entry.Done epoch item moment outcome) x found own h = refl
-entry_holds script files w known k place entry.Turn x found own h = refl
-entry_holds script files w known k place (entry.Reclaim moment) x found own h = refl
 
 entries_hold : (script : ScriptData) (files : List (List Chunk)) (w : Recorded) (known : Known) (k place : ℕ) (es : List Entry) (xs : List Shown) → AreFound script files w known
     → ((p : ℕ) (e : Entry) (x : Shown) → slice_get es p ≡ Some e → slice_get xs p ≡ Some x → ShowsOwn e x)
     → ((p n : ℕ) (e : Entry) → n ≡ place + p → slice_get es p ≡ Some e → IsGiven script files w known k n e) → HoldAll script files known k place (zip es xs)
-entries_hold script files w known k place [] xs found own h = tt
-entries_hold script files w known k place (e ∷ es) [] found own h = tt
 entries_hold script files w known k place (e ∷ es) (x ∷ xs) found own h = (
   entry_holds script files w known k place e x found (own 0 e x refl refl) (h 0 place e (omega arith) refl),
   entries_hold script files w known k (place + 1) es xs found (λ p d y. own (suc p) d y) (λ p n d same is. h (suc p) n d (omega (arith, same)) is),
 )
-
-refusal_first : (h : Handed) → refusal_in (refusal (handed_error h)) ≡ handed_error h
-refusal_first handed.Gone = refl
-refusal_first handed.Kept = refl
-refusal_first (handed.Cloned x) = refl
-
-shows_own : (e : Entry) (s : State) → ShowsOwn e (shown_at e s)
-shows_own (entry.Configure who given) s = tt
-shows_own (entry.Decode who chunk) s = tt
-shows_own (entry.Flush who) s = tt
-shows_own (entry.Reset who) s = tt
-shows_own (entry.Close who) s = tt
-shows_own (entry.Take who n) s = tt
-shows_own (entry.Start epoch item) s = tt
-shows_own (entry.Done epoch item moment outcome) s = tt
-shows_own (entry.Reclaim moment) s = tt
-shows_own entry.Turn s = tt
-shows_own (entry.Encode who h) s = refusal_first h
+entries_hold script files w known k place _ _ found own h = tt
 
 not_there : {A : Type 0} {x : A} → ◌≡◌ {A = Option A} None (Some x) → ⊥
 not_there e = cc
@@ -460,12 +226,11 @@ trace_told laws script files w known k c t found legal h = record {
 traces_told : HistoryLaws → (script : ScriptData) (files : List (List Chunk)) (w : Recorded) (known : Known) (k : ℕ) (cs : List CodecItem) (ts : List CodecTrace) → AreFound script files w known → AreLegalTraces cs ts
     → ((i n p : ℕ) (e : Entry) → n ≡ k + i → slice_get (at i (map (λ t. t.entries) ts)) p ≡ Some e → IsGiven script files w known n p e) → AreToldTraces script files known k ts
 traces_told laws script files w known k [] [] found legal h = tt
-traces_told laws script files w known k [] (t ∷ ts) found legal h = absurd legal
-traces_told laws script files w known k (c ∷ cs) [] found legal h = absurd legal
 traces_told laws script files w known k (c ∷ cs) (t ∷ ts) found legal h = (
   trace_told laws script files w known k c t found legal.0 (λ p e is. h 0 k p e (omega arith) is),
   traces_told laws script files w known (k + 1) cs ts found legal.1 (λ i n p e same is. h (suc i) n p e (omega (arith, same)) is),
 )
+traces_told laws script files w known k _ _ found legal h = absurd legal
 
 given_at : (script : ScriptData) (files : List (List Chunk)) (made : List CoderId) (run : Run) → Fits script files made run → (k p : ℕ) (e : Entry) → entry_in (recorded_of run) k p ≡ Some e → IsGiven script files (recorded_of run) (known_of run) k p e
 given_at script files made run fits k p e is = record {

@@ -1,3 +1,4 @@
+pub mod KindLaws
 pub mod RunLaws
 pub mod ArgumentLaws
 pub mod FormLaws
@@ -7,6 +8,7 @@ pub mod BuildLaws
 pub mod TextLaws
 pub mod TraceLaws
 pub mod NameLaws
+pub mod CallLaws
 pub mod ToldLaws
 pub mod FitLaws
 pub mod ReadLaws
@@ -15,5 +17,4 @@ pub mod StandingLaws
 pub mod LegalLaws
 pub mod FaultLaws
 pub mod RowLaws
-pub mod KindLaws
 pub mod CodecLaws

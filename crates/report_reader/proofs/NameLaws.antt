@@ -51,12 +51,8 @@ none_before p (y ∷ ys) (suc i) (suc j) x lt h is = none_before p ys i j x (ome
 -- ---- words
 
 is_word : (p q r s t : Bool) → (p || (q || (s || t))) ≡ true → (p || q || r || s || t) ≡ true
-is_word true q r s t h = refl
-is_word false true r s t h = refl
-is_word false false true s t h = refl
-is_word false false false true t h = refl
-is_word false false false false true h = refl
 is_word false false false false false h = absurd cc
+is_word _ _ _ _ _ h = refl
 
 word_byte : (b : ℕ) → is_name_byte b ≡ true → is_word_byte b ≡ true
 word_byte b h = is_word (nat_le 97 b && nat_le b 122) (nat_le 48 b && nat_le b 57) (nat_le 65 b && nat_le b 90) (b == 95) (b == 45) h

@@ -37,18 +37,9 @@ rises_at : (x t : Section) (n : ℕ) → ◌≡◌ {A = Option Section} (Some x)
 rises_at x t n e le = rises_if true x t n e le
 
 part_rises : (codecs k : ℕ) (l : Line) (t : Section) (n : ℕ) → next_part codecs k l ≡ Some t → next_number t ≤ n
-part_rises codecs k line.Header t n e = absurd cc
-part_rises codecs k (line.Caller i) t n e = absurd cc
-part_rises codecs k (line.Result step found) t n e = absurd cc
 part_rises codecs k (line.Codec i opening) t n e = rises_if _ (section.Codecs (k + 1) 0) t n e (omega arith)
-part_rises codecs k (line.Entry place told) t n e = absurd cc
-part_rises codecs k (line.Event shown) t n e = absurd cc
 part_rises codecs k line.Pool t n e = rises_if _ (section.Pool 0) t n e (omega arith)
-part_rises codecs k (line.Reference place entry) t n e = absurd cc
-part_rises codecs k line.Slots t n e = absurd cc
-part_rises codecs k (line.Slot place entry) t n e = absurd cc
-part_rises codecs k (line.Held held) t n e = absurd cc
-part_rises codecs k line.End t n e = absurd cc
+part_rises codecs k _ t n e = absurd cc
 
 if_part : (q : Bool) (codecs k : ℕ) (l : Line) (t : Section) (n : ℕ) → cond q (next_part codecs k l) None ≡ Some t → next_number t ≤ n
 if_part true codecs k l t n e = part_rises codecs k l t n e
@@ -56,78 +47,18 @@ if_part false codecs k l t n e = absurd cc
 
 rises : (callers codecs : ℕ) (s : Section) (l : Line) (t : Section) → next callers codecs s l ≡ Some t → next_number t ≤ next_number s + 1
 rises callers codecs section.Start line.Header t e = rises_at (section.Callers 0 0) t _ e (omega arith)
-rises callers codecs section.Start (line.Caller i) t e = absurd cc
-rises callers codecs section.Start (line.Result step found) t e = absurd cc
-rises callers codecs section.Start (line.Codec i opening) t e = absurd cc
-rises callers codecs section.Start (line.Entry place told) t e = absurd cc
-rises callers codecs section.Start (line.Event shown) t e = absurd cc
-rises callers codecs section.Start line.Pool t e = absurd cc
-rises callers codecs section.Start (line.Reference place entry) t e = absurd cc
-rises callers codecs section.Start line.Slots t e = absurd cc
-rises callers codecs section.Start (line.Slot place entry) t e = absurd cc
-rises callers codecs section.Start (line.Held held) t e = absurd cc
-rises callers codecs section.Start line.End t e = absurd cc
 rises callers codecs (section.Callers k n) (line.Caller i) t e = rises_if _ (section.Callers (k + 1) 0) t _ e (omega arith)
 rises callers codecs (section.Callers k n) (line.Result step found) t e = rises_if _ (section.Callers k (n + 1)) t _ e (omega arith)
-rises callers codecs (section.Callers k n) line.Header t e = if_part (eqb k callers) codecs 0 line.Header t _ e
-rises callers codecs (section.Callers k n) (line.Codec i opening) t e = if_part (eqb k callers) codecs 0 (line.Codec i opening) t _ e
-rises callers codecs (section.Callers k n) (line.Entry place told) t e = if_part (eqb k callers) codecs 0 (line.Entry place told) t _ e
-rises callers codecs (section.Callers k n) (line.Event shown) t e = if_part (eqb k callers) codecs 0 (line.Event shown) t _ e
-rises callers codecs (section.Callers k n) line.Pool t e = if_part (eqb k callers) codecs 0 line.Pool t _ e
-rises callers codecs (section.Callers k n) (line.Reference place entry) t e = if_part (eqb k callers) codecs 0 (line.Reference place entry) t _ e
-rises callers codecs (section.Callers k n) line.Slots t e = if_part (eqb k callers) codecs 0 line.Slots t _ e
-rises callers codecs (section.Callers k n) (line.Slot place entry) t e = if_part (eqb k callers) codecs 0 (line.Slot place entry) t _ e
-rises callers codecs (section.Callers k n) (line.Held held) t e = if_part (eqb k callers) codecs 0 (line.Held held) t _ e
-rises callers codecs (section.Callers k n) line.End t e = if_part (eqb k callers) codecs 0 line.End t _ e
+rises callers codecs (section.Callers k n) l t e = if_part (eqb k callers) codecs 0 l t _ e
 rises callers codecs (section.Codecs k n) (line.Entry place told) t e = rises_if _ (section.Codecs k (n + 1)) t _ e (omega arith)
 rises callers codecs (section.Codecs k n) (line.Event shown) t e = rises_at (section.Codecs k n) t _ e (omega arith)
-rises callers codecs (section.Codecs k n) line.Header t e = part_rises codecs k line.Header t _ e
-rises callers codecs (section.Codecs k n) (line.Caller i) t e = part_rises codecs k (line.Caller i) t _ e
-rises callers codecs (section.Codecs k n) (line.Result step found) t e = part_rises codecs k (line.Result step found) t _ e
-rises callers codecs (section.Codecs k n) (line.Codec i opening) t e = part_rises codecs k (line.Codec i opening) t _ e
-rises callers codecs (section.Codecs k n) line.Pool t e = part_rises codecs k line.Pool t _ e
-rises callers codecs (section.Codecs k n) (line.Reference place entry) t e = part_rises codecs k (line.Reference place entry) t _ e
-rises callers codecs (section.Codecs k n) line.Slots t e = part_rises codecs k line.Slots t _ e
-rises callers codecs (section.Codecs k n) (line.Slot place entry) t e = part_rises codecs k (line.Slot place entry) t _ e
-rises callers codecs (section.Codecs k n) (line.Held held) t e = part_rises codecs k (line.Held held) t _ e
-rises callers codecs (section.Codecs k n) line.End t e = part_rises codecs k line.End t _ e
+rises callers codecs (section.Codecs k n) l t e = part_rises codecs k l t _ e
 rises callers codecs (section.Pool n) (line.Reference place entry) t e = rises_if _ (section.Pool (n + 1)) t _ e (omega arith)
 rises callers codecs (section.Pool n) line.Slots t e = rises_at (section.Slots 0) t _ e (omega arith)
-rises callers codecs (section.Pool n) line.Header t e = absurd cc
-rises callers codecs (section.Pool n) (line.Caller i) t e = absurd cc
-rises callers codecs (section.Pool n) (line.Result step found) t e = absurd cc
-rises callers codecs (section.Pool n) (line.Codec i opening) t e = absurd cc
-rises callers codecs (section.Pool n) (line.Entry place told) t e = absurd cc
-rises callers codecs (section.Pool n) (line.Event shown) t e = absurd cc
-rises callers codecs (section.Pool n) line.Pool t e = absurd cc
-rises callers codecs (section.Pool n) (line.Slot place entry) t e = absurd cc
-rises callers codecs (section.Pool n) (line.Held held) t e = absurd cc
-rises callers codecs (section.Pool n) line.End t e = absurd cc
 rises callers codecs (section.Slots n) (line.Slot place entry) t e = rises_if _ (section.Slots (n + 1)) t _ e (omega arith)
 rises callers codecs (section.Slots n) (line.Held held) t e = rises_at section.Held t _ e (omega arith)
-rises callers codecs (section.Slots n) line.Header t e = absurd cc
-rises callers codecs (section.Slots n) (line.Caller i) t e = absurd cc
-rises callers codecs (section.Slots n) (line.Result step found) t e = absurd cc
-rises callers codecs (section.Slots n) (line.Codec i opening) t e = absurd cc
-rises callers codecs (section.Slots n) (line.Entry place told) t e = absurd cc
-rises callers codecs (section.Slots n) (line.Event shown) t e = absurd cc
-rises callers codecs (section.Slots n) line.Pool t e = absurd cc
-rises callers codecs (section.Slots n) (line.Reference place entry) t e = absurd cc
-rises callers codecs (section.Slots n) line.Slots t e = absurd cc
-rises callers codecs (section.Slots n) line.End t e = absurd cc
 rises callers codecs section.Held line.End t e = rises_at section.Ended t _ e (omega arith)
-rises callers codecs section.Held line.Header t e = absurd cc
-rises callers codecs section.Held (line.Caller i) t e = absurd cc
-rises callers codecs section.Held (line.Result step found) t e = absurd cc
-rises callers codecs section.Held (line.Codec i opening) t e = absurd cc
-rises callers codecs section.Held (line.Entry place told) t e = absurd cc
-rises callers codecs section.Held (line.Event shown) t e = absurd cc
-rises callers codecs section.Held line.Pool t e = absurd cc
-rises callers codecs section.Held (line.Reference place entry) t e = absurd cc
-rises callers codecs section.Held line.Slots t e = absurd cc
-rises callers codecs section.Held (line.Slot place entry) t e = absurd cc
-rises callers codecs section.Held (line.Held held) t e = absurd cc
-rises callers codecs section.Ended l t e = absurd cc
+rises callers codecs _ _ t e = absurd cc
 
 pub form_numbered : (script : ScriptData) (s : Section) (bs : List ℕ) (l : Line) (rest : List ℕ) (t : Section) → form_at script s bs ≡ Some (l, rest, t) → next_number t ≤ next_number s + 1
 form_numbered script s bs l rest t e = rises (length script.callers) (length script.codecs) s l t (form_parts script s bs l rest t e).next
@@ -164,14 +95,8 @@ callers_pass script k n (c ∷ cs) le =
 events_pass : (script : ScriptData) (k n : ℕ) (es : List Event) → Passes script (section.Codecs k n) (flat_map event_lines es) (section.Codecs k n)
 events_pass script k n [] = refl
 events_pass script k n (event.Refusal x ∷ es) = events_pass script k n es
-events_pass script k n (event.Output m (unit.Sound samples) ∷ es) = (section.Codecs k n, refl, events_pass script k n es)
-events_pass script k n (event.Output m (unit.Image picture) ∷ es) = (section.Codecs k n, refl, events_pass script k n es)
-events_pass script k n (event.Output m (unit.Coded chunk None) ∷ es) = (section.Codecs k n, refl, events_pass script k n es)
 events_pass script k n (event.Output m (unit.Coded chunk (Some c)) ∷ es) = (section.Codecs k n, refl, (section.Codecs k n, refl, events_pass script k n es))
-events_pass script k n (event.Resolve p ∷ es) = (section.Codecs k n, refl, events_pass script k n es)
-events_pass script k n (event.Reject p x ∷ es) = (section.Codecs k n, refl, events_pass script k n es)
-events_pass script k n (event.Dequeue ∷ es) = (section.Codecs k n, refl, events_pass script k n es)
-events_pass script k n (event.ErrorCall x ∷ es) = (section.Codecs k n, refl, events_pass script k n es)
+events_pass script k n (e ∷ es) = (section.Codecs k n, refl, events_pass script k n es)
 
 entries_pass : (script : ScriptData) (k n : ℕ) (made : List (Entry × Shown)) → Passes script (section.Codecs k n) (lines_from entry_lines n made) (section.Codecs k (n + length made))
 entries_pass script k n [] = ap (λ (m : ℕ). section.Codecs k m) (omega arith)

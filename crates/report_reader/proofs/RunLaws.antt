@@ -29,7 +29,8 @@ use Rattle.trace_text.specs.Report.{entry_line_of, event_lines, lines_from, resu
 use Rattle.report_reader.specs.declared.known.Known.{Known}
 use Rattle.report_reader.specs.Read.{results_in, behind_results, callers_in, entries_from, entry_lines_in, behind_entries, description_of, config_in, outputs_in, trace_of, codecs_in, all_outputs_in, pool_in, behind_pool, slots_in, held_in, run_of}
 use Rattle.report_reader.specs.Told.{known_of, HoldAll, IsPlainTrace, IsToldTrace, AreToldTraces, IsToldRun}
-use Rattle.codec_follow.specs.Outputs.{IsPlainDescription, IsOutputOf}
+use Rattle.codec_follow.specs.Outputs.{IsOutputOf}
+use Rattle.report_reader.proofs.KindLaws.{outputs_events}
 
 -- ---- callers
 
@@ -68,70 +69,13 @@ callers_again i (suc n) (c ∷ cs) rest same ends =
 
 entry_lines_behind_events : (es : List Event) (ls : List Line) → entry_lines_in (flat_map event_lines es ++ ls) ≡ entry_lines_in ls
 entry_lines_behind_events [] ls = refl
-entry_lines_behind_events (event.Refusal x ∷ es) ls = entry_lines_behind_events es ls
-entry_lines_behind_events (event.Output n (unit.Sound samples) ∷ es) ls = entry_lines_behind_events es ls
-entry_lines_behind_events (event.Output n (unit.Image picture) ∷ es) ls = entry_lines_behind_events es ls
-entry_lines_behind_events (event.Output n (unit.Coded chunk None) ∷ es) ls = entry_lines_behind_events es ls
 entry_lines_behind_events (event.Output n (unit.Coded chunk (Some c)) ∷ es) ls = entry_lines_behind_events es ls
-entry_lines_behind_events (event.Resolve p ∷ es) ls = entry_lines_behind_events es ls
-entry_lines_behind_events (event.Reject p x ∷ es) ls = entry_lines_behind_events es ls
-entry_lines_behind_events (event.Dequeue ∷ es) ls = entry_lines_behind_events es ls
-entry_lines_behind_events (event.ErrorCall x ∷ es) ls = entry_lines_behind_events es ls
+entry_lines_behind_events (e ∷ es) ls = entry_lines_behind_events es ls
 
 behind_events : (es : List Event) (ls : List Line) → behind_entries (flat_map event_lines es ++ ls) ≡ behind_entries ls
 behind_events [] ls = refl
-behind_events (event.Refusal x ∷ es) ls = behind_events es ls
-behind_events (event.Output n (unit.Sound samples) ∷ es) ls = behind_events es ls
-behind_events (event.Output n (unit.Image picture) ∷ es) ls = behind_events es ls
-behind_events (event.Output n (unit.Coded chunk None) ∷ es) ls = behind_events es ls
 behind_events (event.Output n (unit.Coded chunk (Some c)) ∷ es) ls = behind_events es ls
-behind_events (event.Resolve p ∷ es) ls = behind_events es ls
-behind_events (event.Reject p x ∷ es) ls = behind_events es ls
-behind_events (event.Dequeue ∷ es) ls = behind_events es ls
-behind_events (event.ErrorCall x ∷ es) ls = behind_events es ls
-
--- no config stands in front, since each stands behind its chunk
-config_events : (es : List Event) (ls : List Line) → config_in ls ≡ None → config_in (flat_map event_lines es ++ ls) ≡ None
-config_events [] ls none = none
-config_events (event.Refusal x ∷ es) ls none = config_events es ls none
-config_events (event.Output n (unit.Sound samples) ∷ es) ls none = refl
-config_events (event.Output n (unit.Image picture) ∷ es) ls none = refl
-config_events (event.Output n (unit.Coded chunk config) ∷ es) ls none = refl
-config_events (event.Resolve p ∷ es) ls none = refl
-config_events (event.Reject p x ∷ es) ls none = refl
-config_events (event.Dequeue ∷ es) ls none = refl
-config_events (event.ErrorCall x ∷ es) ls none = refl
-
-description_again : (d : Option (List ℕ)) → IsPlainDescription d → description_of (unwrap_or d []) ≡ d
-description_again None plain = refl
-description_again (Some []) plain = absurd plain
-description_again (Some (b ∷ bs)) plain = refl
-
-outputs_events : (k : Kind) (es : List Event) (ls : List Line) → config_in ls ≡ None → AllByRecursion (IsOutputOf k) (units_in es) → outputs_in k (flat_map event_lines es ++ ls) ≡ units_in es ++ outputs_in k ls
-outputs_events k [] ls none plain = refl
-outputs_events k (event.Refusal x ∷ es) ls none plain = outputs_events k es ls none plain
-outputs_events kind.AudioDecoder (event.Output n (unit.Sound samples) ∷ es) ls none plain = rw (lt-ltb 0 samples.shape.rate plain.0) (ap (λ (us : List media.Unit). unit.Sound samples ∷ us) (outputs_events kind.AudioDecoder es ls none plain.1))
-outputs_events kind.AudioDecoder (event.Output n (unit.Image picture) ∷ es) ls none plain = absurd plain.0
-outputs_events kind.AudioDecoder (event.Output n (unit.Coded chunk config) ∷ es) ls none plain = absurd plain.0
-outputs_events kind.VideoDecoder (event.Output n (unit.Image picture) ∷ es) ls none plain = ap (λ (us : List media.Unit). unit.Image picture ∷ us) (outputs_events kind.VideoDecoder es ls none plain.1)
-outputs_events kind.VideoDecoder (event.Output n (unit.Sound samples) ∷ es) ls none plain = absurd plain.0
-outputs_events kind.VideoDecoder (event.Output n (unit.Coded chunk config) ∷ es) ls none plain = absurd plain.0
-outputs_events kind.AudioEncoder (event.Output n (unit.Coded chunk None) ∷ es) ls none plain = rw (config_events es ls none) (ap (λ (us : List media.Unit). unit.Coded chunk None ∷ us) (outputs_events kind.AudioEncoder es ls none plain.1))
-outputs_events kind.AudioEncoder (event.Output n (unit.Coded chunk (Some c)) ∷ es) ls none plain = rw (plain.0.0, description_again c.description plain.0.1) (ap (λ (us : List media.Unit). unit.Coded chunk (Some c) ∷ us) (outputs_events kind.AudioEncoder es ls none plain.1))
-outputs_events kind.AudioEncoder (event.Output n (unit.Sound samples) ∷ es) ls none plain = absurd plain.0
-outputs_events kind.AudioEncoder (event.Output n (unit.Image picture) ∷ es) ls none plain = absurd plain.0
-outputs_events kind.AudioDecoder (event.Resolve p ∷ es) ls none plain = outputs_events kind.AudioDecoder es ls none plain
-outputs_events kind.AudioEncoder (event.Resolve p ∷ es) ls none plain = outputs_events kind.AudioEncoder es ls none plain
-outputs_events kind.VideoDecoder (event.Resolve p ∷ es) ls none plain = outputs_events kind.VideoDecoder es ls none plain
-outputs_events kind.AudioDecoder (event.Reject p x ∷ es) ls none plain = outputs_events kind.AudioDecoder es ls none plain
-outputs_events kind.AudioEncoder (event.Reject p x ∷ es) ls none plain = outputs_events kind.AudioEncoder es ls none plain
-outputs_events kind.VideoDecoder (event.Reject p x ∷ es) ls none plain = outputs_events kind.VideoDecoder es ls none plain
-outputs_events kind.AudioDecoder (event.Dequeue ∷ es) ls none plain = outputs_events kind.AudioDecoder es ls none plain
-outputs_events kind.AudioEncoder (event.Dequeue ∷ es) ls none plain = outputs_events kind.AudioEncoder es ls none plain
-outputs_events kind.VideoDecoder (event.Dequeue ∷ es) ls none plain = outputs_events kind.VideoDecoder es ls none plain
-outputs_events kind.AudioDecoder (event.ErrorCall x ∷ es) ls none plain = outputs_events kind.AudioDecoder es ls none plain
-outputs_events kind.AudioEncoder (event.ErrorCall x ∷ es) ls none plain = outputs_events kind.AudioEncoder es ls none plain
-outputs_events kind.VideoDecoder (event.ErrorCall x ∷ es) ls none plain = outputs_events kind.VideoDecoder es ls none plain
+behind_events (e ∷ es) ls = behind_events es ls
 
 -- ---- entries
 

@@ -28,6 +28,7 @@ use Rattle.script_types.specs.declared.steps.Step.{Step}
 use Rattle.script_types.specs.declared.steps.Step.TheVariants as step
 use Rattle.report_text.specs.declared.result.StepResult.{StepResult}
 use Rattle.report_text.specs.declared.result.StepResult.TheVariants as result
+use Rattle.media_variables.specs.CameLaws.{EachCame, by_came}
 use Rattle.media_variables.specs.Variables.{Reference, Shape, SoundOf, PictureOf, ChunkOf, Medium, Came, Taken, Brought, medium_at, with_medium, detached, makes, only_answers, refused, clone_held, transfer_held, close_held, if_there, copy_came, copy_medium, size_of_medium, unit_came, taken_came, chunk_medium, sound_in, sound_at, sound_of, media_ref, media_came}
 use Rattle.media_accounts.specs.Accounts.{step_by, before_step, media_of, variables_by, variables_in}
 use Rattle.trace_text.specs.Follow.{Recorded, steps_of}
@@ -59,10 +60,8 @@ with_next i m v vs j x (inr e) = inr ((λ same. e.0 (omega (arith, same))), e.1)
 
 with_at : (i : ℕ) (m : Medium) (vs : List (Option Medium)) (j : ℕ) (x : Medium) → medium_at (with_medium i m vs) j ≡ Some x → IsWith i m vs j x
 with_at zero m [] zero x h = inl (refl, cc)
-with_at zero m [] (suc j) x h = absurd cc
 with_at zero m (v ∷ vs) zero x h = inl (refl, cc)
 with_at zero m (v ∷ vs) (suc j) x h = inr ((λ same. absurd (omega (arith, same))), h)
-with_at (suc i) m [] zero x h = absurd cc
 with_at (suc i) m [] (suc j) x h = of_none (with_at i m [] j x h)
   where
     of_none : IsWith i m [] j x → IsWith (suc i) m [] (suc j) x
@@ -70,6 +69,7 @@ with_at (suc i) m [] (suc j) x h = of_none (with_at i m [] j x h)
     of_none (inr e) = absurd (let none = e.1 in cc)
 with_at (suc i) m (v ∷ vs) zero x h = inr ((λ same. absurd (omega (arith, same))), h)
 with_at (suc i) m (v ∷ vs) (suc j) x h = with_next i m v vs j x (with_at i m vs j x h)
+with_at _ m _ _ x h = absurd cc
 
 known : (b : Bool) → (b ≡ true → ⊥) → b ≡ false
 known true h = absurd (h refl)
@@ -195,125 +195,71 @@ new_all given f d n vs m none new all = given_one given (more f d) n vs m new (n
 ok_gives : (g : Bool) (r : StepResult) → g ≡ gives r → r ≡ result.Local None → g ≡ true
 ok_gives g r is ok = is ∙ ap gives ok
 
-audio_all : (p : List PoolEntry) (given f : ℕ → Bool) (n : ℕ) (vs : List (Option Medium)) (r : StepResult) (i : SoundInit) (b : Bool) → given n ≡ gives r
-    → r ≡ (cond b (only_answers (refused dom.TypeErr) vs) (makes p n (SoundOf i.shape) (take (needed i.shape) i.content) vs)).answer → AreAll given f n vs
-    → AreAll given (more f None) (suc n) (cond b (only_answers (refused dom.TypeErr) vs) (makes p n (SoundOf i.shape) (take (needed i.shape) i.content) vs)).variables
-audio_all p given f n vs r i true gave answer all = same_all given f None n vs vs refl refl all
-audio_all p given f n vs r i false gave answer all = new_all given f None n vs _ refl (is_sound (given n) _ _ (ok_gives (given n) r gave answer) refl) all
-
-frame_all : (p : List PoolEntry) (given f : ℕ → Bool) (n : ℕ) (vs : List (Option Medium)) (i : PictureInit) (b : Bool) → AreAll given f n vs
-    → AreAll given (more f None) (suc n) (cond b (only_answers (refused dom.TypeErr) vs) (makes p n (PictureOf i.shape) (take (picture_size i.shape) i.content) vs)).variables
-frame_all p given f n vs i true all = same_all given f None n vs vs refl refl all
-frame_all p given f n vs i false all = new_all given f None n vs _ refl (is_picture (given n) false _ i.shape refl) all
-
 unit_all : (p : List PoolEntry) (given f : ℕ → Bool) (n : ℕ) (vs : List (Option Medium)) (answer : StepResult) (u : output.Unit) → given n ≡ true → AreAll given f n vs → AreAll given (more f None) (suc n) (unit_came p n answer u vs).variables
 unit_all p given f n vs answer (unit.Sound x) gave all = new_all given f None n vs _ refl (is_sound (given n) _ _ gave refl) all
 unit_all p given f n vs answer (unit.Image x) gave all = new_all given f None n vs _ refl (is_picture (given n) false _ x.shape refl) all
 unit_all p given f n vs answer (unit.Coded c config) gave all = new_all given f None n vs _ refl (is_chunk (given n) false c) all
 
-taken_all : (p : List PoolEntry) (given f : ℕ → Bool) (n : ℕ) (vs : List (Option Medium)) (o : Option Taken) → ((t : Taken) → o ≡ Some t → given n ≡ true) → AreAll given f n vs → AreAll given (more f None) (suc n) (variables_by (taken_came p n o vs) vs)
-taken_all p given f n vs None gave all = same_all given f None n vs vs refl refl all
-taken_all p given f n vs (Some t) gave all = unit_all p given f n vs t.answer t.unit (gave t refl) all
-
-clone_all : (p : List PoolEntry) (given f : ℕ → Bool) (n : ℕ) (vs : List (Option Medium)) (r : StepResult) (m : Medium) (h : Option Reference) → given n ≡ gives r → r ≡ (clone_held p n m.shape h vs).answer → AreAll given f n vs
-    → AreAll given (more f None) (suc n) (clone_held p n m.shape h vs).variables
-clone_all p given f n vs r m None gave answer all = same_all given f None n vs vs refl refl all
-clone_all p given f n vs r m (Some q) gave answer all = new_all given f None n vs _ refl (is_sound (given n) _ _ (ok_gives (given n) r gave answer) refl) all
-
-clone_there : (p : List PoolEntry) (given f : ℕ → Bool) (n : ℕ) (vs : List (Option Medium)) (r : StepResult) (o : Option Medium) → given n ≡ gives r → r ≡ (if_there o vs (λ m. clone_held p n m.shape m.held vs)).answer → AreAll given f n vs
-    → AreAll given (more f None) (suc n) (if_there o vs (λ m. clone_held p n m.shape m.held vs)).variables
-clone_there p given f n vs r None gave answer all = same_all given f None n vs vs refl refl all
-clone_there p given f n vs r (Some m) gave answer all = clone_all p given f n vs r m m.held gave answer all
-
 -- the variable that a step with this result detaches
 abbrev detaches : ℕ → StepResult → Option ℕ
 detaches i r = cond (is_ok r) (Some i) None
 
--- the reference is handed on, unless there is none
-transfer_all : (given f : ℕ → Bool) (n i : ℕ) (vs : List (Option Medium)) (r : StepResult) (m : Medium) (h : Option Reference) → medium_at vs i ≡ Some m → m.held ≡ h → given n ≡ gives r → r ≡ (transfer_held n i m h vs).answer → AreAll given f n vs
-    → AreAll given (more f (detaches i r)) (suc n) (transfer_held n i m h vs).variables
-transfer_all given f n i vs r m None there holds gave answer all = same_all given f (detaches i r) n vs vs (ap (detaches i) answer) refl all
-transfer_all given f n i vs r m (Some q) there holds gave answer all =
-    detaches_so given f (detaches i r) (Some i) (suc n) _ (ap (detaches i) answer)
-    (given_one given (more f (Some i)) n (with_medium i (detached m) vs) m (is_sound (given n) m q (ok_gives (given n) r gave answer) holds) (detached_one given f n i vs m there all))
-
-transfer_there : (given f : ℕ → Bool) (n i : ℕ) (vs : List (Option Medium)) (r : StepResult) (o : Option Medium) → medium_at vs i ≡ o → given n ≡ gives r → r ≡ (if_there o vs (λ m. transfer_held n i m m.held vs)).answer → AreAll given f n vs
-    → AreAll given (more f (detaches i r)) (suc n) (if_there o vs (λ m. transfer_held n i m m.held vs)).variables
-transfer_there given f n i vs r None there gave answer all = same_all given f (detaches i r) n vs vs (ap (detaches i) answer) refl all
-transfer_there given f n i vs r (Some m) there gave answer all = transfer_all given f n i vs r m m.held there refl gave answer all
-
--- the reference ends, or had ended before
-close_all : (p : List PoolEntry) (who : Who) (given f : ℕ → Bool) (n i : ℕ) (vs : List (Option Medium)) (r : StepResult) (m : Medium) (h : Option Reference) → medium_at vs i ≡ Some m → m.held ≡ h → r ≡ (close_held p who i m h vs).answer → AreAll given f n vs
-    → AreAll given (more f (detaches i r)) (suc n) (close_held p who i m h vs).variables
-close_all p who given f n i vs r m None there holds answer all =
-    detaches_so given f (detaches i r) (Some i) (suc n) vs (ap (detaches i) answer) (one_more given (more f (Some i)) n vs (ended_one given f n i vs m there holds all))
-close_all p who given f n i vs r m (Some q) there holds answer all =
-    detaches_so given f (detaches i r) (Some i) (suc n) _ (ap (detaches i) answer) (one_more given (more f (Some i)) n (with_medium i (detached m) vs) (detached_one given f n i vs m there all))
-
-close_there : (p : List PoolEntry) (who : Who) (given f : ℕ → Bool) (n i : ℕ) (vs : List (Option Medium)) (r : StepResult) (o : Option Medium) → medium_at vs i ≡ o → r ≡ (if_there o vs (λ m. close_held p who i m m.held vs)).answer → AreAll given f n vs
-    → AreAll given (more f (detaches i r)) (suc n) (if_there o vs (λ m. close_held p who i m m.held vs)).variables
-close_there p who given f n i vs r None there answer all = same_all given f (detaches i r) n vs vs (ap (detaches i) answer) refl all
-close_there p who given f n i vs r (Some m) there answer all = close_all p who given f n i vs r m m.held there refl answer all
-
--- a copy and a size only answer
-answered : (o : Option Medium) (vs : List (Option Medium)) (answer : Medium → StepResult) → (if_there o vs (λ m. only_answers (answer m) vs)).variables ≡ vs
-answered None vs answer = refl
-answered (Some m) vs answer = refl
-
-copied : (chunk : Option Chunk) (i size : ℕ) (o : Options) (vs : List (Option Medium)) → (copy_came chunk i o size vs).variables ≡ vs
-copied chunk i size options.Nothing vs = refl
-copied chunk i size (options.Audio o) vs = answered (medium_at vs i) vs (λ m. copy_medium m (options.Audio o) size)
-copied chunk i size (options.Frame o) vs = answered (medium_at vs i) vs (λ m. copy_medium m (options.Frame o) size)
-
 -- ---- every step
 
--- the answer of a step on media that is the callers' own is what it comes to
-abbrev HasAnswer : Option Came → StepResult → Type 0
-HasAnswer None r = Unit {0}
-HasAnswer (Some y) r = r ≡ y.answer
+abbrev IsNoTake : MediaStep → Type 0
+IsNoTake x = (on : ℕ) (bind : List ℕ) (kind : VariableKind) → x ≡ media.Take on bind kind → ⊥
 
 -- What is known of the result of a step on media: what it gives its variable where an output was taken, and else its answer.
-record IsAnswered (p : List PoolEntry) (who : Who) (b : Brought) (x : MediaStep) (vs : List (Option Medium)) (r : StepResult) : Type 0 where
+record IsAnswered (b : Brought) (x : MediaStep) (y : Came) (r : StepResult) : Type 0 where
   took : (on : ℕ) (bind : List ℕ) (kind : VariableKind) (t : Taken) → x ≡ media.Take on bind kind → b.taken ≡ Some t → gives r ≡ true
-  own : ((on : ℕ) (bind : List ℕ) (kind : VariableKind) → x ≡ media.Take on bind kind → ⊥) → HasAnswer (media_came p who b x vs) r
+  own : IsNoTake x → r ≡ y.answer
 
-came_all : (p : List PoolEntry) (who : Who) (b : Brought) (x : MediaStep) (given f : ℕ → Bool) (vs : List (Option Medium)) (r : StepResult) → given who.step ≡ gives r → IsAnswered p who b x vs r → AreAll given f who.step vs
-    → AreAll given (more f (detached_in (step.Media x) r)) (suc who.step) (variables_by (media_came p who b x vs) vs)
-came_all p who b (media.Audio bind None) given f vs r gave a all = same_all given f None who.step vs vs refl refl all
-came_all p who b (media.Audio bind (Some i)) given f vs r gave a all = audio_all p given f who.step vs r i (is_invalid i.shape (length i.content)) gave (a.own (λ on bind kind e. absurd cc)) all
-came_all p who b (media.Frame bind None) given f vs r gave a all = same_all given f None who.step vs vs refl refl all
-came_all p who b (media.Frame bind (Some i)) given f vs r gave a all = frame_all p given f who.step vs i (frames.is_invalid i.shape (length i.content)) all
-came_all p who b (media.Encode on content) given f vs r gave a all = same_all given f None who.step vs vs refl refl all
-came_all p who b (media.Take on bind kind) given f vs r gave a all = taken_all p given f who.step vs b.taken (λ t is. gave ∙ a.took on bind kind t refl is) all
-came_all p who b (media.Clone of bind) given f vs r gave a all = clone_there p given f who.step vs r (medium_at vs of.step) gave (a.own (λ on bind kind e. absurd cc)) all
-came_all p who b (media.Transfer of bind) given f vs r gave a all = transfer_there given f who.step of.step vs r (medium_at vs of.step) refl gave (a.own (λ on bind kind e. absurd cc)) all
-came_all p who b (media.CloseData of) given f vs r gave a all = close_there p who given f who.step of.step vs r (medium_at vs of.step) refl (a.own (λ on bind kind e. absurd cc)) all
-came_all p who b (media.Copy of o size) given f vs r gave a all = same_all given f None who.step vs (copy_came b.chunk of.step o size vs).variables refl (copied b.chunk of.step size o vs) all
-came_all p who b (media.Size of o) given f vs r gave a all =
-    same_all given f None who.step vs (if_there (medium_at vs of.step) vs (λ m. only_answers (size_of_medium m o) vs)).variables refl (answered (medium_at vs of.step) vs (λ m. size_of_medium m o)) all
+-- a step that is refused detaches nothing
+stays : (x : MediaStep) (r : StepResult) → (IsNoTake x → is_ok r ≡ false) → detached_in (step.Media x) r ≡ None
+stays (media.Transfer of bind) r h = ap (λ (b : Bool). cond b (Some of.step) None) (h (λ on other kind e. absurd cc))
+stays (media.CloseData of) r h = ap (λ (b : Bool). cond b (Some of.step) None) (h (λ on other kind e. absurd cc))
+stays _ r h = refl
 
--- a step that is none on media changes no variable
-other_all : (p : List PoolEntry) (who : Who) (brings : MediaStep → Brought) (x : Step) (given f : ℕ → Bool) (d : Option ℕ) (vs : List (Option Medium)) → media_of x ≡ None → d ≡ None → AreAll given f who.step vs
-    → AreAll given (more f d) (suc who.step) (variables_by (option_and_then (λ y. media_came p who (brings y) y vs) (media_of x)) vs)
-other_all p who brings x given f d vs none same all = same_all given f d who.step vs _ same (ap (λ o. variables_by (option_and_then (λ y. media_came p who (brings y) y vs) o) vs) none) all
+each_all : (p : List PoolEntry) (who : Who) (b : Brought) (given f : ℕ → Bool) (vs : List (Option Medium)) (r : StepResult) → given who.step ≡ gives r → AreAll given f who.step vs
+    → EachCame p who b vs (λ x y. IsAnswered b x y r → AreAll given (more f (detached_in (step.Media x) r)) (suc who.step) y.variables)
+each_all p who b given f vs r gave all = record {
+  refuses = λ x e k. same_all given f _ who.step vs vs (stays x r (λ apart. ap is_ok (k.own apart))) refl all;
+  absent = λ x k. same_all given f _ who.step vs vs (stays x r (λ apart. ap is_ok (k.own apart))) refl all;
+  audio = λ bind i k. new_all given f None who.step vs _ refl (is_sound (given who.step) _ _ (ok_gives (given who.step) r gave (k.own (λ on other kind e. absurd cc))) refl) all;
+  frame = λ bind i k. new_all given f None who.step vs _ refl (is_picture (given who.step) false _ i.shape refl) all;
+  takes = λ on bind kind t is k. unit_all p given f who.step vs t.answer t.unit (gave ∙ k.took on bind kind t refl is) all;
+  clones = λ of bind m q is holds k. new_all given f None who.step vs _ refl (is_sound (given who.step) _ _ (ok_gives (given who.step) r gave (k.own (λ on other kind e. absurd cc))) refl) all;
+  transfers = λ of bind m q is holds k. (
+      let answer = k.own (λ on other kind e. absurd cc) in
+      detaches_so given f (detaches of.step r) (Some of.step) (suc who.step) _ (ap (detaches of.step) answer)
+      (given_one given (more f (Some of.step)) who.step (with_medium of.step (detached m) vs) m (is_sound (given who.step) m q (ok_gives (given who.step) r gave answer) holds) (detached_one given f who.step of.step vs m is all))
+      );
+  closed = λ of m is holds k.
+      detaches_so given f (detaches of.step r) (Some of.step) (suc who.step) vs (ap (detaches of.step) (k.own (λ on other kind e. absurd cc))) (one_more given (more f (Some of.step)) who.step vs (ended_one given f who.step of.step vs m is holds all));
+  closes = λ of m q is holds k.
+      detaches_so given f (detaches of.step r) (Some of.step) (suc who.step) _ (ap (detaches of.step) (k.own (λ on other kind e. absurd cc))) (one_more given (more f (Some of.step)) who.step (with_medium of.step (detached m) vs) (detached_one given f who.step of.step vs m is all));
+  copies_chunk = λ of size k. same_all given f None who.step vs vs refl refl all;
+  copies = λ of o size m is k. same_all given f None who.step vs vs refl refl all;
+  sizes = λ of o m is k. same_all given f None who.step vs vs refl refl all;
+}
+
+-- a step that comes to nothing here, as an encode or a take that found no output, detaches nothing
+came_all : (p : List PoolEntry) (who : Who) (b : Brought) (x : MediaStep) (given f : ℕ → Bool) (vs : List (Option Medium)) (r : StepResult) → given who.step ≡ gives r → ((y : Came) → media_came p who b x vs ≡ Some y → IsAnswered b x y r) → AreAll given f who.step vs
+    → (o : Option Came) → media_came p who b x vs ≡ o → AreAll given (more f (detached_in (step.Media x) r)) (suc who.step) (variables_by o vs)
+came_all p who b x given f vs r gave a all (Some y) is = by_came p who b vs _ (each_all p who b given f vs r gave all) x y is (a y is)
+came_all p who b (media.Encode on content) given f vs r gave a all None is = same_all given f None who.step vs vs refl refl all
+came_all p who b (media.Take on bind kind) given f vs r gave a all None is = same_all given f None who.step vs vs refl refl all
+came_all p who b _ given f vs r gave a all None is = absurd cc
 
 -- what is known of a step that has this result
 abbrev HasResult : List PoolEntry → Who → (MediaStep → Brought) → Option Step → List (Option Medium) → StepResult → Type 0
-HasResult p who brings o vs r = (x : MediaStep) → o ≡ Some (step.Media x) → IsAnswered p who (brings x) x vs r
+HasResult p who brings o vs r = (x : MediaStep) → o ≡ Some (step.Media x) → (y : Came) → media_came p who (brings x) x vs ≡ Some y → IsAnswered (brings x) x y r
 
 step_all : (p : List PoolEntry) (who : Who) (brings : MediaStep → Brought) (o : Option Step) (given f : ℕ → Bool) (vs : List (Option Medium)) (r : StepResult) → given who.step ≡ gives r → HasResult p who brings o vs r → AreAll given f who.step vs
     → AreAll given (more f (option_and_then (λ x. detached_in x r) o)) (suc who.step) (variables_by (option_and_then (λ y. media_came p who (brings y) y vs) (option_and_then media_of o)) vs)
 step_all p who brings None given f vs r gave a all = same_all given f None who.step vs vs refl refl all
-step_all p who brings (Some (step.Media x)) given f vs r gave a all = came_all p who (brings x) x given f vs r gave (a x refl) all
-step_all p who brings (Some (step.Configure on config)) given f vs r gave a all = other_all p who brings (step.Configure on config) given f None vs refl refl all
-step_all p who brings (Some (step.Chunk bind source)) given f vs r gave a all = other_all p who brings (step.Chunk bind source) given f None vs refl refl all
-step_all p who brings (Some (step.Decode on chunk)) given f vs r gave a all = other_all p who brings (step.Decode on chunk) given f None vs refl refl all
-step_all p who brings (Some (step.Flush on bind)) given f vs r gave a all = other_all p who brings (step.Flush on bind) given f None vs refl refl all
-step_all p who brings (Some (step.Poll promise)) given f vs r gave a all = other_all p who brings (step.Poll promise) given f None vs refl refl all
-step_all p who brings (Some (step.Await promise)) given f vs r gave a all = other_all p who brings (step.Await promise) given f None vs refl refl all
-step_all p who brings (Some (step.Reset on)) given f vs r gave a all = other_all p who brings (step.Reset on) given f None vs refl refl all
-step_all p who brings (Some (step.Close on)) given f vs r gave a all = other_all p who brings (step.Close on) given f None vs refl refl all
-step_all p who brings (Some (step.State on)) given f vs r gave a all = other_all p who brings (step.State on) given f None vs refl refl all
+step_all p who brings (Some (step.Media x)) given f vs r gave a all = came_all p who (brings x) x given f vs r gave (a x refl) all _ refl
+step_all p who brings (Some _) given f vs r gave a all = same_all given f None who.step vs vs refl refl all
 
 -- ---- all steps
 
@@ -342,47 +288,29 @@ all_steps steps brought pool c results (suc n) made =
 -- an output is brought to a step whose result is that it took it
 took_gives : (s : ScriptData) (w : Recorded) (r : StepResult) (t : Taken) → taken_by s w (Some r) ≡ Some t → gives r ≡ true
 took_gives s w (result.Unit k p n) t is = refl
-took_gives s w (result.Call k p error) t is = absurd cc
-took_gives s w (result.Local error) t is = absurd cc
-took_gives s w (result.Look k n end) t is = absurd cc
-took_gives s w (result.State k n state size) t is = absurd cc
-took_gives s w (result.NoUnit k n) t is = absurd cc
-took_gives s w (result.Copied n bytes) t is = absurd cc
-took_gives s w (result.CopiedFrame n layouts bytes) t is = absurd cc
-took_gives s w (result.Size n) t is = absurd cc
-took_gives s w result.Absent t is = absurd cc
-
-answer_is : (o : Option Came) (r : StepResult) → IsMediaAnswer o r → HasAnswer o r
-answer_is None r h = absurd h
-answer_is (Some y) r h = h
+took_gives s w _ t is = absurd cc
 
 -- a step on media that takes nothing has the answer that it comes to
-own_answer : (s : ScriptData) (files : List (List Chunk)) (vs : List (Option Medium)) (came : Option Came) (c : ℕ) (x : MediaStep) (r : StepResult) → ((on : ℕ) (content : Variable) → x ≡ media.Encode on content → came ≡ None)
-    → ((on : ℕ) (bind : List ℕ) (kind : VariableKind) → x ≡ media.Take on bind kind → ⊥) → IsLocalAnswer s files vs came c (step.Media x) r → HasAnswer came r
-own_answer s files vs came c (media.Encode on content) r encode take h = subst (λ (o : Option Came). HasAnswer o r) (sym (encode on content refl)) tt
-own_answer s files vs came c (media.Take on bind kind) r encode take h = absurd (take on bind kind refl)
-own_answer s files vs came c (media.Audio bind init) r encode take h = answer_is came r h
-own_answer s files vs came c (media.Frame bind init) r encode take h = answer_is came r h
-own_answer s files vs came c (media.Clone of bind) r encode take h = answer_is came r h
-own_answer s files vs came c (media.Transfer of bind) r encode take h = answer_is came r h
-own_answer s files vs came c (media.CloseData of) r encode take h = answer_is came r h
-own_answer s files vs came c (media.Copy of o size) r encode take h = answer_is came r h
-own_answer s files vs came c (media.Size of o) r encode take h = answer_is came r h
+own_answer : (s : ScriptData) (files : List (List Chunk)) (vs : List (Option Medium)) (y : Came) (c : ℕ) (x : MediaStep) (r : StepResult) → ((on : ℕ) (content : Variable) → x ≡ media.Encode on content → ⊥) → IsNoTake x
+    → IsLocalAnswer s files vs (Some y) c (step.Media x) r → r ≡ y.answer
+own_answer s files vs y c (media.Encode on content) r encode take h = absurd (encode on content refl)
+own_answer s files vs y c (media.Take on bind kind) r encode take h = absurd (take on bind kind refl)
+own_answer s files vs y c _ r encode take h = h
 
-encodes_nothing : (p : List PoolEntry) (who : Who) (b : Brought) (x : MediaStep) (vs : List (Option Medium)) (on : ℕ) (content : Variable) → x ≡ media.Encode on content → media_came p who b x vs ≡ None
-encodes_nothing p who b x vs on content is = ap (λ (y : MediaStep). media_came p who b y vs) is
+encodes_nothing : (p : List PoolEntry) (who : Who) (b : Brought) (x : MediaStep) (vs : List (Option Medium)) (y : Came) → media_came p who b x vs ≡ Some y → (on : ℕ) (content : Variable) → x ≡ media.Encode on content → ⊥
+encodes_nothing p who b x vs y comes on content is = let none : None ≡ Some y = sym (ap (λ (z : MediaStep). media_came p who b z vs) is) ∙ comes in absurd cc
 
 -- each step that has a result is so
 made_so : (s : ScriptData) (files : List (List Chunk)) (w : Recorded) → LocalsAreIn s files w → (c n : ℕ) (r : StepResult) → result_in w c n ≡ Some r
     → HasResult (before_step c n w.pool) (step_by c n) (brought_to s files w c n) (slice_get (steps_of s c) n) (variables_at s files w c n) r
-made_so s files w locals c n r there x is = record {
+made_so s files w locals c n r there x is y comes = record {
   took = λ on bind kind t taken brought. took_gives s w r t (sym (ap (taken_by s w) there) ∙ brought);
   own = λ apart. (
       let vs = variables_at s files w c n in
-      let comes : came_at s files w c n ≡ media_came (before_step c n w.pool) (step_by c n) (brought_to s files w c n x) x vs =
-      ap (λ (o : Option Step). option_and_then (λ y. media_came (before_step c n w.pool) (step_by c n) (brought_to s files w c n y) y vs) (option_and_then media_of o)) is in
+      let here : came_at s files w c n ≡ Some y =
+      ap (λ (o : Option Step). option_and_then (λ z. media_came (before_step c n w.pool) (step_by c n) (brought_to s files w c n z) z vs) (option_and_then media_of o)) is ∙ comes in
       let answer : IsLocalAnswer s files vs (came_at s files w c n) c (step.Media x) r = locals c n (step.Media x) r is there in
-      own_answer s files vs _ c x r (encodes_nothing (before_step c n w.pool) (step_by c n) (brought_to s files w c n x) x vs) apart (subst (λ (o : Option Came). IsLocalAnswer s files vs o c (step.Media x) r) comes answer)
+      own_answer s files vs y c x r (encodes_nothing (before_step c n w.pool) (step_by c n) (brought_to s files w c n x) x vs y comes) apart (subst (λ (o : Option Came). IsLocalAnswer s files vs o c (step.Media x) r) here answer)
       );
 }
 
@@ -407,8 +335,7 @@ sound_stands given gone m (SoundOf s) x is shaped sound =
     let same : sound_of s m.held ≡ x = cc in
     let known = is.sound s shaped in
     (known.0, known.1 ∙ held_none m.held ∙ ap (λ (y : Sound). is_none y.held) same)
-sound_stands given gone m (PictureOf s) x is shaped sound = absurd cc
-sound_stands given gone m (ChunkOf s) x is shaped sound = absurd cc
+sound_stands given gone m _ x is shaped sound = absurd cc
 
 stands_there : (given gone : ℕ → Bool) (n : ℕ) (vs : List (Option Medium)) (j : ℕ) (x : Sound) (o : Option Medium) → AreAll given gone n vs → medium_at vs j ≡ o → option_and_then sound_in o ≡ Some x → (given j ≡ true) × (gone j ≡ is_none x.held)
 stands_there given gone n vs j x None all there sound = absurd cc

@@ -19,8 +19,7 @@ same_key a b k n = grind (arith, nat_tests)
 
 both : (p q : Bool) → (p && q) ≡ true → (p ≡ true) × (q ≡ true)
 both true true e = (refl, refl)
-both true false e = absurd cc
-both false q e = absurd cc
+both _ _ e = absurd cc
 
 or_none : {V : Type 0} (o : Option V) → o ≡ option_or o None
 or_none None = refl
@@ -81,17 +80,15 @@ lt_false i n le = grind (arith, nat_tests, le)
 -- of fewer steps
 earlier_by : (o : Option ℕ) (q b : Bool) (n m : ℕ) → m ≤ n → is_before o m ≡ b → is_before (option_or o (step_here q n)) m ≡ b
 earlier_by None true b n m le is = lt_false n m le ∙ is
-earlier_by None false b n m le is = is
-earlier_by (Some i) q b n m le is = is
+earlier_by _ _ b n m le is = is
 
 -- of all of them
 here_by : (o : Option ℕ) (q b : Bool) (n : ℕ) → ((i : ℕ) → o ≡ Some i → i < n) → is_before o n ≡ b → is_before (option_or o (step_here q n)) (suc n) ≡ cond b true q
-here_by None true true n below is = absurd cc
 here_by None true false n below is = lt_true n (suc n) (omega arith)
-here_by None false true n below is = absurd cc
 here_by None false false n below is = refl
 here_by (Some i) q true n below is = lt_true i (suc n) (let lt = below i refl in omega (arith, lt))
 here_by (Some i) q false n below is = let no_lt = sym (lt_true i n (below i refl)) ∙ is in absurd cc
+here_by _ _ _ n below is = absurd cc
 
 -- it tells of any fewer steps whether one of them names the variable
 abbrev Tells : (ℕ → Option ℕ) → ℕ → ℕ → ℕ → Type 0

@@ -2,6 +2,7 @@
 use Rattle.std.proofs.Common.{ℕ, ◌≡◌, suc, ◌+◌, ◌-◌, ◌<◌, take, drop, get_or, List, [], ◌∷◌, ◌++◌, length, Option, Some, None, refl, sym, ap, subst, ◌∙◌, arith, append_assoc, append-nil, length-append}
 use Rattle.std.specs.Prelude.{option_map, option_and_then, unwrap_or}
 use Rattle.std.proofs.Math.Seq.{take-length}
+use Rattle.wc_base.specs.Options.{some_same}
 use Rattle.wc_chunk.specs.declared.chunk.Chunk.{Chunk}
 use Rattle.codec_definitions.specs.declared.unit.Unit as media
 use Rattle.codec_model.specs.declared.entry.Opening.{Opening}
@@ -18,16 +19,13 @@ use Rattle.trace_text.specs.declared.run.CodecTrace.{CodecTrace}
 use Rattle.report_text.specs.declared.line.EntryLine.{EntryLine}
 use Rattle.report_reader.specs.declared.known.Known.{Known}
 use Rattle.report_reader.specs.Arguments.{entry_of}
-use Rattle.report_reader.specs.Read.{next_of, entries_from, trace_of}
+use Rattle.report_reader.specs.Read.{next_of, entry_then, entries_from, trace_of}
 use Rattle.report_reader.specs.Next.{shown_next, NextIs}
 
 -- ---- the next entry
 
 abbrev some : {A : Type 0} → A → Option A
 some x = Some x
-
-some_is : {A : Type 0} (x y : A) → some x ≡ some y → x ≡ y
-some_is x y e = cc
 
 abbrev none_of : {A : Type 0} → Option A
 none_of = None
@@ -53,7 +51,7 @@ shown_of e s (Some t) found is = rw (← is) refl
 
 next_after : (e d : Entry) (u : State) (o : Option State) (s : State) → paired e o ≡ Some (d, u) → unwrap_or o s ≡ u
 next_after e d u None s is = absurd (not_some is)
-next_after e d u (Some t) s is = let made : Entry × State = (e, t) in ap (λ (x : Entry × State). x.1) (some_is made (d, u) is)
+next_after e d u (Some t) s is = ap (λ (x : Entry × State). x.1) (some_same {X = Entry × State} (e, t) (d, u) is)
 
 pub entry_follows : (script : ScriptData) (media_of : List (List Chunk)) (known : Known) (k place : ℕ) (t : EntryLine) (e : Entry) (old new : FollowerValue) (found : Option Shown) → entry_of script media_of known k place t ≡ Some e → Follows e old found new
     → NextIs script media_of known k place t old (noted e found) new
@@ -86,39 +84,34 @@ record IsNext (script : ScriptData) (media_of : List (List Chunk)) (known : Know
   next : next_of script media_of known k place s t ≡ Some (e, state)
   shown : blank ≡ shown_at e s
 
-step_at : (s : State) (e : Entry) (u : State) (d : Entry) (o : Option State) → follow_step d s ≡ o → paired d o ≡ Some (e, u) → follow_step e s ≡ Some u
-step_at s e u d None is h = absurd (not_some h)
-step_at s e u d (Some v) is h = let made : Entry × State = (d, v) in subst (λ (x : Entry × State). follow_step x.0 s ≡ Some x.1) (some_is made (e, u) h) is
+-- the next entry is the one that its line tells, and follows
+bound : (s : State) (e : Entry) (u : State) (p : Option Entry) → option_and_then {U = Entry × State} (λ d. paired d (follow_step d s)) p ≡ Some (e, u) → (p ≡ Some e) × (follow_step e s ≡ Some u)
+bound s e u None h = absurd (not_some h)
+bound s e u (Some d) h = by (follow_step d s) refl h
+  where
+    by : (o : Option State) → follow_step d s ≡ o → paired d o ≡ Some (e, u) → (some d ≡ Some e) × (follow_step e s ≡ Some u)
+    by None is same = absurd (not_some same)
+    by (Some v) is same = let both = some_same {X = Entry × State} (d, v) (e, u) same in (ap (λ (x : Entry × State). some x.0) both, subst (λ (x : Entry × State). follow_step x.0 s ≡ Some x.1) both is)
 
-step_of : (s : State) (e : Entry) (u : State) (p : Option Entry) → option_and_then {U = Entry × State} (λ d. paired d (follow_step d s)) p ≡ Some (e, u) → follow_step e s ≡ Some u
-step_of s e u None h = absurd (not_some h)
-step_of s e u (Some d) h = step_at s e u d (follow_step d s) refl h
-
-pub next_step_is : (script : ScriptData) (media_of : List (List Chunk)) (known : Known) (k place : ℕ) (t : EntryLine) (s : State) (e : Entry) (u : State) → next_of script media_of known k place s t ≡ Some (e, u) → follow_step e s ≡ Some u
-next_step_is script media_of known k place t s e u h = step_of s e u (entry_of script media_of known k place t) h
-
-entry_at : (e : Entry) (u : State) (d : Entry) (o : Option State) → paired d o ≡ Some (e, u) → d ≡ e
-entry_at e u d None h = absurd (not_some h)
-entry_at e u d (Some v) h = let made : Entry × State = (d, v) in ap (λ (x : Entry × State). x.0) (some_is made (e, u) h)
-
-entry_in : (s : State) (e : Entry) (u : State) (p : Option Entry) → option_and_then {U = Entry × State} (λ d. paired d (follow_step d s)) p ≡ Some (e, u) → p ≡ Some e
-entry_in s e u None h = absurd (not_some h)
-entry_in s e u (Some d) h = ap (λ (x : Entry). some x) (entry_at e u d (follow_step d s) h)
-
-pub next_entry_is : (script : ScriptData) (media_of : List (List Chunk)) (known : Known) (k place : ℕ) (t : EntryLine) (s : State) (e : Entry) (u : State) → next_of script media_of known k place s t ≡ Some (e, u) → entry_of script media_of known k place t ≡ Some e
-next_entry_is script media_of known k place t s e u h = entry_in s e u (entry_of script media_of known k place t) h
+-- what holds of no entries, and of the next one with those behind it, holds of the entries that lines tell
+pub by_next : (script : ScriptData) (media_of : List (List Chunk)) (known : Known) (k place : ℕ) (t : EntryLine) (ts : List EntryLine) (s : State) (P : List Entry → Type 0) → P []
+    → ((e : Entry) (u : State) → entry_of script media_of known k place t ≡ Some e → follow_step e s ≡ Some u → P (e ∷ entries_from script media_of known k (place + 1) u ts)) → P (entries_from script media_of known k place s (t ∷ ts))
+by_next script media_of known k place t ts s P none more = by (next_of script media_of known k place s t) refl
+  where
+    by : (o : Option (Entry × State)) → next_of script media_of known k place s t ≡ o → P (entry_then (λ u. entries_from script media_of known k (place + 1) u ts) o)
+    by None is = none
+    by (Some (e, u)) is = let parts = bound s e u (entry_of script media_of known k place t) is in more e u parts.0 parts.1
 
 next_at : (script : ScriptData) (media_of : List (List Chunk)) (known : Known) (k place : ℕ) (t : EntryLine) (s : State) (e : Entry) (blank : Shown) (o : Option (Entry × State)) → next_of script media_of known k place s t ≡ o → showing_at s o ≡ Some (e, blank)
     → IsNext script media_of known k place t s e blank
 next_at script media_of known k place t s e blank None is h = absurd (not_some h)
 next_at script media_of known k place t s e blank (Some (d, u)) is h =
-    let made : Entry × Shown = (d, shown_at d s) in
-    let same : made ≡ (e, blank) = some_is made (e, blank) h in
+    let same = some_same {X = Entry × Shown} (d, shown_at d s) (e, blank) h in
     let entry : d ≡ e = ap (λ (x : Entry × Shown). x.0) same in
     let next : next_of script media_of known k place s t ≡ Some (e, u) = is ∙ ap (λ (x : Entry). some (x, u)) entry in
     record {
       state = u;
-      step = step_of s e u (entry_of script media_of known k place t) next;
+      step = (bound s e u (entry_of script media_of known k place t) next).1;
       next = next;
       shown = sym (ap (λ (x : Entry × Shown). x.1) same) ∙ ap (λ (x : Entry). shown_at x s) entry;
     }

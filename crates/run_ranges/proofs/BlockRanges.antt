@@ -59,15 +59,14 @@ rest_few (x ∷ xs) u = omega arith
 
 -- a command gives as many blocks as its samples have frames, or one
 pub blocks_few : (c : AudioEncoderConfig) (before : List Command) (x : Command) (us : List media.Unit) → ((s : Samples) → x ≡ command.Sound s → s.shape.frames < 2 ^ 32) → blocks_answer c before x ≡ Some us → length us < 2 ^ 64
-blocks_few c before (command.Chunk chunk) us small h = absurd cc
 blocks_few c before (command.Sound s) us small h =
     let given = (cond_is (is_taken c s) (Some (units_with c (inputs_since before) s)) us h).1 in
     subst (λ (vs : List media.Unit). length vs < 2 ^ 64) (some_same _ us given) (omega (arith, completed c (inputs_since before) s, small s refl))
-blocks_few c before (command.Image picture) us small h = absurd cc
 blocks_few c before command.Drain us small h =
     let inputs = inputs_since before in
     let last = unit_at c inputs (whole_blocks c inputs) in
     subst (λ (vs : List media.Unit). length vs < 2 ^ 64) (some_same (unit_of_rest (rest_of c inputs) last) us h) (omega (arith, rest_few (rest_of c inputs) last))
+blocks_few c before _ us small h = absurd cc
 
 -- ---- one block
 

@@ -107,11 +107,7 @@ codes_bytes laws codec.PcmS24 = pcm_bytes 3 format.S32
 codes_bytes laws codec.PcmS32 = pcm_bytes 4 format.S32
 codes_bytes laws codec.Alaw = λ shape bytes frame channel h. one_small _ [] (laws.alaw _ (sample_16 shape.format bytes (place_of shape frame channel) h)).byte nothing_small
 codes_bytes laws codec.Ulaw = λ shape bytes frame channel h. one_small _ [] (laws.ulaw _).byte nothing_small
-codes_bytes laws codec.Flac = tt
-codes_bytes laws codec.RawI420 = tt
-codes_bytes laws codec.RawI422 = tt
-codes_bytes laws codec.RawI444 = tt
-codes_bytes laws codec.RawNv12 = tt
+codes_bytes laws _ = tt
 
 pub coded_small : (s : SampleCodec) (shape : SoundShape) (bytes : List ℕ) → CodesBytes (Some s) → IsBytes bytes → IsBytes (coded s shape bytes)
 coded_small s shape bytes each h =
@@ -165,6 +161,4 @@ label_within d label = by label.config label.passed label.has_coder label.decode
     by (config.AudioEncoder c) own coder is =
         let described = described_where (λ (o : Option (List ℕ)). IsBytes (unwrap_or o [])) c nothing_small (stream_description_fits c) in
         subst IsLabelWithin (some_same _ d is) (record { word = codec_word c.codec (named (audio_codec c.codec) coder); rate = own.0; channels = own.1; description = described })
-    by (config.AudioDecoder c) own coder is = absurd cc
-    by (config.VideoDecoder c) own coder is = absurd cc
-    by config.Bad own coder is = absurd cc
+    by _ own coder is = absurd cc

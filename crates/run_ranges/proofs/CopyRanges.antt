@@ -109,12 +109,11 @@ plane_within at shape r p l some fit =
     ((omega (arith, end), omega (arith, end, rows)), end)
 
 planes_within : (at : ℕ) (shape : PictureShape) (r : Rect) (ps : List Plane) (ls : List PlaneLayout) → 1 ≤ r.height → list_all is_fit (copies_from at shape r ps ls) ≡ true → AllByRecursion IsPlaneWithin (copies_from at shape r ps ls)
-planes_within at shape r [] ls some fit = tt
-planes_within at shape r (p ∷ ps) [] some fit = tt
 planes_within at shape r (p ∷ ps) (l ∷ ls) some fit =
     let rest = copies_from (at + plane_size p shape.width shape.height) shape r ps ls in
     let parts = and_parts (is_fit (plane_copy at shape r p l)) (list_all is_fit rest) fit in
     (plane_within at shape r p l some parts.0, planes_within (at + plane_size p shape.width shape.height) shape r ps ls some parts.1)
+planes_within at shape r _ _ some fit = tt
 
 planes_count : (at : ℕ) (shape : PictureShape) (r : Rect) (ps : List Plane) (ls : List PlaneLayout) → length ls ≡ length ps → length (copies_from at shape r ps ls) ≡ length ps
 planes_count at shape r [] ls same = refl
@@ -186,9 +185,7 @@ plan_in_within shape r ls = one (is_rect_of shape r) (length ls == length (plane
     one : (a b c : Bool) → is_rect_of shape r ≡ a → (length ls == length (planes_of shape.format)) ≡ b → are_taken (planes_in shape r ls) ≡ c
         → IsPlanWithin (cond (not a) (Err dom.TypeErr) (cond (not b) (Err dom.TypeErr) (cond (not c) (Err dom.TypeErr) (Ok (planes_in shape r ls)))))
     one true true true rect count taken = taken_within shape r ls rect count taken
-    one true true false rect count taken = tt
-    one true false c rect count taken = tt
-    one false b c rect count taken = tt
+    one _ _ _ rect count taken = tt
 
 pub plan_within : (f : Frame) (rect : Option Rect) (layout : Option (List PlaneLayout)) → IsPlanWithin (video.plan_for f rect layout)
 plan_within f rect layout = one (is_none f.held)

@@ -407,9 +407,9 @@ contents_within s media made c j x within is = tt
 
 -- what an encode hands over
 handed_own : (who : Who) (number : ℕ) (accepts : Bool) (shape : SoundShape) (held : Option MediaRef) → IsShapeWithin shape → IsRefWithin held → IsOwnEntry (entry.Encode who (handed_by number accepts shape held))
-handed_own who number accepts shape None own small = tt
 handed_own who number true shape (Some r) own small = (own, small)
 handed_own who number false shape (Some r) own small = tt
+handed_own who number accepts shape None own small = tt
 
 -- ---- outputs
 
@@ -417,17 +417,8 @@ handed_own who number false shape (Some r) own small = tt
 pub holds_own : (laws : CodesAreBytes) (e : Entry) → IsOwnEntry e → HoldsOwn (judge laws) e
 holds_own laws (entry.Configure who config) own = own
 holds_own laws (entry.Decode who chunk) own = own
-holds_own laws (entry.Encode who handed.Gone) own = tt
-holds_own laws (entry.Encode who handed.Kept) own = tt
 holds_own laws (entry.Encode who (handed.Cloned sound)) own = own
-holds_own laws (entry.Flush who) own = tt
-holds_own laws (entry.Reset who) own = tt
-holds_own laws (entry.Close who) own = tt
-holds_own laws (entry.Take who unit) own = tt
-holds_own laws (entry.Start epoch number) own = tt
-holds_own laws (entry.Done epoch number moment o) own = tt
-holds_own laws entry.Turn own = tt
-holds_own laws (entry.Reclaim moment) own = tt
+holds_own laws _ own = tt
 
 -- each output of a history
 pub output_own : CodesAreBytes → (o : Opening) (h : List Entry) → ((p : ℕ) (e : Entry) → slice_get h p ≡ Some e → IsOwnEntry e) → (n : ℕ) (u : output.Unit) → output_at o h n ≡ Some u → IsUnitWithin u
@@ -485,18 +476,12 @@ media_holds laws s media who x v content h =
 
 step_holds : CodesAreBytes → (s : ScriptData) (media : List (List Chunk)) (made : List CoderId) (who : Who) (x : Step) (v : Course) → AreWithin s media made → slice_get (steps_of s who.caller) who.step ≡ Some x → IsCourseOwn v → MoveHolds (step_move s media who x v)
 step_holds laws s media made who (step.Configure on config) v within is h = λ valid. within.configs who.caller who.step on config is
-step_holds laws s media made who (step.Chunk bind source) v within is h = tt
 step_holds laws s media made who (step.Decode on chunk) v within is h =
     let vs = variables_of who.caller v.media.variables in
     let steps = steps_of s who.caller in
     decode_holds who on (chunk_for media steps vs chunk.step) (codec_at on v.codecs) (chunk_found (chunk_at media steps chunk.step) vs chunk.step (chunk_made s media made within who.caller chunk.step) (h.variables who.caller))
-step_holds laws s media made who (step.Flush on bind) v within is h = tt
-step_holds laws s media made who (step.Poll promise) v within is h = tt
-step_holds laws s media made who (step.Await promise) v within is h = tt
-step_holds laws s media made who (step.Reset on) v within is h = tt
-step_holds laws s media made who (step.Close on) v within is h = tt
-step_holds laws s media made who (step.State on) v within is h = tt
 step_holds laws s media made who (step.Media x) v within is h = media_holds laws s media who x v (contents_within s media made who.caller who.step x within is) h
+step_holds laws s media made who _ v within is h = tt
 
 next_holds : CodesAreBytes → (s : ScriptData) (media : List (List Chunk)) (made : List CoderId) (who : Who) (o : Option Step) (v : Course) → AreWithin s media made → slice_get (steps_of s who.caller) who.step ≡ o → IsCourseOwn v → MoveHolds (next_move s media who o v)
 next_holds laws s media made who None v within is h = tt
@@ -538,19 +523,16 @@ follows_up laws stays s media made most (x ∷ xs) v u n within all h follows =
     subst (λ (m : ℕ). IsCourseUpTo m most u) (omega arith) (follows_up laws stays s media made most xs (follow_item s media follows.0 x v) u (n + 1) within (λ i y is. all (suc i) y is) next follows.1)
 
 no_history : (cs : List CodecItem) (k : ℕ) → at k (histories (map (λ c. new_codec (opening_of c)) cs)) ≡ []
-no_history [] k = refl
-no_history (c ∷ cs) zero = refl
 no_history (c ∷ cs) (suc k) = no_history cs k
+no_history _ _ = refl
 
 no_box : (most : ℕ) (cs : List CodecItem) (k : ℕ) → IsBoxUpTo most (codec_at k (map (λ c. new_codec (opening_of c)) cs)).holding.box
-no_box most [] k = tt
-no_box most (c ∷ cs) zero = tt
 no_box most (c ∷ cs) (suc k) = no_box most cs k
+no_box most _ _ = tt
 
 no_variables : (cs : List CallerItem) (c : ℕ) → AreVariables (variables_of c (map (λ x. []) cs))
-no_variables [] c = tt
-no_variables (x ∷ cs) zero = tt
 no_variables (x ∷ cs) (suc c) = no_variables cs c
+no_variables _ _ = tt
 
 pub course_up : CodesAreBytes → HeldStays → (s : ScriptData) (media : List (List Chunk)) (made : List CoderId) (u : Course) → AreWithin s media made → Follows s media (order_items s) (nothing_yet s made) u → IsCourseUpTo (length (order_items s)) (length made) u
 course_up laws stays s media made u within follows =

@@ -38,6 +38,7 @@ use Rattle.history_laws.specs.Numbers.{AreItemsUpTo, IsUpTo}
 use Rattle.history_laws.specs.NumberLaws.{step_up}
 use Rattle.history_laws.specs.Outputs.{HoldsOwn}
 use Rattle.history_laws.specs.OutputLaws.{all_append, IsOwn, IsOwnGiven, Own, step_own}
+use Rattle.codec_accounts.specs.Calls.{who_of}
 use Rattle.run_ranges.proofs.CodeRanges.{CodesAreBytes}
 use Rattle.run_ranges.proofs.UnitRanges.{IsCarriedWithin, IsUnitWithin, are_given, judge}
 
@@ -49,17 +50,10 @@ IsOutcomeWithin o = Unit {0}
 
 -- the caller, unit, moment and refusal of an entry are within their types, where it has one
 abbrev pub IsEntryWithin : ScriptData → Entry → Type 0
-IsEntryWithin s (entry.Configure who config) = FitsWho s who
-IsEntryWithin s (entry.Decode who chunk) = FitsWho s who
-IsEntryWithin s (entry.Encode who handed) = FitsWho s who
-IsEntryWithin s (entry.Flush who) = FitsWho s who
-IsEntryWithin s (entry.Reset who) = FitsWho s who
-IsEntryWithin s (entry.Close who) = FitsWho s who
 IsEntryWithin s (entry.Take who unit) = FitsWho s who × (unit < 2 ^ 64)
-IsEntryWithin s (entry.Start epoch item) = Unit {0}
 IsEntryWithin s (entry.Done epoch item moment o) = (moment < 2 ^ 64) × IsOutcomeWithin o
-IsEntryWithin s entry.Turn = Unit {0}
 IsEntryWithin s (entry.Reclaim moment) = moment < 2 ^ 64
+IsEntryWithin s e = elim (who_of e) [ None ↦ Unit {0} | Some who ↦ FitsWho s who ]
 
 -- ---- starts and ends
 
@@ -74,11 +68,8 @@ started_small n (i ∷ is) epoch number s t e made h =
 
 -- there are as many units where the first carries a config
 labelled_few : (o : Option AudioDecoderConfig) (us : List media.Unit) → length us < 2 ^ 64 → length (labelled o us) < 2 ^ 64
-labelled_few None us few = few
-labelled_few (Some c) [] few = few
-labelled_few (Some c) (unit.Sound samples ∷ us) few = few
-labelled_few (Some c) (unit.Image picture ∷ us) few = few
 labelled_few (Some c) (unit.Coded chunk config ∷ us) few = few
+labelled_few _ _ few = few
 
 -- an item that ran gave fewer units than 2^64, by what its coder was given
 outcome_small : (laws : CodesAreBytes) (k : WorkKind) (g : Given) (x : Outcome) (e : Ended) → ended_of k g x ≡ Some e → IsOwnGiven (judge laws) g → IsOutcomeWithin x → FitsOutcome x
@@ -90,9 +81,8 @@ outcome_small laws k g (outcome.Ran units) e is given own = by (answer_to k g) r
         let few : length us < 2 ^ 64 = answer_where (IsOwn (judge laws)) (λ vs. length vs < 2 ^ 64) k g us (lit< tt) (λ id before x vs fine h. (are_given id g.config before x vs h).few fine)
         (λ vs some few. labelled_few (decoder_config g.config) vs few) given.1 same in
         omega (arith, eqb-true units (length us) (cond_is (eqb units (length us)) (Some (ended.Ran us)) e made).0, few)
-outcome_small laws k g outcome.Refused e is given own = tt
 outcome_small laws k g (outcome.NoSlot n) e is given own = own
-outcome_small laws k g outcome.NoMemory e is given own = tt
+outcome_small laws k g _ e is given own = tt
 
 ended_small : (laws : CodesAreBytes) (n : ℕ) (o : Option Running) (epoch number moment : ℕ) (x : Outcome) (s t : State) → s.control.running ≡ o → done_step o epoch number moment x s ≡ Some t → IsUpTo n s.control → IsOwnGiven (judge laws) s.running_given → IsOutcomeWithin x → (epoch ≤ n) × (number ≤ n) × FitsOutcome x
 ended_small laws n None epoch number moment x s t busy made h given own = absurd cc
@@ -107,19 +97,12 @@ ended_small laws n (Some r) epoch number moment x s t busy made h given own =
     by (Some e) is done = outcome_small laws r.kind s.running_given x e is given own
 
 entry_fits : (laws : CodesAreBytes) (script : ScriptData) (n : ℕ) (e : Entry) (s t : State) → step e s ≡ Some t → IsUpTo n s.control → IsOwnGiven (judge laws) s.running_given → n < 2 ^ 64 → IsEntryWithin script e → FitsEntryLine script (entry_line_of e (shown_at e s))
-entry_fits laws script n (entry.Configure who config) s t is h given few own = own
-entry_fits laws script n (entry.Decode who chunk) s t is h given few own = own
-entry_fits laws script n (entry.Encode who handed) s t is h given few own = own
-entry_fits laws script n (entry.Flush who) s t is h given few own = own
-entry_fits laws script n (entry.Reset who) s t is h given few own = own
-entry_fits laws script n (entry.Close who) s t is h given few own = own
-entry_fits laws script n (entry.Take who unit) s t is h given few own = own
 entry_fits laws script n (entry.Start epoch number) s t is h given few own =
     let small = started_small n s.control.work epoch number s t refl is h in (omega (arith, small.0, few), omega (arith, small.1, few))
 entry_fits laws script n (entry.Done epoch number moment x) s t is h given few own =
     let small = ended_small laws n s.control.running epoch number moment x s t refl is h given own.1 in (omega (arith, small.0, few), omega (arith, small.1, few), own.0, small.2)
 entry_fits laws script n entry.Turn s t is h given few own = tt
-entry_fits laws script n (entry.Reclaim moment) s t is h given few own = own
+entry_fits laws script n _ s t is h given few own = own
 
 -- ---- events
 
@@ -155,15 +138,12 @@ removal_within n None ps few h = rejected_within n dom.Abort ps few h
 removal_within n (Some error) ps few h = (tt, tt)
 
 turned_within : (ts : List Task) (c : Control) → c.tasks ≡ ts → c.place ≤ 2 ^ 64 → NamesEarlier c → ArePromises (turn_shows ts c)
-turned_within [] c is few h = tt
-turned_within (task.Unblock ∷ ts) c is few h = tt
-turned_within (task.Process ∷ ts) c is few h = tt
-turned_within (task.Desaturate ∷ ts) c is few h = tt
 turned_within (task.Output units ∷ ts) c is few h = outputs_within c.shown (carried c.active units)
 turned_within (task.Flushed promise units ∷ ts) c is few h =
     all_append IsPromiseWithin (outputs_from c.shown (carried c.active units)) (event.Resolve promise ∷ []) (outputs_within c.shown (carried c.active units)) (omega (arith, resolved_below c promise units ts h is, few), tt)
 turned_within (task.Dequeue ∷ ts) c is few h = (tt, tt)
 turned_within (task.Close error ∷ ts) c is few h = closed_within c.place error error c.pending few (pending_below c h)
+turned_within _ c is few h = tt
 
 shown_promises : (n : ℕ) (e : Entry) (s : State) → IsUpTo n s.control → n < 2 ^ 64 → NamesEarlier s.control → ArePromises (shows e s)
 shown_promises n (entry.Configure who config) s h few names = refused_within (configure_error config s.control)
@@ -172,11 +152,9 @@ shown_promises n (entry.Encode who handed) s h few names = refused_within (hande
 shown_promises n (entry.Flush who) s h few names = rejection_within s.control.place (flush_error s.control) (omega (arith, h.place, few))
 shown_promises n (entry.Reset who) s h few names = removal_within s.control.place (removal_error s.control) s.control.pending (omega (arith, h.place, few)) (pending_below s.control names)
 shown_promises n (entry.Close who) s h few names = removal_within s.control.place (removal_error s.control) s.control.pending (omega (arith, h.place, few)) (pending_below s.control names)
-shown_promises n (entry.Take who unit) s h few names = tt
-shown_promises n (entry.Start epoch number) s h few names = tt
-shown_promises n (entry.Done epoch number moment x) s h few names = tt
 shown_promises n entry.Turn s h few names = turned_within s.control.tasks s.control refl (omega (arith, h.place, few)) names
 shown_promises n (entry.Reclaim moment) s h few names = closed_within s.control.place dom.QuotaExceeded dom.QuotaExceeded s.control.pending (omega (arith, h.place, few)) (pending_below s.control names)
+shown_promises n _ s h few names = tt
 
 -- the config that stands behind a chunk
 config_fits : (script : ScriptData) (o : Option AudioDecoderConfig) → IsCarriedWithin o → AllByRecursion (FitsLine script) (config_lines o)
@@ -192,10 +170,7 @@ events_fit : (script : ScriptData) (xs : List Event) → ArePromises xs → AllB
 events_fit script [] promises units = tt
 events_fit script (event.Refusal error ∷ xs) promises units = events_fit script xs promises.1 units
 events_fit script (event.Output number u ∷ xs) promises units = all_append (FitsLine script) (output_lines u) (flat_map event_lines xs) (output_fits script u units.0) (events_fit script xs promises.1 units.1)
-events_fit script (event.Resolve promise ∷ xs) promises units = (promises.0, events_fit script xs promises.1 units)
-events_fit script (event.Reject promise error ∷ xs) promises units = (promises.0, events_fit script xs promises.1 units)
-events_fit script (event.Dequeue ∷ xs) promises units = (tt, events_fit script xs promises.1 units)
-events_fit script (event.ErrorCall error ∷ xs) promises units = (tt, events_fit script xs promises.1 units)
+events_fit script (x ∷ xs) promises units = (promises.0, events_fit script xs promises.1 units)
 
 -- ---- a history
 

@@ -66,10 +66,8 @@ block_small code p x h = by (code == 6) (code == 7) h
 -- ---- headers and frames
 
 third : {A E : Type 0} (a b c : Bool) (d e f : E) (x y : A) → cond a (Err d) (cond b (Err e) (cond c (Err f) (Ok x))) ≡ Ok y → x ≡ y
-third true b c d e f x y h = absurd cc
-third false true c d e f x y h = absurd cc
-third false false true d e f x y h = absurd cc
 third false false false d e f x y h = cc
+third _ _ _ d e f x y h = absurd cc
 
 described_same : (info : StreamInfo) (h y : FrameHeader × Place) → if_described info h ≡ Ok y → h ≡ y
 described_same info h y is =

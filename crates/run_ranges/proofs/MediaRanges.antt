@@ -31,6 +31,7 @@ use Rattle.script_types.specs.declared.steps.Step.TheVariants as step
 use Rattle.script_types.specs.Names.{is_copied}
 use Rattle.script_types.specs.Sound.{is_variable, are_options_of, is_sound_media, most_chunk}
 use Rattle.report_text.specs.declared.result.StepResult.{StepResult}
+use Rattle.media_variables.specs.CameLaws.{EachCame, by_came}
 use Rattle.media_variables.specs.Variables.{Reference, Shape, SoundOf, PictureOf, ChunkOf, Medium, Came, Taken, Brought, medium_at, with_medium, detached, only_answers, refused, makes, audio_came, frame_came, clone_held, transfer_held, close_held, if_there, zeros, media_ref, sound_of, frame_of, copy_options, rect_of, layouts_in, copy_chunk, copy_sound, copy_frame, size_of_sound, size_of_frame, copy_medium, size_of_medium, chunk_in_medium, chunk_of_variable, copy_came, chunk_medium, sound_in, sound_at, unit_came, taken_came, media_came}
 use Rattle.media_accounts.specs.Accounts.{step_by, before_step, media_of, variables_by, came_on, variables_in, came_in}
 use Rattle.trace_text.specs.Fits.{IsMediaAnswer}
@@ -78,9 +79,8 @@ IsChunkThere None = Unit {0}
 IsChunkThere (Some c) = IsChunkWithin c
 
 chunk_in_shape : (shape : Shape) (held : Option Reference) → IsKindWithin shape → IsChunkThere (chunk_in_medium (record { shape = shape; held = held }))
-chunk_in_shape (SoundOf shape) held own = tt
-chunk_in_shape (PictureOf shape) held own = tt
 chunk_in_shape (ChunkOf chunk) held own = own
+chunk_in_shape _ held own = tt
 
 chunk_in_variable : (o : Option Medium) → IsVariableWithin o → IsChunkThere (option_and_then chunk_in_medium o)
 chunk_in_variable None own = tt
@@ -104,8 +104,7 @@ ref_within (Some r) h = h
 
 sound_in_shape : (shape : Shape) (held : Option Reference) → IsKindWithin shape → IsHeldWithin held → IsSoundThere (sound_in (record { shape = shape; held = held }))
 sound_in_shape (SoundOf shape) held own h = (own, ref_within held h)
-sound_in_shape (PictureOf shape) held own h = tt
-sound_in_shape (ChunkOf chunk) held own h = tt
+sound_in_shape _ held own h = tt
 
 sound_in_variable : (o : Option Medium) → IsVariableWithin o → IsSoundThere (option_and_then sound_in o)
 sound_in_variable None own = tt
@@ -126,41 +125,6 @@ IsContentWithin (media.Audio bind (Some init)) = IsShapeWithin init.shape × IsB
 IsContentWithin (media.Frame bind (Some init)) = IsBytes init.content
 IsContentWithin x = Unit {0}
 
-audio_within : (pool : List PoolEntry) (j : ℕ) (i : SoundInit) (vs : List (Option Medium)) → IsShapeWithin i.shape → IsBytes i.content → AreVariables vs → AreVariables (audio_came pool j (Some i) vs).variables
-audio_within pool j i vs own small h = one (audio.is_invalid i.shape (length i.content))
-  where
-    one : (b : Bool) → AreVariables (cond b (only_answers (refused dom.TypeErr) vs) (makes pool j (SoundOf i.shape) (take (audio.needed i.shape) i.content) vs)).variables
-    one true = h
-    one false = with_within j _ vs (own, take_small (audio.needed i.shape) i.content small) h
-
-frame_within : (pool : List PoolEntry) (j : ℕ) (i : PictureInit) (vs : List (Option Medium)) → IsBytes i.content → AreVariables vs → AreVariables (frame_came pool j (Some i) vs).variables
-frame_within pool j i vs small h = one (frames.is_invalid i.shape (length i.content))
-  where
-    one : (b : Bool) → AreVariables (cond b (only_answers (refused dom.TypeErr) vs) (makes pool j (PictureOf i.shape) (take (picture_size i.shape) i.content) vs)).variables
-    one true = h
-    one false = with_within j _ vs (tt, take_small (picture_size i.shape) i.content small) h
-
-there_within : (o : Option Medium) (vs : List (Option Medium)) (f : Medium → Came) → IsVariableWithin o → AreVariables vs → ((m : Medium) → IsVariableWithin (Some m) → AreVariables (f m).variables) → AreVariables (if_there o vs f).variables
-there_within None vs f own h each = h
-there_within (Some m) vs f own h each = each m own
-
-clone_within : (pool : List PoolEntry) (j : ℕ) (shape : Shape) (held : Option Reference) (vs : List (Option Medium)) → IsKindWithin shape → IsHeldWithin held → AreVariables vs → AreVariables (clone_held pool j shape held vs).variables
-clone_within pool j shape None vs own small h = h
-clone_within pool j shape (Some r) vs own small h = with_within j _ vs (own, small) h
-
-transfer_within : (j of : ℕ) (m : Medium) (held : Option Reference) (vs : List (Option Medium)) → IsVariableWithin (Some m) → AreVariables vs → AreVariables (transfer_held j of m held vs).variables
-transfer_within j of m None vs own h = h
-transfer_within j of m (Some r) vs own h = with_within j m (with_medium of (detached m) vs) own (with_within of (detached m) vs (own.0, tt) h)
-
-close_within : (pool : List PoolEntry) (who : Who) (of : ℕ) (m : Medium) (held : Option Reference) (vs : List (Option Medium)) → IsVariableWithin (Some m) → AreVariables vs → AreVariables (close_held pool who of m held vs).variables
-close_within pool who of m None vs own h = h
-close_within pool who of m (Some r) vs own h = with_within of (detached m) vs (own.0, tt) h
-
-copy_within : (chunk : Option Chunk) (of : ℕ) (o : Options) (size : ℕ) (vs : List (Option Medium)) → AreVariables vs → AreVariables (copy_came chunk of o size vs).variables
-copy_within chunk of options.Nothing size vs h = h
-copy_within chunk of (options.Audio o) size vs h = there_within (medium_at vs of) vs _ (medium_within vs of h) h (λ m own. h)
-copy_within chunk of (options.Frame o) size vs h = there_within (medium_at vs of) vs _ (medium_within vs of h) h (λ m own. h)
-
 -- an output that is taken is within its type
 abbrev pub IsOutputWithin : Option Taken → Type 0
 IsOutputWithin None = Unit {0}
@@ -171,22 +135,31 @@ unit_within pool j answer (unit.Sound samples) vs own h = with_within j _ vs ((o
 unit_within pool j answer (unit.Image picture) vs own h = with_within j _ vs (tt, own.are_bytes) h
 unit_within pool j answer (unit.Coded chunk config) vs own h = with_within j (chunk_medium chunk) vs (own.0, tt) h
 
-output_within : (pool : List PoolEntry) (j : ℕ) (o : Option Taken) (vs : List (Option Medium)) → IsOutputWithin o → AreVariables vs → IsCameWithin (taken_came pool j o vs)
-output_within pool j None vs own h = tt
-output_within pool j (Some t) vs own h = unit_within pool j t.answer t.unit vs own h
+there_within : (vs : List (Option Medium)) (j : ℕ) (m : Medium) → AreVariables vs → medium_at vs j ≡ Some m → IsVariableWithin (Some m)
+there_within vs j m h is = subst IsVariableWithin is (medium_within vs j h)
+
+each_within : (pool : List PoolEntry) (who : Who) (b : Brought) (vs : List (Option Medium)) → IsOutputWithin b.taken → AreVariables vs → EachCame pool who b vs (λ x y. IsContentWithin x → AreVariables y.variables)
+each_within pool who b vs own h = record {
+  refuses = λ x e small. h;
+  absent = λ x small. h;
+  audio = λ bind i small. with_within who.step _ vs (small.0, take_small (audio.needed i.shape) i.content small.1) h;
+  frame = λ bind i small. with_within who.step _ vs (tt, take_small (picture_size i.shape) i.content small) h;
+  takes = λ on bind kind t is small. unit_within pool who.step t.answer t.unit vs (subst IsOutputWithin is own) h;
+  clones = λ of bind m r is holds small. (let its = there_within vs of.step m h is in with_within who.step _ vs (its.0, subst IsHeldWithin holds its.1) h);
+  transfers = λ of bind m r is holds small. (let its = there_within vs of.step m h is in with_within who.step m (with_medium of.step (detached m) vs) its (with_within of.step (detached m) vs (its.0, tt) h));
+  closed = λ of m is holds small. h;
+  closes = λ of m r is holds small. with_within of.step (detached m) vs ((there_within vs of.step m h is).0, tt) h;
+  copies_chunk = λ of size small. h;
+  copies = λ of o size m is small. h;
+  sizes = λ of o m is small. h;
+}
 
 pub came_within : (pool : List PoolEntry) (who : Who) (b : Brought) (x : MediaStep) (vs : List (Option Medium)) → IsContentWithin x → IsOutputWithin b.taken → AreVariables vs → IsCameWithin (media_came pool who b x vs)
-came_within pool who b (media.Audio bind None) vs small own h = h
-came_within pool who b (media.Audio bind (Some init)) vs small own h = audio_within pool who.step init vs small.0 small.1 h
-came_within pool who b (media.Frame bind None) vs small own h = h
-came_within pool who b (media.Frame bind (Some init)) vs small own h = frame_within pool who.step init vs small h
-came_within pool who b (media.Encode on content) vs small own h = tt
-came_within pool who b (media.Take on bind kind) vs small own h = output_within pool who.step b.taken vs own h
-came_within pool who b (media.Clone of bind) vs small own h = there_within (medium_at vs of.step) vs _ (medium_within vs of.step h) h (λ m its. clone_within pool who.step m.shape m.held vs its.0 its.1 h)
-came_within pool who b (media.Transfer of bind) vs small own h = there_within (medium_at vs of.step) vs _ (medium_within vs of.step h) h (λ m its. transfer_within who.step of.step m m.held vs its h)
-came_within pool who b (media.CloseData of) vs small own h = there_within (medium_at vs of.step) vs _ (medium_within vs of.step h) h (λ m its. close_within pool who of.step m m.held vs its h)
-came_within pool who b (media.Copy of o size) vs small own h = copy_within b.chunk of.step o size vs h
-came_within pool who b (media.Size of o) vs small own h = there_within (medium_at vs of.step) vs _ (medium_within vs of.step h) h (λ m its. h)
+came_within pool who b x vs small own h = by (media_came pool who b x vs) refl
+  where
+    by : (o : Option Came) → media_came pool who b x vs ≡ o → IsCameWithin o
+    by None is = tt
+    by (Some y) is = by_came pool who b vs _ (each_within pool who b vs own h) x y is small
 
 -- ---- what steps answer
 
@@ -216,29 +189,21 @@ frame_small shape (Some r) h = take_small (picture_size shape) r.bytes h
 
 sound_answers : (s : ScriptData) (shape : SoundShape) (held : Option Reference) (o : Options) (size : ℕ) → size ≤ most_chunk → FitsResult s (copy_sound (sound_of shape held) o size)
 sound_answers s shape held (options.Audio (Some o)) size few = sound_copy_fits s size shape (unwrap_or (audio.content_of (sound_of shape held)) []) (sound.plan_of (sound_of shape held) (copy_options o)) (omega (arith, few))
-sound_answers s shape held (options.Audio None) size few = tt
-sound_answers s shape held (options.Frame o) size few = tt
-sound_answers s shape held options.Nothing size few = tt
+sound_answers s shape held _ size few = tt
 
 frame_answers : (s : ScriptData) (shape : PictureShape) (held : Option Reference) (o : Options) (size : ℕ) → IsHeldWithin held → FitsResult s (copy_frame (frame_of shape held) o size)
 frame_answers s shape held (options.Frame (Some o)) size own =
     let f = frame_of shape held in
     frame_copy_fits s (unwrap_or (frames.content_of f) []) (zeros size) (video.plan_for f (option_map rect_of o.rect) (layouts_in o)) (frame_small shape held own) (zeros_small size) (plan_within f (option_map rect_of o.rect) (layouts_in o))
-frame_answers s shape held (options.Frame None) size own = tt
-frame_answers s shape held (options.Audio o) size own = tt
-frame_answers s shape held options.Nothing size own = tt
+frame_answers s shape held _ size own = tt
 
 sound_sizes : (s : ScriptData) (shape : SoundShape) (held : Option Reference) (o : Options) → FitsResult s (size_of_sound (sound_of shape held) o)
 sound_sizes s shape held (options.Audio (Some o)) = sound_size_fits s shape (sound.plan_of (sound_of shape held) (copy_options o))
-sound_sizes s shape held (options.Audio None) = tt
-sound_sizes s shape held (options.Frame o) = tt
-sound_sizes s shape held options.Nothing = tt
+sound_sizes s shape held _ = tt
 
 frame_sizes : (s : ScriptData) (shape : PictureShape) (held : Option Reference) (o : Options) → FitsResult s (size_of_frame (frame_of shape held) o)
 frame_sizes s shape held (options.Frame (Some o)) = frame_size_fits s (video.plan_for (frame_of shape held) (option_map rect_of o.rect) (layouts_in o)) (plan_within (frame_of shape held) (option_map rect_of o.rect) (layouts_in o))
-frame_sizes s shape held (options.Frame None) = tt
-frame_sizes s shape held (options.Audio o) = tt
-frame_sizes s shape held options.Nothing = tt
+frame_sizes s shape held _ = tt
 
 copies_fit : (s : ScriptData) (shape : Shape) (held : Option Reference) (o : Options) (size : ℕ) → size ≤ most_chunk → IsHeldWithin held → FitsResult s (copy_medium (record { shape = shape; held = held }) o size)
 copies_fit s (SoundOf shape) held o size few own = sound_answers s shape held o size few
@@ -250,67 +215,37 @@ sizes_fit s (SoundOf shape) held o = sound_sizes s shape held o
 sizes_fit s (PictureOf shape) held o = frame_sizes s shape held o
 sizes_fit s (ChunkOf chunk) held o = tt
 
-there_answers : (s : ScriptData) (o : Option Medium) (vs : List (Option Medium)) (f : Medium → Came) → IsVariableWithin o → ((m : Medium) → IsVariableWithin (Some m) → FitsResult s (f m).answer) → FitsResult s (if_there o vs f).answer
-there_answers s None vs f own each = tt
-there_answers s (Some m) vs f own each = each m own
-
-audio_answers : (s : ScriptData) (pool : List PoolEntry) (j : ℕ) (o : Option SoundInit) (vs : List (Option Medium)) → FitsResult s (audio_came pool j o vs).answer
-audio_answers s pool j None vs = tt
-audio_answers s pool j (Some i) vs = one (audio.is_invalid i.shape (length i.content))
-  where
-    one : (b : Bool) → FitsResult s (cond b (only_answers (refused dom.TypeErr) vs) (makes pool j (SoundOf i.shape) (take (audio.needed i.shape) i.content) vs)).answer
-    one true = tt
-    one false = tt
-
-picture_answers : (s : ScriptData) (pool : List PoolEntry) (j : ℕ) (o : Option PictureInit) (vs : List (Option Medium)) → FitsResult s (frame_came pool j o vs).answer
-picture_answers s pool j None vs = tt
-picture_answers s pool j (Some i) vs = one (frames.is_invalid i.shape (length i.content))
-  where
-    one : (b : Bool) → FitsResult s (cond b (only_answers (refused dom.TypeErr) vs) (makes pool j (PictureOf i.shape) (take (picture_size i.shape) i.content) vs)).answer
-    one true = tt
-    one false = tt
-
-clone_answers : (s : ScriptData) (pool : List PoolEntry) (j : ℕ) (shape : Shape) (held : Option Reference) (vs : List (Option Medium)) → FitsResult s (clone_held pool j shape held vs).answer
-clone_answers s pool j shape None vs = tt
-clone_answers s pool j shape (Some r) vs = tt
-
-transfer_answers : (s : ScriptData) (j of : ℕ) (m : Medium) (held : Option Reference) (vs : List (Option Medium)) → FitsResult s (transfer_held j of m held vs).answer
-transfer_answers s j of m None vs = tt
-transfer_answers s j of m (Some r) vs = tt
-
-close_answers : (s : ScriptData) (pool : List PoolEntry) (who : Who) (of : ℕ) (m : Medium) (held : Option Reference) (vs : List (Option Medium)) → FitsResult s (close_held pool who of m held vs).answer
-close_answers s pool who of m None vs = tt
-close_answers s pool who of m (Some r) vs = tt
-
-copy_answers : (s : ScriptData) (chunk : Option Chunk) (of : ℕ) (o : Options) (size : ℕ) (vs : List (Option Medium)) → IsChunkThere chunk → size ≤ most_chunk → AreVariables vs → FitsResult s (copy_came chunk of o size vs).answer
-copy_answers s chunk of options.Nothing size vs small few h = chunk_answers s (chunk_of_variable chunk vs of) size few (chunk_found chunk vs of small h)
-copy_answers s chunk of (options.Audio o) size vs small few h = there_answers s (medium_at vs of) vs _ (medium_within vs of h) (λ m own. copies_fit s m.shape m.held (options.Audio o) size few own.1)
-copy_answers s chunk of (options.Frame o) size vs small few h = there_answers s (medium_at vs of) vs _ (medium_within vs of h) (λ m own. copies_fit s m.shape m.held (options.Frame o) size few own.1)
-
 -- what a take that found an output answers
 abbrev pub FitsTaken : ScriptData → Option Taken → Type 0
 FitsTaken s None = Unit {0}
 FitsTaken s (Some t) = FitsResult s t.answer
 
 unit_answers : (s : ScriptData) (pool : List PoolEntry) (j : ℕ) (answer : StepResult) (u : output.Unit) (vs : List (Option Medium)) → FitsResult s answer → FitsResult s (unit_came pool j answer u vs).answer
-unit_answers s pool j answer (unit.Sound samples) vs told = told
-unit_answers s pool j answer (unit.Image picture) vs told = told
 unit_answers s pool j answer (unit.Coded chunk config) vs told = told
+unit_answers s pool j answer _ vs told = told
 
-taken_answers : (s : ScriptData) (pool : List PoolEntry) (j : ℕ) (o : Option Taken) (vs : List (Option Medium)) → FitsTaken s o → IsAnswerWithin s (taken_came pool j o vs)
-taken_answers s pool j None vs told = tt
-taken_answers s pool j (Some t) vs told = unit_answers s pool j t.answer t.unit vs told
+each_answers : (s : ScriptData) (pool : List PoolEntry) (who : Who) (b : Brought) (vs : List (Option Medium)) → IsChunkThere b.chunk → FitsTaken s b.taken → AreVariables vs → EachCame pool who b vs (λ x y. IsSizeSmall x → FitsResult s y.answer)
+each_answers s pool who b vs small told h = record {
+  refuses = λ x e few. tt;
+  absent = λ x few. tt;
+  audio = λ bind i few. tt;
+  frame = λ bind i few. tt;
+  takes = λ on bind kind t is few. unit_answers s pool who.step t.answer t.unit vs (subst (FitsTaken s) is told);
+  clones = λ of bind m r is holds few. tt;
+  transfers = λ of bind m r is holds few. tt;
+  closed = λ of m is holds few. tt;
+  closes = λ of m r is holds few. tt;
+  copies_chunk = λ of size few. chunk_answers s (chunk_of_variable b.chunk vs of.step) size few (chunk_found b.chunk vs of.step small h);
+  copies = λ of o size m is few. copies_fit s m.shape m.held o size few (there_within vs of.step m h is).1;
+  sizes = λ of o m is few. sizes_fit s m.shape m.held o;
+}
 
 media_answers : (s : ScriptData) (pool : List PoolEntry) (who : Who) (b : Brought) (x : MediaStep) (vs : List (Option Medium)) → IsChunkThere b.chunk → FitsTaken s b.taken → IsSizeSmall x → AreVariables vs → IsAnswerWithin s (media_came pool who b x vs)
-media_answers s pool who b (media.Audio bind init) vs small told few h = audio_answers s pool who.step init vs
-media_answers s pool who b (media.Frame bind init) vs small told few h = picture_answers s pool who.step init vs
-media_answers s pool who b (media.Encode on content) vs small told few h = tt
-media_answers s pool who b (media.Take on bind kind) vs small told few h = taken_answers s pool who.step b.taken vs told
-media_answers s pool who b (media.Clone of bind) vs small told few h = there_answers s (medium_at vs of.step) vs _ (medium_within vs of.step h) (λ m own. clone_answers s pool who.step m.shape m.held vs)
-media_answers s pool who b (media.Transfer of bind) vs small told few h = there_answers s (medium_at vs of.step) vs _ (medium_within vs of.step h) (λ m own. transfer_answers s who.step of.step m m.held vs)
-media_answers s pool who b (media.CloseData of) vs small told few h = there_answers s (medium_at vs of.step) vs _ (medium_within vs of.step h) (λ m own. close_answers s pool who of.step m m.held vs)
-media_answers s pool who b (media.Copy of o size) vs small told few h = copy_answers s b.chunk of.step o size vs small few h
-media_answers s pool who b (media.Size of o) vs small told few h = there_answers s (medium_at vs of.step) vs _ (medium_within vs of.step h) (λ m own. sizes_fit s m.shape m.held o)
+media_answers s pool who b x vs small told few h = by (media_came pool who b x vs) refl
+  where
+    by : (o : Option Came) → media_came pool who b x vs ≡ o → IsAnswerWithin s o
+    by None is = tt
+    by (Some y) is = by_came pool who b vs _ (each_answers s pool who b vs small told h) x y is few
 
 -- ---- a caller's steps
 

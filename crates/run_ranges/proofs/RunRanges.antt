@@ -179,15 +179,8 @@ take_fits s media made w h calls c j k p unit is =
 look_there : (s : ScriptData) (media : List (List Chunk)) (made : List CoderId) (w : Recorded) (c k n : ℕ) (end : PromiseState) (x : Step) → IsKnown s media made w → CallsAreIn s w → LookShows s w c x (result.Look k n end) → IsCodec s k
 look_there s media made w c k n end (step.Await promise) h calls shows = (call_fits s media made w h calls c promise.step k shows.0 shows.1 shows.2).0
 look_there s media made w c k n end (step.Poll promise) h calls shows = (call_fits s media made w h calls c promise.step k shows.0 shows.1 shows.2).0
-look_there s media made w c k n end (step.Configure on config) h calls shows = absurd shows
-look_there s media made w c k n end (step.Chunk bind source) h calls shows = absurd shows
-look_there s media made w c k n end (step.Decode on chunk) h calls shows = absurd shows
-look_there s media made w c k n end (step.Flush on bind) h calls shows = absurd shows
-look_there s media made w c k n end (step.Reset on) h calls shows = absurd shows
-look_there s media made w c k n end (step.Close on) h calls shows = absurd shows
-look_there s media made w c k n end (step.State on) h calls shows = absurd shows
 look_there s media made w c k n end (step.Media (media_step.Take on bind kind)) h calls shows = absurd shows
-look_there s media made w c k n end (step.Media m) h calls shows = absurd shows
+look_there s media made w c k n end _ h calls shows = absurd shows
 
 -- the size after a history is at most its length
 replay_up : (h : List Entry) (s t : State) (n : ℕ) → replay_from h s ≡ Some t → IsUpTo n s.control → IsUpTo (n + length h) t.control
@@ -219,16 +212,7 @@ none_fits s media made w c j k n (step.Media (media_step.Take on bind kind)) sou
     let there = codec_within s.codecs (gives kind) on (and_parts (is_codec s.codecs (gives kind) on) (is_free (take j caller.0.steps) bind) fine).0 in
     let codec : k < length s.codecs = omega (arith, shows.0, there) in
     (codec, omega (arith, codec, h.few.codecs))
-none_fits s media made w c j k n (step.Media m) sound h is shows = absurd shows
-none_fits s media made w c j k n (step.Await promise) sound h is shows = absurd shows
-none_fits s media made w c j k n (step.Poll promise) sound h is shows = absurd shows
-none_fits s media made w c j k n (step.Configure on config) sound h is shows = absurd shows
-none_fits s media made w c j k n (step.Chunk bind source) sound h is shows = absurd shows
-none_fits s media made w c j k n (step.Decode on chunk) sound h is shows = absurd shows
-none_fits s media made w c j k n (step.Flush on bind) sound h is shows = absurd shows
-none_fits s media made w c j k n (step.Reset on) sound h is shows = absurd shows
-none_fits s media made w c j k n (step.Close on) sound h is shows = absurd shows
-none_fits s media made w c j k n (step.State on) sound h is shows = absurd shows
+none_fits s media made w c j k n _ sound h is shows = absurd shows
 
 state_fits : (s : ScriptData) (media : List (List Chunk)) (made : List CoderId) (w : Recorded) (c j k n : ℕ) (state : CodecState) (size : ℕ) (x : Step) → is_sound s ≡ true → IsKnown s media made w → step_in s c j ≡ Some x → LookShows s w c x (result.State k n state size) → IsCodec s k × (size < 2 ^ 64)
 state_fits s media made w c j k n state size (step.State on) sound h is shows =
@@ -236,16 +220,8 @@ state_fits s media made w c j k n state size (step.State on) sound h is shows =
     let there = codec_within s.codecs any_kind on (step_at s c j caller.0 (step.State on) sound caller.1 caller.2) in
     let codec : k < length s.codecs = omega (arith, shows.0, there) in
     ((codec, omega (arith, codec, h.few.codecs)), omega (arith, shows.2, size_small (opening_at s k) (take n (at k w.codecs)), take_few n (at k w.codecs), h.entries k))
-state_fits s media made w c j k n state size (step.Await promise) sound h is shows = absurd shows
-state_fits s media made w c j k n state size (step.Poll promise) sound h is shows = absurd shows
-state_fits s media made w c j k n state size (step.Configure on config) sound h is shows = absurd shows
-state_fits s media made w c j k n state size (step.Chunk bind source) sound h is shows = absurd shows
-state_fits s media made w c j k n state size (step.Decode on chunk) sound h is shows = absurd shows
-state_fits s media made w c j k n state size (step.Flush on bind) sound h is shows = absurd shows
-state_fits s media made w c j k n state size (step.Reset on) sound h is shows = absurd shows
-state_fits s media made w c j k n state size (step.Close on) sound h is shows = absurd shows
 state_fits s media made w c j k n state size (step.Media (media_step.Take on bind kind)) sound h is shows = absurd shows
-state_fits s media made w c j k n state size (step.Media m) sound h is shows = absurd shows
+state_fits s media made w c j k n state size _ sound h is shows = absurd shows
 
 -- what a caller's step took
 taken_within : CodesAreBytes → (s : ScriptData) (media : List (List Chunk)) (made : List CoderId) (w : Recorded) → IsKnown s media made w → (o : Option StepResult) → IsOutputWithin (taken_by s w o)
@@ -302,7 +278,6 @@ size_fits s media w vs came who x n within of h = absurd h
 
 results_fit : CodesAreBytes → (s : ScriptData) (media : List (List Chunk)) (made : List CoderId) (w : Recorded) → is_sound s ≡ true → AreWithin s media made → IsKnown s media made w → CallsAreIn s w → LooksAreIn s w → LocalsAreIn s media w → (c j : ℕ) (r : StepResult) → result_in w c j ≡ Some r → FitsResult s r
 results_fit laws s media made w sound within h calls looks locals c j (result.Call k p error) is = call_fits s media made w h calls c j k p error is
-results_fit laws s media made w sound within h calls looks locals c j (result.Local error) is = tt
 results_fit laws s media made w sound within h calls looks locals c j (result.Look k n end) is =
     let step = calls.made c j (result.Look k n end) is in
     let seen = (order_by_places w looks.climbs).within c j k n (result.Look k n end) is refl in
@@ -326,15 +301,13 @@ results_fit laws s media made w sound within h calls looks locals c j (result.Co
 results_fit laws s media made w sound within h calls looks locals c j (result.Size n) is =
     let step = calls.made c j (result.Size n) is in
     size_fits s media w (variables_at s media w c j) (came_at s media w c j) (record { caller = c; step = j }) step.0 n (came_answers s (steps_of s) (brought_to s media w) w.pool c j (steps_within laws s media made w sound within h calls)) step.2 (locals c j step.0 (result.Size n) step.1 is)
-results_fit laws s media made w sound within h calls looks locals c j result.Absent is = tt
+results_fit laws s media made w sound within h calls looks locals c j _ is = tt
 
 -- ---- entries
 
 outcome_within : (s : ScriptData) (media : List (List Chunk)) (made : List CoderId) (w : Recorded) (cause : By) (o : Outcome) → IsKnown s media made w → EndSays w.slots cause o → IsOutcomeWithin o
 outcome_within s media made w cause (outcome.NoSlot n) h says = omega (arith, slice_get_within w.slots n _ says.stands, h.slots)
-outcome_within s media made w cause (outcome.Ran units) h says = tt
-outcome_within s media made w cause outcome.Refused h says = tt
-outcome_within s media made w cause outcome.NoMemory h says = tt
+outcome_within s media made w cause _ h says = tt
 
 entry_within : (s : ScriptData) (media : List (List Chunk)) (made : List CoderId) (w : Recorded) → IsKnown s media made w → CallsAreIn s w → BoxesAccounted made (opening_at s) w.codecs w.slots → (k p : ℕ) (e : Entry) → entry_in w k p ≡ Some e → IsEntryWithin s e
 entry_within s media made w h calls boxes k p e is = by e is
@@ -343,17 +316,12 @@ entry_within s media made w h calls boxes k p e is = by e is
     who x name at names = let kept = (calls_by_places s w calls).only k p x name at names in who_known s media made w name kept.0 h kept.1
 
     by : (x : Entry) → entry_in w k p ≡ Some x → IsEntryWithin s x
-    by (entry.Configure name config) at = who (entry.Configure name config) name at refl
-    by (entry.Decode name chunk) at = who (entry.Decode name chunk) name at refl
-    by (entry.Encode name handed) at = who (entry.Encode name handed) name at refl
-    by (entry.Flush name) at = who (entry.Flush name) name at refl
-    by (entry.Reset name) at = who (entry.Reset name) name at refl
-    by (entry.Close name) at = who (entry.Close name) name at refl
     by (entry.Take name unit) there = (who (entry.Take name unit) name there refl, omega (arith, h.takes k p name unit there, slice_get_within (at k w.codecs) p (entry.Take name unit) there, h.entries k))
-    by (entry.Start epoch item) at = tt
     by (entry.Done epoch item moment o) at = (h.own k p (entry.Done epoch item moment o) at, let end = boxes.ends k p epoch item moment o at in outcome_within s media made w _ o h end.says)
-    by entry.Turn at = tt
     by (entry.Reclaim moment) at = h.own k p (entry.Reclaim moment) at
+    by (entry.Start epoch item) at = tt
+    by entry.Turn at = tt
+    by x at = who x _ at refl
 
 -- ---- the registry
 
@@ -416,15 +384,14 @@ trace_lines_fit laws s c t always legal some long h =
 codec_lines_fit : (laws : CodesAreBytes) (s : ScriptData) (k : ℕ) (cs : List CodecItem) (ts : List CodecTrace) → Always IsNeverStuck → AreLegalTraces cs ts → k + length ts ≤ length s.codecs → length s.codecs ≤ most_codecs
     → ((i : ℕ) (c : CodecItem) → slice_get cs i ≡ Some c → (1 ≤ c.saturation) × (c.saturation ≤ 64)) → ((i : ℕ) → length (at i (map (λ t. t.entries) ts)) ≤ most_order)
     → ((i p : ℕ) (e : Entry) → slice_get (at i (map (λ t. t.entries) ts)) p ≡ Some e → IsEntryWithin s e × HoldsOwn (judge laws) e) → AllByRecursion (FitsLine s) (lines_from codec_lines k ts)
-codec_lines_fit laws s k [] [] always legal le few some long h = tt
 codec_lines_fit laws s k [] (t ∷ ts) always legal le few some long h = absurd legal
-codec_lines_fit laws s k (c ∷ cs) [] always legal le few some long h = tt
 codec_lines_fit laws s k (c ∷ cs) (t ∷ ts) always legal le few some long h = (
   ((omega (arith, le), omega (arith, le, few)), subst (λ (o : Opening). o.saturation < 2 ^ 32) (sym legal.0.opening) (omega (arith, (some 0 c refl).1))),
   all_append (FitsLine s) (lines_from entry_lines 0 (zip t.entries t.shown)) (lines_from codec_lines (k + 1) ts)
       (trace_lines_fit laws s c t always legal.0 (some 0 c refl) (long 0) (λ p e is. h 0 p e is))
       (codec_lines_fit laws s (k + 1) cs ts always legal.1 (omega (arith, le)) few (λ i d is. some (suc i) d is) (λ i. long (suc i)) (λ i p e is. h (suc i) p e is)),
 )
+codec_lines_fit laws s k _ _ always legal le few some long h = tt
 
 slot_lines_fit : (s : ScriptData) (n : ℕ) (es : List SlotEntry) → n + length es < 2 ^ 64 → ((i : ℕ) (e : SlotEntry) → slice_get es i ≡ Some e → FitsBy s e.by × FitsOp e.op) → AllByRecursion (FitsLine s) (lines_from slot_lines n es)
 slot_lines_fit s n [] few h = tt

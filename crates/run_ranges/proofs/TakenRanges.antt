@@ -27,6 +27,7 @@ use Rattle.codec_model.specs.declared.entry.Outcome.{Outcome}
 use Rattle.codec_model.specs.Control.{Control, at_next_place, is_decoder, is_taken, after_message, process_queue, with_message, after_encode, after_take, may_take, start_first, after_end, done_running, run_task, run_first, may_reclaim}
 use Rattle.codec_model.specs.Replay.{State, step, with_control, is_configured, after_call, call_error, remove_or_refuse, removal_error, start_step, done_step, done_ended, ended_of, turn_step, replay_from, opening_state, IsLegal}
 use Rattle.codec_accounts.specs.Owed.{at}
+use Rattle.codec_model.specs.StepLaws.{EachStep, by_steps}
 use Rattle.script_types.specs.declared.script.CodecItem.{CodecItem}
 use Rattle.trace_text.specs.declared.run.CodecTrace.{CodecTrace}
 use Rattle.trace_text.specs.Fits.{AreLegalTraces}
@@ -35,8 +36,7 @@ use Rattle.trace_text.specs.Fits.{AreLegalTraces}
 
 message_same : (w : Work) (place : ℕ) (c : Control) → (after_message (record { place = place; work = w }) c).taken ≡ c.taken
 message_same (work.Configure config) place c = refl
-message_same (work.Coded input) place c = refl
-message_same work.Flush place c = refl
+message_same _ place c = refl
 
 either : (b : Bool) (c d : Control) (n : ℕ) → d.taken ≡ n → c.taken ≡ n → (cond b d c).taken ≡ n
 either true c d n one other = one
@@ -59,12 +59,7 @@ called_same (Some error) x c = refl
 
 removed_same : (o : Option DomError) (r : Removal) (s : State) → (remove_or_refuse o r s).control.taken ≡ s.control.taken
 removed_same None removal.Reset s = refl
-removed_same None removal.Close s = refl
-removed_same (Some error) r s = refl
-
-started_same : (is : List Item) (c : Control) → (start_first is (at_next_place c)).taken ≡ c.taken
-started_same [] c = refl
-started_same (i ∷ is) c = refl
+removed_same _ _ s = refl
 
 done_same : (r : Running) (e : Ended) (moment : ℕ) (c : Control) → (done_running r e moment (at_next_place c)).taken ≡ c.taken
 done_same r e moment c =
@@ -72,69 +67,35 @@ done_same r e moment c =
     either (eqb r.epoch c.epoch) idle (after_end r e (record idle { progress = Some (max moment (unwrap_or c.progress moment)) })) c.taken refl refl
 
 ran_same : (t : Task) (ts : List Task) (c : Control) → (run_task t (record (at_next_place c) { tasks = ts })).taken ≡ c.taken
-ran_same task.Unblock ts c = refl
 ran_same task.Process ts c = processed_same c.messages (record (at_next_place c) { tasks = ts })
 ran_same task.Desaturate ts c = processed_same c.messages (record (at_next_place c) { tasks = ts; saturated = false })
-ran_same (task.Output units) ts c = refl
-ran_same (task.Flushed promise units) ts c = refl
-ran_same task.Dequeue ts c = refl
-ran_same (task.Close error) ts c = refl
-
-front_same : (ts : List Task) (c : Control) → (run_first ts (at_next_place c)).taken ≡ c.taken
-front_same [] c = refl
-front_same (t ∷ ts) c = ran_same t ts c
+ran_same _ ts c = refl
 
 -- ---- one entry
 
 -- at most one take more
-abbrev IsNext : State → State → Type 0
-IsNext s t = t.control.taken ≤ s.control.taken + 1
+abbrev IsNext : Entry → State → State → Type 0
+IsNext e s t = t.control.taken ≤ s.control.taken + 1
 
-same_next : (s u t : State) → Some u ≡ Some t → u.control.taken ≡ s.control.taken → IsNext s t
-same_next s u t made same = subst (IsNext s) (some_same u t made) (omega (arith, same))
+same_next : (m n : ℕ) → n ≡ m → n ≤ m + 1
+same_next m n same = omega (arith, same)
 
-if_next : (b : Bool) (s u t : State) → cond b (Some u) None ≡ Some t → u.control.taken ≡ s.control.taken → IsNext s t
-if_next b s u t made same = same_next s u t (cond_is b (Some u) t made).1 same
+each_next : EachStep IsNext
+each_next = record {
+  call = λ who x s. same_next s.control.taken _ (called_same (call_error x s.control) x s.control);
+  gone = λ who s. same_next s.control.taken _ refl;
+  kept = λ who s off. same_next s.control.taken _ refl;
+  cloned = λ who x s on. same_next s.control.taken _ (queued_same s.control.place (work.Coded (coded.Sound x)) (record (at_next_place s.control) { size = s.control.size + 1 }));
+  remove = λ who r s. same_next s.control.taken _ (removed_same (removal_error s.control) r s);
+  take = λ who unit s may. omega arith;
+  start = λ i is epoch item s first may. same_next s.control.taken _ refl;
+  done = λ r e epoch item moment o s running own is. same_next s.control.taken _ (done_same r e moment s.control);
+  turn = λ x ts s first. same_next s.control.taken _ (ran_same x ts s.control);
+  reclaim = λ moment s may. same_next s.control.taken _ refl;
+}
 
-kept_next : (b : Bool) (s t : State) → cond b None (Some (with_control (at_next_place s.control) s)) ≡ Some t → IsNext s t
-kept_next true s t made = absurd cc
-kept_next false s t made = same_next s (with_control (at_next_place s.control) s) t made refl
-
-started_next : (is : List Item) (epoch number : ℕ) (s t : State) → start_step is epoch number s ≡ Some t → IsNext s t
-started_next [] epoch number s t made = absurd cc
-started_next (i ∷ is) epoch number s t made = if_next _ s _ t made (started_same s.control.work s.control)
-
-ended_next : (r : Running) (o : Option Ended) (moment : ℕ) (s t : State) → done_ended r o moment s ≡ Some t → IsNext s t
-ended_next r None moment s t made = absurd cc
-ended_next r (Some e) moment s t made = same_next s (with_control (done_running r e moment (at_next_place s.control)) s) t made (done_same r e moment s.control)
-
-done_next : (o : Option Running) (epoch number moment : ℕ) (x : Outcome) (s t : State) → done_step o epoch number moment x s ≡ Some t → IsNext s t
-done_next None epoch number moment x s t made = absurd cc
-done_next (Some r) epoch number moment x s t made = let e = ended_of r.kind s.running_given x in ended_next r e moment s t (cond_is _ (done_ended r e moment s) t made).1
-
-turned_next : (ts : List Task) (s t : State) → turn_step ts s ≡ Some t → IsNext s t
-turned_next [] s t made = absurd cc
-turned_next (task.Close error ∷ ts) s t made = same_next s _ t made (front_same s.control.tasks s.control)
-turned_next (x ∷ ts) s t made = same_next s _ t made (front_same s.control.tasks s.control)
-
-step_next : (e : Entry) (s t : State) → step e s ≡ Some t → IsNext s t
-step_next (entry.Configure who config) s t is = same_next s _ t is (called_same (call_error (call.Configure config) s.control) (call.Configure config) s.control)
-step_next (entry.Decode who chunk) s t is = same_next s _ t is (called_same (call_error (call.Decode chunk) s.control) (call.Decode chunk) s.control)
-step_next (entry.Encode who handed.Gone) s t is = same_next s (with_control (at_next_place s.control) s) t is refl
-step_next (entry.Encode who handed.Kept) s t is = kept_next (is_configured s.control) s t is
-step_next (entry.Encode who (handed.Cloned sound)) s t is =
-    if_next (is_configured s.control) s (with_control (after_encode s.control.place sound (at_next_place s.control)) s) t is
-    (queued_same s.control.place (work.Coded (coded.Sound sound)) (record (at_next_place s.control) { size = s.control.size + 1 }))
-step_next (entry.Flush who) s t is = same_next s _ t is (called_same (call_error call.Flush s.control) call.Flush s.control)
-step_next (entry.Reset who) s t is = same_next s _ t is (removed_same (removal_error s.control) removal.Reset s)
-step_next (entry.Close who) s t is = same_next s _ t is (removed_same (removal_error s.control) removal.Close s)
-step_next (entry.Take who unit) s t is =
-    let u : State = with_control (after_take (at_next_place s.control)) s in
-    subst (IsNext s) (some_same u t (cond_is (may_take unit s.control) (Some u) t is).1) (omega arith)
-step_next (entry.Start epoch number) s t is = started_next s.control.work epoch number s t is
-step_next (entry.Done epoch number moment x) s t is = done_next s.control.running epoch number moment x s t is
-step_next entry.Turn s t is = turned_next s.control.tasks s t is
-step_next (entry.Reclaim moment) s t is = if_next (may_reclaim moment s.control) s _ t is refl
+step_next : (e : Entry) (s t : State) → step e s ≡ Some t → IsNext e s t
+step_next = by_steps IsNext each_next
 
 -- ---- a history
 

@@ -111,10 +111,8 @@ described_within (Some d) info h =
 
 -- a command's samples have as many frames as 32 bits count
 frames_within : (x : Command) → IsOwnCommand IsChunkWithin AreSamplesWithin x → (s : Samples) → x ≡ command.Sound s → s.shape.frames < 2 ^ 32
-frames_within (command.Chunk chunk) own s is = absurd cc
 frames_within (command.Sound t) own s is = let same : t ≡ s = cc in subst (λ (r : Samples). r.shape.frames < 2 ^ 32) same (own.0.0)
-frames_within (command.Image picture) own s is = absurd cc
-frames_within command.Drain own s is = absurd cc
+frames_within _ own s is = absurd cc
 
 block_within : (c : AudioEncoderConfig) → IsConfigWithin (config.AudioEncoder c) → (number : ℕ) (values : List ℤ) (place : ℤ × ℕ) → length values ≤ block_samples c → IsUnitWithin (block_unit c number values place)
 block_within c own number values place few = (
@@ -132,10 +130,8 @@ blocks_given c before x us h = record {
 
 -- the size of a picture is the config's
 shape_within : (f : Option PictureFormat) (width height : Option ℕ) (shape : PictureShape) → IsSizeWithin width → IsSizeWithin height → shape_in f width height ≡ Some shape → (shape.width < 2 ^ 32) × (shape.height < 2 ^ 32)
-shape_within None width height shape w h is = absurd cc
-shape_within (Some f) None height shape w h is = absurd cc
-shape_within (Some f) (Some width) None shape w h is = absurd cc
 shape_within (Some f) (Some width) (Some height) shape w h is = subst (λ (s : PictureShape). (s.width < 2 ^ 32) × (s.height < 2 ^ 32)) (some_same _ shape is) (w, h)
+shape_within _ _ _ shape w h is = absurd cc
 
 each_given : EachAnswer (λ c before x us. AreGiven c x us)
 each_given = record {

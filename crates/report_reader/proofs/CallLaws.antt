@@ -1,0 +1,269 @@
+-- Calls and takes: what their lines tell, and what the steps of their callers give.
+use Rattle.std.proofs.Common.{◌≡◌, ℕ, zero, suc, Bool, true, false, List, [], ◌∷◌, Option, Some, None, refl, sym, ap, subst, ◌∙◌, arith}
+use Rattle.std.specs.Prelude.{option_map, option_and_then}
+use Rattle.std.specs.Option.{is_none}
+use Rattle.std.specs.List.{slice_get}
+use Rattle.wc_base.specs.Options.{some_same}
+use Rattle.wc_base.specs.declared.error.DomError.{DomError}
+use Rattle.wc_base.specs.declared.error.DomError.TheVariants as dom
+use Rattle.wc_base.specs.declared.media.Samples.{Samples}
+use Rattle.wc_base.specs.declared.media.SoundShape.{SoundShape}
+use Rattle.wc_base.specs.declared.who.Who.{Who}
+use Rattle.wc_config.specs.declared.kind.Kind.{Kind}
+use Rattle.wc_chunk.specs.declared.chunk.Chunk.{Chunk}
+use Rattle.wc_pool.specs.declared.reference.MediaRef.{MediaRef}
+use Rattle.wc_audio.specs.Sound.{Sound}
+use Rattle.codec_definitions.specs.declared.unit.Unit as media
+use Rattle.codec_model.specs.declared.entry.Pair.{Pair}
+use Rattle.codec_model.specs.declared.entry.HeldSound.{HeldSound}
+use Rattle.codec_model.specs.declared.entry.Handed.{Handed}
+use Rattle.codec_model.specs.declared.entry.Handed.TheVariants as handed
+use Rattle.codec_model.specs.declared.entry.Entry.{Entry}
+use Rattle.codec_model.specs.declared.entry.Entry.TheVariants as entry
+use Rattle.codec_model.specs.declared.entry.Shown.{Shown}
+use Rattle.codec_model.specs.Replay.{State}
+use Rattle.codec_model.specs.Shown.{refusal, handed_error, shown_at}
+use Rattle.codec_model.specs.Held.{adds_held}
+use Rattle.codec_follow.specs.Follow.{filled, filled_at}
+use Rattle.codec_accounts.specs.Calls.{who_of}
+use Rattle.script_types.specs.declared.script.ScriptData.{ScriptData}
+use Rattle.script_types.specs.declared.steps.Variable.{Variable}
+use Rattle.script_types.specs.declared.steps.Step.{Step}
+use Rattle.script_types.specs.declared.steps.Step.TheVariants as step
+use Rattle.script_types.specs.declared.steps.MediaStep.TheVariants as on_media
+use Rattle.report_text.specs.declared.result.StepResult.{StepResult}
+use Rattle.report_text.specs.declared.line.CallWord.{CallWord}
+use Rattle.report_text.specs.declared.line.CallWord.TheVariants as call
+use Rattle.report_text.specs.declared.line.EntryLine.{EntryLine}
+use Rattle.report_text.specs.declared.line.EntryLine.TheVariants as entry_line
+use Rattle.media_variables.specs.Variables.{sound_at, handed_by, handed_of}
+use Rattle.media_accounts.specs.Samples.{samples_before}
+use Rattle.trace_text.specs.Follow.{Recorded, steps_of, chunk_for, is_gone}
+use Rattle.trace_text.specs.Fits.{HasArguments, result_in, variables_at}
+use Rattle.trace_text.specs.Report.{refusal_in, entry_line_of}
+use Rattle.report_reader.specs.declared.known.Known.{Known}
+use Rattle.report_reader.specs.Arguments.{results_of, taken_in, chunk_found, pair_for, clone_of, handed_for, is_given, is_detached, encode_of, call_of, take_of, entry_of}
+use Rattle.report_reader.proofs.StandingLaws.{IsStanding}
+
+-- ---- what is there
+
+-- what holds of all that is given for a value that is there
+where_there : {X Y : Type 0} (P : Y → Type 0) (f : X → Option Y) (o : Option X) → ((x : X) (y : Y) → f x ≡ Some y → P y) → (y : Y) → option_and_then f o ≡ Some y → P y
+where_there P f None each y h = absurd cc
+where_there P f (Some x) each y h = each x y h
+
+where_mapped : {X Y : Type 0} (P : Y → Type 0) (f : X → Y) (o : Option X) → ((x : X) → o ≡ Some x → P (f x)) → (y : Y) → option_map f o ≡ Some y → P y
+where_mapped P f None each y h = absurd cc
+where_mapped P f (Some x) each y h = subst P (some_same (f x) y h) (each x refl)
+
+-- ---- an entry's line tells the entry
+
+-- a line of an entry, where the entry shows this
+abbrev pub line_with : EntryLine → Shown → EntryLine
+line_with (entry_line.Call who word error) x = entry_line.Call who word (refusal_in x.events)
+line_with (entry_line.Turn word) x = entry_line.Turn x.turn
+line_with told x = told
+
+abbrev IsToldBy : EntryLine → Shown → Entry → Type 0
+IsToldBy told x e = entry_line_of e x ≡ line_with told x
+
+is_told : (told : EntryLine) (x : Shown) (d e : Entry) → Some d ≡ Some e → IsToldBy told x d → IsToldBy told x e
+is_told told x d e h is = subst (IsToldBy told x) (some_same d e h) is
+
+call_told : (files : List (List Chunk)) (known : Known) (steps : List Step) (who : Who) (word : CallWord) (error : Option DomError) (x : Shown) (s : Step) (e : Entry) → call_of files known steps who word s ≡ Some e → IsToldBy (entry_line.Call who word error) x e
+call_told files known steps who call.Configure error x (step.Configure on config) e h = is_told (entry_line.Call who call.Configure error) x (entry.Configure who config) e h refl
+call_told files known steps who call.Decode error x (step.Decode on chunk) e h = where_mapped (IsToldBy (entry_line.Call who call.Decode error) x) (λ (c : Chunk). entry.Decode who c) _ (λ c is. refl) e h
+call_told files known steps who call.Flush error x (step.Flush on bind) e h = is_told (entry_line.Call who call.Flush error) x (entry.Flush who) e h refl
+call_told files known steps who call.Reset error x (step.Reset on) e h = is_told (entry_line.Call who call.Reset error) x (entry.Reset who) e h refl
+call_told files known steps who call.Close error x (step.Close on) e h = is_told (entry_line.Call who call.Close error) x (entry.Close who) e h refl
+call_told files known steps who _ error x _ e h = absurd cc
+
+encode_told : (known : Known) (steps : List Step) (k place : ℕ) (who : Who) (error : Option DomError) (x : Shown) (s : Step) (e : Entry) → encode_of known steps k place who error s ≡ Some e → IsToldBy (entry_line.Call who call.Encode error) x e
+encode_told known steps k place who error x (step.Media (on_media.Encode on content)) e h = where_mapped (IsToldBy (entry_line.Call who call.Encode error) x) (λ (z : Handed). entry.Encode who z) _ (λ z is. refl) e h
+encode_told known steps k place who error x _ e h = absurd cc
+
+take_told : (who : Who) (n : ℕ) (x : Shown) (s : Step) (e : Entry) → take_of who n s ≡ Some e → IsToldBy (entry_line.Take who n) x e
+take_told who n x (step.Media (on_media.Take on bind kind)) e h = is_told (entry_line.Take who n) x (entry.Take who n) e h refl
+take_told who n x _ e h = absurd cc
+
+-- an entry that a line tells has that line, but for what it shows
+pub entry_told : (script : ScriptData) (files : List (List Chunk)) (known : Known) (k place : ℕ) (told : EntryLine) (x : Shown) (e : Entry) → entry_of script files known k place told ≡ Some e → IsToldBy told x e
+entry_told script files known k place (entry_line.Call who call.Encode error) x e h =
+    let steps = steps_of script who.caller in
+    where_there (IsToldBy (entry_line.Call who call.Encode error) x) (encode_of known steps k place who error) (slice_get steps who.step) (encode_told known steps k place who error x) e h
+entry_told script files known k place (entry_line.Call who word error) x e h =
+    let steps = steps_of script who.caller in
+    where_there (IsToldBy (entry_line.Call who word error) x) (call_of files known steps who word) (slice_get steps who.step) (call_told files known steps who word error x) e h
+entry_told script files known k place (entry_line.Take who n) x e h = where_there (IsToldBy (entry_line.Take who n) x) (take_of who n) (slice_get (steps_of script who.caller) who.step) (take_told who n x) e h
+entry_told script files known k place told x e h = is_told told x _ e h refl
+
+-- ---- an encode
+
+clone_shown : (a : Option Samples) (b : Option Pair) (h : Handed) → clone_of a b ≡ Some h → handed_error h ≡ None
+clone_shown (Some s) (Some p) h e = ap handed_error (sym (some_same (handed.Cloned (record { samples = s; pair = p })) h e))
+clone_shown _ _ h e = absurd cc
+
+-- what became of data that is not detached tells the exception
+handed_told : (error : Option DomError) (a : Option Samples) (b : Option Pair) (h : Handed) → handed_for true false error (clone_of a b) ≡ Some h → handed_error h ≡ error
+handed_told None a b h e = clone_shown a b h e
+handed_told (Some dom.InvalidState) a b h e = ap handed_error (sym (some_same handed.Kept h e))
+handed_told _ a b h e = absurd cc
+
+-- so what became of data is read again from the exception that it tells
+handed_again : (given gone : Bool) (error : Option DomError) (a : Option Samples) (b : Option Pair) (h : Handed) → handed_for given gone error (clone_of a b) ≡ Some h → handed_for given gone (handed_error h) (clone_of a b) ≡ Some h
+handed_again false gone error a b h e = absurd cc
+handed_again true true error a b h e = e
+handed_again true false error a b h e = ap (λ (x : Option DomError). handed_for true false x (clone_of a b)) (handed_told error a b h e) ∙ e
+
+refusal_filled : (kind : Kind) (o : Option DomError) (us : List media.Unit) → refusal_in (filled kind (refusal o) us).0 ≡ o
+refusal_filled kind None us = refl
+refusal_filled kind (Some x) us = refl
+
+-- and an encode, from the exception that it shows
+encode_again : (kind : Kind) (known : Known) (steps : List Step) (k place : ℕ) (who : Who) (error : Option DomError) (t : State) (us : List media.Unit) (s : Step) (e : Entry) → encode_of known steps k place who error s ≡ Some e
+    → encode_of known steps k place who (refusal_in (filled_at kind e t us).events) s ≡ Some e
+encode_again kind known steps k place who error t us (step.Media (on_media.Encode on content)) e is =
+    let given = is_given (results_of known.callers who.caller) content.step in
+    let gone = is_detached steps (results_of known.callers who.caller) who.step content.step in
+    let a = samples_before steps (taken_in known who.caller) who.step content.step in
+    let b = pair_for k place known.pool in
+    where_mapped (λ (z : Entry). option_map (λ h. entry.Encode who h) (handed_for given gone (refusal_in (filled_at kind z t us).events) (clone_of a b)) ≡ Some z) (λ (h : Handed). entry.Encode who h) (handed_for given gone error (clone_of a b))
+    (λ h found. ap (λ (x : Option DomError). option_map (λ z. entry.Encode who z) (handed_for given gone x (clone_of a b))) (refusal_filled kind (handed_error h) us) ∙ ap (option_map (λ z. entry.Encode who z)) (handed_again given gone error a b h found)) e is
+encode_again kind known steps k place who error t us _ e is = absurd cc
+
+encode_there : (kind : Kind) (known : Known) (steps : List Step) (k place : ℕ) (who : Who) (error : Option DomError) (t : State) (us : List media.Unit) (o : Option Step) (e : Entry) → option_and_then (encode_of known steps k place who error) o ≡ Some e
+    → option_and_then (encode_of known steps k place who (refusal_in (filled_at kind e t us).events)) o ≡ Some e
+encode_there kind known steps k place who error t us None e is = absurd cc
+encode_there kind known steps k place who error t us (Some s) e is = encode_again kind known steps k place who error t us s e is
+
+-- ---- the entry that its line tells
+
+line_again : (script : ScriptData) (files : List (List Chunk)) (known : Known) (k place : ℕ) (told : EntryLine) (e : Entry) (kind : Kind) (t : State) (us : List media.Unit) → entry_of script files known k place told ≡ Some e
+    → entry_of script files known k place (line_with told (filled_at kind e t us)) ≡ Some e
+line_again script files known k place (entry_line.Call who call.Encode error) e kind t us h =
+    let steps = steps_of script who.caller in
+    encode_there kind known steps k place who error t us (slice_get steps who.step) e h
+line_again script files known k place told e kind t us h = h
+
+pub told_holds : (script : ScriptData) (files : List (List Chunk)) (known : Known) (k place : ℕ) (told : EntryLine) (e : Entry) (kind : Kind) (t : State) (us : List media.Unit) → entry_of script files known k place told ≡ Some e
+    → entry_of script files known k place (entry_line_of e (filled_at kind e t us)) ≡ Some e
+told_holds script files known k place told e kind t us h =
+    ap (entry_of script files known k place) (entry_told script files known k place told (filled_at kind e t us) e h) ∙ line_again script files known k place told e kind t us h
+
+-- ---- what a step's arguments are found in
+
+-- what a run's variables hold is found in what its report shows
+pub record AreFound (script : ScriptData) (files : List (List Chunk)) (w : Recorded) (known : Known) : Type 0 where
+  pub chunks : (c n j : ℕ) (value : Chunk) → chunk_for files (steps_of script c) (variables_at script files w c n) j ≡ Some value → chunk_found files (steps_of script c) (taken_in known c) j ≡ Some value
+  pub sounds : (c n j : ℕ) (x : Sound) (r : MediaRef) → sound_at (variables_at script files w c n) j ≡ Some x → x.held ≡ Some r
+      → samples_before (steps_of script c) (taken_in known c) n j ≡ Some (record { shape = x.shape; bytes = r.bytes })
+  pub standing : (c n j : ℕ) (r : StepResult) (x : Sound) → result_in w c n ≡ Some r → sound_at (variables_at script files w c n) j ≡ Some x → IsStanding (steps_of script c) (results_of known.callers c) n j x
+
+abbrev pub HasPair : Known → ℕ → ℕ → Entry → Type 0
+HasPair known k place e = (p : Pair) → adds_held e ≡ p ∷ [] → pair_for k place known.pool ≡ Some p
+
+-- data of which a clone is made is not detached
+record IsCloned (shape : SoundShape) (held : Option MediaRef) (sound : HeldSound) : Type 0 where
+  reference : MediaRef
+  is : held ≡ Some reference
+  samples : (let own : Samples = record { shape = shape; bytes = reference.bytes } in own) ≡ sound.samples
+
+cloned_same : (a b : HeldSound) → handed.Cloned a ≡ handed.Cloned b → a ≡ b
+cloned_same a b e = cc
+
+cloned_held : (number : ℕ) (accepts : Bool) (shape : SoundShape) (held : Option MediaRef) (sound : HeldSound) → handed_by number accepts shape held ≡ handed.Cloned sound → IsCloned shape held sound
+cloned_held number true shape (Some r) sound e = record {
+  reference = r;
+  is = refl;
+  samples = ap (λ (x : HeldSound). x.samples) (cloned_same _ sound e);
+}
+cloned_held number false shape (Some r) sound e = absurd cc
+cloned_held number accepts shape None sound e = absurd cc
+
+-- data is gone where it holds no reference
+gone_is : (number : ℕ) (accepts : Bool) (shape : SoundShape) (held : Option MediaRef) → is_none held ≡ is_gone (handed_by number accepts shape held)
+gone_is number false shape (Some r) = refl
+gone_is number true shape (Some r) = refl
+gone_is number accepts shape None = refl
+
+-- what became of data that is there is told by whether it is detached, by the exception, and by the clone where there is one
+handed_back : (h : Handed) (gone : Bool) (a : Option Samples) (b : Option Pair) → gone ≡ is_gone h → ((x : HeldSound) → h ≡ handed.Cloned x → a ≡ Some x.samples) → ((x : HeldSound) → h ≡ handed.Cloned x → b ≡ Some x.pair)
+    → handed_for true gone (handed_error h) (clone_of a b) ≡ Some h
+handed_back handed.Gone gone a b is samples pair = ap (λ (g : Bool). handed_for true g (Some dom.TypeErr) (clone_of a b)) is
+handed_back handed.Kept gone a b is samples pair = ap (λ (g : Bool). handed_for true g (Some dom.InvalidState) (clone_of a b)) is
+handed_back (handed.Cloned x) gone a b is samples pair =
+    let clone : clone_of a b ≡ Some (handed.Cloned x) = rw (samples x refl, pair x refl) refl in
+    ap (λ (g : Bool). handed_for true g None (clone_of a b)) is ∙ clone
+
+-- the step that an entry names was made
+abbrev pub IsMadeBy : Recorded → Who → Type 0
+IsMadeBy w who = (r : StepResult) × (result_in w who.caller who.step ≡ Some r)
+
+encode_made : (script : ScriptData) (files : List (List Chunk)) (w : Recorded) (known : Known) (k place : ℕ) (who : Who) (on : ℕ) (content : Variable) (number : ℕ) (accepts : Bool) (x : Sound) → AreFound script files w known
+    → HasPair known k place (entry.Encode who (handed_of number accepts x)) → IsMadeBy w who → sound_at (variables_at script files w who.caller who.step) content.step ≡ Some x
+    → encode_of known (steps_of script who.caller) k place who (handed_error (handed_of number accepts x)) (step.Media (on_media.Encode on content)) ≡ Some (entry.Encode who (handed_of number accepts x))
+encode_made script files w known k place who on content number accepts x found pair made there =
+    let steps = steps_of script who.caller in
+    let h : Handed = handed_of number accepts x in
+    let a = samples_before steps (taken_in known who.caller) who.step content.step in
+    let b = pair_for k place known.pool in
+    let samples : (y : HeldSound) → h ≡ handed.Cloned y → a ≡ Some y.samples =
+    λ y is. let held = cloned_held number accepts x.shape x.held y is in
+    found.sounds who.caller who.step content.step x held.reference there held.is ∙ ap {B = Option Samples} Some held.samples in
+    let detached = is_detached steps (results_of known.callers who.caller) who.step content.step in
+    let stand = found.standing who.caller who.step content.step made.0 x made.1 there in
+    let again = handed_back h detached a b (stand.gone ∙ gone_is number accepts x.shape x.held) samples (λ y is. pair y.pair (ap (λ (z : Handed). adds_held (entry.Encode who z)) is)) in
+    ap (λ (q : Bool). option_map (λ z. entry.Encode who z) (handed_for q detached (handed_error h) (clone_of a b))) stand.given ∙ ap (option_map (λ z. entry.Encode who z)) again
+
+-- ---- the entry that a step makes
+
+-- an encode shows the exception that what became of its data tells
+abbrev pub ShowsOwn : Entry → Shown → Type 0
+ShowsOwn (entry.Encode who h) x = refusal_in x.events ≡ handed_error h
+ShowsOwn _ x = Unit {0}
+
+refusal_first : (h : Handed) → refusal_in (refusal (handed_error h)) ≡ handed_error h
+refusal_first handed.Gone = refl
+refusal_first _ = refl
+
+pub shows_own : (e : Entry) (s : State) → ShowsOwn e (shown_at e s)
+shows_own (entry.Encode who h) s = refusal_first h
+shows_own _ s = tt
+
+-- its line tells it again
+abbrev IsAgain : ScriptData → List (List Chunk) → Known → ℕ → ℕ → Shown → Entry → Type 0
+IsAgain script files known k place x e = entry_of script files known k place (entry_line_of e x) ≡ Some e
+
+step_again : (script : ScriptData) (files : List (List Chunk)) (w : Recorded) (known : Known) (k place : ℕ) (who : Who) (x : Shown) (s : Step) (e : Entry) → AreFound script files w known → IsMadeBy w who → slice_get (steps_of script who.caller) who.step ≡ Some s
+    → HasPair known k place e → ShowsOwn e x → HasArguments script files (variables_at script files w who.caller who.step) who e s → IsAgain script files known k place x e
+step_again script files w known k place who x (step.Configure on config) e found made is pair own has = rw (has, is) refl
+step_again script files w known k place who x (step.Decode on chunk) e found made is pair own has = rw (has.2, is, found.chunks who.caller who.step chunk.step has.0 has.1) refl
+step_again script files w known k place who x (step.Flush on bind) e found made is pair own has = rw (has, is) refl
+step_again script files w known k place who x (step.Reset on) e found made is pair own has = rw (has, is) refl
+step_again script files w known k place who x (step.Close on) e found made is pair own has = rw (has, is) refl
+step_again script files w known k place who x (step.Media (on_media.Take on bind kind)) e found made is pair own has = rw (has.1, is) refl
+step_again script files w known k place who x (step.Media (on_media.Encode on content)) e found made is pair own has =
+    subst (λ (z : Entry). HasPair known k place z → ShowsOwn z x → IsAgain script files known k place x z) (sym has.4)
+    (λ pair own. rw (own, is) (encode_made script files w known k place who on content has.1 has.2 has.0 found pair made has.3)) pair own
+step_again script files w known k place who x _ e found made is pair own has = absurd has
+
+-- the entry of a call has a step, and what that gives
+abbrev pub GetsArguments : ScriptData → List (List Chunk) → Recorded → Entry → Type 0
+GetsArguments script files w e =
+    (who : Who) → who_of e ≡ Some who → (x : Step) × (slice_get (steps_of script who.caller) who.step ≡ Some x) × HasArguments script files (variables_at script files w who.caller who.step) who e x
+
+-- what is known of the entry at a place
+pub record IsGiven (script : ScriptData) (files : List (List Chunk)) (w : Recorded) (known : Known) (k place : ℕ) (e : Entry) : Type 0 where
+  pub arguments : GetsArguments script files w e
+  pub pair : HasPair known k place e
+  pub made : (who : Who) → who_of e ≡ Some who → IsMadeBy w who
+
+pub entry_holds : (script : ScriptData) (files : List (List Chunk)) (w : Recorded) (known : Known) (k place : ℕ) (e : Entry) (x : Shown) → AreFound script files w known → ShowsOwn e x → IsGiven script files w known k place e
+    → IsAgain script files known k place x e
+entry_holds script files w known k place (entry.Start epoch item) x found own h = refl
+entry_holds script files w known k place (entry.Done epoch item moment outcome) x found own h = refl
+entry_holds script files w known k place entry.Turn x found own h = refl
+entry_holds script files w known k place (entry.Reclaim moment) x found own h = refl
+entry_holds script files w known k place e x found own h =
+    let got = h.arguments _ refl in
+    step_again script files w known k place _ x got.0 e found (h.made _ refl) got.1 h.pair own got.2
