@@ -1,79 +1,43 @@
 // The texts of the lines of what entries show.
-ghost use Rattle.std.specs.Prelude.{◌≡◌, ◌++◌, IfOk, OnOk, Some, codes};
-ghost use Rattle.hex.specs.Hex.{encode_lower};
+ghost use Rattle.std.specs.Prelude.{◌≡◌, ◌++◌, OnOk, codes, decimal};
+ghost use Rattle.std.specs.Fmt.{signed_decimal};
 ghost use Rattle.report_text.specs.Text as spec;
-ghost use Rattle.report_text.specs.declared.line.EventLine.TheVariants as line;
+ghost use Rattle.report_text.specs.declared.line.EventLine.TheVariants as event;
 
 use crate::line::EventLine;
+use crate::pieces::{
+    push_bytes, push_hex_or_dash, push_number, push_number_or_dash, push_signed, push_text,
+};
 use crate::words::{chunk_type_text, error_name, picture_format_text, sample_format_text};
-use std::alloc::{AllocError, Global};
-use std::fmt;
-use wc_base::{Picture, PictureShape, Samples, SoundShape};
+use std::alloc::AllocError;
+use wc_base::{DomError, Picture, PictureShape, Samples, SoundShape};
 use wc_chunk::Chunk;
 
-// A number, or `-` where it is absent.
-#[derive(Drop)]
-struct NumberOrDash(Option<u64>);
-
-impl fmt::Display for NumberOrDash {
-    ghost output = { λ n. Some (spec.number_or_dash n.0) };
-
-    fn fmt<W: fmt::Write>(&self, f: &mut fmt::Formatter<W>) -> fmt::Result {
-        match self.0 {
-            None => write!(f, "-"),
-            Some(n) => write!(f, "{n}"),
-        }
-    }
-}
-
-const DIGITS: [u8; 16] = *b"0123456789abcdef";
-
-// Appends the bytes in lower case hex.
-#[tactic(auto, using(crate::proofs::Hex::hex_end))]
-fn push_hex(line: &mut Vec<u8>, bytes: &[u8]) -> Result<(), AllocError>
-    ensures { OnOk result (line.new.items ≡ line.old.items ++ encode_lower bytes.now) }
-{
-    for byte in bytes {
-        line.push(DIGITS[(*byte / 16) as usize])?;
-        line.push(DIGITS[(*byte % 16) as usize])?;
-    }
-    Ok(())
-}
-
-// Appends the bytes in lower case hex, or `-` where there are none.
-fn push_hex_or_dash(line: &mut Vec<u8>, bytes: &[u8]) -> Result<(), AllocError>
-    ensures { OnOk result (line.new.items ≡ line.old.items ++ spec.hex_or_dash bytes.now) }
-{
-    match bytes {
-        [] => line.push(b'-')?,
-        _ => push_hex(line, bytes)?,
-    }
-    Ok(())
-}
-
-/// A line that ends with bytes in hex, which is written into the line itself, since it may be long.
-pub(crate) fn hex_line(alloc: Global, head: &[u8], bytes: &[u8]) -> Result<Vec<u8>, AllocError>
-    ensures { IfOk result (λ v. v.items ≡ head.now ++ spec.hex_or_dash bytes.now ++ codes "\n") }
-{
-    let mut line = Vec::new(alloc);
-    line.extend_from_slice(head)?;
-    push_hex_or_dash(&mut line, bytes)?;
-    line.push(b'\n')?;
-    Ok(line)
-}
-
-fn content_line(
-    alloc: Global,
-    head: &str,
+// What stands behind the head of an output's line: its time, its duration and its bytes.
+fn push_content(
+    line: &mut Vec<u8>,
     timestamp: i64,
     duration: Option<u64>,
     bytes: &[u8],
-) -> Result<Vec<u8>, AllocError>
-    ensures { IfOk result (λ v. v.items ≡ spec.content_line head.now timestamp duration bytes.now) }
+) -> Result<(), AllocError>
+    ensures { OnOk result
+        (line.new.items
+        ≡ line.old.items
+        ++ (codes " "
+        ++ signed_decimal timestamp
+        ++ codes " "
+        ++ spec.number_or_dash duration
+        ++ codes " ")
+        ++ spec.hex_or_dash bytes.now
+        ++ codes "\n") }
 {
-    let duration = NumberOrDash(duration);
-    let head = format!(in alloc; "{head} {timestamp} {duration} ")?;
-    hex_line(alloc, head.as_bytes(), bytes)
+    push_text(line, " ")?;
+    push_signed(line, timestamp)?;
+    push_text(line, " ")?;
+    push_number_or_dash(line, duration)?;
+    push_text(line, " ")?;
+    push_hex_or_dash(line, bytes)?;
+    push_text(line, "\n")
 }
 
 // How long samples last, in whole microseconds.
@@ -87,114 +51,167 @@ fn sound_duration(shape: &SoundShape) -> u64
     }
 }
 
-#[derive(Drop)]
-struct SoundText(SoundShape);
-
-impl fmt::Display for SoundText {
-    ghost output = { λ s. Some (spec.sound_text s.0) };
-
-    fn fmt<W: fmt::Write>(&self, f: &mut fmt::Formatter<W>) -> fmt::Result {
-        let format = sample_format_text(self.0.format);
-        let rate = self.0.rate;
-        let channels = self.0.channels;
-        let frames = self.0.frames;
-        write!(f, "{format} {rate} {channels} {frames}")
-    }
+fn push_sound_shape(line: &mut Vec<u8>, shape: &SoundShape) -> Result<(), AllocError>
+    ensures { OnOk result (line.new.items ≡ line.old.items ++ spec.sound_text shape.now) }
+{
+    push_text(line, sample_format_text(shape.format))?;
+    push_text(line, " ")?;
+    push_number(line, u64::from(shape.rate))?;
+    push_text(line, " ")?;
+    push_number(line, u64::from(shape.channels))?;
+    push_text(line, " ")?;
+    push_number(line, u64::from(shape.frames))
 }
 
-#[derive(Drop)]
-struct PictureText(PictureShape);
-
-impl fmt::Display for PictureText {
-    ghost output = { λ p. Some (spec.picture_text p.0) };
-
-    fn fmt<W: fmt::Write>(&self, f: &mut fmt::Formatter<W>) -> fmt::Result {
-        let format = picture_format_text(self.0.format);
-        let width = self.0.width;
-        let height = self.0.height;
-        write!(f, "{format} {width} {height}")
-    }
+fn push_picture_shape(line: &mut Vec<u8>, shape: &PictureShape) -> Result<(), AllocError>
+    ensures { OnOk result (line.new.items ≡ line.old.items ++ spec.picture_text shape.now) }
+{
+    push_text(line, picture_format_text(shape.format))?;
+    push_text(line, " ")?;
+    push_number(line, u64::from(shape.width))?;
+    push_text(line, " ")?;
+    push_number(line, u64::from(shape.height))
 }
 
-fn sound_line(alloc: Global, samples: &Samples) -> Result<Vec<u8>, AllocError>
-    ensures { IfOk result (λ v. v.items ≡ spec.event_text (line.Sound samples.now)) }
+fn push_sound(line: &mut Vec<u8>, samples: &Samples) -> Result<(), AllocError>
+    ensures { OnOk result
+        (line.new.items ≡ line.old.items ++ spec.event_text (event.Sound samples.now)) }
 {
     let shape = &samples.shape;
     let duration = sound_duration(shape);
-    let text = SoundText(*shape);
-    let head = format!(in alloc; "  output audio {text}")?;
-    let bytes = samples.bytes.as_slice();
-    content_line(alloc, head.as_str(), shape.timestamp, Some(duration), bytes)
+    push_text(line, "  output audio ")?;
+    push_sound_shape(line, shape)?;
+    push_content(
+        line,
+        shape.timestamp,
+        Some(duration),
+        samples.bytes.as_slice(),
+    )
 }
 
-fn picture_line(alloc: Global, picture: &Picture) -> Result<Vec<u8>, AllocError>
-    ensures { IfOk result (λ v. v.items ≡ spec.event_text (line.Image picture.now)) }
+fn push_picture(line: &mut Vec<u8>, picture: &Picture) -> Result<(), AllocError>
+    ensures { OnOk result
+        (line.new.items ≡ line.old.items ++ spec.event_text (event.Image picture.now)) }
 {
     let shape = &picture.shape;
-    let text = PictureText(*shape);
-    let head = format!(in alloc; "  output video {text}")?;
-    let bytes = picture.bytes.as_slice();
-    content_line(alloc, head.as_str(), shape.timestamp, shape.duration, bytes)
+    push_text(line, "  output video ")?;
+    push_picture_shape(line, shape)?;
+    push_content(
+        line,
+        shape.timestamp,
+        shape.duration,
+        picture.bytes.as_slice(),
+    )
 }
 
-fn chunk_line(alloc: Global, chunk: &Chunk) -> Result<Vec<u8>, AllocError>
-    ensures { IfOk result (λ v. v.items ≡ spec.event_text (line.Chunk chunk.now)) }
+fn push_chunk(line: &mut Vec<u8>, chunk: &Chunk) -> Result<(), AllocError>
+    ensures { OnOk result
+        (line.new.items ≡ line.old.items ++ spec.event_text (event.Chunk chunk.now)) }
 {
-    let kind = chunk_type_text(chunk.key);
-    let head = format!(in alloc; "  output chunk {kind}")?;
-    let bytes = chunk.bytes.as_slice();
-    content_line(alloc, head.as_str(), chunk.timestamp, chunk.duration, bytes)
+    push_text(line, "  output chunk ")?;
+    push_text(line, chunk_type_text(chunk.key))?;
+    push_content(
+        line,
+        chunk.timestamp,
+        chunk.duration,
+        chunk.bytes.as_slice(),
+    )
 }
 
-fn config_line(
-    alloc: Global,
+fn push_config_head(
+    line: &mut Vec<u8>,
+    codec: &[u8],
+    rate: u32,
+    channels: u32,
+) -> Result<(), AllocError>
+    ensures { OnOk result
+        (line.new.items
+        ≡ line.old.items
+        ++ codes "  config "
+        ++ codec.now
+        ++ codes " "
+        ++ decimal rate
+        ++ codes " "
+        ++ decimal channels
+        ++ codes " ") }
+{
+    push_text(line, "  config ")?;
+    push_bytes(line, codec)?;
+    push_text(line, " ")?;
+    push_number(line, u64::from(rate))?;
+    push_text(line, " ")?;
+    push_number(line, u64::from(channels))?;
+    push_text(line, " ")
+}
+
+fn push_config(
+    line: &mut Vec<u8>,
     codec: &[u8],
     rate: u32,
     channels: u32,
     description: &[u8],
-) -> Result<Vec<u8>, AllocError>
-    ensures { IfOk result (λ v. v.items
-        ≡ spec.config_text codec.now rate channels description.now) }
+) -> Result<(), AllocError>
+    ensures { OnOk result
+        (line.new.items
+        ≡ line.old.items ++ spec.config_text codec.now rate channels description.now) }
 {
-    let numbers = format!(in alloc; " {rate} {channels} ")?;
-    let mut head = Vec::new(alloc);
-    head.extend_from_slice(b"  config ")?;
-    head.extend_from_slice(codec)?;
-    head.extend_from_slice(numbers.as_bytes())?;
-    hex_line(alloc, head.as_slice(), description)
+    push_config_head(line, codec, rate, channels)?;
+    push_hex_or_dash(line, description)?;
+    push_text(line, "\n")
 }
 
-/// The text of a line of what an entry showed.
-pub fn event_text(alloc: Global, event: &EventLine) -> Result<Vec<u8>, AllocError>
-    ensures { IfOk result (λ v. v.items ≡ spec.event_text event.now) }
+fn push_resolution(line: &mut Vec<u8>, promise: u64) -> Result<(), AllocError>
+    ensures { OnOk result
+        (line.new.items ≡ line.old.items ++ spec.event_text (event.Resolve promise)) }
+{
+    push_text(line, "  resolve ")?;
+    push_number(line, promise)?;
+    push_text(line, "\n")
+}
+
+fn push_rejection(line: &mut Vec<u8>, promise: u64, error: DomError) -> Result<(), AllocError>
+    ensures { OnOk result
+        (line.new.items ≡ line.old.items ++ spec.event_text (event.Reject promise error)) }
+{
+    push_text(line, "  reject ")?;
+    push_number(line, promise)?;
+    push_text(line, " ")?;
+    push_text(line, error_name(error))?;
+    push_text(line, "\n")
+}
+
+fn push_error(line: &mut Vec<u8>, error: DomError) -> Result<(), AllocError>
+    ensures { OnOk result
+        (line.new.items ≡ line.old.items ++ spec.event_text (event.Error error)) }
+{
+    push_text(line, "  error ")?;
+    push_text(line, error_name(error))?;
+    push_text(line, "\n")
+}
+
+// The text of a line of what an entry showed.
+pub(crate) fn push_event(line: &mut Vec<u8>, event: &EventLine) -> Result<(), AllocError>
+    ensures { OnOk result (line.new.items ≡ line.old.items ++ spec.event_text event.now) }
 {
     match event {
-        EventLine::Sound(samples) => sound_line(alloc, samples),
-        EventLine::Image(picture) => picture_line(alloc, picture),
-        EventLine::Chunk(chunk) => chunk_line(alloc, chunk),
+        EventLine::Sound(samples) => push_sound(line, samples),
+        EventLine::Image(picture) => push_picture(line, picture),
+        EventLine::Chunk(chunk) => push_chunk(line, chunk),
         EventLine::Config {
             codec,
             rate,
             channels,
             description,
-        } => config_line(
-            alloc,
+        } => push_config(
+            line,
             codec.as_slice(),
             *rate,
             *channels,
             description.as_slice(),
         ),
-        EventLine::Resolve(promise) => {
-            Ok(format!(in alloc; "  resolve {promise}\n")?.into_bytes())
-        }
-        EventLine::Reject { promise, error } => {
-            let error = error_name(*error);
-            Ok(format!(in alloc; "  reject {promise} {error}\n")?.into_bytes())
-        }
-        EventLine::Dequeue => Ok(String::from_str(alloc, "  dequeue\n")?.into_bytes()),
-        EventLine::Error(error) => {
-            let error = error_name(*error);
-            Ok(format!(in alloc; "  error {error}\n")?.into_bytes())
-        }
+        EventLine::Resolve(promise) => push_resolution(line, *promise),
+        EventLine::Reject { promise, error } => push_rejection(line, *promise, *error),
+        EventLine::Dequeue => push_text(line, "  dequeue\n"),
+        EventLine::Error(error) => push_error(line, *error),
     }
 }

@@ -4,6 +4,7 @@
 mod events;
 mod line;
 mod names;
+mod pieces;
 mod result;
 mod text;
 mod words;
@@ -11,7 +12,7 @@ mod words;
 pub use line::{CallWord, EntryLine, EventLine, Line};
 pub use names::{caller_name, codec_name};
 pub use result::StepResult;
-pub use text::line_text;
+pub use text::{line_text, push_line};
 pub use words::{
     answer_text, call_word, chunk_type_text, codec_text, error_name, kind_text,
     picture_format_text, role_text, sample_format_text, state_text,

@@ -1,10 +1,11 @@
 // Names of steps, entries, looks, items and coders.
-ghost use Rattle.std.specs.Prelude.{◌≡◌, Some};
+ghost use Rattle.std.specs.Prelude.{◌≡◌, ◌++◌, OnOk};
 ghost use Rattle.report_text.specs.Names as spec;
 
+use crate::pieces::{push_number, push_text};
 use crate::words::{codec_text, role_text};
 use script_types::{CallerItem, CodecItem, ScriptData};
-use std::fmt;
+use std::alloc::AllocError;
 use wc_base::{By, Who};
 use wc_config::CoderId;
 
@@ -29,104 +30,75 @@ pub fn caller_name(callers: &[CallerItem], number: u64) -> &str
 }
 
 // A caller's step, as `a.2`.
-#[derive(Drop)]
-pub struct StepName<'a> {
-    pub callers: &'a [CallerItem],
-    pub who: Who,
-}
-
-impl fmt::Display for StepName<'_> {
-    ghost output = { λ s. Some (spec.who_text s.callers.now s.who) };
-
-    fn fmt<W: fmt::Write>(&self, f: &mut fmt::Formatter<W>) -> fmt::Result {
-        let caller = caller_name(self.callers, u64::from(self.who.caller));
-        let step = self.who.step;
-        write!(f, "{caller}.{step}")
-    }
+pub(crate) fn push_step(
+    line: &mut Vec<u8>,
+    callers: &[CallerItem],
+    who: Who,
+) -> Result<(), AllocError>
+    ensures { OnOk result (line.new.items ≡ line.old.items ++ spec.who_text callers.now who) }
+{
+    let caller = caller_name(callers, u64::from(who.caller));
+    push_text(line, caller)?;
+    push_text(line, ".")?;
+    push_number(line, u64::from(who.step))
 }
 
 // An entry of the codec with this number among these, by its place, as `d.2`.
-#[derive(Drop)]
-pub struct EntryName<'a>(pub &'a [CodecItem], pub u32, pub u64);
-
-impl fmt::Display for EntryName<'_> {
-    ghost output = { λ e. Some (spec.entry_name e.0.now e.1 e.2) };
-
-    fn fmt<W: fmt::Write>(&self, f: &mut fmt::Formatter<W>) -> fmt::Result {
-        let codec = codec_name(self.0, u64::from(self.1));
-        let place = self.2;
-        write!(f, "{codec}.{place}")
-    }
+pub(crate) fn push_entry_name(
+    line: &mut Vec<u8>,
+    codecs: &[CodecItem],
+    codec: u32,
+    place: u64,
+) -> Result<(), AllocError>
+    ensures { OnOk result
+        (line.new.items ≡ line.old.items ++ spec.entry_name codecs.now codec place) }
+{
+    push_text(line, codec_name(codecs, u64::from(codec)))?;
+    push_text(line, ".")?;
+    push_number(line, place)
 }
 
 // A look at the codec with this number among these, after so many entries, as `d:14`.
-#[derive(Drop)]
-pub struct LookName<'a>(pub &'a [CodecItem], pub u32, pub u64);
-
-impl fmt::Display for LookName<'_> {
-    ghost output = { λ l. Some (spec.look_name l.0.now l.1 l.2) };
-
-    fn fmt<W: fmt::Write>(&self, f: &mut fmt::Formatter<W>) -> fmt::Result {
-        let codec = codec_name(self.0, u64::from(self.1));
-        let length = self.2;
-        write!(f, "{codec}:{length}")
-    }
+pub(crate) fn push_look_name(
+    line: &mut Vec<u8>,
+    codecs: &[CodecItem],
+    codec: u32,
+    length: u64,
+) -> Result<(), AllocError>
+    ensures { OnOk result
+        (line.new.items ≡ line.old.items ++ spec.look_name codecs.now codec length) }
+{
+    push_text(line, codec_name(codecs, u64::from(codec)))?;
+    push_text(line, ":")?;
+    push_number(line, length)
 }
 
-// Who caused an entry of the registry.
-#[derive(Drop)]
-pub struct ByText<'a> {
-    pub script: &'a ScriptData,
-    pub by: By,
-}
-
-impl fmt::Display for ByText<'_> {
-    ghost output = { λ b. Some (spec.by_text b.script.now b.by) };
-
-    fn fmt<W: fmt::Write>(&self, f: &mut fmt::Formatter<W>) -> fmt::Result {
-        match self.by {
-            By::Caller(who) => {
-                let step = StepName {
-                    callers: self.script.callers.as_slice(),
-                    who,
-                };
-                write!(f, "{step}")
-            }
-            By::Codec { codec, place } => {
-                let entry = EntryName(self.script.codecs.as_slice(), codec, place);
-                write!(f, "{entry}")
-            }
+// Who caused an entry of the registry or of the pool.
+pub(crate) fn push_cause(line: &mut Vec<u8>, script: &ScriptData, by: By) -> Result<(), AllocError>
+    ensures { OnOk result (line.new.items ≡ line.old.items ++ spec.by_text script.now by) }
+{
+    match by {
+        By::Caller(who) => push_step(line, script.callers.as_slice(), who),
+        By::Codec { codec, place } => {
+            push_entry_name(line, script.codecs.as_slice(), codec, place)
         }
     }
 }
 
 // An item of an epoch, as `0.1`.
-#[derive(Drop)]
-pub struct ItemName {
-    pub epoch: u64,
-    pub item: u64,
-}
-
-impl fmt::Display for ItemName {
-    ghost output = { λ i. Some (spec.item_text i.epoch i.item) };
-
-    fn fmt<W: fmt::Write>(&self, f: &mut fmt::Formatter<W>) -> fmt::Result {
-        let epoch = self.epoch;
-        let item = self.item;
-        write!(f, "{epoch}.{item}")
-    }
+pub(crate) fn push_item(line: &mut Vec<u8>, epoch: u64, item: u64) -> Result<(), AllocError>
+    ensures { OnOk result (line.new.items ≡ line.old.items ++ spec.item_text epoch item) }
+{
+    push_number(line, epoch)?;
+    push_text(line, ".")?;
+    push_number(line, item)
 }
 
 // A coder's id, as `decode:pcm-s16`.
-#[derive(Drop)]
-pub struct CoderText(pub CoderId);
-
-impl fmt::Display for CoderText {
-    ghost output = { λ c. Some (spec.coder_text c.0) };
-
-    fn fmt<W: fmt::Write>(&self, f: &mut fmt::Formatter<W>) -> fmt::Result {
-        let role = role_text(self.0.role);
-        let codec = codec_text(self.0.codec);
-        write!(f, "{role}:{codec}")
-    }
+pub(crate) fn push_coder(line: &mut Vec<u8>, id: CoderId) -> Result<(), AllocError>
+    ensures { OnOk result (line.new.items ≡ line.old.items ++ spec.coder_text id) }
+{
+    push_text(line, role_text(id.role))?;
+    push_text(line, ":")?;
+    push_text(line, codec_text(id.codec))
 }

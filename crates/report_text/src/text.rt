@@ -1,443 +1,528 @@
 // The text of a line.
-ghost use Rattle.std.specs.Prelude.{◌≡◌, ◌++◌, IfOk, Some};
+ghost use Rattle.std.specs.Prelude.{◌≡◌, [], ◌++◌, IfOk, OnOk, codes, decimal};
 ghost use Rattle.report_text.specs.Text as spec;
-ghost use Rattle.report_text.specs.declared.line.Line.TheVariants as line;
+ghost use Rattle.report_text.specs.declared.line.Line.TheVariants as a_line;
+ghost use Rattle.report_text.specs.declared.line.EntryLine.TheVariants as an_entry;
+ghost use Rattle.report_text.specs.declared.result.StepResult.TheVariants as came;
 
-use crate::events::{event_text, hex_line};
-use crate::line::{EntryLine, Line};
+use crate::events::push_event;
+use crate::line::{CallWord, EntryLine, Line};
 use crate::names::{
-    ByText, CoderText, EntryName, ItemName, LookName, StepName, caller_name, codec_name,
+    caller_name, codec_name, push_cause, push_coder, push_entry_name, push_item, push_look_name,
+    push_step,
 };
+use crate::pieces::{push_hex_or_dash, push_number, push_text};
 use crate::result::StepResult;
 use crate::words::{answer_text, call_word, error_name, kind_text, state_text};
-use codec_model::{Opening, Outcome, PromiseState, TurnWord};
+use codec_model::{CodecState, Opening, Outcome, PromiseState, TurnWord};
 use coder_api::{SlotEntry, SlotOp};
 use script_types::{CallerItem, CodecItem, ScriptData};
 use std::alloc::{AllocError, Global};
-use std::fmt;
+use wc_base::{DomError, Who};
 use wc_pool::{PoolEntry, PoolOp};
 use wc_video::{Layouts, PlaneLayout};
 
 // How a promise stands.
-#[derive(Drop)]
-struct Standing(PromiseState);
-
-impl fmt::Display for Standing {
-    ghost output = { λ p. Some (spec.promise_text p.0) };
-
-    fn fmt<W: fmt::Write>(&self, f: &mut fmt::Formatter<W>) -> fmt::Result {
-        match self.0 {
-            PromiseState::Pending => write!(f, "pending"),
-            PromiseState::Resolved => write!(f, "resolved"),
-            PromiseState::Rejected(error) => {
-                let error = error_name(error);
-                write!(f, "rejected {error}")
-            }
+fn push_standing(line: &mut Vec<u8>, end: PromiseState) -> Result<(), AllocError>
+    ensures { OnOk result (line.new.items ≡ line.old.items ++ spec.promise_text end) }
+{
+    match end {
+        PromiseState::Pending => push_text(line, "pending"),
+        PromiseState::Resolved => push_text(line, "resolved"),
+        PromiseState::Rejected(error) => {
+            push_text(line, "rejected ")?;
+            push_text(line, error_name(error))
         }
     }
 }
 
 // Where a plane went.
-#[derive(Drop)]
-struct LayoutText(PlaneLayout);
-
-impl fmt::Display for LayoutText {
-    ghost output = { λ l. Some (spec.layout_text l.0) };
-
-    fn fmt<W: fmt::Write>(&self, f: &mut fmt::Formatter<W>) -> fmt::Result {
-        let PlaneLayout { offset, stride } = self.0;
-        write!(f, "{offset}:{stride}")
-    }
+fn push_layout(line: &mut Vec<u8>, layout: PlaneLayout) -> Result<(), AllocError>
+    ensures { OnOk result (line.new.items ≡ line.old.items ++ spec.layout_text layout) }
+{
+    push_number(line, u64::from(layout.offset))?;
+    push_text(line, ":")?;
+    push_number(line, u64::from(layout.stride))
 }
 
 // Where the planes of a frame went.
-#[derive(Drop)]
-struct LayoutsText(Layouts);
-
-impl fmt::Display for LayoutsText {
-    ghost output = { λ l. Some (spec.layouts_text l.0) };
-
-    fn fmt<W: fmt::Write>(&self, f: &mut fmt::Formatter<W>) -> fmt::Result {
-        let first = LayoutText(self.0.first);
-        let second = LayoutText(self.0.second);
-        write!(f, "{first},{second}")?;
-        if self.0.count == 3 {
-            let third = LayoutText(self.0.third);
-            write!(f, ",{third}")?;
-        }
-        Ok(())
+fn push_layouts(line: &mut Vec<u8>, layouts: Layouts) -> Result<(), AllocError>
+    ensures { OnOk result (line.new.items ≡ line.old.items ++ spec.layouts_text layouts) }
+{
+    push_layout(line, layouts.first)?;
+    push_text(line, ",")?;
+    push_layout(line, layouts.second)?;
+    if layouts.count == 3 {
+        push_text(line, ",")?;
+        push_layout(line, layouts.third)?;
     }
+    Ok(())
 }
 
-// The entry or the look that a step's result names, before a blank, and nothing where it names none.
-#[derive(Drop)]
-struct NamedText<'a> {
-    codecs: &'a [CodecItem],
-    answer: &'a StepResult,
+fn push_call_result(
+    line: &mut Vec<u8>,
+    codecs: &[CodecItem],
+    codec: u32,
+    place: u64,
+    error: Option<DomError>,
+) -> Result<(), AllocError>
+    ensures { OnOk result
+        (line.new.items
+        ≡ line.old.items ++ spec.result_text codecs.now (came.Call codec place error)) }
+{
+    push_entry_name(line, codecs, codec, place)?;
+    push_text(line, " ")?;
+    push_text(line, answer_text(error))
 }
 
-impl fmt::Display for NamedText<'_> {
-    ghost output = { λ n. Some (spec.named_text n.codecs.now n.answer.now) };
+fn push_look_result(
+    line: &mut Vec<u8>,
+    codecs: &[CodecItem],
+    codec: u32,
+    length: u64,
+    end: PromiseState,
+) -> Result<(), AllocError>
+    ensures { OnOk result
+        (line.new.items
+        ≡ line.old.items ++ spec.result_text codecs.now (came.Look codec length end)) }
+{
+    push_look_name(line, codecs, codec, length)?;
+    push_text(line, " ")?;
+    push_standing(line, end)
+}
 
-    fn fmt<W: fmt::Write>(&self, f: &mut fmt::Formatter<W>) -> fmt::Result {
-        match self.answer {
-            StepResult::Call { codec, place, .. } | StepResult::Unit { codec, place, .. } => {
-                let entry = EntryName(self.codecs, *codec, *place);
-                write!(f, "{entry} ")
-            }
-            StepResult::Look { codec, length, .. }
-            | StepResult::State { codec, length, .. }
-            | StepResult::NoUnit { codec, length } => {
-                let look = LookName(self.codecs, *codec, *length);
-                write!(f, "{look} ")
-            }
-            _ => Ok(()),
+fn push_state_result(
+    line: &mut Vec<u8>,
+    codecs: &[CodecItem],
+    codec: u32,
+    length: u64,
+    state: CodecState,
+    size: u64,
+) -> Result<(), AllocError>
+    ensures { OnOk result
+        (line.new.items
+        ≡ line.old.items ++ spec.result_text codecs.now (came.State codec length state size)) }
+{
+    push_look_name(line, codecs, codec, length)?;
+    push_text(line, " ")?;
+    push_text(line, state_text(state))?;
+    push_text(line, " ")?;
+    push_number(line, size)
+}
+
+fn push_unit_result(
+    line: &mut Vec<u8>,
+    codecs: &[CodecItem],
+    codec: u32,
+    place: u64,
+    number: u64,
+) -> Result<(), AllocError>
+    ensures { OnOk result
+        (line.new.items
+        ≡ line.old.items ++ spec.result_text codecs.now (came.Unit codec place number)) }
+{
+    push_entry_name(line, codecs, codec, place)?;
+    push_text(line, " unit ")?;
+    push_number(line, number)
+}
+
+fn push_no_unit(
+    line: &mut Vec<u8>,
+    codecs: &[CodecItem],
+    codec: u32,
+    length: u64,
+) -> Result<(), AllocError>
+    ensures { OnOk result
+        (line.new.items ≡ line.old.items ++ spec.result_text codecs.now (came.NoUnit codec length)) }
+{
+    push_look_name(line, codecs, codec, length)?;
+    push_text(line, " none")
+}
+
+fn push_copy(line: &mut Vec<u8>, count: u64, bytes: &[u8]) -> Result<(), AllocError>
+    ensures { OnOk result
+        (line.new.items ≡ line.old.items ++ spec.copied_text count ++ spec.hex_or_dash bytes.now) }
+{
+    push_text(line, "copied ")?;
+    push_number(line, count)?;
+    push_text(line, " ")?;
+    push_hex_or_dash(line, bytes)
+}
+
+fn push_frame_copy(
+    line: &mut Vec<u8>,
+    count: u64,
+    layouts: Layouts,
+    bytes: &[u8],
+) -> Result<(), AllocError>
+    ensures { OnOk result
+        (line.new.items
+        ≡ line.old.items ++ spec.copied_frame_text count layouts ++ spec.hex_or_dash bytes.now) }
+{
+    push_text(line, "copied ")?;
+    push_number(line, count)?;
+    push_text(line, " ")?;
+    push_layouts(line, layouts)?;
+    push_text(line, " ")?;
+    push_hex_or_dash(line, bytes)
+}
+
+fn push_size(line: &mut Vec<u8>, size: u64) -> Result<(), AllocError>
+    ensures { OnOk result
+        (line.new.items ≡ line.old.items ++ spec.result_text [] (came.Size size)) }
+{
+    push_text(line, "size ")?;
+    push_number(line, size)
+}
+
+// What a step came to.
+fn push_result(
+    line: &mut Vec<u8>,
+    codecs: &[CodecItem],
+    answer: &StepResult,
+) -> Result<(), AllocError>
+    ensures { OnOk result
+        (line.new.items ≡ line.old.items ++ spec.result_text codecs.now answer.now) }
+{
+    match answer {
+        StepResult::Call {
+            codec,
+            place,
+            error,
+        } => push_call_result(line, codecs, *codec, *place, *error),
+        StepResult::Local { error } => push_text(line, answer_text(*error)),
+        StepResult::Look { codec, length, end } => {
+            push_look_result(line, codecs, *codec, *length, *end)
         }
-    }
-}
-
-// What a step came to, without the destination of a copy.
-#[derive(Drop)]
-struct ResultText<'a> {
-    codecs: &'a [CodecItem],
-    answer: &'a StepResult,
-}
-
-impl fmt::Display for ResultText<'_> {
-    ghost output = { λ r. Some (spec.result_head r.codecs.now r.answer.now) };
-
-    fn fmt<W: fmt::Write>(&self, f: &mut fmt::Formatter<W>) -> fmt::Result {
-        let name = NamedText {
-            codecs: self.codecs,
-            answer: self.answer,
-        };
-        write!(f, "{name}")?;
-        match self.answer {
-            StepResult::Call { error, .. } | StepResult::Local { error } => {
-                write!(f, "{}", answer_text(*error))
-            }
-            StepResult::Look { end, .. } => write!(f, "{}", Standing(*end)),
-            StepResult::State { state, size, .. } => {
-                let state = state_text(*state);
-                write!(f, "{state} {size}")
-            }
-            StepResult::Unit { number, .. } => write!(f, "unit {number}"),
-            StepResult::NoUnit { .. } => write!(f, "none"),
-            StepResult::Copied { count, bytes: _ } => write!(f, "copied {count} "),
-            StepResult::CopiedFrame {
-                count,
-                layouts,
-                bytes: _,
-            } => {
-                let layouts = LayoutsText(*layouts);
-                write!(f, "copied {count} {layouts} ")
-            }
-            StepResult::Size { size } => write!(f, "size {size}"),
-            StepResult::Absent => write!(f, "absent"),
-        }
+        StepResult::State {
+            codec,
+            length,
+            state,
+            size,
+        } => push_state_result(line, codecs, *codec, *length, *state, *size),
+        StepResult::Unit {
+            codec,
+            place,
+            number,
+        } => push_unit_result(line, codecs, *codec, *place, *number),
+        StepResult::NoUnit { codec, length } => push_no_unit(line, codecs, *codec, *length),
+        StepResult::Copied { count, bytes } => push_copy(line, *count, bytes.as_slice()),
+        StepResult::CopiedFrame {
+            count,
+            layouts,
+            bytes,
+        } => push_frame_copy(line, *count, *layouts, bytes.as_slice()),
+        StepResult::Size { size } => push_size(line, *size),
+        StepResult::Absent => push_text(line, "absent"),
     }
 }
 
 // How an item ended.
-#[derive(Drop)]
-struct OutcomeText(Outcome);
-
-impl fmt::Display for OutcomeText {
-    ghost output = { λ o. Some (spec.outcome_text o.0) };
-
-    fn fmt<W: fmt::Write>(&self, f: &mut fmt::Formatter<W>) -> fmt::Result {
-        match self.0 {
-            Outcome::Ran { units } => write!(f, "ran {units}"),
-            Outcome::Refused => write!(f, "refused"),
-            Outcome::NoSlot { entry } => write!(f, "no-slot {entry}"),
-            Outcome::NoMemory => write!(f, "no-memory"),
+fn push_outcome(line: &mut Vec<u8>, outcome: Outcome) -> Result<(), AllocError>
+    ensures { OnOk result (line.new.items ≡ line.old.items ++ spec.outcome_text outcome) }
+{
+    match outcome {
+        Outcome::Ran { units } => {
+            push_text(line, "ran ")?;
+            push_number(line, units)
         }
+        Outcome::Refused => push_text(line, "refused"),
+        Outcome::NoSlot { entry } => {
+            push_text(line, "no-slot ")?;
+            push_number(line, entry)
+        }
+        Outcome::NoMemory => push_text(line, "no-memory"),
     }
 }
 
 // The event task that a turn ran.
-#[derive(Drop)]
-struct TurnText(Option<TurnWord>);
-
-impl fmt::Display for TurnText {
-    ghost output = { λ t. Some (spec.turn_text t.0) };
-
-    fn fmt<W: fmt::Write>(&self, f: &mut fmt::Formatter<W>) -> fmt::Result {
-        match self.0 {
-            None => write!(f, "-"),
-            Some(TurnWord::Unblock) => write!(f, "unblock"),
-            Some(TurnWord::Process) => write!(f, "process"),
-            Some(TurnWord::Desaturate) => write!(f, "desaturate"),
-            Some(TurnWord::Output) => write!(f, "output"),
-            Some(TurnWord::Flushed) => write!(f, "flushed"),
-            Some(TurnWord::Dequeue) => write!(f, "dequeue"),
-            Some(TurnWord::Close(error)) => {
-                let error = error_name(error);
-                write!(f, "close {error}")
-            }
+fn push_turn(line: &mut Vec<u8>, turn: Option<TurnWord>) -> Result<(), AllocError>
+    ensures { OnOk result (line.new.items ≡ line.old.items ++ spec.turn_text turn) }
+{
+    match turn {
+        None => push_text(line, "-"),
+        Some(TurnWord::Unblock) => push_text(line, "unblock"),
+        Some(TurnWord::Process) => push_text(line, "process"),
+        Some(TurnWord::Desaturate) => push_text(line, "desaturate"),
+        Some(TurnWord::Output) => push_text(line, "output"),
+        Some(TurnWord::Flushed) => push_text(line, "flushed"),
+        Some(TurnWord::Dequeue) => push_text(line, "dequeue"),
+        Some(TurnWord::Close(error)) => {
+            push_text(line, "close ")?;
+            push_text(line, error_name(error))
         }
     }
 }
 
-// An entry of a codec.
-#[derive(Drop)]
-struct EntryText<'a> {
-    callers: &'a [CallerItem],
-    entry: EntryLine,
+fn push_call(
+    line: &mut Vec<u8>,
+    callers: &[CallerItem],
+    who: Who,
+    call: CallWord,
+    error: Option<DomError>,
+) -> Result<(), AllocError>
+    ensures { OnOk result
+        (line.new.items
+        ≡ line.old.items ++ spec.entry_text callers.now (an_entry.Call who call error)) }
+{
+    push_step(line, callers, who)?;
+    push_text(line, " ")?;
+    push_text(line, call_word(call))?;
+    push_text(line, " = ")?;
+    push_text(line, answer_text(error))
 }
 
-impl fmt::Display for EntryText<'_> {
-    ghost output = { λ e. Some (spec.entry_text e.callers.now e.entry) };
+fn push_done(
+    line: &mut Vec<u8>,
+    epoch: u64,
+    item: u64,
+    moment: u64,
+    outcome: Outcome,
+) -> Result<(), AllocError>
+    ensures { OnOk result
+        (line.new.items
+        ≡ line.old.items ++ spec.entry_text [] (an_entry.Done epoch item moment outcome)) }
+{
+    push_text(line, "done ")?;
+    push_item(line, epoch, item)?;
+    push_text(line, " ")?;
+    push_number(line, moment)?;
+    push_text(line, " ")?;
+    push_outcome(line, outcome)
+}
 
-    fn fmt<W: fmt::Write>(&self, f: &mut fmt::Formatter<W>) -> fmt::Result {
-        match self.entry {
-            EntryLine::Call { who, call, error } => {
-                let step = StepName {
-                    callers: self.callers,
-                    who,
-                };
-                let call = call_word(call);
-                let answer = answer_text(error);
-                write!(f, "{step} {call} = {answer}")
-            }
-            EntryLine::Take { who, unit } => {
-                let step = StepName {
-                    callers: self.callers,
-                    who,
-                };
-                write!(f, "{step} take = {unit}")
-            }
-            EntryLine::Start { epoch, item } => {
-                let item = ItemName { epoch, item };
-                write!(f, "start {item}")
-            }
-            EntryLine::Done {
-                epoch,
-                item,
-                moment,
-                outcome,
-            } => {
-                let item = ItemName { epoch, item };
-                let outcome = OutcomeText(outcome);
-                write!(f, "done {item} {moment} {outcome}")
-            }
-            EntryLine::Turn(turn) => {
-                let turn = TurnText(turn);
-                write!(f, "turn {turn}")
-            }
-            EntryLine::Reclaim { moment } => write!(f, "reclaim {moment}"),
+// An entry of a codec.
+fn push_entry(
+    line: &mut Vec<u8>,
+    callers: &[CallerItem],
+    entry: EntryLine,
+) -> Result<(), AllocError>
+    ensures { OnOk result (line.new.items ≡ line.old.items ++ spec.entry_text callers.now entry) }
+{
+    match entry {
+        EntryLine::Call { who, call, error } => push_call(line, callers, who, call, error),
+        EntryLine::Take { who, unit } => {
+            push_step(line, callers, who)?;
+            push_text(line, " take = ")?;
+            push_number(line, unit)
+        }
+        EntryLine::Start { epoch, item } => {
+            push_text(line, "start ")?;
+            push_item(line, epoch, item)
+        }
+        EntryLine::Done {
+            epoch,
+            item,
+            moment,
+            outcome,
+        } => push_done(line, epoch, item, moment, outcome),
+        EntryLine::Turn(turn) => {
+            push_text(line, "turn ")?;
+            push_turn(line, turn)
+        }
+        EntryLine::Reclaim { moment } => {
+            push_text(line, "reclaim ")?;
+            push_number(line, moment)
         }
     }
 }
 
 // What the registry did.
-#[derive(Drop)]
-struct SlotText(SlotOp);
-
-impl fmt::Display for SlotText {
-    ghost output = { λ s. Some (spec.slot_text s.0) };
-
-    fn fmt<W: fmt::Write>(&self, f: &mut fmt::Formatter<W>) -> fmt::Result {
-        match self.0 {
-            SlotOp::Acquire { id, number } => {
-                let id = CoderText(id);
-                write!(f, "acquire {id} {number}")
-            }
-            SlotOp::Refused { id, out, made } => {
-                let id = CoderText(id);
-                write!(f, "acquire {id} none {out} {made}")
-            }
-            SlotOp::Give { id, number } => {
-                let id = CoderText(id);
-                write!(f, "give {id} {number}")
-            }
+fn push_slot(line: &mut Vec<u8>, op: SlotOp) -> Result<(), AllocError>
+    ensures { OnOk result (line.new.items ≡ line.old.items ++ spec.slot_text op) }
+{
+    match op {
+        SlotOp::Acquire { id, number } => {
+            push_text(line, "acquire ")?;
+            push_coder(line, id)?;
+            push_text(line, " ")?;
+            push_number(line, number)
+        }
+        SlotOp::Refused { id, out, made } => {
+            push_text(line, "acquire ")?;
+            push_coder(line, id)?;
+            push_text(line, " none ")?;
+            push_number(line, out)?;
+            push_text(line, " ")?;
+            push_number(line, made)
+        }
+        SlotOp::Give { id, number } => {
+            push_text(line, "give ")?;
+            push_coder(line, id)?;
+            push_text(line, " ")?;
+            push_number(line, number)
         }
     }
 }
 
-// An entry of the registry.
-#[derive(Drop)]
-struct SlotEntryText<'a> {
-    script: &'a ScriptData,
-    entry: SlotEntry,
-}
-
-impl fmt::Display for SlotEntryText<'_> {
-    ghost output = { λ s. Some (spec.slot_entry_text s.script.now s.entry) };
-
-    fn fmt<W: fmt::Write>(&self, f: &mut fmt::Formatter<W>) -> fmt::Result {
-        let by = ByText {
-            script: self.script,
-            by: self.entry.by,
-        };
-        let op = SlotText(self.entry.op);
-        write!(f, "{by} {op}")
-    }
+// A word and the numbers of a resource and of a reference to it.
+fn push_reference(
+    line: &mut Vec<u8>,
+    word: &str,
+    resource: u64,
+    reference: u64,
+) -> Result<(), AllocError>
+    ensures { OnOk result
+        (line.new.items
+        ≡ line.old.items ++ word.now ++ decimal resource ++ codes " " ++ decimal reference) }
+{
+    push_text(line, word)?;
+    push_number(line, resource)?;
+    push_text(line, " ")?;
+    push_number(line, reference)
 }
 
 // What became of a reference to a media resource.
-#[derive(Drop)]
-struct PoolText(PoolOp);
-
-impl fmt::Display for PoolText {
-    ghost output = { λ o. Some (spec.pool_text o.0) };
-
-    fn fmt<W: fmt::Write>(&self, f: &mut fmt::Formatter<W>) -> fmt::Result {
-        match self.0 {
-            PoolOp::Make {
-                resource,
-                reference,
-            } => write!(f, "make {resource} {reference}"),
-            PoolOp::Clone {
-                resource,
-                reference,
-            } => write!(f, "clone {resource} {reference}"),
-            PoolOp::End {
-                resource,
-                reference,
-                last: true,
-            } => write!(f, "end {resource} {reference} gone"),
-            PoolOp::End {
-                resource,
-                reference,
-                last: false,
-            } => write!(f, "end {resource} {reference} kept"),
+fn push_pool(line: &mut Vec<u8>, op: PoolOp) -> Result<(), AllocError>
+    ensures { OnOk result (line.new.items ≡ line.old.items ++ spec.pool_text op) }
+{
+    match op {
+        PoolOp::Make {
+            resource,
+            reference,
+        } => push_reference(line, "make ", resource, reference),
+        PoolOp::Clone {
+            resource,
+            reference,
+        } => push_reference(line, "clone ", resource, reference),
+        PoolOp::End {
+            resource,
+            reference,
+            last,
+        } => {
+            push_reference(line, "end ", resource, reference)?;
+            push_text(line, if last { " gone" } else { " kept" })
         }
     }
 }
 
-// An entry of the pool of media.
-#[derive(Drop)]
-struct PoolEntryText<'a> {
-    script: &'a ScriptData,
-    entry: PoolEntry,
-}
-
-impl fmt::Display for PoolEntryText<'_> {
-    ghost output = { λ s. Some (spec.pool_entry_text s.script.now s.entry) };
-
-    fn fmt<W: fmt::Write>(&self, f: &mut fmt::Formatter<W>) -> fmt::Result {
-        let by = ByText {
-            script: self.script,
-            by: self.entry.by,
-        };
-        let op = PoolText(self.entry.op);
-        write!(f, "{by} {op}")
-    }
-}
-
-fn caller_line(alloc: Global, script: &ScriptData, number: u64) -> Result<Vec<u8>, AllocError>
-    ensures { IfOk result (λ v. v.items ≡ spec.line_text script.now (line.Caller number)) }
+fn push_caller_line(line: &mut Vec<u8>, script: &ScriptData, number: u64) -> Result<(), AllocError>
+    ensures { OnOk result
+        (line.new.items ≡ line.old.items ++ spec.line_text script.now (a_line.Caller number)) }
 {
-    let name = caller_name(script.callers.as_slice(), number);
-    Ok(format!(in alloc; "caller {name}\n")?.into_bytes())
+    push_text(line, "caller ")?;
+    push_text(line, caller_name(script.callers.as_slice(), number))?;
+    push_text(line, "\n")
 }
 
-// The destination of a copy may be long, so that its hex is written into the line itself.
-fn copied_line(
-    alloc: Global,
-    step: u64,
-    codecs: &[CodecItem],
-    answer: &StepResult,
-    bytes: &[u8],
-) -> Result<Vec<u8>, AllocError>
-    ensures { IfOk result
-        (λ v. v.items
-        ≡ spec.numbered_line step
-        (spec.result_head codecs.now answer.now ++ spec.hex_or_dash bytes.now)) }
-{
-    let head = ResultText { codecs, answer };
-    let head = format!(in alloc; "{step} {head}")?;
-    hex_line(alloc, head.as_bytes(), bytes)
-}
-
-fn result_line(
-    alloc: Global,
+fn push_result_line(
+    line: &mut Vec<u8>,
     script: &ScriptData,
     step: u64,
     answer: &StepResult,
-) -> Result<Vec<u8>, AllocError>
-    ensures { IfOk result (λ v. v.items ≡ spec.line_text script.now (line.Result step answer.now)) }
+) -> Result<(), AllocError>
+    ensures { OnOk result
+        (line.new.items
+        ≡ line.old.items ++ spec.line_text script.now (a_line.Result step answer.now)) }
 {
-    let codecs = script.codecs.as_slice();
-    match answer {
-        StepResult::Copied { bytes, .. } | StepResult::CopiedFrame { bytes, .. } => {
-            copied_line(alloc, step, codecs, answer, bytes.as_slice())
-        }
-        _ => {
-            let text = ResultText { codecs, answer };
-            Ok(format!(in alloc; "{step} {text}\n")?.into_bytes())
-        }
-    }
+    push_number(line, step)?;
+    push_text(line, " ")?;
+    push_result(line, script.codecs.as_slice(), answer)?;
+    push_text(line, "\n")
 }
 
-fn codec_line(
-    alloc: Global,
+fn push_codec_line(
+    line: &mut Vec<u8>,
     script: &ScriptData,
     codec: u64,
     opening: Opening,
-) -> Result<Vec<u8>, AllocError>
-    ensures { IfOk result (λ v. v.items ≡ spec.line_text script.now (line.Codec codec opening)) }
+) -> Result<(), AllocError>
+    ensures { OnOk result
+        (line.new.items ≡ line.old.items ++ spec.line_text script.now (a_line.Codec codec opening)) }
 {
-    let name = codec_name(script.codecs.as_slice(), codec);
-    let kind = kind_text(opening.kind);
-    let saturation = opening.saturation;
-    Ok(format!(in alloc; "codec {name} {kind} {saturation}\n")?.into_bytes())
+    push_text(line, "codec ")?;
+    push_text(line, codec_name(script.codecs.as_slice(), codec))?;
+    push_text(line, " ")?;
+    push_text(line, kind_text(opening.kind))?;
+    push_text(line, " ")?;
+    push_number(line, u64::from(opening.saturation))?;
+    push_text(line, "\n")
 }
 
-fn entry_line(
-    alloc: Global,
+fn push_entry_line(
+    line: &mut Vec<u8>,
     script: &ScriptData,
     place: u64,
     entry: EntryLine,
-) -> Result<Vec<u8>, AllocError>
-    ensures { IfOk result (λ v. v.items ≡ spec.line_text script.now (line.Entry place entry)) }
+) -> Result<(), AllocError>
+    ensures { OnOk result
+        (line.new.items ≡ line.old.items ++ spec.line_text script.now (a_line.Entry place entry)) }
 {
-    let callers = script.callers.as_slice();
-    let text = EntryText { callers, entry };
-    Ok(format!(in alloc; "{place} {text}\n")?.into_bytes())
+    push_number(line, place)?;
+    push_text(line, " ")?;
+    push_entry(line, script.callers.as_slice(), entry)?;
+    push_text(line, "\n")
 }
 
-fn pool_line(
-    alloc: Global,
+fn push_pool_line(
+    line: &mut Vec<u8>,
     script: &ScriptData,
     place: u64,
     entry: PoolEntry,
-) -> Result<Vec<u8>, AllocError>
-    ensures { IfOk result (λ v. v.items ≡ spec.line_text script.now (line.Reference place entry)) }
+) -> Result<(), AllocError>
+    ensures { OnOk result
+        (line.new.items
+        ≡ line.old.items ++ spec.line_text script.now (a_line.Reference place entry)) }
 {
-    let text = PoolEntryText { script, entry };
-    Ok(format!(in alloc; "{place} {text}\n")?.into_bytes())
+    push_number(line, place)?;
+    push_text(line, " ")?;
+    push_cause(line, script, entry.by)?;
+    push_text(line, " ")?;
+    push_pool(line, entry.op)?;
+    push_text(line, "\n")
 }
 
-fn slot_line(
-    alloc: Global,
+fn push_slot_line(
+    line: &mut Vec<u8>,
     script: &ScriptData,
     place: u64,
     entry: SlotEntry,
-) -> Result<Vec<u8>, AllocError>
-    ensures { IfOk result (λ v. v.items ≡ spec.line_text script.now (line.Slot place entry)) }
+) -> Result<(), AllocError>
+    ensures { OnOk result
+        (line.new.items ≡ line.old.items ++ spec.line_text script.now (a_line.Slot place entry)) }
 {
-    let text = SlotEntryText { script, entry };
-    Ok(format!(in alloc; "{place} {text}\n")?.into_bytes())
+    push_number(line, place)?;
+    push_text(line, " ")?;
+    push_cause(line, script, entry.by)?;
+    push_text(line, " ")?;
+    push_slot(line, entry.op)?;
+    push_text(line, "\n")
+}
+
+fn push_held_line(line: &mut Vec<u8>, held: u64) -> Result<(), AllocError>
+    ensures { OnOk result
+        (line.new.items ≡ line.old.items ++ codes "held " ++ decimal held ++ codes "\n") }
+{
+    push_text(line, "held ")?;
+    push_number(line, held)?;
+    push_text(line, "\n")
+}
+
+/// Appends the text of a line in the report of a run of the script.
+pub fn push_line(text: &mut Vec<u8>, script: &ScriptData, line: &Line) -> Result<(), AllocError>
+    ensures { OnOk result (text.new.items ≡ text.old.items ++ spec.line_text script.now line.now) }
+{
+    match line {
+        Line::Header => push_text(text, "wcrun report 1\n"),
+        Line::Caller(number) => push_caller_line(text, script, *number),
+        Line::Result { step, answer } => push_result_line(text, script, *step, answer),
+        Line::Codec { codec, opening } => push_codec_line(text, script, *codec, *opening),
+        Line::Entry { place, entry } => push_entry_line(text, script, *place, *entry),
+        Line::Event(event) => push_event(text, event),
+        Line::Pool => push_text(text, "pool\n"),
+        Line::Reference { place, entry } => push_pool_line(text, script, *place, *entry),
+        Line::Slots => push_text(text, "slots\n"),
+        Line::Slot { place, entry } => push_slot_line(text, script, *place, *entry),
+        Line::Held(held) => push_held_line(text, *held),
+        Line::End => push_text(text, "end\n"),
+    }
 }
 
 /// The text of a line in the report of a run of the script.
 pub fn line_text(alloc: Global, script: &ScriptData, line: &Line) -> Result<Vec<u8>, AllocError>
     ensures { IfOk result (λ v. v.items ≡ spec.line_text script.now line.now) }
 {
-    match line {
-        Line::Header => Ok(String::from_str(alloc, "wcrun report 1\n")?.into_bytes()),
-        Line::Caller(number) => caller_line(alloc, script, *number),
-        Line::Result { step, answer } => result_line(alloc, script, *step, answer),
-        Line::Codec { codec, opening } => codec_line(alloc, script, *codec, *opening),
-        Line::Entry { place, entry } => entry_line(alloc, script, *place, *entry),
-        Line::Event(event) => event_text(alloc, event),
-        Line::Pool => Ok(String::from_str(alloc, "pool\n")?.into_bytes()),
-        Line::Reference { place, entry } => pool_line(alloc, script, *place, *entry),
-        Line::Slots => Ok(String::from_str(alloc, "slots\n")?.into_bytes()),
-        Line::Slot { place, entry } => slot_line(alloc, script, *place, *entry),
-        Line::Held(held) => Ok(format!(in alloc; "held {held}\n")?.into_bytes()),
-        Line::End => Ok(String::from_str(alloc, "end\n")?.into_bytes()),
-    }
+    let mut text = Vec::new(alloc);
+    push_line(&mut text, script, line)?;
+    Ok(text)
 }

@@ -5,6 +5,7 @@ ghost use Rattle.coder_api.specs.Meaning.{Answers};
 ghost use Rattle.sample_coder.specs.Coding.{definition};
 
 use crate::coding::Coding;
+use crate::units::push_unit;
 use codec_definitions::Unit;
 use coder_api::CoderFault;
 use std::alloc::Global;
@@ -45,8 +46,5 @@ pub fn decode(
         },
         bytes,
     });
-    match out.push(unit) {
-        Ok(()) => Ok(()),
-        Err(_) => Err(CoderFault::NoMemory),
-    }
+    push_unit(out, unit)
 }

@@ -5,6 +5,7 @@ ghost use Rattle.coder_api.specs.Meaning.{Answers};
 ghost use Rattle.sample_coder.specs.Coding.{definition};
 
 use crate::coding::Coding;
+use crate::units::push_unit;
 use codec_definitions::Unit;
 use coder_api::CoderFault;
 use sample_conversion::is_whole;
@@ -40,11 +41,11 @@ pub fn encode(
         duration: Some(shape.frames as u64 * 1_000_000 / shape.rate as u64),
         bytes,
     };
-    match out.push(Unit::Coded {
-        chunk,
-        config: None,
-    }) {
-        Ok(()) => Ok(()),
-        Err(_) => Err(CoderFault::NoMemory),
-    }
+    push_unit(
+        out,
+        Unit::Coded {
+            chunk,
+            config: None,
+        },
+    )
 }

@@ -5,6 +5,7 @@ mod coder;
 mod coding;
 mod decode;
 mod encode;
+mod units;
 
 pub use coder::SampleCoder;
 pub use coding::Coding;

@@ -1,6 +1,6 @@
 use Rattle.std.proofs.Common.{arith, rules, ◌∙◌, sym}
 use Rattle.report_text.proofs.Hex.{hex_next, hex_end}
-use Rattle.report_text.proofs.events.push_hex.Goals as goal
+use Rattle.report_text.proofs.pieces.push_hex.Goals as goal
 
 pub loop-byte-preserved : goal.loop-byte-preserved
 loop-byte-preserved c =
