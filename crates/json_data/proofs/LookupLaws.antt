@@ -1,5 +1,5 @@
 -- Looking into a value finds what looking into its data finds.
-use Rattle.std.proofs.Common.{◌≡◌, ℕ, List, [], ◌∷◌, map, Bool, true, false, cond, Option, Some, None, option_map, option_and_then, is_some, Ordering, Less, Equal, Greater, nat_cmp, is_eq, bytes_eq, refl, sym, ap, ◌∙◌, true≢false}
+use Rattle.std.proofs.Common.{◌≡◌, ℕ, List, [], ◌∷◌, map, Bool, true, false, cond, Option, Some, None, option_map, option_and_then, is_some, Ordering, Less, Equal, Greater, nat_cmp, is_eq, bytes_eq, Bor, refl, sym, ap, ◌∙◌, true≢false}
 use Rattle.std.proofs.lemmas.Map.Text.{is_eq-slice_cmp}
 use Rattle.std.proofs.lemmas.Slice.Eq.{bytes_eq-Decides}
 use Rattle.std.proofs.lemmas.Cmp.{nat_list_eq_equiv}
@@ -98,9 +98,18 @@ unfolding view
 items_data-json_items [] = refl
 items_data-json_items (v ∷ vs) = ap (item (data_of (value_view v))) (items_data-json_items vs)
 
-pub get-view : {A : Type 0} → (k : List ℕ) (v : Value A) → get k (view v) ≡ option_map data_of (found.get k (value_view v))
+seen : {A : Type 0} → (r : Option (Bor (Value A))) → option_map (λ v. view v.now) r ≡ option_map data_of (option_map (λ v. value_view v.now) r)
+unfolding view
+seen None = refl
+seen (Some v) = refl
+
+get-view : {A : Type 0} → (k : List ℕ) (v : Value A) → get k (view v) ≡ option_map data_of (found.get k (value_view v))
 unfolding view
 get-view k v = get-data k (value_view v)
+
+-- the member that is found stands for the one that is wanted
+pub same_member : {A : Type 0} → (r : Option (Bor (Value A))) (k : List ℕ) (v : Value A) → option_map (λ w. value_view w.now) r ≡ found.get k (value_view v) → option_map (λ w. view w.now) r ≡ get k (view v)
+same_member r k v e = seen r ∙ ap (option_map data_of) e ∙ sym (get-view k v)
 
 no_text : (o : Option Num) → as_str (number_data o) ≡ None
 no_text None = refl
