@@ -1,6 +1,6 @@
 // Reads configs.
 ghost use Rattle.std.specs.Prelude.{◌≡◌, ◌≢◌, IfOk, IfErr};
-ghost use Rattle.serde_json.specs.View.{view};
+ghost use Rattle.json_data.specs.View.{view};
 ghost use Rattle.script_steps.specs.ConfigRead.{audio_decoder_of, audio_encoder_of, video_decoder_of, config_of};
 ghost use Rattle.script_types.specs.Reading.{Gives};
 
@@ -9,12 +9,12 @@ use crate::members::{
     u32_member_or,
 };
 use crate::{Stop, Wrong};
+use json_data::{Value, member};
 use script_types::Kind;
-use serde_json::Value;
 use std::alloc::Global;
 use wc_config::{AudioDecoderConfig, AudioEncoderConfig, Config, VideoDecoderConfig};
 
-fn read_audio_decoder(alloc: Global, value: &Value) -> Result<Config, Stop<Wrong>>
+fn read_audio_decoder(alloc: Global, value: &Value<'_>) -> Result<Config, Stop<Wrong>>
     ensures { Gives result (audio_decoder_of (view value.now)) }
 {
     let codec = text_value(alloc, value, "codec")?;
@@ -32,13 +32,13 @@ fn read_audio_decoder(alloc: Global, value: &Value) -> Result<Config, Stop<Wrong
     }
 }
 
-fn read_audio_encoder(alloc: Global, value: &Value) -> Result<Config, Stop<Wrong>>
+fn read_audio_encoder(alloc: Global, value: &Value<'_>) -> Result<Config, Stop<Wrong>>
     ensures { Gives result (audio_encoder_of (view value.now)) }
 {
     let codec = text_value(alloc, value, "codec")?;
     let rate = u32_member(value, "sampleRate")?;
     let channels = u32_member(value, "numberOfChannels")?;
-    let flac = optional_object(value.get("flac"))?;
+    let flac = optional_object(member(value, "flac"))?;
     let block_size = u32_member_or(flac, "blockSize", 0)?;
     let level = u32_member_or(flac, "compressLevel", 5)?;
     let depth = u32_member_or(flac, "bitsPerSample", 16)?;
@@ -57,7 +57,7 @@ fn read_audio_encoder(alloc: Global, value: &Value) -> Result<Config, Stop<Wrong
     }
 }
 
-fn read_video_decoder(alloc: Global, value: &Value) -> Result<Config, Stop<Wrong>>
+fn read_video_decoder(alloc: Global, value: &Value<'_>) -> Result<Config, Stop<Wrong>>
     ensures { Gives result (video_decoder_of (view value.now)) }
 {
     let codec = text_value(alloc, value, "codec")?;
@@ -80,7 +80,7 @@ fn read_video_decoder(alloc: Global, value: &Value) -> Result<Config, Stop<Wrong
 }
 
 /// Reads the config of a codec of this kind. `Shape` where a member is of another JSON kind.
-pub fn read_config(alloc: Global, kind: Kind, value: &Value) -> Result<Config, Stop<Wrong>>
+pub fn read_config(alloc: Global, kind: Kind, value: &Value<'_>) -> Result<Config, Stop<Wrong>>
     ensures { Gives result (config_of kind (view value.now)) }
 {
     match kind {

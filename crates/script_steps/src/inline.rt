@@ -1,11 +1,11 @@
 // Reads the word of a step and its inline data.
 ghost use Rattle.std.specs.Prelude.{◌≡◌, IfOk};
-ghost use Rattle.serde_json.specs.View.{view};
+ghost use Rattle.json_data.specs.View.{view};
 ghost use Rattle.script_steps.specs.Words.{word_of, media_word_of, word_in, data_of_word};
 
 use crate::{MediaWord, StepWord, read_step_data, text_member};
 use bytes::Bytes;
-use serde_json::Value;
+use json_data::Value;
 use std::alloc::Global;
 use wc_base::NoMemory;
 
@@ -44,7 +44,7 @@ fn read_word(text: &str) -> Option<StepWord>
 }
 
 /// What the step does: the meaning of its member `do`, or `None` where there is no such word.
-pub fn word_member(value: &Value) -> Option<StepWord>
+pub fn word_member(value: &Value<'_>) -> Option<StepWord>
     ensures { result ≡ word_in (view value.now) }
 {
     read_word(text_member(value, "do")?)
@@ -54,7 +54,7 @@ pub fn word_member(value: &Value) -> Option<StepWord>
 pub fn read_inline_data(
     alloc: Global,
     word: Option<StepWord>,
-    value: &Value,
+    value: &Value<'_>,
 ) -> Result<Option<Bytes>, NoMemory>
     ensures { IfOk result (λ o. o ≡ data_of_word word (view value.now)) }
 {

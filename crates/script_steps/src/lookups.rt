@@ -1,6 +1,6 @@
 // Reads what the names in a step name.
 ghost use Rattle.std.specs.Prelude.{◌≡◌, ◌≢◌, ◌≤◌, IfOk, IfErr, length, codes};
-ghost use Rattle.serde_json.specs.View.{view};
+ghost use Rattle.json_data.specs.View.{view};
 ghost use Rattle.script_types.specs.Names as names;
 ghost use Rattle.script_types.specs.Sound.{encodes};
 ghost use Rattle.script_steps.specs.References.{unused, codec_if, variable_if, variable_of, variable_in, on_of, bound_on, given_to, bound_from};
@@ -10,8 +10,8 @@ ghost use Rattle.script_types.specs.Reading.{Gives};
 
 use crate::references::Needed;
 use crate::{Stop, Variables, Wrong, copied, find_codec, name_member};
+use json_data::Value;
 use script_types::{CodecItem, FoundCodec, FoundVariable, Kind, Variable, VariableKind};
-use serde_json::Value;
 use std::alloc::Global;
 use wc_base::{NoMemory, Text};
 
@@ -102,7 +102,7 @@ pub fn variable_of(alloc: Global, name: &str, found: FoundVariable) -> Result<Va
 pub fn read_variable(
     alloc: Global,
     before: &Variables,
-    value: &Value,
+    value: &Value<'_>,
     key: &str,
     needed: Needed,
 ) -> Result<Variable, Stop<Wrong>>
@@ -115,7 +115,7 @@ pub fn read_variable(
 }
 
 /// The codec that a step names, where it names nothing else.
-pub fn read_on(codecs: &[CodecItem], value: &Value) -> Result<u32, Stop<Wrong>>
+pub fn read_on(codecs: &[CodecItem], value: &Value<'_>) -> Result<u32, Stop<Wrong>>
     requires { length codecs.now ≤ 64 }
     ensures { result ≡ on_of codecs.now (view value.now) }
 {
@@ -131,7 +131,7 @@ pub fn read_bound_on(
     alloc: Global,
     codecs: &[CodecItem],
     before: &Variables,
-    value: &Value,
+    value: &Value<'_>,
 ) -> Result<(FoundCodec, Text), Stop<Wrong>>
     requires { length codecs.now ≤ 64 }
     ensures { Gives result (bound_on codecs.now before.now (view value.now)) }
@@ -150,7 +150,7 @@ pub fn read_decoder_chunk(
     alloc: Global,
     codecs: &[CodecItem],
     before: &Variables,
-    value: &Value,
+    value: &Value<'_>,
 ) -> Result<(u32, Variable), Stop<Wrong>>
     requires codecs { length codecs.now ≤ 64 }
     requires steps { length before.now ≤ 100000 }
@@ -173,7 +173,7 @@ pub fn read_encoder_data(
     alloc: Global,
     codecs: &[CodecItem],
     before: &Variables,
-    value: &Value,
+    value: &Value<'_>,
 ) -> Result<(u32, Variable), Stop<Wrong>>
     requires codecs { length codecs.now ≤ 64 }
     requires steps { length before.now ≤ 100000 }
@@ -194,7 +194,7 @@ pub fn read_encoder_data(
 pub fn read_bound_from(
     alloc: Global,
     before: &Variables,
-    value: &Value,
+    value: &Value<'_>,
 ) -> Result<(Variable, Text), Stop<Wrong>>
     requires { length before.now ≤ 100000 }
     ensures { Gives result (bound_from before.now (view value.now)) }

@@ -1,6 +1,6 @@
 // Reads what media are made of.
 ghost use Rattle.std.specs.Prelude.{◌≡◌, IfOk, Some, None, option_and_then, codes};
-ghost use Rattle.serde_json.specs.View.{view};
+ghost use Rattle.json_data.specs.View.{view};
 ghost use Rattle.serde_json.specs.Find.{get};
 ghost use Rattle.script_steps.specs.Members.{word_of, required};
 ghost use Rattle.script_steps.specs.Media.{data_of_init, data_of_step, timestamp_in, duration_in, content_in, key_of, chunk_of, sample_format_of, sound_of, picture_format_of, picture_of};
@@ -10,23 +10,23 @@ use crate::members::{
 };
 use crate::{Stop, Wrong};
 use bytes::Bytes;
+use json_data::{Value, member};
 use script_types::{ChunkInit, PictureInit, SoundInit};
-use serde_json::Value;
 use std::alloc::Global;
 use wc_base::{NoMemory, PictureFormat, PictureShape, SampleFormat, SoundShape};
 
 /// The bytes of inline data of a step with an init: of its member `init`, the member `data`, where it is hex text.
-pub fn read_step_data(alloc: Global, value: &Value) -> Result<Option<Bytes>, NoMemory>
+pub fn read_step_data(alloc: Global, value: &Value<'_>) -> Result<Option<Bytes>, NoMemory>
     ensures { IfOk result (λ o. o ≡ data_of_step (view value.now)) }
 {
-    match value.get("init").and_then(|init| init.get("data")) {
+    match member(value, "init").and_then(|init| member(init, "data")) {
         None => Ok(None),
         Some(data) => read_hex(alloc, data),
     }
 }
 
 // The data of an init, which was read before. `Shape` where there is another value.
-fn content_member(value: &Value, content: Option<Bytes>) -> Result<Option<Bytes>, Stop<Wrong>>
+fn content_member(value: &Value<'_>, content: Option<Bytes>) -> Result<Option<Bytes>, Stop<Wrong>>
     requires { content ≡ data_of_init (view value.now) }
     ensures { result ≡ content_in (view value.now) }
 {
@@ -46,10 +46,10 @@ fn read_key(text: &str) -> Option<bool>
     }
 }
 
-fn type_member(value: &Value) -> Result<Option<bool>, Stop<Wrong>>
+fn type_member(value: &Value<'_>) -> Result<Option<bool>, Stop<Wrong>>
     ensures { result ≡ required (word_of key_of) (get (codes "type") (view value.now)) }
 {
-    match value.get("type") {
+    match member(value, "type") {
         None => Ok(None),
         Some(word) => Ok(read_key(as_text(word)?)),
     }
@@ -58,7 +58,7 @@ fn type_member(value: &Value) -> Result<Option<bool>, Stop<Wrong>>
 /// Reads what a chunk is made of; its content was read before. `None` where a rule of WebIDL is broken, and `Shape` where
 /// a member is of another JSON kind.
 pub fn read_chunk_init(
-    value: &Value,
+    value: &Value<'_>,
     content: Option<Bytes>,
 ) -> Result<Option<ChunkInit>, Stop<Wrong>>
     requires { content ≡ data_of_init (view value.now) }
@@ -93,10 +93,10 @@ fn read_sample_format(text: &str) -> Option<SampleFormat>
     }
 }
 
-fn sample_format_member(value: &Value) -> Result<Option<SampleFormat>, Stop<Wrong>>
+fn sample_format_member(value: &Value<'_>) -> Result<Option<SampleFormat>, Stop<Wrong>>
     ensures { result ≡ required (word_of sample_format_of) (get (codes "format") (view value.now)) }
 {
-    match value.get("format") {
+    match member(value, "format") {
         None => Ok(None),
         Some(word) => Ok(read_sample_format(as_text(word)?)),
     }
@@ -105,7 +105,7 @@ fn sample_format_member(value: &Value) -> Result<Option<SampleFormat>, Stop<Wron
 /// Reads what audio data is made of; its content was read before. `None` where a rule of WebIDL is broken, and `Shape`
 /// where a member is of another JSON kind.
 pub fn read_sound_init(
-    value: &Value,
+    value: &Value<'_>,
     content: Option<Bytes>,
 ) -> Result<Option<SoundInit>, Stop<Wrong>>
     requires { content ≡ data_of_init (view value.now) }
@@ -147,11 +147,11 @@ fn read_picture_format(text: &str) -> Option<PictureFormat>
     }
 }
 
-fn picture_format_member(value: &Value) -> Result<Option<PictureFormat>, Stop<Wrong>>
+fn picture_format_member(value: &Value<'_>) -> Result<Option<PictureFormat>, Stop<Wrong>>
     ensures { result
         ≡ required (word_of picture_format_of) (get (codes "format") (view value.now)) }
 {
-    match value.get("format") {
+    match member(value, "format") {
         None => Ok(None),
         Some(word) => Ok(read_picture_format(as_text(word)?)),
     }
@@ -160,7 +160,7 @@ fn picture_format_member(value: &Value) -> Result<Option<PictureFormat>, Stop<Wr
 /// Reads what a frame is made of; its content was read before. `None` where a rule of WebIDL is broken, and `Shape` where
 /// a member is of another JSON kind.
 pub fn read_picture_init(
-    value: &Value,
+    value: &Value<'_>,
     content: Option<Bytes>,
 ) -> Result<Option<PictureInit>, Stop<Wrong>>
     requires { content ≡ data_of_init (view value.now) }

@@ -1,6 +1,6 @@
 // Reads steps of media resources.
 ghost use Rattle.std.specs.Prelude.{◌≡◌, ◌≢◌, ◌≤◌, IfOk, IfErr, Some, length, codes};
-ghost use Rattle.serde_json.specs.View.{view};
+ghost use Rattle.json_data.specs.View.{view};
 ghost use Rattle.script_types.specs.Names as names;
 ghost use Rattle.script_steps.specs.Media.{data_of_step};
 ghost use Rattle.script_steps.specs.declared.words.StepWord.TheVariants as step_word;
@@ -18,8 +18,8 @@ use crate::{
     read_options, read_picture_init, read_sound_init,
 };
 use bytes::Bytes;
+use json_data::{Value, member};
 use script_types::{CodecItem, FoundVariable, Kind, MediaStep, Options, VariableKind};
-use serde_json::Value;
 use std::alloc::Global;
 
 const MOST_CHUNK: u64 = 16_777_216;
@@ -27,7 +27,7 @@ const MOST_CHUNK: u64 = 16_777_216;
 fn read_audio(
     alloc: Global,
     before: &Variables,
-    value: &Value,
+    value: &Value<'_>,
     content: Option<Bytes>,
 ) -> Result<MediaStep, Stop<Wrong>>
     requires { content ≡ data_of_step (view value.now) }
@@ -42,7 +42,7 @@ fn read_audio(
 fn read_frame(
     alloc: Global,
     before: &Variables,
-    value: &Value,
+    value: &Value<'_>,
     content: Option<Bytes>,
 ) -> Result<MediaStep, Stop<Wrong>>
     requires { content ≡ data_of_step (view value.now) }
@@ -69,7 +69,7 @@ fn read_take(
     alloc: Global,
     codecs: &[CodecItem],
     before: &Variables,
-    value: &Value,
+    value: &Value<'_>,
 ) -> Result<MediaStep, Stop<Wrong>>
     requires { length codecs.now ≤ 64 }
     ensures { Gives result (take_of codecs.now before.now (view value.now)) }
@@ -83,7 +83,7 @@ fn read_take(
 }
 
 // A count of bytes within the limit. `Shape` for anything else.
-fn size_member(value: &Value) -> Result<u64, Stop<Wrong>>
+fn size_member(value: &Value<'_>) -> Result<u64, Stop<Wrong>>
     ensures { result ≡ size_in (view value.now) }
 {
     match natural_member(value, "size") {
@@ -96,11 +96,11 @@ fn size_member(value: &Value) -> Result<u64, Stop<Wrong>>
 fn options_member(
     alloc: Global,
     variable: Option<FoundVariable>,
-    value: &Value,
+    value: &Value<'_>,
 ) -> Result<Options, Stop<Wrong>>
     ensures { Gives result (options_in variable (view value.now)) }
 {
-    let options = value.get("options");
+    let options = member(value, "options");
     match variable {
         Some(found) => read_options(alloc, found.kind, options),
         None => {
@@ -110,7 +110,7 @@ fn options_member(
     }
 }
 
-fn read_copy(alloc: Global, before: &Variables, value: &Value) -> Result<MediaStep, Stop<Wrong>>
+fn read_copy(alloc: Global, before: &Variables, value: &Value<'_>) -> Result<MediaStep, Stop<Wrong>>
     requires { length before.now ≤ 100000 }
     ensures { Gives result (copy_of before.now (view value.now)) }
 {
@@ -123,7 +123,7 @@ fn read_copy(alloc: Global, before: &Variables, value: &Value) -> Result<MediaSt
     Ok(MediaStep::Copy { of, options, size })
 }
 
-fn read_size(alloc: Global, before: &Variables, value: &Value) -> Result<MediaStep, Stop<Wrong>>
+fn read_size(alloc: Global, before: &Variables, value: &Value<'_>) -> Result<MediaStep, Stop<Wrong>>
     requires { length before.now ≤ 100000 }
     ensures { Gives result (size_of before.now (view value.now)) }
 {
@@ -140,7 +140,7 @@ pub fn read_media_step(
     alloc: Global,
     codecs: &[CodecItem],
     before: &Variables,
-    value: &Value,
+    value: &Value<'_>,
     word: MediaWord,
     content: Option<Bytes>,
 ) -> Result<MediaStep, Stop<Wrong>>

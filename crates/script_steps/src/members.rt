@@ -1,7 +1,7 @@
 // Reads the members of objects.
 ghost use Rattle.std.specs.Prelude.{◌≡◌, ◌≢◌, IfOk, IfErr, Some, None, option_map, option_and_then, is_some};
 ghost use Rattle.std.specs.List.{list_all};
-ghost use Rattle.serde_json.specs.View.{view, items_view};
+ghost use Rattle.json_data.specs.View.{view, items_view};
 ghost use Rattle.serde_json.specs.Find.{get, as_str};
 ghost use Rattle.script_types.specs.Names as names;
 ghost use Rattle.script_steps.specs.Members.{needed, checked_name, checked_object, text_in, name_in, array_in, object_in, object_if_there, natural_of, u32_of, duration_of, timestamp_of, text_of, hex_of, required, defaulted, optional, hex_if_there};
@@ -11,7 +11,7 @@ ghost use Rattle.script_types.specs.Reading.{Gives};
 
 use crate::{Stop, Wrong, copied};
 use bytes::Bytes;
-use serde_json::Value;
+use json_data::{Value, as_items, as_natural, as_signed, is_object, member};
 use std::alloc::Global;
 use wc_base::{NoMemory, Text};
 
@@ -44,14 +44,14 @@ pub fn as_name(text: &str) -> Option<&str>
 }
 
 /// A member that is a text.
-pub fn text_member<'v>(value: &'v Value, key: &str) -> Option<&'v str>
+pub fn text_member<'v>(value: &'v Value<'_>, key: &str) -> Option<&'v str>
     ensures { option_map (λ s. s.now) result ≡ text_in key.now (view value.now) }
 {
-    value.get(key).and_then(Value::as_str)
+    json_data::as_text(member(value, key)?)
 }
 
 /// A member that is a name. `Shape` for any other.
-pub fn name_member<'v>(value: &'v Value, key: &str) -> Result<&'v str, Stop<Wrong>>
+pub fn name_member<'v>(value: &'v Value<'_>, key: &str) -> Result<&'v str, Stop<Wrong>>
     ensures ok { IfOk result (λ s. name_in key.now (view value.now) ≡ Ok s.now) }
     ensures err { IfErr result (λ e. name_in key.now (view value.now) ≡ Err e) }
 {
@@ -62,26 +62,27 @@ pub fn name_member<'v>(value: &'v Value, key: &str) -> Result<&'v str, Stop<Wron
 }
 
 /// A member that is an array.
-pub fn array_member<'v>(value: &'v Value, key: &str) -> Option<&'v [Value]>
+pub fn array_member<'v, 'a>(value: &'v Value<'a>, key: &str) -> Option<&'v [Value<'a>]>
     ensures { option_map (λ s. items_view s.now) result ≡ array_in key.now (view value.now) }
 {
-    let array = value.get(key)?.as_array()?;
-    Some(array.as_slice())
+    as_items(member(value, key)?)
 }
 
 /// A member that is an object. `Shape` for any other.
-pub fn object_member<'v>(value: &'v Value, key: &str) -> Result<&'v Value, Stop<Wrong>>
+pub fn object_member<'v, 'a>(value: &'v Value<'a>, key: &str) -> Result<&'v Value<'a>, Stop<Wrong>>
     ensures ok { IfOk result (λ v. object_in key.now (view value.now) ≡ Ok (view v.now)) }
     ensures err { IfErr result (λ e. object_in key.now (view value.now) ≡ Err e) }
 {
-    match value.get(key) {
-        Some(object) if object.is_object() => Ok(object),
+    match member(value, key) {
+        Some(object) if is_object(object) => Ok(object),
         _ => Err(Stop::Fault(Wrong::Shape)),
     }
 }
 
 /// An object that may be absent. `Shape` for any other value.
-pub fn optional_object(value: Option<&Value>) -> Result<Option<&Value>, Stop<Wrong>>
+pub fn optional_object<'v, 'a>(
+    value: Option<&'v Value<'a>>,
+) -> Result<Option<&'v Value<'a>>, Stop<Wrong>>
     ensures ok { IfOk result
         (λ o. object_if_there (option_map (λ v. view v.now) value.entry)
         ≡ Ok (option_map (λ v. view v.now) o)) }
@@ -90,17 +91,17 @@ pub fn optional_object(value: Option<&Value>) -> Result<Option<&Value>, Stop<Wro
 {
     match value {
         None => Ok(None),
-        Some(object) if object.is_object() => Ok(Some(object)),
+        Some(object) if is_object(object) => Ok(Some(object)),
         Some(_) => Err(Stop::Fault(Wrong::Shape)),
     }
 }
 
 /// The value as an object. `Shape` for any other.
-pub fn as_checked_object(value: &Value) -> Result<&Value, Stop<Wrong>>
+pub fn as_checked_object<'v, 'a>(value: &'v Value<'a>) -> Result<&'v Value<'a>, Stop<Wrong>>
     ensures ok { IfOk result (λ o. needed (checked_object (view value.now)) ≡ Ok (view o.now)) }
     ensures err { IfErr result (λ e. needed (checked_object (view value.now)) ≡ Err e) }
 {
-    if value.is_object() {
+    if is_object(value) {
         Ok(value)
     } else {
         Err(Stop::Fault(Wrong::Shape))
@@ -108,51 +109,51 @@ pub fn as_checked_object(value: &Value) -> Result<&Value, Stop<Wrong>>
 }
 
 /// The text of a value. `Shape` for any other.
-pub fn as_text(value: &Value) -> Result<&str, Stop<Wrong>>
+pub fn as_text<'v>(value: &'v Value<'_>) -> Result<&'v str, Stop<Wrong>>
     ensures ok { IfOk result (λ s. needed (as_str (view value.now)) ≡ Ok s.now) }
     ensures err { IfErr result (λ e. needed (as_str (view value.now)) ≡ Err e) }
 {
-    value.as_str().ok_or(Stop::Fault(Wrong::Shape))
+    json_data::as_text(value).ok_or(Stop::Fault(Wrong::Shape))
 }
 
 /// Whether the object has a member of this name.
-pub fn has(value: &Value, key: &str) -> bool
+pub fn has(value: &Value<'_>, key: &str) -> bool
     ensures { result ≡ sources.has key.now (view value.now) }
 {
-    value.get(key).is_some()
+    member(value, key).is_some()
 }
 
-fn is_integer(value: &Value) -> bool
+fn is_integer(value: &Value<'_>) -> bool
     ensures { result ≡ spec.is_integer (view value.now) }
 {
-    value.is_u64() || value.is_i64()
+    as_natural(value).is_some() || as_signed(value).is_some()
 }
 
-fn read_u32(value: &Value) -> Result<Option<u32>, Stop<Wrong>>
+fn read_u32(value: &Value<'_>) -> Result<Option<u32>, Stop<Wrong>>
     ensures { result ≡ u32_of (view value.now) }
 {
-    match value.as_u64() {
+    match as_natural(value) {
         Some(n) => Ok(if n < 1 << 32 { Some(n as u32) } else { None }),
         None if is_integer(value) => Ok(None),
         None => Err(Stop::Fault(Wrong::Shape)),
     }
 }
 
-fn read_duration(value: &Value) -> Result<Option<u64>, Stop<Wrong>>
+fn read_duration(value: &Value<'_>) -> Result<Option<u64>, Stop<Wrong>>
     ensures { result ≡ duration_of (view value.now) }
 {
-    match value.as_u64() {
+    match as_natural(value) {
         Some(n) => Ok(if n < 1 << 53 { Some(n) } else { None }),
         None if is_integer(value) => Ok(None),
         None => Err(Stop::Fault(Wrong::Shape)),
     }
 }
 
-fn read_timestamp(value: &Value) -> Result<Option<i64>, Stop<Wrong>>
+fn read_timestamp(value: &Value<'_>) -> Result<Option<i64>, Stop<Wrong>>
     ensures { result ≡ timestamp_of (view value.now) }
 {
     let range = -((1 << 53) - 1)..=(1 << 53) - 1;
-    match value.as_i64() {
+    match as_signed(value) {
         Some(n) => Ok(if range.contains(&n) { Some(n) } else { None }),
         None if is_integer(value) => Ok(None),
         None => Err(Stop::Fault(Wrong::Shape)),
@@ -160,27 +161,27 @@ fn read_timestamp(value: &Value) -> Result<Option<i64>, Stop<Wrong>>
 }
 
 /// A member that is a number of 64 bits, 0 or above.
-pub fn natural_member(value: &Value, key: &str) -> Option<u64>
+pub fn natural_member(value: &Value<'_>, key: &str) -> Option<u64>
     ensures { result ≡ option_and_then natural_of (get key.now (view value.now)) }
 {
-    value.get(key).and_then(Value::as_u64)
+    as_natural(member(value, key)?)
 }
 
 /// A required number of 32 bits: no value where it is missing or outside.
-pub fn u32_member(value: &Value, key: &str) -> Result<Option<u32>, Stop<Wrong>>
+pub fn u32_member(value: &Value<'_>, key: &str) -> Result<Option<u32>, Stop<Wrong>>
     ensures { result ≡ required u32_of (get key.now (view value.now)) }
 {
-    match value.get(key) {
+    match member(value, key) {
         None => Ok(None),
         Some(number) => read_u32(number),
     }
 }
 
 /// A number of 32 bits that may be absent.
-pub fn optional_u32_member(value: &Value, key: &str) -> Result<Option<Option<u32>>, Stop<Wrong>>
+pub fn optional_u32_member(value: &Value<'_>, key: &str) -> Result<Option<Option<u32>>, Stop<Wrong>>
     ensures { result ≡ optional u32_of (get key.now (view value.now)) }
 {
-    match value.get(key) {
+    match member(value, key) {
         None => Ok(Some(None)),
         Some(number) => Ok(read_u32(number)?.map(Some)),
     }
@@ -188,7 +189,7 @@ pub fn optional_u32_member(value: &Value, key: &str) -> Result<Option<Option<u32
 
 /// A number of 32 bits with a default, in an object that may be absent.
 pub fn u32_member_or(
-    value: Option<&Value>,
+    value: Option<&Value<'_>>,
     key: &str,
     default: u32,
 ) -> Result<Option<u32>, Stop<Wrong>>
@@ -196,17 +197,17 @@ pub fn u32_member_or(
         ≡ defaulted default u32_of
         (option_and_then (get key.now) (option_map (λ v. view v.now) value.entry)) }
 {
-    match value.and_then(|v| v.get(key)) {
+    match value.and_then(|v| member(v, key)) {
         None => Ok(Some(default)),
         Some(number) => read_u32(number),
     }
 }
 
 /// A required timestamp in microseconds: no value where it is missing or outside.
-pub fn timestamp_member(value: &Value, key: &str) -> Result<Option<i64>, Stop<Wrong>>
+pub fn timestamp_member(value: &Value<'_>, key: &str) -> Result<Option<i64>, Stop<Wrong>>
     ensures { result ≡ required timestamp_of (get key.now (view value.now)) }
 {
-    match value.get(key) {
+    match member(value, key) {
         None => Ok(None),
         Some(number) => read_timestamp(number),
     }
@@ -214,24 +215,24 @@ pub fn timestamp_member(value: &Value, key: &str) -> Result<Option<i64>, Stop<Wr
 
 /// A duration in microseconds that may be absent.
 pub fn optional_duration_member(
-    value: &Value,
+    value: &Value<'_>,
     key: &str,
 ) -> Result<Option<Option<u64>>, Stop<Wrong>>
     ensures { result ≡ optional duration_of (get key.now (view value.now)) }
 {
-    match value.get(key) {
+    match member(value, key) {
         None => Ok(Some(None)),
         Some(number) => Ok(read_duration(number)?.map(Some)),
     }
 }
 
 /// A required text: no value where it is missing.
-pub fn text_value(alloc: Global, value: &Value, key: &str) -> Result<Option<Text>, Stop<Wrong>>
+pub fn text_value(alloc: Global, value: &Value<'_>, key: &str) -> Result<Option<Text>, Stop<Wrong>>
     ensures { Gives result (required text_of (get key.now (view value.now))) }
 {
-    match value.get(key) {
+    match member(value, key) {
         None => Ok(None),
-        Some(text) => match text.as_str() {
+        Some(text) => match json_data::as_text(text) {
             Some(text) => Ok(Some(copied(alloc, text)?)),
             None => Err(Stop::Fault(Wrong::Shape)),
         },
@@ -239,10 +240,10 @@ pub fn text_value(alloc: Global, value: &Value, key: &str) -> Result<Option<Text
 }
 
 /// The bytes that a hex text spells; `None` for any other value.
-pub fn read_hex(alloc: Global, value: &Value) -> Result<Option<Bytes>, NoMemory>
+pub fn read_hex(alloc: Global, value: &Value<'_>) -> Result<Option<Bytes>, NoMemory>
     ensures { IfOk result (λ o. o ≡ hex_of (view value.now)) }
 {
-    let Some(text) = value.as_str() else {
+    let Some(text) = json_data::as_text(value) else {
         return Ok(None);
     };
     match hex::decode(alloc, text) {
@@ -258,12 +259,12 @@ pub fn read_hex(alloc: Global, value: &Value) -> Result<Option<Bytes>, NoMemory>
 /// Bytes as hex text that may be absent.
 pub fn optional_hex_member(
     alloc: Global,
-    value: &Value,
+    value: &Value<'_>,
     key: &str,
 ) -> Result<Option<Bytes>, Stop<Wrong>>
     ensures { Gives result (hex_if_there (get key.now (view value.now))) }
 {
-    let Some(text) = value.get(key) else {
+    let Some(text) = member(value, key) else {
         return Ok(None);
     };
     match read_hex(alloc, text)? {

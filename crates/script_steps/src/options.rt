@@ -1,6 +1,6 @@
 // Reads how media are copied.
 ghost use Rattle.std.specs.Prelude.{◌≡◌, ◌≢◌, [], IfOk, IfErr, Some, None, option_map, codes};
-ghost use Rattle.serde_json.specs.View.{view, items_view};
+ghost use Rattle.json_data.specs.View.{view, items_view};
 ghost use Rattle.serde_json.specs.Find.{get};
 ghost use Rattle.script_steps.specs.Members.{word_of, optional};
 ghost use Rattle.script_steps.specs.CopyOptions.{format_of, audio_options_of, rect_of, plane_of, planes_of, layout_of, frame_options_of, options_by, options_for};
@@ -10,10 +10,10 @@ use crate::members::{
     as_checked_object, as_text, optional_object, optional_u32_member, u32_member, u32_member_or,
 };
 use crate::{Stop, Wrong};
+use json_data::{Value, as_items, member};
 use script_types::{
     AudioOptions, FormatWord, FrameOptions, LayoutWords, Options, RectWords, VariableKind,
 };
-use serde_json::Value;
 use std::alloc::Global;
 use wc_base::List;
 
@@ -33,16 +33,16 @@ fn read_format(text: &str) -> Option<FormatWord>
     }
 }
 
-fn format_member(value: &Value) -> Result<Option<Option<FormatWord>>, Stop<Wrong>>
+fn format_member(value: &Value<'_>) -> Result<Option<Option<FormatWord>>, Stop<Wrong>>
     ensures { result ≡ optional (word_of format_of) (get (codes "format") (view value.now)) }
 {
-    match value.get("format") {
+    match member(value, "format") {
         None => Ok(Some(None)),
         Some(word) => Ok(read_format(as_text(word)?).map(Some)),
     }
 }
 
-fn read_audio_options(object: Option<&Value>) -> Result<Option<AudioOptions>, Stop<Wrong>>
+fn read_audio_options(object: Option<&Value<'_>>) -> Result<Option<AudioOptions>, Stop<Wrong>>
     ensures { result ≡ audio_options_of (option_map (λ v. view v.now) object.entry) }
 {
     let Some(object) = object else {
@@ -63,7 +63,7 @@ fn read_audio_options(object: Option<&Value>) -> Result<Option<AudioOptions>, St
     }
 }
 
-fn read_rect(value: &Value) -> Result<Option<RectWords>, Stop<Wrong>>
+fn read_rect(value: &Value<'_>) -> Result<Option<RectWords>, Stop<Wrong>>
     ensures { result ≡ rect_of (view value.now) }
 {
     let object = as_checked_object(value)?;
@@ -82,16 +82,16 @@ fn read_rect(value: &Value) -> Result<Option<RectWords>, Stop<Wrong>>
     }
 }
 
-fn rect_member(value: &Value) -> Result<Option<Option<RectWords>>, Stop<Wrong>>
+fn rect_member(value: &Value<'_>) -> Result<Option<Option<RectWords>>, Stop<Wrong>>
     ensures { result ≡ optional rect_of (get (codes "rect") (view value.now)) }
 {
-    match value.get("rect") {
+    match member(value, "rect") {
         None => Ok(Some(None)),
         Some(rect) => Ok(read_rect(rect)?.map(Some)),
     }
 }
 
-fn read_plane(value: &Value) -> Result<Option<LayoutWords>, Stop<Wrong>>
+fn read_plane(value: &Value<'_>) -> Result<Option<LayoutWords>, Stop<Wrong>>
     ensures { result ≡ plane_of (view value.now) }
 {
     let object = as_checked_object(value)?;
@@ -103,7 +103,7 @@ fn read_plane(value: &Value) -> Result<Option<LayoutWords>, Stop<Wrong>>
     }
 }
 
-fn read_planes(alloc: Global, items: &[Value]) -> Result<Option<List<LayoutWords>>, Stop<Wrong>>
+fn read_planes(alloc: Global, items: &[Value<'_>]) -> Result<Option<List<LayoutWords>>, Stop<Wrong>>
     ensures { Gives result (planes_of (Some []) (items_view items.now)) }
 {
     let mut planes = Vec::new(alloc);
@@ -121,10 +121,10 @@ fn read_planes(alloc: Global, items: &[Value]) -> Result<Option<List<LayoutWords
     })
 }
 
-fn read_layout(alloc: Global, value: &Value) -> Result<Option<List<LayoutWords>>, Stop<Wrong>>
+fn read_layout(alloc: Global, value: &Value<'_>) -> Result<Option<List<LayoutWords>>, Stop<Wrong>>
     ensures { Gives result (layout_of (view value.now)) }
 {
-    match value.as_array() {
+    match as_items(value) {
         Some(items) => read_planes(alloc, items),
         None => Err(Stop::Fault(Wrong::Shape)),
     }
@@ -132,11 +132,11 @@ fn read_layout(alloc: Global, value: &Value) -> Result<Option<List<LayoutWords>>
 
 fn layout_member(
     alloc: Global,
-    value: &Value,
+    value: &Value<'_>,
 ) -> Result<Option<Option<List<LayoutWords>>>, Stop<Wrong>>
     ensures { Gives result (optional layout_of (get (codes "layout") (view value.now))) }
 {
-    match value.get("layout") {
+    match member(value, "layout") {
         None => Ok(Some(None)),
         Some(layout) => Ok(read_layout(alloc, layout)?.map(Some)),
     }
@@ -144,7 +144,7 @@ fn layout_member(
 
 fn read_frame_options(
     alloc: Global,
-    object: Option<&Value>,
+    object: Option<&Value<'_>>,
 ) -> Result<Option<FrameOptions>, Stop<Wrong>>
     ensures { Gives result (frame_options_of (option_map (λ v. view v.now) object.entry)) }
 {
@@ -167,7 +167,7 @@ fn read_frame_options(
 pub fn read_options(
     alloc: Global,
     kind: VariableKind,
-    value: Option<&Value>,
+    value: Option<&Value<'_>>,
 ) -> Result<Options, Stop<Wrong>>
     ensures { Gives result (options_for kind (option_map (λ v. view v.now) value.entry)) }
 {

@@ -1,6 +1,6 @@
 // Reads where a chunk comes from.
 ghost use Rattle.std.specs.Prelude.{◌≡◌, ◌≢◌, IfOk, IfErr};
-ghost use Rattle.serde_json.specs.View.{view};
+ghost use Rattle.json_data.specs.View.{view};
 ghost use Rattle.script_steps.specs.Media.{data_of_step};
 ghost use Rattle.script_steps.specs.Sources.{index_in, made_of, taken_of, source_of};
 ghost use Rattle.script_types.specs.Reading.{Gives};
@@ -9,8 +9,8 @@ use crate::media::read_chunk_init;
 use crate::members::{has, natural_member, object_member, text_member};
 use crate::{Stop, Wrong, copied};
 use bytes::Bytes;
+use json_data::Value;
 use script_types::ChunkInit;
-use serde_json::Value;
 use std::alloc::Global;
 use wc_base::Text;
 
@@ -23,7 +23,7 @@ pub enum SourceWords {
     File { name: Text, index: u64 },
 }
 
-fn read_made(value: &Value, content: Option<Bytes>) -> Result<SourceWords, Stop<Wrong>>
+fn read_made(value: &Value<'_>, content: Option<Bytes>) -> Result<SourceWords, Stop<Wrong>>
     requires { content ≡ data_of_step (view value.now) }
     ensures { result ≡ made_of (view value.now) }
 {
@@ -31,7 +31,7 @@ fn read_made(value: &Value, content: Option<Bytes>) -> Result<SourceWords, Stop<
     Ok(SourceWords::Init(read_chunk_init(init, content)?))
 }
 
-fn read_taken(alloc: Global, value: &Value) -> Result<SourceWords, Stop<Wrong>>
+fn read_taken(alloc: Global, value: &Value<'_>) -> Result<SourceWords, Stop<Wrong>>
     ensures { Gives result (taken_of (view value.now)) }
 {
     let name = text_member(value, "file").ok_or(Stop::Fault(Wrong::Shape))?;
@@ -44,7 +44,7 @@ fn read_taken(alloc: Global, value: &Value) -> Result<SourceWords, Stop<Wrong>>
 /// with `index`, a text and a number.
 pub fn read_source(
     alloc: Global,
-    value: &Value,
+    value: &Value<'_>,
     content: Option<Bytes>,
 ) -> Result<SourceWords, Stop<Wrong>>
     requires { content ≡ data_of_step (view value.now) }

@@ -1,6 +1,6 @@
 // Reads steps.
 ghost use Rattle.std.specs.Prelude.{◌≡◌, ◌≢◌, ◌≤◌, IfOk, IfErr, OnErr, Some, length, codes};
-ghost use Rattle.serde_json.specs.View.{view};
+ghost use Rattle.json_data.specs.View.{view};
 ghost use Rattle.script_steps.specs.Media.{data_of_step};
 ghost use Rattle.script_steps.specs.Words.{data_of_word};
 ghost use Rattle.script_steps.specs.Steps.{configure_of, numbered, chunk_step_of, step_by};
@@ -14,12 +14,16 @@ use crate::{
     read_config, read_source,
 };
 use bytes::Bytes;
+use json_data::Value;
 use script_types::{ChunkSource, CodecItem, Step};
-use serde_json::Value;
 use std::alloc::Global;
 use wc_base::NoMemory;
 
-fn read_configure(alloc: Global, codecs: &[CodecItem], value: &Value) -> Result<Step, Stop<Wrong>>
+fn read_configure(
+    alloc: Global,
+    codecs: &[CodecItem],
+    value: &Value<'_>,
+) -> Result<Step, Stop<Wrong>>
     requires { length codecs.now ≤ 64 }
     ensures { Gives result (configure_of codecs.now (view value.now)) }
 {
@@ -54,7 +58,7 @@ fn read_chunk_step(
     alloc: Global,
     files: &mut Files,
     before: &Variables,
-    value: &Value,
+    value: &Value<'_>,
     content: Option<Bytes>,
 ) -> Result<Step, Stop<Wrong>>
     requires files { length files.old ≤ 100000 }
@@ -80,7 +84,7 @@ pub fn read_step(
     codecs: &[CodecItem],
     files: &mut Files,
     before: &Variables,
-    value: &Value,
+    value: &Value<'_>,
     word: StepWord,
     content: Option<Bytes>,
 ) -> Result<Step, Stop<Wrong>>

@@ -1,20 +1,25 @@
 // What single objects spell: a value, no value, where a rule of WebIDL is broken, or a fault of shape.
+use json_data::{Scratch, Value};
 use script_steps::{
     SourceWords, Stop, Wrong, object_member, read_options, read_picture_init, read_sound_init,
     read_source, read_step_data,
 };
 use script_types::{FrameOptions, Options, PictureInit, RectWords, SoundInit, VariableKind};
-use serde_json::Value;
 use std::alloc::Global;
 use std::test::Fail;
 use wc_base::{PictureFormat, SampleFormat};
 
-fn parse(alloc: Global, text: &str) -> Result<Value, Stop<Wrong>> {
-    Value::from_str(alloc, text).map_err(|_| Stop::NoMemory)
+fn parse<'a>(
+    alloc: Global,
+    text: &'a str,
+    scratch: &'a mut Scratch,
+) -> Result<Value<'a>, Stop<Wrong>> {
+    json_data::read(alloc, text.as_bytes(), scratch)?.ok_or(Stop::NoMemory)
 }
 
 fn sound(alloc: Global, text: &str) -> Result<Option<SoundInit>, Stop<Wrong>> {
-    let value = parse(alloc, text)?;
+    let mut scratch = Scratch::new(alloc);
+    let value = parse(alloc, text, &mut scratch)?;
     let content = read_step_data(alloc, &value)?;
     read_sound_init(object_member(&value, "init")?, content)
 }
@@ -70,7 +75,8 @@ fn audio_data_breaks_rules(rt: HostRuntime) -> Result<(), Fail> {
 }
 
 fn picture(alloc: Global, text: &str) -> Result<Option<PictureInit>, Stop<Wrong>> {
-    let value = parse(alloc, text)?;
+    let mut scratch = Scratch::new(alloc);
+    let value = parse(alloc, text, &mut scratch)?;
     let content = read_step_data(alloc, &value)?;
     read_picture_init(object_member(&value, "init")?, content)
 }
@@ -121,7 +127,8 @@ fn a_frame_breaks_rules(rt: HostRuntime) -> Result<(), Fail> {
 }
 
 fn options(alloc: Global, kind: VariableKind, text: &str) -> Result<Options, Stop<Wrong>> {
-    let value = parse(alloc, text)?;
+    let mut scratch = Scratch::new(alloc);
+    let value = parse(alloc, text, &mut scratch)?;
     read_options(alloc, kind, Some(&value))
 }
 
@@ -220,7 +227,8 @@ fn absent_options_are_an_empty_object(rt: HostRuntime) -> Result<(), Fail> {
 
 // Whether a chunk is made, with a value or without, or taken from a file.
 fn source(alloc: Global, text: &str) -> Result<&'static str, Stop<Wrong>> {
-    let value = parse(alloc, text)?;
+    let mut scratch = Scratch::new(alloc);
+    let value = parse(alloc, text, &mut scratch)?;
     let content = read_step_data(alloc, &value)?;
     match read_source(alloc, &value, content)? {
         SourceWords::Init(Some(_)) => Ok("made"),

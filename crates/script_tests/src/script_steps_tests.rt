@@ -1,9 +1,9 @@
 // Steps that are read, and what is refused.
+use json_data::Scratch;
 use script_steps::{
     Files, StepWord, Stop, Variables, Wrong, copied, read_inline_data, read_step, word_member,
 };
 use script_types::{ChunkSource, CodecItem, Kind, MediaStep, Options, Step, VariableKind};
-use serde_json::Value;
 use std::alloc::Global;
 use std::test::Fail;
 
@@ -30,7 +30,8 @@ fn read(
     before: &Variables,
     text: &str,
 ) -> Result<Step, Stop<Wrong>> {
-    let value = Value::from_str(alloc, text).map_err(|_| Stop::NoMemory)?;
+    let mut scratch = Scratch::new(alloc);
+    let value = json_data::read(alloc, text.as_bytes(), &mut scratch)?.ok_or(Stop::NoMemory)?;
     let codecs = codecs(alloc)?;
     let word = word_member(&value);
     let content = read_inline_data(alloc, word, &value)?;

@@ -6,4 +6,3 @@ mod OrderLaws
 mod CountLaws
 mod SoundLaws
 mod FaultLaws
-mod ValueLaws

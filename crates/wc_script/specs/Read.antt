@@ -1,18 +1,13 @@
 -- The script that bytes spell.
-use Rattle.std.specs.Prelude.{ℕ, List, if◌then◌else◌, Option, Some, None, Result, Err}
-use Rattle.std.specs.Str.{is_utf8}
+use Rattle.std.specs.Prelude.{ℕ, List, Option, Some, None, Result, Err}
 use Rattle.serde_json.specs.Data.{Data}
-use Rattle.serde_json.specs.Read.{read}
+use Rattle.json_data.specs.View.{value_of}
 use Rattle.chunk_files.specs.declared.fault.Stop.{Stop}
 use Rattle.script_types.specs.declared.fault.Fault.{Fault}
 use Rattle.chunk_files.specs.declared.fault.Stop.TheVariants as stop
 use Rattle.script_types.specs.declared.fault.Fault.TheVariants as fault
 use Rattle.script_types.specs.declared.script.ScriptData.{ScriptData}
 use Rattle.wc_script.specs.Walk.{walk_of}
-
--- the value that serde_json reads
-abbrev pub value_of : List ℕ → Option Data
-value_of bytes = if is_utf8 bytes then read bytes else None
 
 abbrev pub script_of_value : Option Data → Result ScriptData (Stop Fault)
 script_of_value None = Err (stop.Fault fault.NotJson)

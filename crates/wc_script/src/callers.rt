@@ -1,6 +1,6 @@
 // Reads callers, with their steps.
 ghost use Rattle.std.specs.Prelude.{◌≡◌, ◌≢◌, ◌≤◌, ◌+◌, ◌||◌, [], IfOk, IfErr, OnOk, Some, None, Option, length, codes};
-ghost use Rattle.serde_json.specs.View.{view, items_view};
+ghost use Rattle.json_data.specs.View.{view, items_view};
 ghost use Rattle.wc_script.specs.Faults as faults;
 ghost use Rattle.wc_script.specs.Callers.{counted_step_of, steps_of, heading_of, caller_of, callers_of};
 ghost use Rattle.wc_script.specs.Callers as spec;
@@ -11,6 +11,7 @@ ghost use Rattle.script_types.specs.Reading.{Gives, GivesAs};
 
 use crate::faults::fault_at;
 use bytes::Bytes;
+use json_data::Value;
 use script_steps::{
     Files, StepWord, Variables, array_member, is_caller_name, is_codec_name, name_member,
     read_inline_data, read_step, steps_are_sound, word_member,
@@ -18,7 +19,6 @@ use script_steps::{
 use script_types::{
     CallerItem, CodecItem, Counted, Fault, Place, Step, Stop, Wrong, copied, limit_of,
 };
-use serde_json::Value;
 use std::alloc::Global;
 use wc_base::{List, Text};
 
@@ -79,7 +79,7 @@ fn read_word_step(
     codecs: &[CodecItem],
     files: &mut Files,
     before: &Variables,
-    value: &Value,
+    value: &Value<'_>,
     word: Option<StepWord>,
     content: Option<Bytes>,
 ) -> Result<Step, Stop<Wrong>>
@@ -102,7 +102,7 @@ fn read_step_at(
     codecs: &[CodecItem],
     place: Place,
     walked: &mut Walked,
-    value: &Value,
+    value: &Value<'_>,
     word: Option<StepWord>,
     content: Option<Bytes>,
 ) -> Result<Step, Stop<Fault>>
@@ -138,7 +138,7 @@ fn read_counted_step(
     codecs: &[CodecItem],
     i: u32,
     walked: &mut Walked,
-    value: &Value,
+    value: &Value<'_>,
 ) -> Result<(), Stop<Fault>>
     requires codecs { length codecs.now ≤ 64 }
     requires files { length walked.old.files + walked.old.room.steps ≤ 100000 }
@@ -163,7 +163,7 @@ fn read_next_step(
     codecs: &[CodecItem],
     i: u32,
     walked: &mut Walked,
-    value: &Value,
+    value: &Value<'_>,
 ) -> Result<(), Stop<Fault>>
     requires codecs { length codecs.now ≤ 64 }
     requires files { length walked.old.files + walked.old.room.steps ≤ 100000 }
@@ -184,7 +184,7 @@ fn read_steps(
     i: u32,
     files: Files,
     room: Room,
-    items: &[Value],
+    items: &[Value<'_>],
 ) -> Result<Walked, Stop<Fault>>
     requires codecs { length codecs.now ≤ 64 }
     requires files { length files + room.steps ≤ 100000 }
@@ -206,12 +206,12 @@ fn read_steps(
 
 // The name of a caller, and its steps, not yet read.
 #[tactic(auto, unfolding(crate::specs::Callers::heading_of))]
-fn read_heading<'v>(
+fn read_heading<'v, 'a>(
     alloc: Global,
     codecs: &[CodecItem],
     before: &[CallerItem],
-    value: &'v Value,
-) -> Result<(Text, &'v [Value]), Stop<Wrong>>
+    value: &'v Value<'a>,
+) -> Result<(Text, &'v [Value<'a>]), Stop<Wrong>>
     ensures { GivesAs
         (λ h. (h.0, items_view h.1.now)) result
         (heading_of codecs.now before.now (view value.now)) }
@@ -227,12 +227,12 @@ fn read_heading<'v>(
     Ok((name, items))
 }
 
-fn read_heading_at<'v>(
+fn read_heading_at<'v, 'a>(
     alloc: Global,
     codecs: &[CodecItem],
     before: &[CallerItem],
-    value: &'v Value,
-) -> Result<(Text, &'v [Value]), Stop<Fault>>
+    value: &'v Value<'a>,
+) -> Result<(Text, &'v [Value<'a>]), Stop<Fault>>
     requires { length before.now ≤ 16 }
     ensures { GivesAs
         (λ h. (h.0, items_view h.1.now)) result
@@ -253,7 +253,7 @@ fn read_caller(
     before: &[CallerItem],
     files: Files,
     room: Room,
-    value: &Value,
+    value: &Value<'_>,
 ) -> Result<Heard, Stop<Fault>>
     requires codecs { length codecs.now ≤ 64 }
     requires callers { length before.now ≤ 16 }
@@ -276,7 +276,7 @@ pub fn read_callers(
     alloc: Global,
     codecs: &[CodecItem],
     room: Room,
-    items: &[Value],
+    items: &[Value<'_>],
 ) -> Result<(Vec<CallerItem>, (Files, Room)), Stop<Fault>>
     requires codecs { length codecs.now ≤ 64 }
     requires callers { length items.now ≤ 16 }

@@ -1,6 +1,6 @@
 // Reads codecs.
 ghost use Rattle.std.specs.Prelude.{◌≡◌, ◌≢◌, ◌≤◌, [], IfOk, IfErr, Some, None, Option, option_and_then, length, codes};
-ghost use Rattle.serde_json.specs.View.{view, items_view};
+ghost use Rattle.json_data.specs.View.{view, items_view};
 ghost use Rattle.serde_json.specs.Find.{get};
 ghost use Rattle.script_steps.specs.Members.{text_in};
 ghost use Rattle.wc_script.specs.Faults as faults;
@@ -8,9 +8,9 @@ ghost use Rattle.wc_script.specs.Codecs.{kind_of, saturation_of, codec_of, codec
 ghost use Rattle.script_types.specs.Reading.{Gives, GivesAs};
 
 use crate::faults::fault_at;
+use json_data::{Value, as_natural, member};
 use script_steps::{is_codec_name, name_member, text_member};
 use script_types::{CodecItem, Fault, Kind, Place, Stop, Wrong, copied};
-use serde_json::Value;
 use std::alloc::Global;
 
 fn read_kind(text: &str) -> Option<Kind>
@@ -24,20 +24,20 @@ fn read_kind(text: &str) -> Option<Kind>
     }
 }
 
-fn kind_member(value: &Value) -> Option<Kind>
+fn kind_member(value: &Value<'_>) -> Option<Kind>
     ensures { result ≡ option_and_then kind_of (text_in (codes "kind") (view value.now)) }
 {
     read_kind(text_member(value, "kind")?)
 }
 
 // The saturation number of a codec, 4 where the script says nothing. `Shape` outside 1 to 64.
-fn saturation_member(value: &Value) -> Result<u32, Stop<Wrong>>
+fn saturation_member(value: &Value<'_>) -> Result<u32, Stop<Wrong>>
     ensures { result ≡ saturation_of (get (codes "saturation") (view value.now)) }
 {
-    let Some(number) = value.get("saturation") else {
+    let Some(number) = member(value, "saturation") else {
         return Ok(4);
     };
-    match number.as_u64() {
+    match as_natural(number) {
         Some(n) if (1..=64).contains(&n) => Ok(n as u32),
         _ => Err(Stop::Fault(Wrong::Shape)),
     }
@@ -45,7 +45,11 @@ fn saturation_member(value: &Value) -> Result<u32, Stop<Wrong>>
 
 // A codec, after those before it.
 #[tactic(auto, unfolding(crate::specs::Codecs::codec_of))]
-fn read_codec(alloc: Global, before: &[CodecItem], value: &Value) -> Result<CodecItem, Stop<Wrong>>
+fn read_codec(
+    alloc: Global,
+    before: &[CodecItem],
+    value: &Value<'_>,
+) -> Result<CodecItem, Stop<Wrong>>
     ensures { Gives result (codec_of before.now (view value.now)) }
 {
     let name = name_member(value, "name")?;
@@ -66,7 +70,7 @@ fn read_codec_at(
     alloc: Global,
     i: u32,
     before: &[CodecItem],
-    value: &Value,
+    value: &Value<'_>,
 ) -> Result<CodecItem, Stop<Fault>>
     ensures { Gives result (faults.at (Place.Codec i) (codec_of before.now (view value.now))) }
 {
@@ -76,7 +80,7 @@ fn read_codec_at(
     }
 }
 
-pub fn read_codecs(alloc: Global, items: &[Value]) -> Result<Vec<CodecItem>, Stop<Fault>>
+pub fn read_codecs(alloc: Global, items: &[Value<'_>]) -> Result<Vec<CodecItem>, Stop<Fault>>
     requires { length items.now ≤ 64 }
     ensures given { GivesAs (λ v. v.items) result (codecs_of 0 [] (items_view items.now)) }
     ensures few { IfOk result (λ v. length v.items ≤ 64) }

@@ -1,14 +1,14 @@
 // Reads the order.
 ghost use Rattle.std.specs.Prelude.{◌≡◌, ◌≢◌, ◌≤◌, [], IfOk, IfErr, Some, None, Option, length, codes};
-ghost use Rattle.serde_json.specs.View.{view, items_view};
+ghost use Rattle.json_data.specs.View.{view, items_view};
 ghost use Rattle.wc_script.specs.Faults as faults;
 ghost use Rattle.wc_script.specs.Order.{order_word_of, codec_in, codec_at, order_by, order_item_of, order_of};
 ghost use Rattle.script_types.specs.Reading.{GivesAs};
 
 use crate::faults::fault_at;
+use json_data::{Value, as_text};
 use script_steps::{as_name, find_caller, find_codec, has, name_member, natural_member};
 use script_types::{CallerItem, CodecItem, Fault, OrderItem, Place, Stop, Wrong};
-use serde_json::Value;
 use std::alloc::Global;
 
 /// What an order item does to a codec.
@@ -21,7 +21,7 @@ pub enum OrderWord {
 }
 
 // Just one of the four words is a member.
-fn order_word(value: &Value) -> Option<OrderWord>
+fn order_word(value: &Value<'_>) -> Option<OrderWord>
     ensures { result ≡ order_word_of (view value.now) }
 {
     let words = (
@@ -40,7 +40,7 @@ fn order_word(value: &Value) -> Option<OrderWord>
 }
 
 // The codec that an item names.
-fn read_codec_in(codecs: &[CodecItem], value: &Value, key: &str) -> Result<u32, Stop<Wrong>>
+fn read_codec_in(codecs: &[CodecItem], value: &Value<'_>, key: &str) -> Result<u32, Stop<Wrong>>
     requires { length codecs.now ≤ 64 }
     ensures { result ≡ codec_in key.now codecs.now (view value.now) }
 {
@@ -52,7 +52,11 @@ fn read_codec_in(codecs: &[CodecItem], value: &Value, key: &str) -> Result<u32, 
 }
 
 // The codec that an item names, and the moment, in microseconds.
-fn read_codec_at(codecs: &[CodecItem], value: &Value, key: &str) -> Result<(u32, u64), Stop<Wrong>>
+fn read_codec_at(
+    codecs: &[CodecItem],
+    value: &Value<'_>,
+    key: &str,
+) -> Result<(u32, u64), Stop<Wrong>>
     requires { length codecs.now ≤ 64 }
     ensures { result ≡ codec_at key.now codecs.now (view value.now) }
 {
@@ -67,7 +71,7 @@ fn read_codec_at(codecs: &[CodecItem], value: &Value, key: &str) -> Result<(u32,
 // What is done to a codec.
 fn read_codec_item(
     codecs: &[CodecItem],
-    value: &Value,
+    value: &Value<'_>,
     word: OrderWord,
 ) -> Result<OrderItem, Stop<Wrong>>
     requires { length codecs.now ≤ 64 }
@@ -91,13 +95,13 @@ fn read_codec_item(
 fn read_order_item(
     codecs: &[CodecItem],
     callers: &[CallerItem],
-    value: &Value,
+    value: &Value<'_>,
 ) -> Result<OrderItem, Stop<Wrong>>
     requires codecs { length codecs.now ≤ 64 }
     requires callers { length callers.now ≤ 16 }
     ensures { result ≡ order_item_of codecs.now callers.now (view value.now) }
 {
-    let Some(text) = value.as_str() else {
+    let Some(text) = as_text(value) else {
         let word = order_word(value).ok_or(Stop::Fault(Wrong::Shape))?;
         return read_codec_item(codecs, value, word);
     };
@@ -112,7 +116,7 @@ fn read_order_item_at(
     codecs: &[CodecItem],
     callers: &[CallerItem],
     i: u32,
-    value: &Value,
+    value: &Value<'_>,
 ) -> Result<OrderItem, Stop<Fault>>
     requires codecs { length codecs.now ≤ 64 }
     requires callers { length callers.now ≤ 16 }
@@ -130,7 +134,7 @@ pub fn read_order(
     alloc: Global,
     codecs: &[CodecItem],
     callers: &[CallerItem],
-    items: &[Value],
+    items: &[Value<'_>],
 ) -> Result<Vec<OrderItem>, Stop<Fault>>
     requires codecs { length codecs.now ≤ 64 }
     requires callers { length callers.now ≤ 16 }

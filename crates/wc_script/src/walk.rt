@@ -1,7 +1,7 @@
 // Walks through a script's value.
 ghost use Rattle.std.specs.Prelude.{◌≡◌, ◌≢◌, ◌≤◌, [], IfOk, IfErr, IfSome, Some, None, Option, option_map, length, codes};
 ghost use Rattle.std.specs.List.{count_by};
-ghost use Rattle.serde_json.specs.View.{view, items_view};
+ghost use Rattle.json_data.specs.View.{view, items_view};
 ghost use Rattle.script_types.specs.Limits as limits;
 ghost use Rattle.script_types.specs.Sound as sound;
 ghost use Rattle.script_steps.specs.Members.{array_in};
@@ -11,21 +11,21 @@ ghost use Rattle.script_types.specs.Reading.{Gives};
 use crate::callers::{Room, read_callers};
 use crate::codecs::read_codecs;
 use crate::order::read_order;
+use json_data::Value;
 use script_steps::{array_member, has};
 use script_types::{
     CallerItem, CodecItem, Counted, Fault, OrderItem, Place, ScriptData, Stop, Wrong, limit_of,
 };
-use serde_json::Value;
 use std::alloc::Global;
 use wc_base::List;
 
 // A member that is an array, within its limit.
 #[tactic(auto, using(crate::proofs::CountLaws::count_of_view))]
-fn few_member<'v>(
-    value: &'v Value,
+fn few_member<'v, 'a>(
+    value: &'v Value<'a>,
     key: &str,
     what: Counted,
-) -> Result<Option<&'v [Value]>, Stop<Fault>>
+) -> Result<Option<&'v [Value<'a>]>, Stop<Fault>>
     ensures ok { IfOk result
         (λ o. few what (array_in key.now (view value.now))
         ≡ Ok (option_map (λ s. items_view s.now) o)) }
@@ -46,10 +46,10 @@ fn few_member<'v>(
 
 // The three arrays of a script, each within its limit; the order may be absent.
 #[derive(Clone, Copy)]
-struct Parts<'v> {
-    codecs: &'v [Value],
-    callers: &'v [Value],
-    order: Option<&'v [Value]>,
+struct Parts<'v, 'a> {
+    codecs: &'v [Value<'a>],
+    callers: &'v [Value<'a>],
+    order: Option<&'v [Value<'a>]>,
 }
 
 fn shape_at_top() -> Stop<Fault>
@@ -62,7 +62,7 @@ fn shape_at_top() -> Stop<Fault>
 }
 
 #[tactic(auto, unfolding(crate::specs::Walk::parts_of))]
-fn read_parts(value: &Value) -> Result<Parts<'_>, Stop<Fault>>
+fn read_parts<'v, 'a>(value: &'v Value<'a>) -> Result<Parts<'v, 'a>, Stop<Fault>>
     ensures ok { IfOk result
         (λ p. parts_of (view value.now)
         ≡ Ok
@@ -135,7 +135,7 @@ fn read_ordered(
     alloc: Global,
     codecs: &[CodecItem],
     callers: &[CallerItem],
-    items: Option<&[Value]>,
+    items: Option<&[Value<'_>]>,
 ) -> Result<Option<List<OrderItem>>, Stop<Fault>>
     requires codecs { length codecs.now ≤ 64 }
     requires callers { length callers.now ≤ 16 }
@@ -154,7 +154,7 @@ fn read_ordered(
 
 /// What a script's value holds, or its first fault.
 #[tactic(auto, unfolding(crate::specs::Walk::walk_of))]
-pub fn read_value(alloc: Global, value: &Value) -> Result<ScriptData, Stop<Fault>>
+pub fn read_value(alloc: Global, value: &Value<'_>) -> Result<ScriptData, Stop<Fault>>
     ensures { Gives result (walk_of (view value.now)) }
 {
     let parts = read_parts(value)?;

@@ -1,5 +1,5 @@
 use Rattle.std.proofs.Common.{◌≡◌, [], drop, Some, None, if◌then◌else◌}
-use Rattle.serde_json.specs.View.{items_view}
+use Rattle.json_data.specs.View.{items_view}
 use Rattle.script_steps.specs.CopyOptions.{planes_of}
 use Rattle.script_steps.proofs.options.read_planes.Given as goal
 

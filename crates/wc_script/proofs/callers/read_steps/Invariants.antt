@@ -1,5 +1,5 @@
 use Rattle.std.proofs.Common.{◌≡◌, ◌≤◌, ◌+◌, [], drop, length}
-use Rattle.serde_json.specs.View.{items_view}
+use Rattle.json_data.specs.View.{items_view}
 use Rattle.wc_script.specs.Callers.{steps_of}
 use Rattle.wc_script.proofs.callers.read_steps.Given as goal
 

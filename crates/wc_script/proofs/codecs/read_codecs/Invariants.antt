@@ -1,5 +1,5 @@
 use Rattle.std.proofs.Common.{◌≡◌, [], drop, length}
-use Rattle.serde_json.specs.View.{items_view}
+use Rattle.json_data.specs.View.{items_view}
 use Rattle.wc_script.specs.Codecs.{codecs_of}
 use Rattle.wc_script.proofs.codecs.read_codecs.Given as goal
 

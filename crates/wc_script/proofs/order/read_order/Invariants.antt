@@ -1,5 +1,5 @@
 use Rattle.std.proofs.Common.{◌≡◌, [], drop}
-use Rattle.serde_json.specs.View.{items_view}
+use Rattle.json_data.specs.View.{items_view}
 use Rattle.wc_script.specs.Order.{order_of}
 use Rattle.wc_script.proofs.order.read_order.Given as goal
 

@@ -1,0 +1,4 @@
+pub mod DataLaws
+pub mod LookupLaws
+pub mod NumberLaws
+pub mod RangeLaws
