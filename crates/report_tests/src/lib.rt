@@ -14,4 +14,6 @@ mod report_text_tests;
 #[cfg(test)]
 mod trace_text_tests;
 #[cfg(test)]
+mod transcode_tests;
+#[cfg(test)]
 mod wc_replay_tests;
