@@ -1,14 +1,14 @@
 // A report, written to a sink line by line.
 ghost use Rattle.std.specs.Prelude.{◌≢◌, IfOk, Err, flat_map};
 ghost use Rattle.report_text.specs.Text.{line_text};
-ghost use Rattle.std.specs.Option.{option_map};
+ghost use Rattle.std.specs.Bool.{then_some};
 ghost use Rattle.trace_text.specs.Report.{report_of};
 ghost use Rattle.trace_text.specs.Behind.{TakesText};
 ghost use Rattle.trace_text.specs.Written.{Writes};
 
 use crate::Run;
 use crate::lines::RunLines;
-use report_text::line_text;
+use report_text::push_line;
 use script_types::{Script, ScriptData};
 use std::alloc::{AllocError, Global};
 use wc_base::{Failed, NoMemory as WantOfMemory, Sink};
@@ -54,23 +54,26 @@ impl From<WantOfMemory> for WriteFault {
     }
 }
 
-// The text of the next line, if one is left.
+// Puts the text of the next line in the place of the last one's, if a line is left.
 fn next_text(
     alloc: Global,
     script: &ScriptData,
     lines: &mut RunLines,
-) -> Result<Option<Vec<u8>>, WriteFault>
+    text: &mut Vec<u8>,
+) -> Result<bool, WriteFault>
     ensures next { IfOk result
-        (λ text. TakesText script.now lines.old (option_map (λ v. v.items) text) lines.new) }
+        (λ more. TakesText script.now lines.old (then_some more text.new.items) lines.new) }
     ensures failed { result ≢ Err WriteFault.Failed }
 {
-    match lines.next(alloc)? {
-        None => Ok(None),
-        Some(line) => Ok(Some(line_text(alloc, script, &line)?)),
-    }
+    let Some(line) = lines.next(alloc)? else {
+        return Ok(false);
+    };
+    text.clear();
+    push_line(text, script, &line)?;
+    Ok(true)
 }
 
-// Each line that is left, one after another.
+// Each line that is left, one after another, over one memory for their texts.
 #[tactic(auto, using(crate::proofs::Steps::so_far))]
 fn write_lines<S: Sink>(
     alloc: Global,
@@ -81,7 +84,8 @@ fn write_lines<S: Sink>(
     ensures { Writes result (flat_map (line_text script.now) lines.old)
         (S.told sink.old) (S.told sink.new) (S.faults sink.old) (S.faults sink.new) }
 {
-    while let Some(text) = next_text(alloc, script, lines)? {
+    let mut text = Vec::new(alloc);
+    while next_text(alloc, script, lines, &mut text)? {
         sink.write_all(text.as_slice())?;
     }
     Ok(())
