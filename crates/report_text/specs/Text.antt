@@ -77,21 +77,6 @@ result_text codecs (result.CopiedFrame n layouts bytes) = copied_frame_text n la
 result_text codecs (result.Size n) = codes "size " <> decimal n
 result_text codecs result.Absent = codes "absent"
 
--- the entry or the look that a result names, before a blank
-abbrev pub named_text : List CodecItem → StepResult → List ℕ
-named_text codecs (result.Call n place error) = entry_name codecs n place <> codes " "
-named_text codecs (result.Unit n place number) = entry_name codecs n place <> codes " "
-named_text codecs (result.Look n length end) = look_name codecs n length <> codes " "
-named_text codecs (result.State n length state size) = look_name codecs n length <> codes " "
-named_text codecs (result.NoUnit n length) = look_name codecs n length <> codes " "
-named_text codecs r = []
-
--- without the destination of a copy
-abbrev pub result_head : List CodecItem → StepResult → List ℕ
-result_head codecs (result.Copied n bytes) = copied_text n
-result_head codecs (result.CopiedFrame n layouts bytes) = copied_frame_text n layouts
-result_head codecs r = result_text codecs r
-
 -- ---- entries of codecs
 
 abbrev pub outcome_text : Outcome → List ℕ
