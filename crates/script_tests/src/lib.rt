@@ -2,8 +2,6 @@
 #![tactic(auto)]
 
 #[cfg(test)]
-mod json_data_tests;
-#[cfg(test)]
 mod media_files_tests;
 #[cfg(test)]
 mod script_members_tests;
