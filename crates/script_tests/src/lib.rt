@@ -2,6 +2,8 @@
 #![tactic(auto)]
 
 #[cfg(test)]
+mod json_data_tests;
+#[cfg(test)]
 mod media_files_tests;
 #[cfg(test)]
 mod script_members_tests;
