@@ -23,7 +23,7 @@ use Rattle.wc_script.specs.declared.callers.Heard.{Heard}
 use Rattle.wc_script.specs.Faults.{at}
 use Rattle.wc_script.specs.Callers.{heading_of, steps_of, caller_of, callers_of}
 use Rattle.wc_script.specs.Walk.{count_of}
-use Rattle.wc_script.proofs.Proceeds.{proceeds, read_at, both, all_more}
+use Rattle.wc_script.proofs.Proceeds.{proceeds, read_at, unless, each_more, all_more, fold_more}
 use Rattle.script_steps.specs.Soundness.{StepsAreSound}
 use Rattle.wc_script.proofs.StepLaws.{SoundSteps, steps_sound}
 
@@ -32,17 +32,13 @@ use Rattle.wc_script.proofs.StepLaws.{SoundSteps, steps_sound}
 abbrev IsNew : List CodecItem → List CallerItem → List ℕ → Type 0
 IsNew codecs before name = (is_name name ≡ true) × (not (is_codec_name codecs name || is_caller_name before name) ≡ true)
 
-heading_if : (codecs : List CodecItem) (before : List CallerItem) (name : List ℕ) (ds : Items) (h : List ℕ × Items) (b : Bool) → (is_codec_name codecs name || is_caller_name before name) ≡ b
-    → is_name name ≡ true → Path (Result (List ℕ × Items) (Stop Wrong)) (if b then Err (stop.Fault wrong.Twice) else Ok (name, ds)) (Ok h) → IsNew codecs before h.0
-heading_if codecs before name ds h true e n g = absurd cc
-heading_if codecs before name ds h false e n g = subst (λ x. IsNew codecs before x.0) (same_Ok (name, ds) h g) (n, ap not e)
-
 new_name : (codecs : List CodecItem) (before : List CallerItem) (d : Data) (h : List ℕ × Items) → heading_of codecs before d ≡ Ok h → IsNew codecs before h.0
 unfolding heading_of
 new_name codecs before d h e =
     let name = chain (name_in (codes "name") d) _ h e in
     let ds = chain (needed (array_in (codes "steps") d)) _ h name.rest in
-    heading_if codecs before name.value ds.value h _ refl (name_is_name (codes "name") name.value d name.first) ds.rest
+    let new = unless (is_codec_name codecs name.value || is_caller_name before name.value) _ (Ok (name.value, ds.value)) h ds.rest in
+    subst (λ x. IsNew codecs before x.0) (same_Ok _ h new.1) (name_is_name (codes "name") name.value d name.first, ap not new.0)
 
 -- ---- one caller
 
@@ -69,26 +65,6 @@ one_caller law codecs cs fs room d h e =
 
 -- ---- all callers
 
-callers_more : (codecs : List CodecItem) (before xs : List CallerItem) (c : CallerItem) → are_sound_callers codecs before xs ≡ true → is_sound_caller codecs (before ++ xs) c ≡ true
-    → are_sound_callers codecs before (xs ++ c ∷ []) ≡ true
-callers_more codecs before [] c h k = all_true (is_sound_caller codecs before c) true (ap (λ l. is_sound_caller codecs l c) (sym (append-nil before)) ∙ k) refl
-callers_more codecs before (x ∷ xs) c h k =
-    let b = both (is_sound_caller codecs before x) (are_sound_callers codecs (before ++ x ∷ []) xs) h in
-    all_true _ _ b.0 (callers_more codecs (before ++ x ∷ []) xs c b.1 (ap (λ l. is_sound_caller codecs l c) (append_assoc before (x ∷ []) xs) ∙ k))
-
-files_from : (o : Option ℕ) (xs : List CallerItem) (c : CallerItem) (m k : ℕ) → ((n : ℕ) → files_in n xs ≡ Some m → files_in n (xs ++ c ∷ []) ≡ Some k)
-    → option_and_then (λ n. files_in n xs) o ≡ Some m → option_and_then (λ n. files_in n (xs ++ c ∷ [])) o ≡ Some k
-files_from None xs c m k more h = absurd cc
-files_from (Some n) xs c m k more h = more n h
-
-last_files : (o : Option ℕ) (k : ℕ) → o ≡ Some k → option_and_then (λ n. files_in n []) o ≡ Some k
-last_files None k h = absurd cc
-last_files (Some n) k h = h
-
-files_more : (n : ℕ) (xs : List CallerItem) (c : CallerItem) (m k : ℕ) → files_in n xs ≡ Some m → files_after m c.steps ≡ Some k → files_in n (xs ++ c ∷ []) ≡ Some k
-files_more n [] c m k h e = last_files (files_after n c.steps) k (ap (λ i. files_after i c.steps) (same_Some n m h) ∙ e)
-files_more n (x ∷ xs) c m k h e = files_from (files_after n x.steps) xs c m k (λ i g. files_more i xs c m k g e) h
-
 -- the callers that were read, with the files that they mention, and the room that is left
 pub record SoundCallers (codecs : List CodecItem) (cs : List CallerItem) (fs : List (List ℕ)) (room : Room) : Type 0 where
   pub callers : are_sound_callers codecs [] cs ≡ true
@@ -104,11 +80,11 @@ caller_kept codecs cs fs room h t o =
     let steps = sum_by_push (λ c. length c.steps) cs h.caller in
     let media = sum_by_push bytes_of_caller cs h.caller in
     record {
-      callers = callers_more codecs [] cs h.caller t.callers o.sound;
+      callers = each_more (is_sound_caller codecs) (are_sound_callers codecs) (λ b. refl) (λ b x xs. refl) [] cs h.caller t.callers o.sound;
       steps = omega (arith, steps, t.steps, o.steps.count);
       small = all_more are_small cs h.caller t.small o.steps.small;
       media = omega (arith, media, t.media, o.steps.media);
-      files = files_more 0 cs h.caller (length fs) (length h.files) t.files o.steps.files;
+      files = fold_more (λ n c. files_after n c.steps) files_in (λ n. refl) (λ n x xs. refl) 0 cs h.caller (length fs) (length h.files) t.files o.steps.files;
       apart = o.steps.apart t.apart;
     }
 

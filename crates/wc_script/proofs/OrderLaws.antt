@@ -20,6 +20,7 @@ use Rattle.wc_script.specs.declared.order.OrderWord.TheVariants as word
 use Rattle.wc_script.specs.Faults.{at}
 use Rattle.wc_script.specs.Order.{order_word_of, codec_in, codec_at, order_by, order_from, order_item_of, order_of}
 use Rattle.wc_script.specs.Walk.{count_of}
+use Rattle.wc_base.specs.Options.{cond_is}
 use Rattle.wc_script.proofs.Proceeds.{proceeds, read_at, all_more}
 
 -- ---- codecs and callers
@@ -32,12 +33,9 @@ below (c ∷ cs) (suc n) h = grind (arith, below cs n h)
 codec_below : (codecs : List CodecItem) (name : List ℕ) (c : FoundCodec) → known (codec_named codecs name) ≡ Ok c → nat_lt c.number (length codecs) ≡ true
 codec_below codecs name c h = below codecs c.number (codec_is_there codecs any_kind name c h)
 
-place_below : (k n i : ℕ) (b : Bool) → nat_lt k n ≡ b → cond b (Some k) None ≡ Some i → nat_lt i n ≡ true
-place_below k n i true e h = subst (λ x. nat_lt x n ≡ true) (same_Some k i h) e
-place_below k n i false e h = absurd cc
-
 caller_below : (callers : List CallerItem) (name : List ℕ) (i : ℕ) → known (caller_named callers name) ≡ Ok i → nat_lt i (length callers) ≡ true
-caller_below callers name i h = place_below _ (length callers) i _ refl (known_some (caller_named callers name) i h)
+caller_below callers name i h =
+    let k = cond_is (nat_lt _ (length callers)) (Some _) i (known_some (caller_named callers name) i h) in subst (λ x. nat_lt x (length callers) ≡ true) (same_Some _ i k.1) k.0
 
 -- ---- one item
 

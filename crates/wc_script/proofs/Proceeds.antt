@@ -1,5 +1,7 @@
 -- What is known of a walk that ended well.
-use Rattle.std.proofs.Common.{◌≡◌, Bool, true, false, ◌&&◌, List, [], ◌∷◌, ◌++◌, Result, Ok, Err, refl, ap}
+use Rattle.std.proofs.Common.{◌≡◌, Bool, true, false, ◌&&◌, if◌then◌else◌, List, [], ◌∷◌, ◌++◌, Option, Some, None, option_and_then, Result, Ok, Err, refl, sym, ap, ◌∙◌}
+use Rattle.std.proofs.lemmas.List.{append_assoc, append-nil}
+use Rattle.std.proofs.lemmas.Option.{same_Some}
 use Rattle.std.specs.List.{list_all}
 use Rattle.script_types.specs.declared.fault.Place.{Place}
 use Rattle.chunk_files.specs.declared.fault.Stop.{Stop}
@@ -22,12 +24,41 @@ pub read_at : {A : Type 0} (p : Place) (r : Result A (Stop Wrong)) (a : A) → a
 read_at p (Ok x) a h = ap (λ y. Ok y) (same_Ok x a h)
 read_at p (Err w) a h = absurd cc
 
+-- a test that is passed, and one that is failed
+pub only_if : {A E : Type 0} (b : Bool) (e : E) (r : Result A E) (y : A) → (if b then r else Err e) ≡ Ok y → (b ≡ true) × (r ≡ Ok y)
+only_if true e r y h = (refl, h)
+only_if false e r y h = absurd cc
+
+pub unless : {A E : Type 0} (b : Bool) (e : E) (r : Result A E) (y : A) → (if b then Err e else r) ≡ Ok y → (b ≡ false) × (r ≡ Ok y)
+unless true e r y h = absurd cc
+unless false e r y h = (refl, h)
+
 pub both : (a b : Bool) → (a && b) ≡ true → (a ≡ true) × (b ≡ true)
 both true b h = (refl, h)
 both false b h = absurd cc
 
+-- what holds of each element after those before it, with one more at the end
+pub each_more : {X : Type 0} (ok : List X → X → Bool) (all : List X → List X → Bool) → ((before : List X) → all before [] ≡ true)
+    → ((before : List X) (x : X) (xs : List X) → all before (x ∷ xs) ≡ (ok before x && all (before ++ x ∷ []) xs))
+    → (before xs : List X) (x : X) → all before xs ≡ true → ok (before ++ xs) x ≡ true → all before (xs ++ x ∷ []) ≡ true
+each_more ok all none next before [] x h k = next before x [] ∙ all_true (ok before x) _ (ap (λ l. ok l x) (sym (append-nil before)) ∙ k) (none (before ++ x ∷ []))
+each_more ok all none next before (y ∷ ys) x h k =
+    let b = both (ok before y) (all (before ++ y ∷ []) ys) (sym (next before y ys) ∙ h) in
+    next before y (ys ++ x ∷ []) ∙ all_true _ _ b.0 (each_more ok all none next (before ++ y ∷ []) ys x b.1 (ap (λ l. ok l x) (append_assoc before (y ∷ []) ys) ∙ k))
+
 pub all_more : {X : Type 0} (p : X → Bool) (xs : List X) (x : X) → list_all p xs ≡ true → p x ≡ true → list_all p (xs ++ x ∷ []) ≡ true
-all_more p [] x h k = all_true (p x) true k refl
-all_more p (y ∷ ys) x h k =
-    let b = both (p y) (list_all p ys) h in
-    all_true _ _ b.0 (all_more p ys x b.1 k)
+all_more p xs x h k = each_more (λ b. p) (λ b. list_all p) (λ b. refl) (λ b y ys. refl) [] xs x h k
+
+-- what follows where there is something, by what follows from each thing
+then_more : {A : Type 0} (f g : A → Option A) (o : Option A) (m k : A) → ((i : A) → f i ≡ Some m → g i ≡ Some k) → option_and_then f o ≡ Some m → option_and_then g o ≡ Some k
+then_more f g None m k each h = absurd cc
+then_more f g (Some i) m k each h = each i h
+
+-- what each element makes of a value, with one more at the end
+pub fold_more : {A X : Type 0} (one : A → X → Option A) (all : A → List X → Option A) → ((n : A) → all n [] ≡ Some n)
+    → ((n : A) (x : X) (xs : List X) → all n (x ∷ xs) ≡ option_and_then (λ i. all i xs) (one n x))
+    → (n : A) (xs : List X) (x : X) (m k : A) → all n xs ≡ Some m → one m x ≡ Some k → all n (xs ++ x ∷ []) ≡ Some k
+fold_more one all none next n [] x m k h e =
+    next n x [] ∙ (ap (option_and_then (λ i. all i [])) (ap (λ i. one i x) (same_Some n m (sym (none n) ∙ h)) ∙ e) ∙ none k)
+fold_more one all none next n (y ∷ ys) x m k h e =
+    next n y (ys ++ x ∷ []) ∙ then_more (λ i. all i ys) (λ i. all i (ys ++ x ∷ [])) (one n y) m k (λ i g. fold_more one all none next i ys x m k g e) (sym (next n y ys) ∙ h)

@@ -25,7 +25,7 @@ use Rattle.wc_script.specs.Codecs.{codecs_of}
 use Rattle.wc_script.specs.Callers.{callers_of}
 use Rattle.wc_script.specs.Order.{order_of}
 use Rattle.wc_script.specs.Walk.{count_of, few, Parts, order_if_there, parts_with, parts_of, ordered, whole_room, walk_of}
-use Rattle.wc_script.proofs.Proceeds.{proceeds, read_at}
+use Rattle.wc_script.proofs.Proceeds.{proceeds, read_at, only_if}
 use Rattle.wc_script.proofs.CodecLaws.{codecs_sound}
 use Rattle.script_steps.specs.Soundness.{StepsAreSound}
 use Rattle.wc_script.proofs.CallerLaws.{SoundCallers, callers_sound}
@@ -33,14 +33,10 @@ use Rattle.wc_script.proofs.OrderLaws.{items_sound}
 
 -- ---- the arrays
 
-few_if : (what : Counted) (ds es : Items) (b : Bool) → nat_le (count_of ds) (limit_of what) ≡ b
-    → Path (Result (Option Items) (Stop Fault)) (if b then Ok (Some ds) else Err (stop.Fault (fault.TooMany what))) (Ok (Some es)) → nat_le (count_of es) (limit_of what) ≡ true
-few_if what ds es true e h = subst (λ x. nat_le (count_of x) (limit_of what) ≡ true) (same_Some ds es (same_Ok (Some ds) (Some es) h)) e
-few_if what ds es false e h = absurd cc
-
 few_of : (what : Counted) (o : Option Items) (ds : Items) → few what o ≡ Ok (Some ds) → nat_le (count_of ds) (limit_of what) ≡ true
 few_of what None ds h = absurd cc
-few_of what (Some es) ds h = few_if what es ds (nat_le (count_of es) (limit_of what)) refl h
+few_of what (Some es) ds h =
+    let k = only_if (nat_le (count_of es) (limit_of what)) _ _ (Some ds) h in subst (λ x. nat_le (count_of x) (limit_of what) ≡ true) (same_Some es ds (same_Ok _ (Some ds) k.1)) k.0
 
 same_order : (there : Bool) (o p : Option Items) → order_if_there there o ≡ Ok p → o ≡ p
 same_order there (Some ds) p h = same_Ok (Some ds) p h
@@ -72,14 +68,6 @@ few_parts d p h =
 
 -- ---- the order
 
-checked_if : (codecs : List CodecItem) (callers : List CallerItem) (items : List OrderItem) (o : Option (List OrderItem)) (b : Bool) → counts_agree 0 callers items ≡ b
-    → nat_le (length items) most_order ≡ true → list_all (is_sound_item (length codecs) (length callers)) items ≡ true
-    → Path (Result (Option (List OrderItem)) (Stop Fault)) (if b then Ok (Some items) else Err (stop.Fault (fault.At place.Top wrong.Shape))) (Ok o)
-    → is_sound_order (length codecs) callers o ≡ true
-checked_if codecs callers items o true e n s h =
-    subst (λ x. is_sound_order (length codecs) callers x ≡ true) (same_Ok (Some items) o h) (all_true (nat_le (length items) most_order) _ n (all_true _ _ s e))
-checked_if codecs callers items o false e n s h = absurd cc
-
 order_sound : (codecs : List CodecItem) (callers : List CallerItem) (m : Option Items) (o : Option (List OrderItem))
     → ((ds : Items) → m ≡ Some ds → nat_le (count_of ds) most_order ≡ true) → ordered codecs callers m ≡ Ok o → is_sound_order (length codecs) callers o ≡ true
 unfolding ordered
@@ -88,7 +76,8 @@ order_sound codecs callers (Some ds) o k h =
     let items = proceeds (order_of codecs callers 0 [] ds) _ o h in
     let t = items_sound codecs callers 0 [] ds items.value refl items.first in
     let n : length items.value ≡ count_of ds = omega (arith, t.count) in
-    checked_if codecs callers items.value o (counts_agree 0 callers items.value) refl (ap (λ x. nat_le x most_order) n ∙ k ds refl) t.sound items.rest
+    let agree = only_if (counts_agree 0 callers items.value) _ _ o items.rest in
+    subst (λ x. is_sound_order (length codecs) callers x ≡ true) (same_Ok _ o agree.1) (all_true (nat_le (length items.value) most_order) _ (ap (λ x. nat_le x most_order) n ∙ k ds refl) (all_true _ _ t.sound agree.0))
 
 -- ---- the whole
 

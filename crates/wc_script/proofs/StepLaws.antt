@@ -26,7 +26,7 @@ use Rattle.wc_script.specs.declared.callers.Room.{Room}
 use Rattle.wc_script.specs.declared.callers.Walked.{Walked}
 use Rattle.wc_script.specs.Faults.{at}
 use Rattle.wc_script.specs.Callers.{room_after, counted_step_of, steps_of}
-use Rattle.wc_script.proofs.Proceeds.{proceeds, read_at, both, all_more}
+use Rattle.wc_script.proofs.Proceeds.{proceeds, read_at, unless, each_more, all_more, fold_more}
 
 -- ---- the room
 
@@ -36,43 +36,14 @@ record IsCounted (room : Room) (bytes : ℕ) (r : Room) : Type 0 where
   pub small : bytes ≤ most_chunk
   pub media : bytes + r.media ≤ room.media
 
-room_if : (room r : Room) (bytes : ℕ) (a b c : Bool) → (room.steps == 0) ≡ a → nat_lt most_chunk bytes ≡ b → nat_lt room.media bytes ≡ c
-    → Path (Result Room (Stop Fault)) (if a then Err (stop.Fault (fault.TooMany counted.Steps)) else if b then Err (stop.Fault (fault.TooMany counted.Chunk)) else if c then Err (stop.Fault (fault.TooMany counted.Media))
-    else Ok (record { steps = room.steps - 1; media = room.media - bytes })) (Ok r)
-    → IsCounted room bytes r
-room_if room r bytes true b c e f g h = absurd cc
-room_if room r bytes false true c e f g h = absurd cc
-room_if room r bytes false false true e f g h = absurd cc
-room_if room r bytes false false false e f g h =
-    subst (λ x. IsCounted room bytes x) (same_Ok _ r h) (record { steps = grind (arith, e); small = grind (arith, f); media = grind (arith, g) })
-
 counted_room : (room r : Room) (bytes : ℕ) → room_after room bytes ≡ Ok r → IsCounted room bytes r
-counted_room room r bytes h = room_if room r bytes (room.steps == 0) (nat_lt most_chunk bytes) (nat_lt room.media bytes) refl refl refl h
-
--- ---- chunk files
-
-files_from : (o : Option ℕ) (xs : List Step) (s : Step) (m k : ℕ) → ((n : ℕ) → files_after n xs ≡ Some m → files_after n (xs ++ s ∷ []) ≡ Some k)
-    → option_and_then (λ n. files_after n xs) o ≡ Some m → option_and_then (λ n. files_after n (xs ++ s ∷ [])) o ≡ Some k
-files_from None xs s m k more h = absurd cc
-files_from (Some n) xs s m k more h = more n h
-
-last_file : (o : Option ℕ) (k : ℕ) → o ≡ Some k → option_and_then (λ n. files_after n []) o ≡ Some k
-last_file None k h = absurd cc
-last_file (Some n) k h = h
-
--- the files after one more step
-files_more : (n : ℕ) (xs : List Step) (s : Step) (m k : ℕ) → files_after n xs ≡ Some m → file_after m s ≡ Some k → files_after n (xs ++ s ∷ []) ≡ Some k
-files_more n [] s m k h e = last_file (file_after n s) k (ap (λ i. file_after i s) (same_Some n m h) ∙ e)
-files_more n (x ∷ xs) s m k h e = files_from (file_after n x) xs s m k (λ i g. files_more i xs s m k g e) h
+counted_room room r bytes h =
+    let a = unless (room.steps == 0) _ _ r h in
+    let b = unless (nat_lt most_chunk bytes) _ _ r a.1 in
+    let c = unless (nat_lt room.media bytes) _ _ r b.1 in
+    subst (λ x. IsCounted room bytes x) (same_Ok _ r c.1) (record { steps = grind (arith, a.0); small = grind (arith, b.0); media = grind (arith, c.0) })
 
 -- ---- steps
-
-steps_more : (codecs : List CodecItem) (before xs : List Step) (s : Step) → are_sound_steps codecs before xs ≡ true → is_sound_step codecs (before ++ xs) s ≡ true
-    → are_sound_steps codecs before (xs ++ s ∷ []) ≡ true
-steps_more codecs before [] s h k = all_true (is_sound_step codecs before s) true (ap (λ l. is_sound_step codecs l s) (sym (append-nil before)) ∙ k) refl
-steps_more codecs before (x ∷ xs) s h k =
-    let b = both (is_sound_step codecs before x) (are_sound_steps codecs (before ++ x ∷ []) xs) h in
-    all_true _ _ b.0 (steps_more codecs (before ++ x ∷ []) xs s b.1 (ap (λ l. is_sound_step codecs l s) (append_assoc before (x ∷ []) xs) ∙ k))
 
 -- the steps that were read where these files were mentioned before, and there was so much room
 pub record SoundSteps (codecs : List CodecItem) (fs : List (List ℕ)) (room : Room) (w : Walked) : Type 0 where
@@ -120,11 +91,11 @@ step_kept codecs fs room w v t o =
     let more = sum_by_push bytes_of_step w.steps o.step in
     let same = o.steps in
     record {
-      steps = rw same (steps_more codecs [] w.steps o.step t.steps o.sound);
+      steps = rw same (each_more (is_sound_step codecs) (are_sound_steps codecs) (λ b. refl) (λ b x xs. refl) [] w.steps o.step t.steps o.sound);
       count = rw same (omega (arith, longer, t.count, o.room.steps));
       small = rw same (all_more (λ s. nat_le (bytes_of_step s) most_chunk) w.steps o.step t.small small);
       media = rw same (omega (arith, more, t.media, o.fits, o.room.media));
-      files = rw same (files_more (length fs) w.steps o.step (length w.files) (length v.files) t.files o.files);
+      files = rw same (fold_more file_after files_after (λ n. refl) (λ n x xs. refl) (length fs) w.steps o.step (length w.files) (length v.files) t.files o.files);
       apart = λ a. o.apart (t.apart a);
     }
 
@@ -149,15 +120,7 @@ source_grows n k (source.File file index) h = next_grows n file k (nat_lt file n
 
 file_grows : (n k : ℕ) (s : Step) → file_after n s ≡ Some k → k ≤ n + 1
 file_grows n k (step.Chunk bind source) h = source_grows n k source h
-file_grows n k (step.Configure on config) h = grind (arith, same_Some n k h)
-file_grows n k (step.Decode on chunk) h = grind (arith, same_Some n k h)
-file_grows n k (step.Flush on bind) h = grind (arith, same_Some n k h)
-file_grows n k (step.Poll promise) h = grind (arith, same_Some n k h)
-file_grows n k (step.Await promise) h = grind (arith, same_Some n k h)
-file_grows n k (step.Reset on) h = grind (arith, same_Some n k h)
-file_grows n k (step.Close on) h = grind (arith, same_Some n k h)
-file_grows n k (step.State on) h = grind (arith, same_Some n k h)
-file_grows n k (step.Media s) h = grind (arith, same_Some n k h)
+file_grows n k _ h = grind (arith, same_Some n k h)
 
 pub files_grow : StepsAreSound → (codecs : List CodecItem) (i : ℕ) (w v : Walked) (d : Data) → counted_step_of codecs i w d ≡ Ok v → length w.files + w.room.steps ≤ 100000
     → length v.files + v.room.steps ≤ 100000
