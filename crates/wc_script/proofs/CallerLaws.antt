@@ -1,30 +1,18 @@
 -- Nothing is at fault in callers that were read.
-use Rattle.std.proofs.Common.{◌≡◌, ℕ, ◌+◌, ◌≤◌, ◌||◌, not, Bool, true, false, if◌then◌else◌, List, [], ◌∷◌, ◌++◌, length, codes, sum_by, Option, Some, None, option_and_then, Result, Ok, Err, refl, sym, ap, subst, ◌∙◌, arith}
+use Rattle.std.proofs.Common.{◌≡◌, ℕ, ◌+◌, ◌≤◌, ◌||◌, not, true, List, [], ◌∷◌, ◌++◌, length, codes, sum_by, Some, Ok, refl, ap, subst, arith}
 use Rattle.std.specs.List.{list_all}
-use Rattle.std.proofs.lemmas.List.{append_assoc, append-nil, length_push}
+use Rattle.std.proofs.lemmas.List.{length_push}
 use Rattle.std.proofs.lemmas.List.Sums.{sum_by_push}
-use Rattle.std.proofs.lemmas.Option.{same_Some}
 use Rattle.serde_json.specs.Data.{Data, Items, no_items, item}
-use Rattle.script_types.specs.declared.fault.Place.TheVariants as place
-use Rattle.script_types.specs.declared.script.CodecItem.{CodecItem}
-use Rattle.script_types.specs.declared.script.CallerItem.{CallerItem}
+use Rattle.script_types.specs.declared.{fault.Place.Place, script.CodecItem.CodecItem, script.CallerItem.CallerItem}
 use Rattle.script_types.specs.Names.{is_name, is_codec_name, is_caller_name}
 use Rattle.script_types.specs.Sound.{most_steps, most_media, is_sound_caller, are_sound_callers, are_sound_steps, are_small, bytes_of_caller, files_after, files_in, are_apart}
-use Rattle.chunk_files.specs.declared.fault.Stop.{Stop}
-use Rattle.script_types.specs.declared.fault.Wrong.{Wrong}
-use Rattle.chunk_files.specs.declared.fault.Stop.TheVariants as stop
-use Rattle.script_types.specs.declared.fault.Wrong.TheVariants as wrong
 use Rattle.script_steps.specs.Members.{needed, name_in, array_in}
 use Rattle.script_steps.specs.Chains.{same_Ok, chain, all_true}
-use Rattle.script_steps.specs.NameLaws.{name_is_name}
-use Rattle.wc_script.specs.declared.callers.Room.{Room}
-use Rattle.wc_script.specs.declared.callers.Walked.{Walked}
-use Rattle.wc_script.specs.declared.callers.Heard.{Heard}
-use Rattle.wc_script.specs.Faults.{at}
+use Rattle.script_steps.specs.{NameLaws.name_is_name, Soundness.StepsAreSound}
+use Rattle.wc_script.specs.{declared.callers.Room.Room, declared.callers.Walked.Walked, declared.callers.Heard.Heard, Faults.at, Walk.count_of}
 use Rattle.wc_script.specs.Callers.{heading_of, steps_of, caller_of, callers_of}
-use Rattle.wc_script.specs.Walk.{count_of}
 use Rattle.wc_script.proofs.Proceeds.{proceeds, read_at, unless, each_more, all_more, fold_more}
-use Rattle.script_steps.specs.Soundness.{StepsAreSound}
 use Rattle.wc_script.proofs.StepLaws.{SoundSteps, steps_sound}
 
 -- ---- the name
@@ -53,10 +41,10 @@ no_steps codecs fs room = record { steps = refl; count = omega arith; small = re
 one_caller : StepsAreSound → (codecs : List CodecItem) (cs : List CallerItem) (fs : List (List ℕ)) (room : Room) (d : Data) (h : Heard) → caller_of codecs cs fs room d ≡ Ok h → OneCaller codecs cs fs room h
 unfolding caller_of
 one_caller law codecs cs fs room d h e =
-    let name = proceeds (at (place.Caller (length cs)) (heading_of codecs cs d)) _ h e in
+    let name = proceeds (at (Place.Caller (length cs)) (heading_of codecs cs d)) _ h e in
     let start : Walked = record { steps = []; files = fs; room = room } in
     let w = proceeds (steps_of codecs (length cs) start name.value.1) _ h name.rest in
-    let new = new_name codecs cs d name.value (read_at (place.Caller (length cs)) (heading_of codecs cs d) name.value name.first) in
+    let new = new_name codecs cs d name.value (read_at (Place.Caller (length cs)) (heading_of codecs cs d) name.value name.first) in
     let t = steps_sound law codecs (length cs) fs room start name.value.1 w.value (no_steps codecs fs room) w.first in
     subst (λ x. OneCaller codecs cs fs room x) (same_Ok _ h w.rest) (record {
       sound = all_true (is_name name.value.0) _ new.0 (all_true _ (are_sound_steps codecs [] w.value.steps) new.1 t.steps);

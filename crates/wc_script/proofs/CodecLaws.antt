@@ -1,25 +1,17 @@
 -- Nothing is at fault in codecs that were read.
-use Rattle.std.proofs.Common.{◌≡◌, ℕ, ◌+◌, ◌&&◌, not, nat_le, Bool, true, false, if◌then◌else◌, List, [], ◌∷◌, ◌++◌, length, codes, Option, Some, None, option_and_then, Result, Ok, Err, refl, sym, ap, subst, ◌∙◌, arith}
-use Rattle.std.proofs.lemmas.List.{append_assoc, append-nil, length_push}
+use Rattle.std.proofs.Common.{◌≡◌, ℕ, ◌+◌, ◌&&◌, not, nat_le, true, List, [], ◌∷◌, ◌++◌, length, codes, Option, Some, None, option_and_then, Ok, refl, ap, subst, arith}
+use Rattle.std.proofs.lemmas.List.{length_push}
 use Rattle.std.proofs.lemmas.Option.{same_Some}
 use Rattle.serde_json.specs.Data.{Data, Items, no_items, item}
 use Rattle.serde_json.specs.Find.{get}
-use Rattle.script_types.specs.declared.fault.Place.TheVariants as place
+use Rattle.script_types.specs.{declared.fault.Place.Place, declared.script.CodecItem.CodecItem, Names.is_name, Names.is_codec_name}
 use Rattle.wc_base.specs.Options.{cond_is}
-use Rattle.wc_config.specs.declared.kind.Kind.{Kind}
-use Rattle.script_types.specs.declared.script.CodecItem.{CodecItem}
-use Rattle.script_types.specs.Names.{is_name, is_codec_name}
-use Rattle.script_types.specs.Sound.{is_sound_codec, are_sound_codecs}
-use Rattle.chunk_files.specs.declared.fault.Stop.{Stop}
-use Rattle.script_types.specs.declared.fault.Wrong.{Wrong}
-use Rattle.chunk_files.specs.declared.fault.Stop.TheVariants as stop
-use Rattle.script_types.specs.declared.fault.Wrong.TheVariants as wrong
+use Rattle.script_types.specs.{Sound.is_sound_codec, Sound.are_sound_codecs}
 use Rattle.script_steps.specs.Members.{needed, text_in, name_in, natural_of}
 use Rattle.script_steps.specs.Chains.{same_Ok, chain, needed_some, all_true}
 use Rattle.script_steps.specs.NameLaws.{name_is_name}
-use Rattle.wc_script.specs.Faults.{at}
+use Rattle.wc_script.specs.{Faults.at, Walk.count_of}
 use Rattle.wc_script.specs.Codecs.{kind_of, checked_saturation, saturation_of, codec_of, codecs_of}
-use Rattle.wc_script.specs.Walk.{count_of}
 use Rattle.wc_script.proofs.Proceeds.{proceeds, read_at, unless, each_more}
 
 -- ---- one codec
@@ -59,8 +51,8 @@ codecs_sound i before no_items cs s h =
     let n : length before ≡ length cs = ap length e in
     record { sound = subst (λ l. are_sound_codecs [] l ≡ true) e s; count = omega arith }
 codecs_sound i before (item d ds) cs s h =
-    let c = proceeds (at (place.Codec i) (codec_of before d)) _ cs h in
-    let one = codec_sound before d c.value (read_at (place.Codec i) (codec_of before d) c.value c.first) in
+    let c = proceeds (at (Place.Codec i) (codec_of before d)) _ cs h in
+    let one = codec_sound before d c.value (read_at (Place.Codec i) (codec_of before d) c.value c.first) in
     let t = codecs_sound (i + 1) (before ++ c.value ∷ []) ds cs (each_more is_sound_codec are_sound_codecs (λ b. refl) (λ b x xs. refl) [] before c.value s one) c.rest in
     let n = length_push before c.value in
     let m = t.count in

@@ -1,25 +1,18 @@
 -- The items of an order that was read name what is there.
-use Rattle.std.proofs.Common.{◌≡◌, ℕ, ◌+◌, nat_lt, Bool, true, false, cond, List, [], ◌∷◌, ◌++◌, length, codes, Option, Some, None, option_and_then, Ok, refl, subst, arith, zero, suc}
+use Rattle.std.proofs.Common.{◌≡◌, ℕ, ◌+◌, nat_lt, true, List, [], ◌∷◌, ◌++◌, length, codes, Option, Some, None, option_and_then, Ok, subst, arith, zero, suc}
 use Rattle.std.specs.List.{list_all}
 use Rattle.std.proofs.lemmas.List.{length_push}
 use Rattle.std.proofs.lemmas.Option.{same_Some}
 use Rattle.serde_json.specs.Data.{Data, Items, no_items, item}
 use Rattle.serde_json.specs.Find.{get, as_str}
-use Rattle.script_types.specs.declared.fault.Place.TheVariants as place
-use Rattle.script_types.specs.declared.script.CodecItem.{CodecItem}
-use Rattle.script_types.specs.declared.script.CallerItem.{CallerItem}
-use Rattle.script_types.specs.declared.script.OrderItem.{OrderItem}
-use Rattle.script_types.specs.declared.found.FoundCodec.{FoundCodec}
-use Rattle.script_types.specs.Names.{codec_named, caller_named}
+use Rattle.script_types.specs.declared.{fault.Place.Place, script.CodecItem.CodecItem, script.CallerItem.CallerItem, script.OrderItem.OrderItem}
+use Rattle.script_types.specs.{declared.found.FoundCodec.FoundCodec, Names.codec_named, Names.caller_named}
 use Rattle.script_types.specs.Sound.{any_kind, is_codec, is_sound_item}
 use Rattle.script_steps.specs.Members.{needed, known, checked_name, name_in, natural_of}
 use Rattle.script_steps.specs.Chains.{same_Ok, chain, known_some}
 use Rattle.script_steps.specs.NameLaws.{codec_is_there}
-use Rattle.wc_script.specs.declared.order.OrderWord.{OrderWord}
-use Rattle.wc_script.specs.declared.order.OrderWord.TheVariants as word
-use Rattle.wc_script.specs.Faults.{at}
+use Rattle.wc_script.specs.{declared.order.OrderWord.OrderWord, Faults.at, Walk.count_of}
 use Rattle.wc_script.specs.Order.{order_word_of, codec_in, codec_at, order_by, order_from, order_item_of, order_of}
-use Rattle.wc_script.specs.Walk.{count_of}
 use Rattle.wc_base.specs.Options.{cond_is}
 use Rattle.wc_script.proofs.Proceeds.{proceeds, read_at, all_more}
 
@@ -56,16 +49,16 @@ abbrev IsSoundItem : List CodecItem → List CallerItem → OrderItem → Type 0
 IsSoundItem codecs callers x = is_sound_item (length codecs) (length callers) x ≡ true
 
 by_word : (codecs : List CodecItem) (callers : List CallerItem) (d : Data) (w : OrderWord) (x : OrderItem) → order_by codecs d w ≡ Ok x → IsSoundItem codecs callers x
-by_word codecs callers d word.Start x h =
+by_word codecs callers d OrderWord.Start x h =
     let n = chain (codec_in (codes "start") codecs d) _ x h in
     subst (IsSoundItem codecs callers) (same_Ok _ x n.rest) (in_below (codes "start") codecs d n.value n.first)
-by_word codecs callers d word.Done x h =
+by_word codecs callers d OrderWord.Done x h =
     let c = chain (codec_at (codes "done") codecs d) _ x h in
     subst (IsSoundItem codecs callers) (same_Ok _ x c.rest) (at_below (codes "done") codecs d c.value c.first)
-by_word codecs callers d word.Turn x h =
+by_word codecs callers d OrderWord.Turn x h =
     let n = chain (codec_in (codes "turn") codecs d) _ x h in
     subst (IsSoundItem codecs callers) (same_Ok _ x n.rest) (in_below (codes "turn") codecs d n.value n.first)
-by_word codecs callers d word.Reclaim x h =
+by_word codecs callers d OrderWord.Reclaim x h =
     let c = chain (codec_at (codes "reclaim") codecs d) _ x h in
     subst (IsSoundItem codecs callers) (same_Ok _ x c.rest) (at_below (codes "reclaim") codecs d c.value c.first)
 
@@ -93,8 +86,8 @@ pub items_sound : (codecs : List CodecItem) (callers : List CallerItem) (i : ℕ
 items_sound codecs callers i before no_items xs s h =
     subst (λ l. SoundItems codecs callers before no_items l) (same_Ok before xs h) (record { sound = s; count = omega arith })
 items_sound codecs callers i before (item d ds) xs s h =
-    let x = proceeds (at (place.Order i) (order_item_of codecs callers d)) _ xs h in
-    let one = item_sound codecs callers d x.value (read_at (place.Order i) (order_item_of codecs callers d) x.value x.first) in
+    let x = proceeds (at (Place.Order i) (order_item_of codecs callers d)) _ xs h in
+    let one = item_sound codecs callers d x.value (read_at (Place.Order i) (order_item_of codecs callers d) x.value x.first) in
     let t = items_sound codecs callers (i + 1) (before ++ x.value ∷ []) ds xs (all_more (is_sound_item (length codecs) (length callers)) before x.value s one) x.rest in
     let n = length_push before x.value in
     record { sound = t.sound; count = omega (arith, n, t.count) }

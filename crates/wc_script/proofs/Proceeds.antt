@@ -3,10 +3,8 @@ use Rattle.std.proofs.Common.{◌≡◌, Bool, true, false, ◌&&◌, if◌then�
 use Rattle.std.proofs.lemmas.List.{append_assoc, append-nil}
 use Rattle.std.proofs.lemmas.Option.{same_Some}
 use Rattle.std.specs.List.{list_all}
-use Rattle.script_types.specs.declared.fault.Place.{Place}
+use Rattle.script_types.specs.declared.fault.{Place.Place, Fault.Fault, Wrong.Wrong}
 use Rattle.chunk_files.specs.declared.fault.Stop.{Stop}
-use Rattle.script_types.specs.declared.fault.Fault.{Fault}
-use Rattle.script_types.specs.declared.fault.Wrong.{Wrong}
 use Rattle.script_steps.specs.Chains.{same_Ok, all_true}
 use Rattle.wc_script.specs.Faults.{at, proceed}
 

@@ -1,35 +1,19 @@
 -- Nothing is at fault in a script that was read.
-use Rattle.std.proofs.Common.{◌≡◌, ℕ, ◌-◌, nat_le, Bool, true, false, if◌then◌else◌, List, [], length, codes, sum_by, Option, Some, None, Result, Ok, Err, refl, ap, subst, ◌∙◌, arith}
+use Rattle.std.proofs.Common.{◌≡◌, ℕ, ◌-◌, nat_le, Bool, true, false, List, [], length, codes, sum_by, Option, Some, None, Ok, refl, ap, subst, ◌∙◌, arith}
 use Rattle.std.specs.List.{list_all}
 use Rattle.std.proofs.lemmas.Bool.{le-leb, eq-eqb}
 use Rattle.std.proofs.lemmas.Option.{same_Some}
 use Rattle.serde_json.specs.Data.{Data, Items}
-use Rattle.script_types.specs.declared.fault.Place.TheVariants as place
-use Rattle.script_types.specs.declared.fault.Counted.{Counted}
-use Rattle.script_types.specs.declared.fault.Counted.TheVariants as counted
-use Rattle.chunk_files.specs.declared.fault.Stop.{Stop}
-use Rattle.script_types.specs.declared.fault.Fault.{Fault}
-use Rattle.chunk_files.specs.declared.fault.Stop.TheVariants as stop
-use Rattle.script_types.specs.declared.fault.Fault.TheVariants as fault
-use Rattle.script_types.specs.declared.script.CodecItem.{CodecItem}
-use Rattle.script_types.specs.declared.script.CallerItem.{CallerItem}
-use Rattle.script_types.specs.declared.script.OrderItem.{OrderItem}
-use Rattle.script_types.specs.declared.script.ScriptData.{ScriptData}
-use Rattle.script_types.specs.Limits.{limit_of}
-use Rattle.script_types.specs.Sound.{most_codecs, most_callers, most_steps, most_order, most_media, are_sound_codecs, are_sound_callers, are_small, bytes_of_caller, files_in, is_count, are_apart, are_sound_files, is_sound_item, counts_agree, is_sound_order, are_few, is_small_media, is_sound}
-use Rattle.script_types.specs.declared.fault.Wrong.TheVariants as wrong
-use Rattle.script_steps.specs.Members.{needed, array_in}
-use Rattle.script_steps.specs.Sources.{has}
+use Rattle.script_types.specs.declared.{fault.Place.Place, fault.Counted.Counted, script.CodecItem.CodecItem}
+use Rattle.script_types.specs.declared.script.{CallerItem.CallerItem, OrderItem.OrderItem, ScriptData.ScriptData}
+use Rattle.script_types.specs.{Limits.limit_of}
+use Rattle.script_types.specs.Sound.{most_codecs, most_callers, most_steps, most_order, most_media, are_sound_codecs, are_sound_callers, are_small, bytes_of_caller, files_in, is_count, are_apart, are_sound_files, counts_agree, is_sound_order, are_few, is_small_media, is_sound}
+use Rattle.script_steps.specs.{Members.needed, Members.array_in, Sources.has, Soundness.StepsAreSound}
 use Rattle.script_steps.specs.Chains.{same_Ok, chain, needed_some, all_true}
-use Rattle.wc_script.specs.Codecs.{codecs_of}
-use Rattle.wc_script.specs.Callers.{callers_of}
-use Rattle.wc_script.specs.Order.{order_of}
+use Rattle.wc_script.specs.{Codecs.codecs_of, Callers.callers_of, Order.order_of}
 use Rattle.wc_script.specs.Walk.{count_of, few, Parts, order_if_there, parts_with, parts_of, ordered, whole_room, walk_of}
 use Rattle.wc_script.proofs.Proceeds.{proceeds, read_at, only_if}
-use Rattle.wc_script.proofs.CodecLaws.{codecs_sound}
-use Rattle.script_steps.specs.Soundness.{StepsAreSound}
-use Rattle.wc_script.proofs.CallerLaws.{SoundCallers, callers_sound}
-use Rattle.wc_script.proofs.OrderLaws.{items_sound}
+use Rattle.wc_script.proofs.{CodecLaws.codecs_sound, CallerLaws.SoundCallers, CallerLaws.callers_sound, OrderLaws.items_sound}
 
 -- ---- the arrays
 
@@ -52,18 +36,18 @@ record AreFew (p : Parts) : Type 0 where
 few_parts : (d : Data) (p : Parts) → parts_of d ≡ Ok p → AreFew p
 unfolding parts_of
 few_parts d p h =
-    let a = proceeds (few counted.Codecs (array_in (codes "codecs") d)) _ p h in
-    let b = proceeds (few counted.Callers (array_in (codes "callers") d)) _ p a.rest in
-    let c = proceeds (few counted.Order (array_in (codes "order") d)) _ p b.rest in
+    let a = proceeds (few Counted.Codecs (array_in (codes "codecs") d)) _ p h in
+    let b = proceeds (few Counted.Callers (array_in (codes "callers") d)) _ p a.rest in
+    let c = proceeds (few Counted.Order (array_in (codes "order") d)) _ p b.rest in
     let there = has (codes "order") d in
-    let read = read_at place.Top (parts_with a.value b.value there c.value) p c.rest in
+    let read = read_at Place.Top (parts_with a.value b.value there c.value) p c.rest in
     let codecs = chain (needed a.value) _ p read in
     let callers = chain (needed b.value) _ p codecs.rest in
     let order = chain (order_if_there there c.value) _ p callers.rest in
     subst (λ x. AreFew x) (same_Ok _ p order.rest) (record {
-      codecs = few_of counted.Codecs (array_in (codes "codecs") d) codecs.value (a.first ∙ ap (λ o. Ok o) (needed_some a.value codecs.value codecs.first));
-      callers = few_of counted.Callers (array_in (codes "callers") d) callers.value (b.first ∙ ap (λ o. Ok o) (needed_some b.value callers.value callers.first));
-      order = λ ds e. few_of counted.Order (array_in (codes "order") d) ds (c.first ∙ ap (λ o. Ok o) (same_order there c.value order.value order.first ∙ e));
+      codecs = few_of Counted.Codecs (array_in (codes "codecs") d) codecs.value (a.first ∙ ap (λ o. Ok o) (needed_some a.value codecs.value codecs.first));
+      callers = few_of Counted.Callers (array_in (codes "callers") d) callers.value (b.first ∙ ap (λ o. Ok o) (needed_some b.value callers.value callers.first));
+      order = λ ds e. few_of Counted.Order (array_in (codes "order") d) ds (c.first ∙ ap (λ o. Ok o) (same_order there c.value order.value order.first ∙ e));
     })
 
 -- ---- the order

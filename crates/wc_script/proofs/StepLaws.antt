@@ -1,30 +1,16 @@
 -- What is known of the steps of a caller that were read.
-use Rattle.std.proofs.Common.{◌≡◌, ℕ, ◌+◌, ◌-◌, ◌≤◌, ◌==◌, nat_le, nat_lt, Bool, true, false, if◌then◌else◌, List, [], ◌∷◌, ◌++◌, length, sum_by, Option, Some, None, option_and_then, Result, Ok, Err, refl, sym, ap, subst, ◌∙◌, arith}
+use Rattle.std.proofs.Common.{◌≡◌, ℕ, ◌+◌, ◌≤◌, ◌==◌, nat_le, nat_lt, Bool, true, false, if◌then◌else◌, List, [], ◌∷◌, ◌++◌, length, sum_by, Option, Some, None, Ok, refl, ap, subst, ◌∙◌, arith}
 use Rattle.std.specs.List.{list_all}
 use Rattle.std.proofs.lemmas.Bool.{le-leb}
-use Rattle.std.proofs.lemmas.List.{append_assoc, append-nil, length_push}
+use Rattle.std.proofs.lemmas.List.{length_push}
 use Rattle.std.proofs.lemmas.List.Sums.{sum_by_push}
 use Rattle.std.proofs.lemmas.Option.{same_Some}
 use Rattle.serde_json.specs.Data.{Data, Items, no_items, item}
-use Rattle.script_types.specs.declared.fault.Place.TheVariants as place
-use Rattle.script_types.specs.declared.fault.Counted.TheVariants as counted
-use Rattle.script_types.specs.declared.script.CodecItem.{CodecItem}
-use Rattle.script_types.specs.declared.steps.ChunkSource.{ChunkSource}
-use Rattle.script_types.specs.declared.steps.ChunkSource.TheVariants as source
-use Rattle.script_types.specs.declared.steps.Step.{Step}
-use Rattle.script_types.specs.declared.steps.Step.TheVariants as step
+use Rattle.script_types.specs.declared.{fault.Place.Place, script.CodecItem.CodecItem, steps.ChunkSource.ChunkSource}
+use Rattle.script_types.specs.declared.{steps.Step.Step}
 use Rattle.script_types.specs.Sound.{most_chunk, is_sound_step, are_sound_steps, bytes_of_step, source_after, file_after, files_after, are_apart}
-use Rattle.chunk_files.specs.declared.fault.Stop.{Stop}
-use Rattle.script_types.specs.declared.fault.Fault.{Fault}
-use Rattle.chunk_files.specs.declared.fault.Stop.TheVariants as stop
-use Rattle.script_types.specs.declared.fault.Fault.TheVariants as fault
-use Rattle.script_steps.specs.Words.{inline_data, byte_count}
-use Rattle.script_steps.specs.Steps.{step_of}
-use Rattle.script_steps.specs.Chains.{same_Ok, all_true}
-use Rattle.script_steps.specs.Soundness.{StepsAreSound}
-use Rattle.wc_script.specs.declared.callers.Room.{Room}
-use Rattle.wc_script.specs.declared.callers.Walked.{Walked}
-use Rattle.wc_script.specs.Faults.{at}
+use Rattle.script_steps.specs.{Words.inline_data, Words.byte_count, Steps.step_of, Chains.same_Ok, Soundness.StepsAreSound}
+use Rattle.wc_script.specs.{declared.callers.Room.Room, declared.callers.Walked.Walked, Faults.at}
 use Rattle.wc_script.specs.Callers.{room_after, counted_step_of, steps_of}
 use Rattle.wc_script.proofs.Proceeds.{proceeds, read_at, unless, each_more, all_more, fold_more}
 
@@ -68,7 +54,7 @@ record OneStep (codecs : List CodecItem) (w : Walked) (v : Walked) : Type 0 wher
 one_step : StepsAreSound → (codecs : List CodecItem) (i : ℕ) (w v : Walked) (d : Data) → counted_step_of codecs i w d ≡ Ok v → OneStep codecs w v
 unfolding counted_step_of
 one_step law codecs i w v d h =
-    let p = place.Step i (length w.steps) in
+    let p = Place.Step i (length w.steps) in
     let room = proceeds (room_after w.room (byte_count (inline_data d))) _ v h in
     let s = proceeds (at p (step_of codecs w.files w.steps d)) _ v room.rest in
     let read = read_at p (step_of codecs w.files w.steps d) s.value s.first in
@@ -115,11 +101,11 @@ next_grows n file k false true h = grind (arith, same_Some (n + 1) k h)
 next_grows n file k false false h = absurd cc
 
 source_grows : (n k : ℕ) (s : ChunkSource) → source_after n s ≡ Some k → k ≤ n + 1
-source_grows n k (source.Init i) h = grind (arith, same_Some n k h)
-source_grows n k (source.File file index) h = next_grows n file k (nat_lt file n) (file == n) h
+source_grows n k (ChunkSource.Init i) h = grind (arith, same_Some n k h)
+source_grows n k (ChunkSource.File file index) h = next_grows n file k (nat_lt file n) (file == n) h
 
 file_grows : (n k : ℕ) (s : Step) → file_after n s ≡ Some k → k ≤ n + 1
-file_grows n k (step.Chunk bind source) h = source_grows n k source h
+file_grows n k (Step.Chunk bind source) h = source_grows n k source h
 file_grows n k _ h = grind (arith, same_Some n k h)
 
 pub files_grow : StepsAreSound → (codecs : List CodecItem) (i : ℕ) (w v : Walked) (d : Data) → counted_step_of codecs i w d ≡ Ok v → length w.files + w.room.steps ≤ 100000
