@@ -6,15 +6,11 @@ use Rattle.std.proofs.lemmas.Bool.{false≢true}
 use Rattle.std.proofs.lemmas.Option.{get_or_from_slice_get, slice_get_within}
 use Rattle.wc_base.specs.declared.who.By.{By}
 use Rattle.wc_config.specs.declared.codec.CoderId.{CoderId}
-use Rattle.coder_api.specs.declared.slot.SlotEntry.{SlotEntry}
-use Rattle.coder_api.specs.declared.slot.SlotOp.TheVariants as slot
+use Rattle.coder_api.specs.{declared.slot.SlotEntry.SlotEntry, declared.slot.SlotOp.SlotOp, Lent.Lent, Meaning.Meaning}
 use Rattle.slot_registry.specs.Boxes.{holder_of, is_out, made_of, out_of, least_free}
-use Rattle.coder_api.specs.Lent.{Lent}
-use Rattle.coder_api.specs.Meaning.{Meaning}
 use Rattle.slot_registry.specs.Slots.{SlotsValue, IsLeastFree, recorded, acquired, acquire_op, given_back, is_later}
 use Rattle.slot_registry.specs.Places.{Placed, ids_of, is_away, IsInStep, IsKept}
-use Rattle.slot_registry.specs.IdLaws.{ids_of-set}
-use Rattle.slot_registry.specs.NumberLaws.{find_fails}
+use Rattle.slot_registry.specs.{IdLaws.ids_of-set, NumberLaws.find_fails}
 use Rattle.slot_registry.proofs.Kept.{place_id, moves_keep, acquire_moves, give_moves, away_falls}
 
 -- a place of an id, which has the box with this number
@@ -48,7 +44,7 @@ free_is_home places history id k number p kept place least here =
     home_at places history id k number p kept place here ∙ ap not (find_fails (λ m. is_out id m history) (made_of id (ids_of places)) number least)
 
 -- the free box of least number goes out
-pub acquire_keeps : (places : List Placed) (history new : List SlotEntry) (id : CoderId) (k number : ℕ) (p q : Placed) (cause : By) → IsKept places history → IsPlaceOf places id k number → least_free id (ids_of places) history ≡ Some number → p ≡ get_or places k p → q ≡ record p { is_home = false } → new ≡ history ++ record { by = cause; op = slot.Acquire id number } ∷ [] → IsKept (set places k q) new
+pub acquire_keeps : (places : List Placed) (history new : List SlotEntry) (id : CoderId) (k number : ℕ) (p q : Placed) (cause : By) → IsKept places history → IsPlaceOf places id k number → least_free id (ids_of places) history ≡ Some number → p ≡ get_or places k p → q ≡ record p { is_home = false } → new ≡ history ++ record { by = cause; op = SlotOp.Acquire id number } ∷ [] → IsKept (set places k q) new
 acquire_keeps places history new id k number p q cause kept place least here left more =
     let same : id ≡ q.id = same_id places id k number p place here ∙ ap (λ (r : Placed). r.id) (sym left) in
     let ids = ids_of places in
@@ -56,12 +52,12 @@ acquire_keeps places history new id k number p q cause kept place least here lef
     let Before : CoderId → Type 0 = λ x. number ≡ made_of x (take k ids) in
     let Least : CoderId → Type 0 = λ x. least_free x ids history ≡ Some number in
     let moves = acquire_moves places history k number q cause (subst At same place.at) (subst Before same place.before) (subst Least same least) (ap (λ (r : Placed). r.is_home) left) in
-    let P : CoderId → Type 0 = λ x. IsKept (set places k q) (history ++ record { by = cause; op = slot.Acquire x number } ∷ []) in
+    let P : CoderId → Type 0 = λ x. IsKept (set places k q) (history ++ record { by = cause; op = SlotOp.Acquire x number } ∷ []) in
     let H : List SlotEntry → Type 0 = λ h. IsKept (set places k q) h in
-    subst H (sym more) (subst P (sym same) (moves_keep places history k q (record { by = cause; op = slot.Acquire q.id number }) kept moves))
+    subst H (sym more) (subst P (sym same) (moves_keep places history k q (record { by = cause; op = SlotOp.Acquire q.id number }) kept moves))
 
 -- a box comes back
-pub give_keeps : (places : List Placed) (history new : List SlotEntry) (id : CoderId) (k number : ℕ) (p q : Placed) (holder cause : By) → IsKept places history → IsPlaceOf places id k number → holder_of id number history ≡ Some holder → is_later holder cause ≡ true → p ≡ get_or places k p → q ≡ record p { is_home = true } → new ≡ history ++ record { by = cause; op = slot.Give id number } ∷ [] → IsKept (set places k q) new
+pub give_keeps : (places : List Placed) (history new : List SlotEntry) (id : CoderId) (k number : ℕ) (p q : Placed) (holder cause : By) → IsKept places history → IsPlaceOf places id k number → holder_of id number history ≡ Some holder → is_later holder cause ≡ true → p ≡ get_or places k p → q ≡ record p { is_home = true } → new ≡ history ++ record { by = cause; op = SlotOp.Give id number } ∷ [] → IsKept (set places k q) new
 give_keeps places history new id k number p q holder cause kept place held later here back more =
     let same : id ≡ q.id = same_id places id k number p place here ∙ ap (λ (r : Placed). r.id) (sym back) in
     let ids = ids_of places in
@@ -69,9 +65,9 @@ give_keeps places history new id k number p q holder cause kept place held later
     let Before : CoderId → Type 0 = λ x. number ≡ made_of x (take k ids) in
     let Held : CoderId → Type 0 = λ x. holder_of x number history ≡ Some holder in
     let moves = give_moves places history k number q holder cause (subst At same place.at) (subst Before same place.before) (subst Held same held) later (ap (λ (r : Placed). r.is_home) back) in
-    let P : CoderId → Type 0 = λ x. IsKept (set places k q) (history ++ record { by = cause; op = slot.Give x number } ∷ []) in
+    let P : CoderId → Type 0 = λ x. IsKept (set places k q) (history ++ record { by = cause; op = SlotOp.Give x number } ∷ []) in
     let H : List SlotEntry → Type 0 = λ h. IsKept (set places k q) h in
-    subst H (sym more) (subst P (sym same) (moves_keep places history k q (record { by = cause; op = slot.Give q.id number }) kept moves))
+    subst H (sym more) (subst P (sym same) (moves_keep places history k q (record { by = cause; op = SlotOp.Give q.id number }) kept moves))
 
 -- one box less is out then
 pub away_after : (places : List Placed) (history : List SlotEntry) (id : CoderId) (k number : ℕ) (p q : Placed) → IsKept places history → IsPlaceOf places id k number → is_out id number history ≡ true → p ≡ get_or places k p → q.is_home ≡ true → count_by is_away (set places k q) + 1 ≡ count_by is_away places
@@ -104,9 +100,9 @@ opens_kept places home = record {
 }
 
 -- the registry after a give, whose entry names the box as the caller does
-pub give_after : (s : SlotsValue) (places : List Placed) (history new : List SlotEntry) (k : ℕ) (id asked : CoderId) (number wanted : ℕ) (p q : Placed) (cause : By) → record { made = ids_of places; history = history } ≡ s → IsPlaceOf places id k number → p ≡ get_or places k p → q ≡ record p { is_home = true } → new ≡ history ++ record { by = cause; op = slot.Give id number } ∷ [] → id ≡ asked → number ≡ wanted → record { made = ids_of (set places k q); history = new } ≡ given_back cause asked wanted s
+pub give_after : (s : SlotsValue) (places : List Placed) (history new : List SlotEntry) (k : ℕ) (id asked : CoderId) (number wanted : ℕ) (p q : Placed) (cause : By) → record { made = ids_of places; history = history } ≡ s → IsPlaceOf places id k number → p ≡ get_or places k p → q ≡ record p { is_home = true } → new ≡ history ++ record { by = cause; op = SlotOp.Give id number } ∷ [] → id ≡ asked → number ≡ wanted → record { made = ids_of (set places k q); history = new } ≡ given_back cause asked wanted s
 give_after s places history new k id asked number wanted p q cause view place here back more same_id same_number =
-    value_after s places history new k id number p q true (record { by = cause; op = slot.Give id number }) view place here back more ∙ ap (λ (x : CoderId). given_back cause x number s) same_id ∙ ap (λ (n : ℕ). given_back cause asked n s) same_number
+    value_after s places history new k id number p q true (record { by = cause; op = SlotOp.Give id number }) view place here back more ∙ ap (λ (x : CoderId). given_back cause x number s) same_id ∙ ap (λ (n : ℕ). given_back cause asked n s) same_number
 
 -- who holds a box, as the registry's fields say
 pub held_inside : (s : SlotsValue) (places : List Placed) (history : List SlotEntry) (id asked : CoderId) (number wanted : ℕ) (holder : By) → record { made = ids_of places; history = history } ≡ s → id ≡ asked → number ≡ wanted → holder_of asked wanted s.history ≡ Some holder → holder_of id number history ≡ Some holder
@@ -114,10 +110,10 @@ held_inside s places history id asked number wanted holder view same_id same_num
     ap (λ (x : CoderId). holder_of x number history) same_id ∙ ap (λ (n : ℕ). holder_of asked n history) same_number ∙ ap (λ (v : SlotsValue). holder_of asked wanted v.history) view ∙ held
 
 -- the registry after the free box of least number went out
-pub acquire_after : (s : SlotsValue) (places : List Placed) (history new : List SlotEntry) (k : ℕ) (id : CoderId) (number : ℕ) (p q : Placed) (cause : By) → record { made = ids_of places; history = history } ≡ s → IsPlaceOf places id k number → least_free id (ids_of places) history ≡ Some number → p ≡ get_or places k p → q ≡ record p { is_home = false } → new ≡ history ++ record { by = cause; op = slot.Acquire id number } ∷ [] → record { made = ids_of (set places k q); history = new } ≡ acquired cause id s
+pub acquire_after : (s : SlotsValue) (places : List Placed) (history new : List SlotEntry) (k : ℕ) (id : CoderId) (number : ℕ) (p q : Placed) (cause : By) → record { made = ids_of places; history = history } ≡ s → IsPlaceOf places id k number → least_free id (ids_of places) history ≡ Some number → p ≡ get_or places k p → q ≡ record p { is_home = false } → new ≡ history ++ record { by = cause; op = SlotOp.Acquire id number } ∷ [] → record { made = ids_of (set places k q); history = new } ≡ acquired cause id s
 acquire_after s places history new k id number p q cause view place least here left more =
     let free : least_free id s.made s.history ≡ Some number = ap (λ (v : SlotsValue). least_free id v.made v.history) (sym view) ∙ least in
-    value_after s places history new k id number p q false (record { by = cause; op = slot.Acquire id number }) view place here left more ∙ ap (λ (o : Option ℕ). recorded (record { by = cause; op = acquire_op id (out_of id s.made s.history) (made_of id s.made) o }) s) (sym free)
+    value_after s places history new k id number p q false (record { by = cause; op = SlotOp.Acquire id number }) view place here left more ∙ ap (λ (o : Option ℕ). recorded (record { by = cause; op = acquire_op id (out_of id s.made s.history) (made_of id s.made) o }) s) (sym free)
 
 -- a place, as a call with the registry's value finds it
 pub place_inside : (s : SlotsValue) (places : List Placed) (history : List SlotEntry) (id : CoderId) (k number : ℕ) → record { made = ids_of places; history = history } ≡ s → slice_get s.made k ≡ Some id → number ≡ made_of id (take k s.made) → IsPlaceOf places id k number

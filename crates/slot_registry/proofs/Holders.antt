@@ -3,20 +3,15 @@ use Rattle.std.proofs.Common.{ℕ, ◌≡◌, ◌==◌, Bool, true, false, cond,
 use Rattle.std.proofs.lemmas.Bool.{false_from_ne_true, false≢true, and_parts, eqb-true}
 use Rattle.wc_base.specs.declared.who.By.{By}
 use Rattle.wc_config.specs.declared.codec.CoderId.{CoderId}
-use Rattle.coder_api.specs.Lent.{Lent}
-use Rattle.coder_api.specs.Meaning.{is_id}
-use Rattle.coder_api.specs.declared.slot.SlotEntry.{SlotEntry}
-use Rattle.coder_api.specs.declared.slot.SlotOp.TheVariants as slot
+use Rattle.coder_api.specs.{Lent.Lent, Meaning.is_id, declared.slot.SlotEntry.SlotEntry, declared.slot.SlotOp.SlotOp}
 use Rattle.slot_registry.specs.Boxes.{is_box, holder_of, is_out, made_of, out_of, least_free}
 use Rattle.slot_registry.specs.Slots.{SlotsValue, recorded, acquired, acquire_op, given_back, IsHeld, KeepsBoxes, KeepsOthers, IsLeastFree}
-use Rattle.slot_registry.specs.IdLaws.{id_is}
-use Rattle.slot_registry.specs.NumberLaws.{find_fails}
-use Rattle.slot_registry.specs.HistoryLaws.{holder_more, box_same}
+use Rattle.slot_registry.specs.{IdLaws.id_is, NumberLaws.find_fails, HistoryLaws.holder_more, HistoryLaws.box_same}
 
 -- the box that goes out is held by its cause
 pub acquired_is_held : (s new : SlotsValue) (cause : By) (id : CoderId) (lent : Lent) → IsLeastFree cause id s lent → new ≡ acquired cause id s → IsHeld new lent
 acquired_is_held s new cause id lent least is =
-    let e : SlotEntry = record { by = cause; op = slot.Acquire id lent.number } in
+    let e : SlotEntry = record { by = cause; op = SlotOp.Acquire id lent.number } in
     let after : SlotsValue = recorded e s in
     let op : new ≡ after = is ∙ ap (λ (o : Option ℕ). recorded (record { by = cause; op = acquire_op id (out_of id s.made s.history) (made_of id s.made) o }) s) least.number in
     let here : holder_of id lent.number after.history ≡ Some cause = holder_more id lent.number s.history e ∙ ap (λ (b : Bool). cond b (Some cause) (holder_of id lent.number s.history)) (box_same id lent.number) in
@@ -33,11 +28,11 @@ free_apart s id number lent free held = false_from_ne_true (is_box lent.id lent.
     false≢true (sym free ∙ out_too))
 
 op_keeps_boxes : (s : SlotsValue) (cause : By) (id : CoderId) (out all : ℕ) (free : Option ℕ) → least_free id s.made s.history ≡ free → (lent : Lent) → IsHeld s lent → IsHeld (recorded (record { by = cause; op = acquire_op id out all free }) s) lent
-op_keeps_boxes s cause id out all None free lent held = holder_more lent.id lent.number s.history (record { by = cause; op = slot.Refused id out all }) ∙ held
+op_keeps_boxes s cause id out all None free lent held = holder_more lent.id lent.number s.history (record { by = cause; op = SlotOp.Refused id out all }) ∙ held
 op_keeps_boxes s cause id out all (Some number) free lent held =
     let not_out = find_fails (λ m. is_out id m s.history) (made_of id s.made) number free in
     let apart = free_apart s id number lent not_out held in
-    holder_more lent.id lent.number s.history (record { by = cause; op = slot.Acquire id number }) ∙ ap (λ (b : Bool). cond b (Some cause) (holder_of lent.id lent.number s.history)) apart ∙ held
+    holder_more lent.id lent.number s.history (record { by = cause; op = SlotOp.Acquire id number }) ∙ ap (λ (b : Bool). cond b (Some cause) (holder_of lent.id lent.number s.history)) apart ∙ held
 
 -- an acquire leaves the boxes that are out with their holders
 pub acquire_keeps_boxes : (cause : By) (id : CoderId) (s : SlotsValue) → KeepsBoxes s (acquired cause id s)
@@ -45,5 +40,5 @@ acquire_keeps_boxes cause id s = record { stay = op_keeps_boxes s cause id (out_
 
 pub give_keeps_others : (s : SlotsValue) (cause : By) (id : CoderId) (number : ℕ) → KeepsOthers s (given_back cause id number s) id number
 give_keeps_others s cause id number = record {
-  stay = λ lent apart held. holder_more lent.id lent.number s.history (record { by = cause; op = slot.Give id number }) ∙ ap (λ (b : Bool). cond b None (holder_of lent.id lent.number s.history)) apart ∙ held;
+  stay = λ lent apart held. holder_more lent.id lent.number s.history (record { by = cause; op = SlotOp.Give id number }) ∙ ap (λ (b : Bool). cond b None (holder_of lent.id lent.number s.history)) apart ∙ held;
 }

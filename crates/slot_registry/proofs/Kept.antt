@@ -7,9 +7,7 @@ use Rattle.std.proofs.lemmas.Option.{slice_get-get_or, slice_get-map}
 use Rattle.std.proofs.lemmas.List.Sums.{sum_by-set, count_by-le-length}
 use Rattle.wc_base.specs.declared.who.By.{By}
 use Rattle.wc_config.specs.declared.codec.CoderId.{CoderId}
-use Rattle.coder_api.specs.declared.slot.SlotEntry.{SlotEntry}
-use Rattle.coder_api.specs.declared.slot.SlotOp.TheVariants as slot
-use Rattle.coder_api.specs.Meaning.{is_id}
+use Rattle.coder_api.specs.{declared.slot.SlotEntry.SlotEntry, declared.slot.SlotOp.SlotOp, Meaning.is_id}
 use Rattle.slot_registry.specs.Boxes.{is_box, holder_of, is_out, made_of, out_of, least_free}
 use Rattle.slot_registry.specs.Slots.{is_legal_next, is_legal_slots, is_later}
 use Rattle.slot_registry.specs.Places.{Placed, ids_of, is_away, IsInStep, IsKept}
@@ -85,13 +83,13 @@ moves_keep places history k p e kept moves =
     }
 
 -- the box of a place goes out
-pub acquire_moves : (places : List Placed) (history : List SlotEntry) (k number : ℕ) (p : Placed) (cause : By) → slice_get (ids_of places) k ≡ Some p.id → number ≡ made_of p.id (take k (ids_of places)) → least_free p.id (ids_of places) history ≡ Some number → p.is_home ≡ false → Moves (ids_of places) history k p (record { by = cause; op = slot.Acquire p.id number })
+pub acquire_moves : (places : List Placed) (history : List SlotEntry) (k number : ℕ) (p : Placed) (cause : By) → slice_get (ids_of places) k ≡ Some p.id → number ≡ made_of p.id (take k (ids_of places)) → least_free p.id (ids_of places) history ≡ Some number → p.is_home ≡ false → Moves (ids_of places) history k p (record { by = cause; op = SlotOp.Acquire p.id number })
 acquire_moves places history k number p cause at before least away =
     let ids = ids_of places in
     record {
       at = at;
       this =
-          let P : ℕ → Type 0 = λ n. is_out p.id n (history ++ record { by = cause; op = slot.Acquire p.id number } ∷ []) ≡ true in
+          let P : ℕ → Type 0 = λ n. is_out p.id n (history ++ record { by = cause; op = SlotOp.Acquire p.id number } ∷ []) ≡ true in
           subst P before (goes_out p.id number history cause) ∙ ap not (sym away);
       others = λ id other apart.
           let P : ℕ → Type 0 = λ n. is_box id other p.id n ≡ false in
@@ -100,13 +98,13 @@ acquire_moves places history k number p cause at before least away =
     }
 
 -- the box of a place comes back
-pub give_moves : (places : List Placed) (history : List SlotEntry) (k number : ℕ) (p : Placed) (holder cause : By) → slice_get (ids_of places) k ≡ Some p.id → number ≡ made_of p.id (take k (ids_of places)) → holder_of p.id number history ≡ Some holder → is_later holder cause ≡ true → p.is_home ≡ true → Moves (ids_of places) history k p (record { by = cause; op = slot.Give p.id number })
+pub give_moves : (places : List Placed) (history : List SlotEntry) (k number : ℕ) (p : Placed) (holder cause : By) → slice_get (ids_of places) k ≡ Some p.id → number ≡ made_of p.id (take k (ids_of places)) → holder_of p.id number history ≡ Some holder → is_later holder cause ≡ true → p.is_home ≡ true → Moves (ids_of places) history k p (record { by = cause; op = SlotOp.Give p.id number })
 give_moves places history k number p holder cause at before held later home =
     let ids = ids_of places in
     record {
       at = at;
       this =
-          let P : ℕ → Type 0 = λ n. is_out p.id n (history ++ record { by = cause; op = slot.Give p.id number } ∷ []) ≡ false in
+          let P : ℕ → Type 0 = λ n. is_out p.id n (history ++ record { by = cause; op = SlotOp.Give p.id number } ∷ []) ≡ false in
           subst P before (comes_back p.id number history cause) ∙ ap not (sym home);
       others = λ id other apart.
           let P : ℕ → Type 0 = λ n. is_box id other p.id n ≡ false in
@@ -115,11 +113,11 @@ give_moves places history k number p holder cause at before held later home =
     }
 
 -- a refusal leaves all boxes where they are
-pub refusal_keeps : (places : List Placed) (history : List SlotEntry) (id : CoderId) (all : ℕ) (cause : By) → IsKept places history → out_of id (ids_of places) history ≡ all → made_of id (ids_of places) ≡ all → IsKept places (history ++ record { by = cause; op = slot.Refused id all all } ∷ [])
+pub refusal_keeps : (places : List Placed) (history : List SlotEntry) (id : CoderId) (all : ℕ) (cause : By) → IsKept places history → out_of id (ids_of places) history ≡ all → made_of id (ids_of places) ≡ all → IsKept places (history ++ record { by = cause; op = SlotOp.Refused id all all } ∷ [])
 refusal_keeps places history id all cause kept out made = record {
   in_step = λ j d within. kept.in_step j d within ∙ ap not (sym (stays_at_refusal id all all history cause (get_or places j d).id (made_of (get_or places j d).id (take j (ids_of places)))));
   made = λ other number is. kept.made other number (sym (stays_at_refusal id all all history cause other number) ∙ is);
-  legal = legal_more (ids_of places) history (record { by = cause; op = slot.Refused id all all }) kept.legal (refusal_is_legal (ids_of places) history cause id all out made);
+  legal = legal_more (ids_of places) history (record { by = cause; op = SlotOp.Refused id all all }) kept.legal (refusal_is_legal (ids_of places) history cause id all out made);
 }
 
 -- so many boxes are out

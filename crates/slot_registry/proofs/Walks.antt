@@ -5,10 +5,8 @@ use Rattle.std.proofs.lemmas.Option.{get_or_from_slice_get, slice_get_within}
 use Rattle.std.proofs.lemmas.Bool.{not-false, not-true}
 use Rattle.std.proofs.lemmas.List.Sums.{count_by_more_no}
 use Rattle.wc_config.specs.declared.codec.CoderId.{CoderId}
-use Rattle.coder_api.specs.declared.slot.SlotEntry.{SlotEntry}
-use Rattle.coder_api.specs.Meaning.{is_id}
-use Rattle.slot_registry.specs.Boxes.{is_out, made_of}
-use Rattle.slot_registry.specs.Slots.{SlotsValue}
+use Rattle.coder_api.specs.{declared.slot.SlotEntry.SlotEntry, Meaning.is_id}
+use Rattle.slot_registry.specs.{Boxes.is_out, Boxes.made_of, Slots.SlotsValue}
 use Rattle.slot_registry.specs.Places.{Placed, ids_of, IsInStep, IsKept, IsFreeAt, AreAllOut}
 use Rattle.slot_registry.specs.IdLaws.{id_is, made_of_more, number_made}
 use Rattle.slot_registry.specs.NumberLaws.{find-all, find-first, count_by-all}

@@ -1,13 +1,11 @@
 use Rattle.std.proofs.Common.{◌≡◌, sym, ap, ◌∙◌, arith, subst, List, is_some, ◌+◌, ◌≤◌, ◌∷◌, ◌++◌, [], rules, vec_len, vec_capacity, set}
 use Rattle.std.proofs.lemmas.List.{length-set}
-use Rattle.coder_api.specs.declared.slot.SlotOp.TheVariants as slot
-use Rattle.coder_api.specs.declared.slot.SlotEntry.{SlotEntry}
+use Rattle.coder_api.specs.declared.slot.{SlotOp.SlotOp, SlotEntry.SlotEntry}
 use Rattle.std.proofs.lemmas.Bool.{false≢true}
 use Rattle.slot_registry.specs.Places.{ids_of, IsKept, IsFreeAt, AreAllOut}
-use Rattle.slot_registry.proofs.Kept.{away_is_within, refusal_keeps}
+use Rattle.slot_registry.proofs.{Kept.away_is_within, Kept.refusal_keeps, Holders.acquired_is_held, Holders.acquire_keeps_boxes}
 use Rattle.slot_registry.proofs.Changes.{IsPlaceOf, same_id, free_is_home, acquire_keeps, acquire_after, least_inside}
 use Rattle.slot_registry.specs.Slots.{SlotsValue, KeepsBoxes}
-use Rattle.slot_registry.proofs.Holders.{acquired_is_held, acquire_keeps_boxes}
 use Rattle.slot_registry.proofs.slots.Slots.acquire.Goals as goal
 
 pub unreachable-requires : goal.unreachable-requires
@@ -69,7 +67,7 @@ returns-in-Some-clause-acquired g c =
     let F : List SlotEntry → Type 0 = λ h. IsFreeAt id (record { made = ids_of places; history = h }) k number in
     let free = subst F c.reserve.ensures.items c.in-Free.ensures in
     let place : IsPlaceOf places id k number = record { at = free.at; before = free.before } in
-    let more = c.push_reserved.ensures.items ∙ ap (λ (h : List SlotEntry). h ++ record { by = c.args.by; op = slot.Acquire id number } ∷ []) c.reserve.ensures.items in
+    let more = c.push_reserved.ensures.items ∙ ap (λ (h : List SlotEntry). h ++ record { by = c.args.by; op = SlotOp.Acquire id number } ∷ []) c.reserve.ensures.items in
     acquire_after c.args.self.now places history c.push_reserved.new.self.items k id number p c.take.new.self c.args.by c.self.view_is place free.least c.index_mut.ensures.value c.take.ensures.left more
 
 pub returns-in-Some-clause-held : goal.returns-in-Some-clause-held

@@ -1,6 +1,5 @@
 use Rattle.std.proofs.Common.{◌≡◌, ◌≤◌, take}
-use Rattle.slot_registry.specs.Boxes.{made_of}
-use Rattle.slot_registry.specs.Places.{ids_of}
+use Rattle.slot_registry.specs.{Boxes.made_of, Places.ids_of}
 use Rattle.slot_registry.proofs.slots.Slots.made.Given as goal
 
 abbrev pub invariant-loop-place : goal.invariant-loop-place

@@ -1,8 +1,7 @@
 use Rattle.std.proofs.Common.{◌≡◌, sym, ap, ◌∙◌, ◌++◌, arith, subst, length, map, List, [], ◌∷◌}
 use Rattle.std.specs.Vec.Iter.{into_iter_items}
 use Rattle.slot_registry.proofs.Opens.{ids_step, ids_end, home_step, nothing_left, away_none}
-use Rattle.slot_registry.specs.Places.{Placed, IsKept}
-use Rattle.slot_registry.specs.Slots.{SlotsValue}
+use Rattle.slot_registry.specs.{Places.Placed, Places.IsKept, Slots.SlotsValue}
 use Rattle.coder_api.specs.declared.slot.SlotEntry.{SlotEntry}
 use Rattle.wc_config.specs.declared.codec.CoderId.{CoderId}
 use Rattle.slot_registry.proofs.Changes.{opens_kept}

@@ -1,6 +1,5 @@
 use Rattle.std.proofs.Common.{◌≡◌, ◌≤◌, take, true}
-use Rattle.slot_registry.specs.Boxes.{made_of, is_out}
-use Rattle.slot_registry.specs.Places.{ids_of, IsKept}
+use Rattle.slot_registry.specs.{Boxes.made_of, Boxes.is_out, Places.ids_of, Places.IsKept}
 use Rattle.slot_registry.proofs.slots.Slots.place_of.Given as goal
 
 abbrev pub invariant-loop-place : goal.invariant-loop-place
