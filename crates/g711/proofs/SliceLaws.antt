@@ -5,10 +5,8 @@ use Rattle.std.proofs.lemmas.List.{take_all, length-drop, length-take, get_or-ta
 use Rattle.std.proofs.lemmas.Slice.{take-put_mid}
 use borrow.Rule.Slice.PartMut.{put_mid, same_len_mid}
 use Rattle.std.specs.List.{flat_map, range_with_len}
-use Rattle.codec_definitions.specs.Pcm.{spelled}
-use Rattle.codec_definitions.specs.SampleCodecs.{decoded_at}
-use Rattle.g711.specs.declared.law.Law.{Law}
-use Rattle.g711.specs.Slices.{value_in, codec_of}
+use Rattle.codec_definitions.specs.{Pcm.spelled, SampleCodecs.decoded_at}
+use Rattle.g711.specs.{declared.law.Law.Law, Slices.value_in, Slices.codec_of}
 
 more : (f : ℕ → List ℕ) (a n j : ℕ) → a + n ≡ j → flat_map f (range_with_len a (suc n)) ≡ flat_map f (range_with_len a n) ++ f j
 more f a zero j e = append-nil (f a) ∙ ap f (sym (add-zero a) ∙ e)

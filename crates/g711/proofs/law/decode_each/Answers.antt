@@ -2,8 +2,7 @@ use Rattle.std.proofs.Common.{◌∙◌, length, ap, arith}
 use mir.Syntax.{w16}
 use mir.Val.{SFits}
 use Rattle.std.proofs.lemmas.Int.{to_z-of_z}
-use Rattle.codec_definitions.specs.Pcm.{spelled}
-use Rattle.codec_definitions.specs.SampleCodecs.{decoded_at}
+use Rattle.codec_definitions.specs.{Pcm.spelled, SampleCodecs.decoded_at}
 use Rattle.g711.specs.Slices.{codec_of}
 use Rattle.g711.proofs.SliceLaws.{pair_next, all_written, decoded_here}
 use Rattle.g711.proofs.law.decode_each.Goals as goal
