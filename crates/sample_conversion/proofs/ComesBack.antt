@@ -5,7 +5,6 @@ use Rattle.std.proofs.Math.IntN.{pos-*ℤ-pos, negsuc-*ℤ-pos}
 use Rattle.std.proofs.lemmas.Bool.{cases_lt, lt-ltb, le-ltb}
 use Rattle.std.specs.Int.{int_div_euclid}
 use Rattle.wc_base.specs.declared.media.SampleFormat.{SampleFormat}
-use Rattle.wc_base.specs.declared.media.SampleFormat.TheVariants as format
 use Rattle.codec_definitions.specs.Pcm.{little_endian, bytes_of, signed, sample_of, spelled, converted}
 use Rattle.sample_conversion.specs.Sizes.{AreBytes, SixteenBitsComeBack}
 use Rattle.sample_conversion.proofs.Samples.{little_bound, times_one, negated, unsigned_signed_16}
@@ -67,9 +66,9 @@ from_32 f s a short =
     again_as (converted 32 16 (sample_of 4 s)) (little_endian s / 65536) (omega (arith, small)) (lowered (little_endian s) small)
 
 pub come_back : SixteenBitsComeBack
-come_back format.U8 s a short = from_8 format.U8 s a short
-come_back format.U8Planar s a short = from_8 format.U8Planar s a short
-come_back format.S16 s a short = from_16 format.S16 s a short
-come_back format.S16Planar s a short = from_16 format.S16Planar s a short
-come_back format.S32 s a short = from_32 format.S32 s a short
-come_back format.S32Planar s a short = from_32 format.S32Planar s a short
+come_back SampleFormat.U8 s a short = from_8 SampleFormat.U8 s a short
+come_back SampleFormat.U8Planar s a short = from_8 SampleFormat.U8Planar s a short
+come_back SampleFormat.S16 s a short = from_16 SampleFormat.S16 s a short
+come_back SampleFormat.S16Planar s a short = from_16 SampleFormat.S16Planar s a short
+come_back SampleFormat.S32 s a short = from_32 SampleFormat.S32 s a short
+come_back SampleFormat.S32Planar s a short = from_32 SampleFormat.S32Planar s a short

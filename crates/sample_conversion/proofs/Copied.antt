@@ -4,11 +4,8 @@ use Rattle.std.proofs.Math.Nat.{zero-mul, mul-zero, suc-mul, mul_comm, add_comm,
 use Rattle.std.proofs.lemmas.Bool.{eqb-true}
 use Rattle.std.proofs.lemmas.List.{take_all}
 use Rattle.std.specs.List.{flat_map, range_with_len}
-use Rattle.wc_base.specs.declared.media.SampleFormat.{SampleFormat}
-use Rattle.wc_base.specs.declared.media.SampleFormat.TheVariants as format
-use Rattle.wc_base.specs.declared.media.SoundShape.{SoundShape}
+use Rattle.wc_base.specs.declared.media.{SampleFormat.SampleFormat, SoundShape.SoundShape}
 use Rattle.sample_conversion.specs.declared.size.SampleSize.{SampleSize}
-use Rattle.sample_conversion.specs.declared.size.SampleSize.TheVariants as size
 use Rattle.codec_definitions.specs.Pcm.{resized_at, format_size, is_planar, interleaved, is_whole}
 use Rattle.sample_conversion.proofs.Samples.{IsSame, same_front, same_1, same_2, same_4}
 use Rattle.sample_conversion.specs.Sizes.{AreBytes, size_of, is_same}
@@ -59,18 +56,18 @@ interleaved_same size shape bytes same small turn sizes whole =
     placed size (format_size shape.format) (is_planar shape.format) shape.frames shape.channels bytes turn sizes ∙ (framed (resized_at size size bytes) shape.channels 0 shape.frames ∙ (ap (λ (k : ℕ). flat_map (resized_at size size bytes) (range_with_len k samples)) (zero-mul shape.channels) ∙ (same_front size bytes same small 0 samples room ∙ rw (count, mul-zero size) (take_all (length bytes) bytes (le_refl (length bytes))))))
 
 no_three : (f : SampleFormat) → format_size f ≡ 3 → ⊥
-no_three format.U8 e = omega (arith, e)
-no_three format.S16 e = omega (arith, e)
-no_three format.S32 e = omega (arith, e)
-no_three format.U8Planar e = omega (arith, e)
-no_three format.S16Planar e = omega (arith, e)
-no_three format.S32Planar e = omega (arith, e)
+no_three SampleFormat.U8 e = omega (arith, e)
+no_three SampleFormat.S16 e = omega (arith, e)
+no_three SampleFormat.S32 e = omega (arith, e)
+no_three SampleFormat.U8Planar e = omega (arith, e)
+no_three SampleFormat.S16Planar e = omega (arith, e)
+no_three SampleFormat.S32Planar e = omega (arith, e)
 
 kept : (k : SampleSize) (f : SampleFormat) → format_size f ≡ size_of k → IsSame (size_of k)
-kept size.One f e = same_1
-kept size.Two f e = same_2
-kept size.Three f e = absurd (no_three f e)
-kept size.Four f e = same_4
+kept SampleSize.One f e = same_1
+kept SampleSize.Two f e = same_2
+kept SampleSize.Three f e = absurd (no_three f e)
+kept SampleSize.Four f e = same_4
 
 not_true : (b : Bool) → not b ≡ true → b ≡ false
 not_true true e = absurd (no e)

@@ -1,6 +1,5 @@
 use Rattle.std.proofs.Common.{ℕ, ◌≡◌, ◌<◌, ◌+◌, ◌-◌, ◌∙◌, length, arith}
-use Rattle.sample_conversion.proofs.Shared.{are_bytes}
-use Rattle.sample_conversion.proofs.Layouts.{straight, straight_room}
+use Rattle.sample_conversion.proofs.{Shared.are_bytes, Layouts.straight, Layouts.straight_room}
 use Rattle.sample_conversion.proofs.copy.copy_straight.Goals as goal
 
 pub returns-then-count-gt0 : goal.returns-then-count-gt0
