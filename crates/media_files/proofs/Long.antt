@@ -2,13 +2,12 @@
 use Rattle.std.proofs.Common.{ℕ, ◌<◌, List, length, Option, Some, None, Err}
 use Rattle.std.specs.Prelude.{MatchOption, IsSomeAnd}
 use Rattle.wc_base.specs.Causes.{RoseBy}
-use Rattle.script_types.specs.declared.fault.Counted.TheVariants as counted
-use Rattle.script_types.specs.declared.fault.Fault.TheVariants as fault
-use Rattle.chunk_files.specs.declared.fault.Stop.TheVariants as stop
+use Rattle.script_types.specs.declared.fault.{Counted.Counted, Fault.Fault}
+use Rattle.chunk_files.specs.declared.fault.Stop.{Stop}
 use Rattle.media_files.specs.Media.{Answer, FileGives}
 
 abbrev pub long_file : Answer
-long_file = Err (stop.Fault (fault.TooMany counted.File))
+long_file = Err (Stop.Fault (Fault.TooMany Counted.File))
 
 long_bytes : (room : ℕ) (name : List ℕ) (bytes : Option (List ℕ)) → IsSomeAnd bytes (λ b. 268435456 < length b)
     → FileGives room name bytes long_file

@@ -1,13 +1,8 @@
 -- The chunk files of a script have one reading, as the bytes of a chunk file have.
 use Rattle.std.proofs.Common.{ℕ, ◌≡◌, ◌+◌, ◌-◌, ◌<◌, ◌≤◌, inl, inr, true, false, List, [], ◌∷◌, Option, Some, None, Result, Ok, Err, refl, ap, sym, subst, ◌∙◌, arith}
 use Rattle.wc_chunk.specs.declared.chunk.Chunk.{Chunk}
-use Rattle.chunk_files.specs.declared.fault.ChunkFault.{ChunkFault}
-use Rattle.chunk_files.specs.Grammar.{IsChunkFile, IsFirstFault}
-use Rattle.script_types.specs.declared.fault.Counted.TheVariants as counted
-use Rattle.script_types.specs.declared.fault.Fault.{Fault}
-use Rattle.script_types.specs.declared.fault.Fault.TheVariants as fault
-use Rattle.chunk_files.specs.declared.fault.Stop.{Stop}
-use Rattle.chunk_files.specs.declared.fault.Stop.TheVariants as stop
+use Rattle.chunk_files.specs.{declared.fault.ChunkFault.ChunkFault, Grammar.IsChunkFile, Grammar.IsFirstFault, declared.fault.Stop.Stop}
+use Rattle.script_types.specs.declared.fault.{Counted.Counted, Fault.Fault}
 use Rattle.media_files.specs.Media.{Answer, Answers, media_of, are_small, AreChunks, FileGives, FilesGive}
 
 abbrev pub OneFile : Type 0
@@ -37,40 +32,40 @@ same k bytes a b p q = k.file bytes a b p.file q.file
 
 -- a file gives one answer
 pub one_answer : (k : OneOfEach) (room : ℕ) (name : List ℕ) (bytes : Option (List ℕ)) (a b : Answer) → FileGives room name bytes a → FileGives room name bytes b → a ≡ b
-one_answer k room name None (Err (stop.Fault (fault.Unread x))) (Err (stop.Fault (fault.Unread y))) p q = ap (λ m. Err (stop.Fault (fault.Unread m))) (p ∙ sym q)
-one_answer k room name None (Err (stop.Fault (fault.Unread x))) b p q = elim q [ ]
+one_answer k room name None (Err (Stop.Fault (Fault.Unread x))) (Err (Stop.Fault (Fault.Unread y))) p q = ap (λ m. Err (Stop.Fault (Fault.Unread m))) (p ∙ sym q)
+one_answer k room name None (Err (Stop.Fault (Fault.Unread x))) b p q = elim q [ ]
 one_answer k room name None a b p q = elim p [ ]
-one_answer k room name (Some bytes) (Err (stop.Fault (fault.TooMany counted.File))) (Err (stop.Fault (fault.TooMany counted.File))) p q = refl
-one_answer k room name (Some bytes) (Err (stop.Fault (fault.TooMany counted.File))) (Err (stop.Fault (fault.Chunks y f))) p (is, le, h) = absurd (omega arith)
-one_answer k room name (Some bytes) (Err (stop.Fault (fault.TooMany counted.File))) (Err (stop.Fault (fault.TooMany counted.Chunk))) p (cs, h, small) = absurd (omega (arith, h.short))
-one_answer k room name (Some bytes) (Err (stop.Fault (fault.TooMany counted.File))) (Err (stop.Fault (fault.TooMany counted.Media))) p (cs, h, small, lt) = absurd (omega (arith, h.short))
-one_answer k room name (Some bytes) (Err (stop.Fault (fault.TooMany counted.File))) (Ok cs) p (h, small, le) = absurd (omega (arith, h.short))
-one_answer k room name (Some bytes) (Err (stop.Fault (fault.TooMany counted.File))) b p q = elim q [ ]
-one_answer k room name (Some bytes) (Err (stop.Fault (fault.Chunks x e))) (Err (stop.Fault (fault.TooMany counted.File))) (is, le, h) q = absurd (omega arith)
-one_answer k room name (Some bytes) (Err (stop.Fault (fault.Chunks x e))) (Err (stop.Fault (fault.Chunks y f))) (is, le, h) (js, le', g) = same_chunks x y e f (is ∙ sym js) (k.fault bytes e f h g)
+one_answer k room name (Some bytes) (Err (Stop.Fault (Fault.TooMany Counted.File))) (Err (Stop.Fault (Fault.TooMany Counted.File))) p q = refl
+one_answer k room name (Some bytes) (Err (Stop.Fault (Fault.TooMany Counted.File))) (Err (Stop.Fault (Fault.Chunks y f))) p (is, le, h) = absurd (omega arith)
+one_answer k room name (Some bytes) (Err (Stop.Fault (Fault.TooMany Counted.File))) (Err (Stop.Fault (Fault.TooMany Counted.Chunk))) p (cs, h, small) = absurd (omega (arith, h.short))
+one_answer k room name (Some bytes) (Err (Stop.Fault (Fault.TooMany Counted.File))) (Err (Stop.Fault (Fault.TooMany Counted.Media))) p (cs, h, small, lt) = absurd (omega (arith, h.short))
+one_answer k room name (Some bytes) (Err (Stop.Fault (Fault.TooMany Counted.File))) (Ok cs) p (h, small, le) = absurd (omega (arith, h.short))
+one_answer k room name (Some bytes) (Err (Stop.Fault (Fault.TooMany Counted.File))) b p q = elim q [ ]
+one_answer k room name (Some bytes) (Err (Stop.Fault (Fault.Chunks x e))) (Err (Stop.Fault (Fault.TooMany Counted.File))) (is, le, h) q = absurd (omega arith)
+one_answer k room name (Some bytes) (Err (Stop.Fault (Fault.Chunks x e))) (Err (Stop.Fault (Fault.Chunks y f))) (is, le, h) (js, le', g) = same_chunks x y e f (is ∙ sym js) (k.fault bytes e f h g)
   where
-    same_chunks : (x y : List ℕ) (e f : ChunkFault) → x ≡ y → e ≡ f → ◌≡◌ {A = Answer} (Err (stop.Fault (fault.Chunks x e))) (Err (stop.Fault (fault.Chunks y f)))
+    same_chunks : (x y : List ℕ) (e f : ChunkFault) → x ≡ y → e ≡ f → ◌≡◌ {A = Answer} (Err (Stop.Fault (Fault.Chunks x e))) (Err (Stop.Fault (Fault.Chunks y f)))
     same_chunks x y e f p q = cc
-one_answer k room name (Some bytes) (Err (stop.Fault (fault.Chunks x e))) (Err (stop.Fault (fault.TooMany counted.Chunk))) (is, le, h) (cs, g, small) = absurd (k.apart bytes cs e g.file h)
-one_answer k room name (Some bytes) (Err (stop.Fault (fault.Chunks x e))) (Err (stop.Fault (fault.TooMany counted.Media))) (is, le, h) (cs, g, small, lt) = absurd (k.apart bytes cs e g.file h)
-one_answer k room name (Some bytes) (Err (stop.Fault (fault.Chunks x e))) (Ok cs) (is, le, h) (g, small, fits) = absurd (k.apart bytes cs e g.file h)
-one_answer k room name (Some bytes) (Err (stop.Fault (fault.Chunks x e))) b p q = elim q [ ]
-one_answer k room name (Some bytes) (Err (stop.Fault (fault.TooMany counted.Chunk))) (Err (stop.Fault (fault.TooMany counted.File))) (cs, h, small) q = absurd (omega (arith, h.short))
-one_answer k room name (Some bytes) (Err (stop.Fault (fault.TooMany counted.Chunk))) (Err (stop.Fault (fault.Chunks y f))) (cs, h, small) (is, le, g) = absurd (k.apart bytes cs f h.file g)
-one_answer k room name (Some bytes) (Err (stop.Fault (fault.TooMany counted.Chunk))) (Err (stop.Fault (fault.TooMany counted.Chunk))) p q = refl
-one_answer k room name (Some bytes) (Err (stop.Fault (fault.TooMany counted.Chunk))) (Err (stop.Fault (fault.TooMany counted.Media))) (cs, h, small) (ds, g, small', lt) = absurd (not_both ds cs (same k bytes ds cs g h) small' small)
-one_answer k room name (Some bytes) (Err (stop.Fault (fault.TooMany counted.Chunk))) (Ok ds) (cs, h, small) (g, small', le) = absurd (not_both ds cs (same k bytes ds cs g h) small' small)
-one_answer k room name (Some bytes) (Err (stop.Fault (fault.TooMany counted.Chunk))) b p q = elim q [ ]
-one_answer k room name (Some bytes) (Err (stop.Fault (fault.TooMany counted.Media))) (Err (stop.Fault (fault.TooMany counted.File))) (cs, h, small, lt) q = absurd (omega (arith, h.short))
-one_answer k room name (Some bytes) (Err (stop.Fault (fault.TooMany counted.Media))) (Err (stop.Fault (fault.Chunks y f))) (cs, h, small, lt) (is, le, g) = absurd (k.apart bytes cs f h.file g)
-one_answer k room name (Some bytes) (Err (stop.Fault (fault.TooMany counted.Media))) (Err (stop.Fault (fault.TooMany counted.Chunk))) (cs, h, small, lt) (ds, g, small') = absurd (not_both cs ds (same k bytes cs ds h g) small small')
-one_answer k room name (Some bytes) (Err (stop.Fault (fault.TooMany counted.Media))) (Err (stop.Fault (fault.TooMany counted.Media))) p q = refl
-one_answer k room name (Some bytes) (Err (stop.Fault (fault.TooMany counted.Media))) (Ok ds) (cs, h, small, lt) (g, small', le) = absurd (too_many room ds cs (same k bytes ds cs g h) le lt)
-one_answer k room name (Some bytes) (Err (stop.Fault (fault.TooMany counted.Media))) b p q = elim q [ ]
-one_answer k room name (Some bytes) (Ok cs) (Err (stop.Fault (fault.TooMany counted.File))) (h, small, le) q = absurd (omega (arith, h.short))
-one_answer k room name (Some bytes) (Ok cs) (Err (stop.Fault (fault.Chunks y f))) (h, small, le) (is, le', g) = absurd (k.apart bytes cs f h.file g)
-one_answer k room name (Some bytes) (Ok cs) (Err (stop.Fault (fault.TooMany counted.Chunk))) (h, small, le) (ds, g, small') = absurd (not_both cs ds (same k bytes cs ds h g) small small')
-one_answer k room name (Some bytes) (Ok cs) (Err (stop.Fault (fault.TooMany counted.Media))) (h, small, le) (ds, g, small', lt) = absurd (too_many room cs ds (same k bytes cs ds h g) le lt)
+one_answer k room name (Some bytes) (Err (Stop.Fault (Fault.Chunks x e))) (Err (Stop.Fault (Fault.TooMany Counted.Chunk))) (is, le, h) (cs, g, small) = absurd (k.apart bytes cs e g.file h)
+one_answer k room name (Some bytes) (Err (Stop.Fault (Fault.Chunks x e))) (Err (Stop.Fault (Fault.TooMany Counted.Media))) (is, le, h) (cs, g, small, lt) = absurd (k.apart bytes cs e g.file h)
+one_answer k room name (Some bytes) (Err (Stop.Fault (Fault.Chunks x e))) (Ok cs) (is, le, h) (g, small, fits) = absurd (k.apart bytes cs e g.file h)
+one_answer k room name (Some bytes) (Err (Stop.Fault (Fault.Chunks x e))) b p q = elim q [ ]
+one_answer k room name (Some bytes) (Err (Stop.Fault (Fault.TooMany Counted.Chunk))) (Err (Stop.Fault (Fault.TooMany Counted.File))) (cs, h, small) q = absurd (omega (arith, h.short))
+one_answer k room name (Some bytes) (Err (Stop.Fault (Fault.TooMany Counted.Chunk))) (Err (Stop.Fault (Fault.Chunks y f))) (cs, h, small) (is, le, g) = absurd (k.apart bytes cs f h.file g)
+one_answer k room name (Some bytes) (Err (Stop.Fault (Fault.TooMany Counted.Chunk))) (Err (Stop.Fault (Fault.TooMany Counted.Chunk))) p q = refl
+one_answer k room name (Some bytes) (Err (Stop.Fault (Fault.TooMany Counted.Chunk))) (Err (Stop.Fault (Fault.TooMany Counted.Media))) (cs, h, small) (ds, g, small', lt) = absurd (not_both ds cs (same k bytes ds cs g h) small' small)
+one_answer k room name (Some bytes) (Err (Stop.Fault (Fault.TooMany Counted.Chunk))) (Ok ds) (cs, h, small) (g, small', le) = absurd (not_both ds cs (same k bytes ds cs g h) small' small)
+one_answer k room name (Some bytes) (Err (Stop.Fault (Fault.TooMany Counted.Chunk))) b p q = elim q [ ]
+one_answer k room name (Some bytes) (Err (Stop.Fault (Fault.TooMany Counted.Media))) (Err (Stop.Fault (Fault.TooMany Counted.File))) (cs, h, small, lt) q = absurd (omega (arith, h.short))
+one_answer k room name (Some bytes) (Err (Stop.Fault (Fault.TooMany Counted.Media))) (Err (Stop.Fault (Fault.Chunks y f))) (cs, h, small, lt) (is, le, g) = absurd (k.apart bytes cs f h.file g)
+one_answer k room name (Some bytes) (Err (Stop.Fault (Fault.TooMany Counted.Media))) (Err (Stop.Fault (Fault.TooMany Counted.Chunk))) (cs, h, small, lt) (ds, g, small') = absurd (not_both cs ds (same k bytes cs ds h g) small small')
+one_answer k room name (Some bytes) (Err (Stop.Fault (Fault.TooMany Counted.Media))) (Err (Stop.Fault (Fault.TooMany Counted.Media))) p q = refl
+one_answer k room name (Some bytes) (Err (Stop.Fault (Fault.TooMany Counted.Media))) (Ok ds) (cs, h, small, lt) (g, small', le) = absurd (too_many room ds cs (same k bytes ds cs g h) le lt)
+one_answer k room name (Some bytes) (Err (Stop.Fault (Fault.TooMany Counted.Media))) b p q = elim q [ ]
+one_answer k room name (Some bytes) (Ok cs) (Err (Stop.Fault (Fault.TooMany Counted.File))) (h, small, le) q = absurd (omega (arith, h.short))
+one_answer k room name (Some bytes) (Ok cs) (Err (Stop.Fault (Fault.Chunks y f))) (h, small, le) (is, le', g) = absurd (k.apart bytes cs f h.file g)
+one_answer k room name (Some bytes) (Ok cs) (Err (Stop.Fault (Fault.TooMany Counted.Chunk))) (h, small, le) (ds, g, small') = absurd (not_both cs ds (same k bytes cs ds h g) small small')
+one_answer k room name (Some bytes) (Ok cs) (Err (Stop.Fault (Fault.TooMany Counted.Media))) (h, small, le) (ds, g, small', lt) = absurd (too_many room cs ds (same k bytes cs ds h g) le lt)
 one_answer k room name (Some bytes) (Ok cs) (Ok ds) (h, small, le) (g, small', le') = ap Ok (same k bytes cs ds h g)
 one_answer k room name (Some bytes) (Ok cs) b p q = elim q [ ]
 one_answer k room name (Some bytes) a b p q = elim p [ ]

@@ -5,12 +5,8 @@ use Rattle.std.proofs.lemmas.List.{append_assoc, drop_more, take_more, take_all,
 use Rattle.std.proofs.lemmas.Option.{slice_get_read}
 use Rattle.wc_base.specs.Causes.{RoseBy}
 use Rattle.wc_chunk.specs.declared.chunk.Chunk.{Chunk}
-use Rattle.script_types.specs.declared.fault.Counted.TheVariants as counted
-use Rattle.script_types.specs.declared.fault.Fault.{Fault}
-use Rattle.script_types.specs.declared.fault.Fault.TheVariants as fault
+use Rattle.script_types.specs.declared.{fault.Counted.Counted, fault.Fault.Fault, script.ScriptData.ScriptData}
 use Rattle.chunk_files.specs.declared.fault.Stop.{Stop}
-use Rattle.chunk_files.specs.declared.fault.Stop.TheVariants as stop
-use Rattle.script_types.specs.declared.script.ScriptData.{ScriptData}
 use Rattle.media_files.specs.Media.{Answers, media_of, FileGives, FilesGive, IsReached, MayFail, MayFailAt}
 
 abbrev pub Told : Type 0
@@ -99,21 +95,21 @@ gives : (content : Told) (room : ℕ) (names : List (List ℕ)) (left : ℕ) (na
 gives content room names left name rest made e one k = if_told _ content (λ files told. k files told (Err e) (inl (told_of _ content one files told)))
 
 long : (content : Told) (room : ℕ) (names : List (List ℕ)) (left : ℕ) (name : List ℕ) (rest : List (List ℕ)) (made : List (List Chunk)) (a b c : ℕ) → a ≤ b
-    → MatchOption content (RoseBy 268435457 b c) (λ files. FileGives left name (files name) (Err (stop.Fault (fault.TooMany counted.File)))) → ContinuesOn content room names left (name ∷ rest) made
-    → MatchOption content (RoseBy 268435457 a c) (λ files. FilesGive files room names (Err (stop.Fault (fault.TooMany counted.File))))
+    → MatchOption content (RoseBy 268435457 b c) (λ files. FileGives left name (files name) (Err (Stop.Fault (Fault.TooMany Counted.File)))) → ContinuesOn content room names left (name ∷ rest) made
+    → MatchOption content (RoseBy 268435457 a c) (λ files. FilesGive files room names (Err (Stop.Fault (Fault.TooMany Counted.File))))
 long None room names left name rest made a b c le h k = rose_since 268435457 a b c le h
-long (Some files) room names left name rest made a b c le h k = k files refl (Err (stop.Fault (fault.TooMany counted.File))) (inl h)
+long (Some files) room names left name rest made a b c le h k = k files refl (Err (Stop.Fault (Fault.TooMany Counted.File))) (inl h)
 
 fails_at : (content : Told) (s : ScriptData) (left : ℕ) (name : List ℕ) (rest : List (List ℕ)) (made : List (List Chunk)) (fa fb fc ba bb bc : ℕ) (e : Stop Fault)
     → IsReached content s name → fa ≤ fb → ba ≤ bb → MayFailAt content left name fb fc bb bc e
     → ContinuesOn content (268435456 - s.inline) s.chunk_files left (name ∷ rest) made → MayFail content s fa fc ba bc e
-fails_at content s left name rest made fa fb fc ba bb bc stop.NoMemory there le le' h k = tt
-fails_at content s left name rest made fa fb fc ba bb bc (stop.Fault (fault.Unread x)) there le le' (is, rose) k =
+fails_at content s left name rest made fa fb fc ba bb bc Stop.NoMemory there le le' h k = tt
+fails_at content s left name rest made fa fb fc ba bb bc (Stop.Fault (Fault.Unread x)) there le le' (is, rose) k =
     (subst (λ m. IsReached content s m) (sym is) there, rose_since 1 fa fb fc le rose)
-fails_at content s left name rest made fa fb fc ba bb bc (stop.Fault (fault.TooMany counted.File)) there le le' h k = long content _ s.chunk_files left name rest made ba bb bc le' h k
-fails_at content s left name rest made fa fb fc ba bb bc (stop.Fault (fault.Chunks x e)) there le le' h k = gives content _ s.chunk_files left name rest made _ h k
-fails_at content s left name rest made fa fb fc ba bb bc (stop.Fault (fault.TooMany counted.Chunk)) there le le' h k = gives content _ s.chunk_files left name rest made _ h k
-fails_at content s left name rest made fa fb fc ba bb bc (stop.Fault (fault.TooMany counted.Media)) there le le' h k = gives content _ s.chunk_files left name rest made _ h k
+fails_at content s left name rest made fa fb fc ba bb bc (Stop.Fault (Fault.TooMany Counted.File)) there le le' h k = long content _ s.chunk_files left name rest made ba bb bc le' h k
+fails_at content s left name rest made fa fb fc ba bb bc (Stop.Fault (Fault.Chunks x e)) there le le' h k = gives content _ s.chunk_files left name rest made _ h k
+fails_at content s left name rest made fa fb fc ba bb bc (Stop.Fault (Fault.TooMany Counted.Chunk)) there le le' h k = gives content _ s.chunk_files left name rest made _ h k
+fails_at content s left name rest made fa fb fc ba bb bc (Stop.Fault (Fault.TooMany Counted.Media)) there le le' h k = gives content _ s.chunk_files left name rest made _ h k
 fails_at content s left name rest made fa fb fc ba bb bc e there le le' h k = elim h [ ]
 
 pub fails : (content : Told) (s : ScriptData) (left n : ℕ) (name : List ℕ) (made : List (List Chunk)) (fa fb fc ba bb bc : ℕ) (e : Stop Fault)

@@ -1,7 +1,6 @@
 use Rattle.script_types.specs.Sound.{most_media}
 use Rattle.std.proofs.Common.{◌-◌}
-use Rattle.media_files.proofs.OneReading.{one_media}
-use Rattle.media_files.proofs.SomeReading.{files_give}
+use Rattle.media_files.proofs.{OneReading.one_media, SomeReading.files_give}
 use Rattle.media_files.proofs.laws.media_have_one_reading.Goals as goal
 
 pub returns-clause-one : goal.returns-clause-one
