@@ -5,7 +5,6 @@ use Rattle.std.proofs.lemmas.List.{take-append-drop, drop-drop, length-take}
 use Rattle.byteorder.specs.Endian.{big_number}
 use Rattle.wc_chunk.specs.declared.chunk.Chunk.{Chunk}
 use Rattle.chunk_files.specs.declared.fault.ChunkFault.{ChunkFault}
-use Rattle.chunk_files.specs.declared.fault.ChunkFault.TheVariants as fault
 use Rattle.chunk_files.specs.Layout.{type_byte, IsDuration, BeginsWith}
 use Rattle.chunk_files.specs.Grammar.{agreeing, chunk_fault, marked, BeginsWithAll, IsFirstFault}
 use Rattle.chunk_files.proofs.Chunks.{IsEnd}
@@ -60,7 +59,7 @@ fault_ends place bytes found e = record { none = λ chunk rest p. let none = who
 
 -- a chunk's fault is none of the mark
 record IsOfChunk (fault_of : Option ChunkFault) : Type 0 where
-  mark : (at : ℕ) → fault_of ≡ Some (fault.BadMark at) → ⊥
+  mark : (at : ℕ) → fault_of ≡ Some (ChunkFault.BadMark at) → ⊥
 
 tested : (b : Bool) (x y : Option ChunkFault) → IsOfChunk x → IsOfChunk y → IsOfChunk (if b then x else y)
 tested true x y p q = p
@@ -69,10 +68,10 @@ tested false x y p q = q
 no_fault : IsOfChunk None
 no_fault = record { mark = λ at e. absurd cc }
 
-kind : (at found : ℕ) → IsOfChunk (Some (fault.BadKind at found))
+kind : (at found : ℕ) → IsOfChunk (Some (ChunkFault.BadKind at found))
 kind at found = record { mark = λ at e. absurd cc }
 
-short : (at : ℕ) → IsOfChunk (Some (fault.Short at))
+short : (at : ℕ) → IsOfChunk (Some (ChunkFault.Short at))
 short at = record { mark = λ at e. absurd cc }
 
 of_chunk : (place : ℕ) (bytes : List ℕ) → IsOfChunk (chunk_fault place bytes)
@@ -87,10 +86,10 @@ of_chunk place bytes =
     tested (nat_lt (length bytes) (22 + big_number 4 (drop 18 bytes))) _ _ (short (place + 22)) no_fault)))))))
 
 pub fault_is_first : (bytes : List ℕ) (chunks : List Chunk) (at : ℕ) (found : ChunkFault) → marked bytes ≡ 4 → at ≤ length bytes → BeginsWithAll chunks (drop 4 bytes) (drop at bytes) → chunk_fault at (drop at bytes) ≡ Some found → IsFirstFault bytes found
-fault_is_first bytes chunks at (fault.BadMark p) mark le before e = absurd ((of_chunk at (drop at bytes)).mark p e)
-fault_is_first bytes chunks at (fault.BadKind p x) mark le before e =
+fault_is_first bytes chunks at (ChunkFault.BadMark p) mark le before e = absurd ((of_chunk at (drop at bytes)).mark p e)
+fault_is_first bytes chunks at (ChunkFault.BadKind p x) mark le before e =
     record { mark = mark; chunks = chunks; rest = drop at bytes; before = before; place = at; is_place = omega (arith, length-drop at bytes); fault = e }
-fault_is_first bytes chunks at (fault.Short p) mark le before e =
+fault_is_first bytes chunks at (ChunkFault.Short p) mark le before e =
     record { mark = mark; chunks = chunks; rest = drop at bytes; before = before; place = at; is_place = omega (arith, length-drop at bytes); fault = e }
 
 pub type_back : (n : ℕ) → n ≤ 1 → n ≡ type_byte (n == 0)

@@ -6,11 +6,9 @@ use Rattle.std.proofs.lemmas.List.{take-append-drop, drop-drop, length-take-le}
 use Rattle.byteorder.specs.Endian.{big_number}
 use Rattle.wc_chunk.specs.declared.chunk.Chunk.{Chunk}
 use Rattle.chunk_files.specs.declared.fault.ChunkFault.{ChunkFault}
-use Rattle.chunk_files.specs.declared.fault.ChunkFault.TheVariants as fault
 use Rattle.chunk_files.specs.Layout.{type_byte, IsDuration, BeginsWith}
 use Rattle.chunk_files.specs.Grammar.{agreeing, chunk_fault, marked, BeginsWithAll, IsChunkFile, FollowsChunks, IsFirstFault, IsRead}
-use Rattle.chunk_files.proofs.Chunks.{one_more_chunk}
-use Rattle.chunk_files.proofs.Faults.{IsWhole}
+use Rattle.chunk_files.proofs.{Chunks.one_more_chunk, Faults.IsWhole}
 
 -- ---- the chunk that begins bytes in which there is no fault
 
@@ -41,7 +39,7 @@ no_fault place bytes some h =
     let eighteen = nat_lt (length bytes) 18 in
     let header = nat_lt (length bytes) 22 in
     let content = nat_lt (length bytes) (22 + big_number 4 (drop 18 bytes)) in
-    let all = no_test kind nine ten flag eighteen header content (fault.BadKind place (slice_index bytes 0)) (fault.Short (place + 1)) (fault.Short (place + 9)) (fault.BadKind (place + 9) (slice_index bytes 9)) (fault.Short (place + 10)) (fault.Short (place + 18)) (fault.Short (place + 22)) (rw some at h) in
+    let all = no_test kind nine ten flag eighteen header content (ChunkFault.BadKind place (slice_index bytes 0)) (ChunkFault.Short (place + 1)) (ChunkFault.Short (place + 9)) (ChunkFault.BadKind (place + 9) (slice_index bytes 9)) (ChunkFault.Short (place + 10)) (ChunkFault.Short (place + 18)) (ChunkFault.Short (place + 22)) (rw some at h) in
     record {
       header = at_least (length bytes) 22 all.5;
       chunk_type = at_least 1 (slice_index bytes 0) all.0;
@@ -83,10 +81,10 @@ begun_length chunk bytes rest p = let e = ap length p.content in omega (arith, p
 
 -- ---- a file from a place on
 
-no_mark_fault : (place : ℕ) (bytes : List ℕ) (at : ℕ) → chunk_fault place bytes ≡ Some (fault.BadMark at) → ⊥
+no_mark_fault : (place : ℕ) (bytes : List ℕ) (at : ℕ) → chunk_fault place bytes ≡ Some (ChunkFault.BadMark at) → ⊥
 no_mark_fault place bytes at h = by_tests (length bytes == 0) (nat_lt 1 (slice_index bytes 0)) (nat_lt (length bytes) 9) (nat_lt (length bytes) 10) (nat_lt 1 (slice_index bytes 9)) (nat_lt (length bytes) 18) (nat_lt (length bytes) 22) (nat_lt (length bytes) (22 + big_number 4 (drop 18 bytes))) h
   where
-    by_tests : (a b c d e f g i : Bool) → (if a then None else if b then Some (fault.BadKind place (slice_index bytes 0)) else if c then Some (fault.Short (place + 1)) else if d then Some (fault.Short (place + 9)) else if e then Some (fault.BadKind (place + 9) (slice_index bytes 9)) else if f then Some (fault.Short (place + 10)) else if g then Some (fault.Short (place + 18)) else if i then Some (fault.Short (place + 22)) else None) ≡ Some (fault.BadMark at) → ⊥
+    by_tests : (a b c d e f g i : Bool) → (if a then None else if b then Some (ChunkFault.BadKind place (slice_index bytes 0)) else if c then Some (ChunkFault.Short (place + 1)) else if d then Some (ChunkFault.Short (place + 9)) else if e then Some (ChunkFault.BadKind (place + 9) (slice_index bytes 9)) else if f then Some (ChunkFault.Short (place + 10)) else if g then Some (ChunkFault.Short (place + 18)) else if i then Some (ChunkFault.Short (place + 22)) else None) ≡ Some (ChunkFault.BadMark at) → ⊥
     by_tests true b c d e f g i h = absurd cc
     by_tests false true c d e f g i h = absurd cc
     by_tests false false true d e f g i h = absurd cc
@@ -98,9 +96,9 @@ no_mark_fault place bytes at h = by_tests (length bytes == 0) (nat_lt 1 (slice_i
     by_tests false false false false false false false false h = absurd cc
 
 fault_here : (bytes : List ℕ) (chunks : List Chunk) (rest : List ℕ) (place : ℕ) (e : ChunkFault) → marked bytes ≡ 4 → BeginsWithAll chunks (drop 4 bytes) rest → place + length rest ≡ length bytes → chunk_fault place rest ≡ Some e → IsFirstFault bytes e
-fault_here bytes chunks rest place (fault.BadMark at) mark before is h = absurd (no_mark_fault place rest at h)
-fault_here bytes chunks rest place (fault.BadKind at found) mark before is h = record { mark = mark; chunks = chunks; rest = rest; before = before; place = place; is_place = is; fault = h }
-fault_here bytes chunks rest place (fault.Short at) mark before is h = record { mark = mark; chunks = chunks; rest = rest; before = before; place = place; is_place = is; fault = h }
+fault_here bytes chunks rest place (ChunkFault.BadMark at) mark before is h = absurd (no_mark_fault place rest at h)
+fault_here bytes chunks rest place (ChunkFault.BadKind at found) mark before is h = record { mark = mark; chunks = chunks; rest = rest; before = before; place = place; is_place = is; fault = h }
+fault_here bytes chunks rest place (ChunkFault.Short at) mark before is h = record { mark = mark; chunks = chunks; rest = rest; before = before; place = place; is_place = is; fault = h }
 
 not_empty : (x : ℕ) (xs : List ℕ) → (length (x ∷ xs) == 0) ≡ false
 not_empty x xs = grind (arith, nat_tests)
@@ -140,7 +138,7 @@ agreeing_length (m ∷ ms) (b ∷ bs) = by_test (b == m) (agreeing_length ms bs)
     by_test false h = omega arith
 
 by_mark : (bytes : List ℕ) (b : Bool) → nat_lt (marked bytes) 4 ≡ b → IsRead bytes
-by_mark bytes true h = inr (fault.BadMark (marked bytes), ((grind (arith, nat_tests)), refl))
+by_mark bytes true h = inr (ChunkFault.BadMark (marked bytes), ((grind (arith, nat_tests)), refl))
 by_mark bytes false h =
     let most : marked bytes ≤ 4 = agreeing_most (codes "WCC1") bytes in
     let least : 4 ≤ marked bytes = at_least (marked bytes) 4 h in

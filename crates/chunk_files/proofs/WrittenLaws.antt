@@ -4,12 +4,9 @@ use Rattle.std.proofs.lemmas.List.{take_more, append-nil}
 use Rattle.std.proofs.lemmas.Grind.{flat_map-append}
 use Rattle.std.specs.List.{flat_map}
 use Rattle.std.proofs.Math.Facts.{to_z-of_z, Fits-of_z, Fits-lt-pow}
-use Rattle.byteorder.specs.Numbers.{big_number-reads_back}
-use Rattle.byteorder.specs.Endian.{big_number, big_bytes}
+use Rattle.byteorder.specs.{Numbers.big_number-reads_back, Endian.big_number, Endian.big_bytes}
 use Rattle.wc_chunk.specs.declared.chunk.Chunk.{Chunk}
-use Rattle.chunk_files.specs.Layout.{BeginsWith}
-use Rattle.chunk_files.specs.Grammar.{BeginsWithAll, IsChunkFile}
-use Rattle.chunk_files.specs.Written.{written, written_chunk}
+use Rattle.chunk_files.specs.{Layout.BeginsWith, Grammar.BeginsWithAll, Grammar.IsChunkFile, Written.written, Written.written_chunk}
 use Rattle.chunk_files.proofs.Chunks.{one_more_chunk}
 
 timestamp_back : (t : ℤ) (rest : List ℕ) → SFits w64 t → t ≡ to_z w64 (big_number 8 (big_bytes 8 (of_z w64 t) ++ rest))

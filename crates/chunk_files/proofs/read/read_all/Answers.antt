@@ -1,8 +1,7 @@
 use Rattle.std.proofs.Common.{◌≡◌, ◌+◌, List, ◌∷◌, [], ◌++◌, drop, arith, sym, ap, ◌∙◌, subst, Some}
 use Rattle.wc_chunk.specs.declared.chunk.Chunk.{Chunk}
 use Rattle.chunk_files.specs.Grammar.{BeginsWithAll, chunk_fault}
-use Rattle.chunk_files.proofs.Faults.{fault_is_first, marks_agree}
-use Rattle.chunk_files.proofs.Chunks.{read_more}
+use Rattle.chunk_files.proofs.{Faults.fault_is_first, Faults.marks_agree, Chunks.read_more}
 use Rattle.chunk_files.proofs.read.read_all.Goals as goal
 
 pub returns-in-Some-clause-fault : goal.returns-in-Some-clause-fault

@@ -1,10 +1,9 @@
 use Rattle.std.proofs.Common.{◌≡◌, sym, ap, ◌∙◌, List, ℕ, ◌++◌, take, subst}
 use Rattle.std.specs.List.{flat_map}
-use Rattle.chunk_files.specs.Grammar.{BeginsWithAll}
+use Rattle.chunk_files.specs.{Grammar.BeginsWithAll, Written.written, Written.written_chunk}
 use Rattle.std.proofs.lemmas.List.{take_all}
 use Rattle.wc_chunk.specs.declared.chunk.Chunk.{Chunk}
 use Rattle.chunk_files.proofs.WrittenLaws.{written_more, begun_more, written_is_file}
-use Rattle.chunk_files.specs.Written.{written, written_chunk}
 use Rattle.chunk_files.proofs.write.write_chunks.Goals as goal
 
 pub loop-chunk-preserved : goal.loop-chunk-preserved

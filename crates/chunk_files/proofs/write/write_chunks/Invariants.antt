@@ -1,6 +1,5 @@
 use Rattle.std.proofs.Common.{◌≡◌, ◌++◌, List, ℕ, take}
-use Rattle.chunk_files.specs.Grammar.{BeginsWithAll}
-use Rattle.chunk_files.specs.Written.{written, written_chunk}
+use Rattle.chunk_files.specs.{Grammar.BeginsWithAll, Written.written, Written.written_chunk}
 use Rattle.std.specs.List.{flat_map}
 use Rattle.chunk_files.proofs.write.write_chunks.Given as goal
 
