@@ -7,9 +7,8 @@ use Rattle.std.specs.Cmp.Lexicographic.{slice_cmp}
 use Rattle.std.specs.Ordering.{match_ordering}
 use Rattle.json.specs.Json as json
 use Rattle.json.specs.Find as found
-use Rattle.json.specs.Value.{value_view, items_of as json_items}
-use Rattle.json.specs.declared.value.Value.{Value}
-use Rattle.serde_json.specs.Data.{Num, Data, item, Members, no_members, member, put}
+use Rattle.json.specs.{Value.value_view, Value.items_of as json_items, declared.value.Value.Value}
+use Rattle.serde_json.specs.Data.{Num, Data, null, number, item, Members, no_members, member, put}
 use Rattle.serde_json.specs.Find.{get, get_member, as_array, as_number, as_object, as_str}
 use Rattle.serde_json.specs.Read.{number_of}
 use Rattle.json_data.specs.View.{number_data, data_of, items_data, members_data, view, items_view}
@@ -81,17 +80,15 @@ unfolding or_before
 nothing_before None = refl
 nothing_before (Some j) = refl
 
-no_member : (k : List ℕ) (o : Option Num) → get k (number_data o) ≡ None
-no_member k None = refl
-no_member k (Some n) = refl
+-- what is found alike in each number and where there is none
+of_number : {B : Type 0} (f : Data → B) (other : B) → f null ≡ other → ((n : Num) → f (number n) ≡ other) → (o : Option Num) → f (number_data o) ≡ other
+of_number f other none some None = none
+of_number f other none some (Some n) = some n
 
 get-data : (k : List ℕ) (j : json.Json) → get k (data_of j) ≡ option_map data_of (found.get k j)
-get-data k json.null = refl
-get-data k (json.boolean b) = refl
-get-data k (json.number s) = no_member k (number_of s)
-get-data k (json.string s) = refl
-get-data k (json.array js) = refl
+get-data k (json.number s) = of_number (get k) None refl (λ n. refl) (number_of s)
 get-data k (json.object ms) = get_member-data k ms no_members ∙ nothing_before (found.get_member k ms)
+get-data k _ = refl
 
 pub items_data-json_items : {A : Type 0} → (vs : List (Value A)) → items_data (json_items (map value_view vs)) ≡ items_view vs
 unfolding view
@@ -111,49 +108,25 @@ get-view k v = get-data k (value_view v)
 pub same_member : {A : Type 0} → (r : Option (Bor (Value A))) (k : List ℕ) (v : Value A) → option_map (λ w. value_view w.now) r ≡ found.get k (value_view v) → option_map (λ w. view w.now) r ≡ get k (view v)
 same_member r k v e = seen r ∙ ap (option_map data_of) e ∙ sym (get-view k v)
 
-no_text : (o : Option Num) → as_str (number_data o) ≡ None
-no_text None = refl
-no_text (Some n) = refl
-
 as_str-data : (j : json.Json) → as_str (data_of j) ≡ found.as_str j
-as_str-data json.null = refl
-as_str-data (json.boolean b) = refl
-as_str-data (json.number s) = no_text (number_of s)
-as_str-data (json.string s) = refl
-as_str-data (json.array js) = refl
-as_str-data (json.object ms) = refl
+as_str-data (json.number s) = of_number as_str None refl (λ n. refl) (number_of s)
+as_str-data _ = refl
 
 pub as_str-view : {A : Type 0} → (v : Value A) → as_str (view v) ≡ found.as_str (value_view v)
 unfolding view
 as_str-view v = as_str-data (value_view v)
 
-no_items : (o : Option Num) → as_array (number_data o) ≡ None
-no_items None = refl
-no_items (Some n) = refl
-
 as_array-data : (j : json.Json) → as_array (data_of j) ≡ option_map items_data (found.as_array j)
-as_array-data json.null = refl
-as_array-data (json.boolean b) = refl
-as_array-data (json.number s) = no_items (number_of s)
-as_array-data (json.string s) = refl
-as_array-data (json.array js) = refl
-as_array-data (json.object ms) = refl
+as_array-data (json.number s) = of_number as_array None refl (λ n. refl) (number_of s)
+as_array-data _ = refl
 
 pub as_array-view : {A : Type 0} → (v : Value A) → as_array (view v) ≡ option_map items_data (found.as_array (value_view v))
 unfolding view
 as_array-view v = as_array-data (value_view v)
 
-no_members_in : (o : Option Num) → is_some (as_object (number_data o)) ≡ false
-no_members_in None = refl
-no_members_in (Some n) = refl
-
 as_object-data : (j : json.Json) → is_some (as_object (data_of j)) ≡ is_some (found.as_object j)
-as_object-data json.null = refl
-as_object-data (json.boolean b) = refl
-as_object-data (json.number s) = no_members_in (number_of s)
-as_object-data (json.string s) = refl
-as_object-data (json.array js) = refl
-as_object-data (json.object ms) = refl
+as_object-data (json.number s) = of_number (λ d. is_some (as_object d)) false refl (λ n. refl) (number_of s)
+as_object-data _ = refl
 
 pub as_object-view : {A : Type 0} → (v : Value A) → is_some (as_object (view v)) ≡ is_some (found.as_object (value_view v))
 unfolding view
@@ -164,12 +137,8 @@ number_in None = refl
 number_in (Some n) = refl
 
 as_number-data : (j : json.Json) → as_number (data_of j) ≡ option_and_then number_of (found.as_number j)
-as_number-data json.null = refl
-as_number-data (json.boolean b) = refl
 as_number-data (json.number s) = number_in (number_of s)
-as_number-data (json.string s) = refl
-as_number-data (json.array js) = refl
-as_number-data (json.object ms) = refl
+as_number-data _ = refl
 
 as_number-view : {A : Type 0} → (v : Value A) → as_number (view v) ≡ option_and_then number_of (found.as_number (value_view v))
 unfolding view

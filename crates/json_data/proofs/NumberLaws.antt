@@ -1,9 +1,7 @@
 -- The number of a text, by its sign.
 use Rattle.std.proofs.Common.{◌≡◌, ℕ, List, Bool, true, false, cond, drop, slice_index, ◌==◌, if◌then◌else◌, ℤ, Float, Some, None, option_and_then, refl, ap}
 use Rattle.fast_float.specs.Text.{minus, Parts, scan}
-use Rattle.serde_json.specs.Data.{negative, float}
-use Rattle.serde_json.specs.Find.{as_u64}
-use Rattle.serde_json.specs.Read.{number_from, number_of}
+use Rattle.serde_json.specs.{Data.negative, Data.float, Find.as_u64, Read.number_from, Read.number_of}
 
 front : {A : Type 0} (b : Bool) (t rest : List ℕ) (f : List ℕ → A) (y : A) → Some rest ≡ cond b (Some t) None → cond b (f t) y ≡ f rest
 front true t rest f y e = let same : t ≡ rest = cc in ap f same

@@ -2,8 +2,7 @@
 use Rattle.std.proofs.Common.{◌≡◌, ℕ, ◌+◌, ◌<◌, List, ◌∷◌, length, get_or, drop, Bool, true, false, ◌&&◌, Option, Some, None, is_some, option_map, option_and_then, Bor, refl, sym, ap, ◌∙◌}
 use Rattle.std.proofs.lemmas.List.{drop_more}
 use Rattle.json.specs.Json as json
-use Rattle.json.specs.Value.{value_view, members_view}
-use Rattle.json.specs.declared.value.Value.{Value}
+use Rattle.json.specs.{Value.value_view, Value.members_view, declared.value.Value.Value}
 use Rattle.serde_json.specs.Data.{Data, object, Members, no_members, put}
 use Rattle.serde_json.specs.Read.{of_json, of_members}
 

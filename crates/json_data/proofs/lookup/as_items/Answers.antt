@@ -1,8 +1,7 @@
 use Rattle.std.proofs.Common.{◌≡◌, Option, Some, None, option_map, ap, ◌∙◌, sym, rules}
 use Rattle.json.specs.Json as json
 use Rattle.json.specs.Find as found
-use Rattle.json.specs.declared.value.Value.{the_lemmas}
-use Rattle.json.specs.Value.{value_view, items_view as json_items_view}
+use Rattle.json.specs.{declared.value.Value.the_lemmas, Value.value_view, Value.items_view as json_items_view}
 use Rattle.json_data.specs.View.{items_data, items_view}
 use Rattle.json_data.proofs.LookupLaws.{as_array-view, items_data-json_items}
 use Rattle.json_data.proofs.lookup.as_items.Goals as goal

@@ -1,6 +1,5 @@
 use Rattle.std.proofs.Common.{◌≡◌, None, option_and_then, ap, ◌∙◌, sym}
-use Rattle.serde_json.specs.Find.{as_number, as_u64}
-use Rattle.serde_json.specs.Read.{number_of}
+use Rattle.serde_json.specs.{Find.as_number, Find.as_u64, Read.number_of}
 use Rattle.json_data.specs.View.{view}
 use Rattle.json_data.proofs.LookupLaws.{number-view}
 use Rattle.json_data.proofs.lookup.as_natural.Goals as goal

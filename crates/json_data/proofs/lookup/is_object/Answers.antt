@@ -1,7 +1,6 @@
 use Rattle.std.proofs.Common.{◌≡◌, true, false, is_some, ◌∙◌, sym, rules}
 use Rattle.json.specs.Find as found
-use Rattle.json.specs.declared.value.Value.{the_lemmas}
-use Rattle.json.specs.Value.{value_view}
+use Rattle.json.specs.{declared.value.Value.the_lemmas, Value.value_view}
 use Rattle.json_data.proofs.LookupLaws.{as_object-view}
 use Rattle.json_data.proofs.lookup.is_object.Goals as goal
 

@@ -1,7 +1,6 @@
 use Rattle.std.proofs.Common.{◌≡◌, false, option_and_then, ap, ◌∙◌, sym}
 use Rattle.fast_float.specs.Text.{scan}
-use Rattle.serde_json.specs.Find.{as_u64}
-use Rattle.serde_json.specs.Read.{number_from, number_of}
+use Rattle.serde_json.specs.{Find.as_u64, Read.number_from, Read.number_of}
 use Rattle.json_data.proofs.NumberLaws.{number_of-signed, number_of-unsigned, as_u64-negative}
 use Rattle.json_data.proofs.numeral.natural_of.Goals as goal
 

@@ -1,6 +1,5 @@
 use Rattle.std.proofs.Common.{◌≡◌, true, false, option_and_then, ap, ◌∙◌, sym}
-use Rattle.serde_json.specs.Find.{as_i64}
-use Rattle.serde_json.specs.Read.{number_from, number_of}
+use Rattle.serde_json.specs.{Find.as_i64, Read.number_from, Read.number_of}
 use Rattle.json_data.proofs.NumberLaws.{number_of-signed, number_of-unsigned}
 use Rattle.json_data.proofs.numeral.signed_of.Goals as goal
 

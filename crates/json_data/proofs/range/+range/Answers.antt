@@ -1,9 +1,7 @@
 use Rattle.std.proofs.Common.{◌≡◌, true, is_some, ap, ◌∙◌, sym, arith, rules}
 use Rattle.json.specs.Json as json
-use Rattle.json.specs.Value.{value_view, members_view}
-use Rattle.json.specs.declared.value.Value.{the_lemmas}
-use Rattle.serde_json.specs.Data.{no_members}
-use Rattle.serde_json.specs.Read.{of_json, of_members}
+use Rattle.json.specs.{Value.value_view, Value.members_view, declared.value.Value.the_lemmas}
+use Rattle.serde_json.specs.{Data.no_members, Read.of_json, Read.of_members}
 use Rattle.json_data.proofs.RangeLaws.{one_more_member, is_some-object}
 use Rattle.json_data.proofs.range.+range.Goals as goal
 

@@ -1,7 +1,6 @@
 use Rattle.std.proofs.Common.{◌≡◌, is_some, drop}
 use Rattle.json.specs.Value.{items_view, members_view}
-use Rattle.serde_json.specs.Data.{no_members}
-use Rattle.serde_json.specs.Read.{of_items, of_members}
+use Rattle.serde_json.specs.{Data.no_members, Read.of_items, Read.of_members}
 use Rattle.json_data.proofs.range.+range.Given as goal
 
 abbrev pub invariant-are_items_in_range-loop-item : goal.invariant-are_items_in_range-loop-item

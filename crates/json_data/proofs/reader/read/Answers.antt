@@ -1,6 +1,5 @@
 use Rattle.std.proofs.Common.{◌≡◌, Option, IfOk, option_map, ap, ◌∙◌, sym, subst}
-use Rattle.serde_json.specs.Data.{Data}
-use Rattle.serde_json.specs.Read.{read}
+use Rattle.serde_json.specs.{Data.Data, Read.read}
 use Rattle.json_data.specs.View.{view}
 use Rattle.json_data.proofs.DataLaws.{value_of-text, value_of-no_text}
 use Rattle.json_data.proofs.reader.read.Goals as goal
