@@ -3,10 +3,8 @@ use Rattle.std.proofs.Common.{◌≡◌, ℕ, List, [], ◌∷◌, ◌++◌, len
 use Rattle.std.specs.List.{position}
 use Rattle.std.specs.BTreeMap.{get_by_text}
 use Rattle.std.specs.Map.{update}
-use Rattle.script_steps.specs.Files.{with_file}
-use Rattle.script_steps.specs.Places.{IsTable}
-use Rattle.script_steps.proofs.PlaceLaws.{Table, table_put}
-use Rattle.script_steps.proofs.Positions.{found_any, not_found}
+use Rattle.script_steps.specs.{Files.with_file, Places.IsTable}
+use Rattle.script_steps.proofs.{PlaceLaws.Table, PlaceLaws.table_put, Positions.found_any, Positions.not_found}
 
 pub old_file : (files : List (List ℕ)) (name : List ℕ) (n : ℕ) → position (λ f. bytes_eq f name) files ≡ Some n → with_file files name ≡ files
 old_file files name n h = rw (found_any (λ f. bytes_eq f name) files n h)

@@ -1,27 +1,20 @@
 -- Options that were read are those of what the variable holds.
 use Rattle.std.proofs.Common.{◌≡◌, true, Option, Some, None, Ok, refl, ap, subst, ◌∙◌}
 use Rattle.serde_json.specs.Data.{Data}
-use Rattle.script_types.specs.declared.options.Options.{Options}
-use Rattle.script_types.specs.declared.options.Options.TheVariants as options
-use Rattle.script_types.specs.declared.found.FoundVariable.{FoundVariable}
-use Rattle.script_types.specs.declared.steps.VariableKind.{VariableKind}
-use Rattle.script_types.specs.declared.steps.VariableKind.TheVariants as holds
-use Rattle.script_types.specs.Names.{is_copied, is_medium}
-use Rattle.script_types.specs.Sound.{are_options_of}
-use Rattle.script_steps.specs.Members.{known, object_if_there}
+use Rattle.script_types.specs.declared.{options.Options.Options, found.FoundVariable.FoundVariable, steps.VariableKind.VariableKind}
+use Rattle.script_types.specs.{Names.is_copied, Names.is_medium, Sound.are_options_of}
+use Rattle.script_steps.specs.{Members.known, Members.object_if_there, MediaSteps.options_in, Chains.same_Ok, Chains.chain}
 use Rattle.script_steps.specs.CopyOptions.{audio_options_of, frame_options_of, options_by, options_for}
-use Rattle.script_steps.specs.MediaSteps.{options_in}
-use Rattle.script_steps.specs.Chains.{same_Ok, chain}
 
 by_kind : (kind : VariableKind) (d : Option Data) (o : Options) → is_copied kind ≡ true → options_by kind d ≡ Ok o → are_options_of o kind ≡ true
-by_kind holds.Audio d o k h =
+by_kind VariableKind.Audio d o k h =
     let a = chain (audio_options_of d) _ o h in
-    subst (λ x. are_options_of x holds.Audio ≡ true) (same_Ok _ o a.rest) refl
-by_kind holds.Frame d o k h =
+    subst (λ x. are_options_of x VariableKind.Audio ≡ true) (same_Ok _ o a.rest) refl
+by_kind VariableKind.Frame d o k h =
     let a = chain (frame_options_of d) _ o h in
-    subst (λ x. are_options_of x holds.Frame ≡ true) (same_Ok _ o a.rest) refl
-by_kind holds.Chunk d o k h = subst (λ x. are_options_of x holds.Chunk ≡ true) (same_Ok options.Nothing o h) refl
-by_kind holds.Promise d o k h = absurd cc
+    subst (λ x. are_options_of x VariableKind.Frame ≡ true) (same_Ok _ o a.rest) refl
+by_kind VariableKind.Chunk d o k h = subst (λ x. are_options_of x VariableKind.Chunk ≡ true) (same_Ok Options.Nothing o h) refl
+by_kind VariableKind.Promise d o k h = absurd cc
 
 pub options_suit : (kind : VariableKind) (d : Option Data) (o : Options) → is_copied kind ≡ true → options_for kind d ≡ Ok o → are_options_of o kind ≡ true
 options_suit kind d o k h =
@@ -29,7 +22,7 @@ options_suit kind d o k h =
     by_kind kind object.value o k object.rest
 
 pub medium_is_copied : (kind : VariableKind) → is_medium kind ≡ true → is_copied kind ≡ true
-medium_is_copied holds.Promise h = absurd cc
+medium_is_copied VariableKind.Promise h = absurd cc
 medium_is_copied _ h = refl
 
 -- those of a variable that was found

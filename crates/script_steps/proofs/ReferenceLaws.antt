@@ -1,19 +1,19 @@
 -- What is known of the references of a step that was read.
-use Rattle.std.proofs.Common.{◌≡◌, ℕ, codes, Bool, true, List, Ok, subst}
+use Rattle.std.proofs.Common.{◌≡◌, ℕ, codes, Bool, true, List, Result, Ok, subst}
 use Rattle.serde_json.specs.Data.{Data}
 use Rattle.wc_config.specs.declared.kind.Kind.{Kind}
-use Rattle.script_types.specs.declared.script.CodecItem.{CodecItem}
-use Rattle.script_types.specs.declared.found.FoundCodec.{FoundCodec}
-use Rattle.script_types.specs.declared.steps.Step.{Step}
-use Rattle.script_types.specs.declared.steps.Variable.{Variable}
-use Rattle.script_types.specs.Names.{codec_named, is_medium}
+use Rattle.script_types.specs.declared.{script.CodecItem.CodecItem, found.FoundCodec.FoundCodec, steps.Step.Step, steps.Variable.Variable}
+use Rattle.chunk_files.specs.declared.fault.Stop.{Stop}
+use Rattle.script_types.specs.{declared.fault.Wrong.Wrong, Names.codec_named, Names.is_medium}
 use Rattle.script_types.specs.Sound.{is_codec, any_kind, is_variable, is_free}
-use Rattle.script_steps.specs.Members.{known, name_in}
-use Rattle.script_steps.specs.declared.references.Needed.{Needed}
-use Rattle.script_steps.specs.declared.references.Needed.TheVariants as needed
+use Rattle.script_steps.specs.Members.{and_then, known, name_in}
+use Rattle.script_steps.specs.{declared.references.Needed.Needed, Chains.same_Ok, Chains.chain}
 use Rattle.script_steps.specs.References.{is_right, unused, codec_if, variable_if, variable_in, on_of, bound_on, given_to, bound_from}
-use Rattle.script_steps.specs.Chains.{same_Ok, chain}
 use Rattle.script_steps.specs.NameLaws.{name_is_name, name_is_free, codec_is_there, codec_is_right, variable_is_right}
+
+-- what is made of a part that was read
+pub made : {A B : Type 0} (P : B → Type 0) (r : Result A (Stop Wrong)) (make : A → B) (s : B) → ((a : A) → r ≡ Ok a → P (make a)) → and_then r (λ a. Ok (make a)) ≡ Ok s → P s
+made P r make s holds h = let a = chain r _ s h in subst P (same_Ok (make a.value) s a.rest) (holds a.value a.first)
 
 pub variable_sound : (key : List ℕ) (kind : Needed) (before : List Step) (d : Data) (v : Variable) → variable_in key kind before d ≡ Ok v
     → is_variable before (is_right kind) v ≡ true
@@ -71,10 +71,10 @@ pub bound_from_sound : (before : List Step) (d : Data) (b : Variable × List ℕ
 bound_from_sound before d b h =
     let of = chain (name_in (codes "of") d) _ b h in
     let name = chain (name_in (codes "as") d) _ b of.rest in
-    let maybe = chain (variable_if needed.Medium before of.value) _ b name.rest in
+    let maybe = chain (variable_if Needed.Medium before of.value) _ b name.rest in
     let bind = chain (unused before name.value) _ b maybe.rest in
     let found = chain (known maybe.value) _ b bind.rest in
     subst (λ x. BoundFrom before x) (same_Ok _ b found.rest) (record {
-      variable = (variable_is_right before needed.Medium of.value maybe.value found.value maybe.first found.first).variable;
+      variable = (variable_is_right before Needed.Medium of.value maybe.value found.value maybe.first found.first).variable;
       free = name_is_free before name.value bind.value (name_is_name (codes "as") name.value d name.first) bind.first;
     })

@@ -1,20 +1,14 @@
 -- What is made of an init holds no more than the inline data.
 use Rattle.std.proofs.Common.{◌≡◌, ◌≤◌, ℕ, ℤ, codes, Bool, true, false, if◌then◌else◌, List, Option, Some, None, option_and_then, Ok, sym, ap, subst, ◌∙◌, arith}
 use Rattle.std.proofs.lemmas.Option.{same_Some}
-use Rattle.serde_json.specs.Data.{Data}
-use Rattle.serde_json.specs.Find.{get}
-use Rattle.wc_base.specs.declared.media.SampleFormat.{SampleFormat}
-use Rattle.wc_base.specs.declared.media.PictureFormat.{PictureFormat}
-use Rattle.script_types.specs.declared.steps.ChunkInit.{ChunkInit}
-use Rattle.script_types.specs.declared.steps.SoundInit.{SoundInit}
-use Rattle.script_types.specs.declared.steps.PictureInit.{PictureInit}
+use Rattle.serde_json.specs.{Data.Data, Find.get}
+use Rattle.wc_base.specs.declared.media.{SampleFormat.SampleFormat, PictureFormat.PictureFormat}
+use Rattle.script_types.specs.declared.steps.{ChunkInit.ChunkInit, SoundInit.SoundInit, PictureInit.PictureInit}
 use Rattle.script_types.specs.Sound.{bytes_of_chunk, bytes_of_source, bytes_of_sound, bytes_of_picture}
-use Rattle.script_steps.specs.declared.source.SourceWords.{SourceWords}
+use Rattle.script_steps.specs.{declared.source.SourceWords.SourceWords, Words.byte_count, Steps.numbered}
 use Rattle.script_steps.specs.Members.{needed, word_of, required, u32_of, hex_of, checked_object, is_object, object_in, text_in}
 use Rattle.script_steps.specs.Media.{data_value, data_of_init, data_of_step, timestamp_in, duration_in, content_in, key_of, chunk_with, chunk_of, sample_format_of, sound_with, sound_of, picture_format_of, picture_with, picture_of}
 use Rattle.script_steps.specs.Sources.{has, index_in, made_of, taken_of, source_by, source_of}
-use Rattle.script_steps.specs.Words.{byte_count}
-use Rattle.script_steps.specs.Steps.{numbered}
 use Rattle.script_steps.specs.Chains.{same_Ok, chain, needed_some}
 
 -- ---- the content of an init

@@ -3,8 +3,7 @@ use Rattle.std.proofs.Common.{◌≡◌, ℕ, List, [], ◌∷◌, ◌++◌, len
 use Rattle.std.specs.List.{position}
 use Rattle.std.specs.BTreeMap.{get_by_text}
 use Rattle.std.specs.Map.{update}
-use Rattle.script_types.specs.declared.steps.Step.{Step}
-use Rattle.script_types.specs.declared.steps.VariableKind.{VariableKind}
+use Rattle.script_types.specs.declared.steps.{Step.Step, VariableKind.VariableKind}
 use Rattle.script_types.specs.Names.{binds, defines, is_bound_as, is_variable_name}
 use Rattle.script_steps.specs.Places.{IsTable}
 use Rattle.script_steps.proofs.PlaceLaws.{Table, table_put, table_old, table_same}
