@@ -1,19 +1,17 @@
 -- A-law: each magnitude has one code of each sign.
-use Rattle.std.proofs.Common.{ℕ, zero, suc, zero-le, ℤ, pos, negsuc, ◌≡◌, ◌≤◌, ◌<◌, ◌^◌, ◌*◌, ◌+◌, ◌-◌, ◌/◌, ◌%◌, ◌==◌, nat_le, nat_lt, Bool, true, false, not, ◌&&◌, inl, inr, ap, refl, subst, sym, ◌∙◌, get_or, lit<, arith, bit_xor}
-use Rattle.std.proofs.lemmas.Bool.{cases_lt, ne_eqb, and_parts, and_from, le-leb, lt-leb, lt-ltb, leb-true, ltb-true, false_from_ne_true, le-ltb}
+use Rattle.std.proofs.Common.{ℕ, zero, suc, zero-le, ℤ, pos, negsuc, ◌≡◌, ◌≤◌, ◌<◌, ◌^◌, ◌*◌, ◌+◌, ◌-◌, ◌/◌, ◌%◌, ◌==◌, nat_le, Bool, true, false, not, inl, inr, ap, refl, subst, sym, ◌∙◌, lit<, arith, bit_xor}
+use Rattle.std.proofs.lemmas.Bool.{cases_lt, ne_eqb, le-ltb}
 use Rattle.std.proofs.lemmas.Nat.{pow_pos, xor_lt}
-use Rattle.std.proofs.lemmas.List.Sums.{position_or_len_is}
-use Rattle.std.proofs.lemmas.List.FromFn.{get_or-range_with_len}
 use Rattle.std.specs.Int.Bits.{xor_assoc, xor_zero_r}
 use Rattle.std.specs.Int.Signed.{lt_z}
-use Rattle.std.proofs.Math.Nat.{pow-suc, mul-le-mul_left, mod-eq_of_lt, zero-add}
-use Rattle.std.specs.List.{range_with_len}
-use Rattle.codec_definitions.specs.G711.{exponent_of, mantissa_of, is_negative, signed, is_same_sign, alaw_bits, alaw_is_negative, alaw_low, alaw_high, alaw_level, alaw_value, alaw_magnitude, IsAlawCodeOf, IsAlawCode, is_alaw_code, alaw_code}
+use Rattle.std.proofs.Math.Nat.{pow-suc, mul-le-mul_left, mod-eq_of_lt}
+use Rattle.codec_definitions.specs.G711.{exponent_of, mantissa_of, is_negative, signed, alaw_bits, alaw_is_negative, alaw_low, alaw_high, alaw_level, alaw_value, alaw_magnitude, IsAlawCodeOf, IsAlawCode, is_alaw_code, alaw_code}
 use Rattle.g711.specs.Segments.{IsInSegment}
 use Rattle.g711.specs.Laws.{AlawIntervalsAreApart, AlawIntervalsCover, AlawEncodes, AlawEncodesOnce, AlawDecodesWithin, AlawComesBack}
 use Rattle.g711.proofs.Bits.{small_mantissa, same_bits}
 use Rattle.g711.proofs.Segments.{grows, one_segment, some_segment}
-use Rattle.g711.proofs.UlawCodes.{same_sign, sign_same, keeps_sign}
+use Rattle.g711.proofs.Codes.{first_bit, behind, passes, passed, first_byte}
+use Rattle.g711.proofs.UlawCodes.{keeps_sign}
 
 no_zero : (e : ℕ) → (suc e == 0) ≡ false
 no_zero e = ne_eqb (suc e) 0 (λ same. omega (arith, same))
@@ -59,11 +57,12 @@ turned_back b = xor_assoc b 0x55 0x55 ∙ xor_zero_r b
 turned_byte : (b : ℕ) → b < 256 → bit_xor b 0x55 < 256
 turned_byte b small = xor_lt 8 b 0x55 small (lit< tt)
 
+not-not : (b : Bool) → not (not b) ≡ b
+not-not true = refl
+not-not false = refl
+
 same_not : (a b : Bool) → not a ≡ not b → a ≡ b
-same_not true true e = refl
-same_not true false e = sym e
-same_not false true e = sym e
-same_not false false e = refl
+same_not a b e = sym (not-not a) ∙ ap not e ∙ not-not b
 
 pub alaw_apart : AlawIntervalsAreApart
 alaw_apart negative k code other a b =
@@ -74,37 +73,17 @@ alaw_apart negative k code other a b =
     let same : x ≡ y = same_bits x y (turned_byte code a.byte) (turned_byte other b.byte) (same_not (nat_le 128 x) (nat_le 128 y) (a.sign ∙ sym b.sign)) parts.0 parts.1 in
     sym (turned_back code) ∙ (ap (λ (n : ℕ). bit_xor n 0x55) same ∙ turned_back other)
 
--- the first bit of a sign
-abbrev pub sign_bit : Bool → ℕ
-sign_bit true = 0
-sign_bit false = 128
-
-sign_of_bits : (negative : Bool) (b : ℕ) → b < 128 → not (nat_le 128 (b + sign_bit negative)) ≡ negative
-sign_of_bits true b small = ap not (lt-leb 128 (b + 0) (omega (arith, small)))
-sign_of_bits false b small = ap not (le-leb 128 (b + 128) (omega arith))
-
-exponent_signed : (negative : Bool) (b : ℕ) → b < 128 → exponent_of (b + sign_bit negative) ≡ exponent_of b
-exponent_signed true b small = omega (arith, small)
-exponent_signed false b small = omega (arith, small)
-
-mantissa_signed : (negative : Bool) (b : ℕ) → mantissa_of (b + sign_bit negative) ≡ mantissa_of b
-mantissa_signed true b = omega arith
-mantissa_signed false b = omega arith
-
-signed_byte : (negative : Bool) (b : ℕ) → b < 128 → b + sign_bit negative < 256
-signed_byte true b small = omega (arith, small)
-signed_byte false b small = omega (arith, small)
-
 -- the code that a sign and seven bits make
-pub alaw_coded : (negative : Bool) (k b code : ℕ) → b < 128 → alaw_low (exponent_of b) (mantissa_of b) ≤ k → k < alaw_high (exponent_of b) (mantissa_of b) → code ≡ bit_xor (b + sign_bit negative) 0x55 → IsAlawCodeOf negative k code
+pub alaw_coded : (negative : Bool) (k b code : ℕ) → b < 128 → alaw_low (exponent_of b) (mantissa_of b) ≤ k → k < alaw_high (exponent_of b) (mantissa_of b) → code ≡ bit_xor (b + first_bit (not negative)) 0x55 → IsAlawCodeOf negative k code
 alaw_coded negative k b code small low high made =
-    let all = b + sign_bit negative in
+    let all = b + first_bit (not negative) in
+    let own = behind (not negative) b small in
     let bits : alaw_bits code ≡ all = ap (λ (x : ℕ). bit_xor x 0x55) made ∙ turned_back all in
-    let e : exponent_of (alaw_bits code) ≡ exponent_of b = ap (λ (x : ℕ). exponent_of x) bits ∙ exponent_signed negative b small in
-    let m : mantissa_of (alaw_bits code) ≡ mantissa_of b = ap (λ (x : ℕ). mantissa_of x) bits ∙ mantissa_signed negative b in
+    let e : exponent_of (alaw_bits code) ≡ exponent_of b = ap (λ (x : ℕ). exponent_of x) bits ∙ own.exponent in
+    let m : mantissa_of (alaw_bits code) ≡ mantissa_of b = ap (λ (x : ℕ). mantissa_of x) bits ∙ own.mantissa in
     record {
-      byte = subst (λ (x : ℕ). x < 256) (sym made) (turned_byte all (signed_byte negative b small));
-      sign = ap (λ (x : ℕ). not (nat_le 128 x)) bits ∙ sign_of_bits negative b small;
+      byte = subst (λ (x : ℕ). x < 256) (sym made) (turned_byte all own.byte);
+      sign = ap (λ (x : ℕ). not (nat_le 128 x)) bits ∙ ap not own.sign ∙ not-not negative;
       interval = record {
         low = subst (λ (x : ℕ). alaw_low x (mantissa_of (alaw_bits code)) ≤ k) (sym e) (subst (λ (x : ℕ). alaw_low (exponent_of b) x ≤ k) (sym m) low);
         high = subst (λ (x : ℕ). k < alaw_high x (mantissa_of (alaw_bits code))) (sym e) (subst (λ (x : ℕ). k < alaw_high (exponent_of b) x) (sym m) high);
@@ -146,35 +125,13 @@ some_interval k most = elim (cases_lt k 256) [
 pub alaw_cover : AlawIntervalsCover
 alaw_cover negative k most =
     let found : (b : ℕ) × IsInterval b k = some_interval k most in
-    (bit_xor (found.0 + sign_bit negative) 0x55, alaw_coded negative k found.0 (bit_xor (found.0 + sign_bit negative) 0x55) found.1.bits found.1.low found.1.high refl)
+    (bit_xor (found.0 + first_bit (not negative)) 0x55, alaw_coded negative k found.0 (bit_xor (found.0 + first_bit (not negative)) 0x55) found.1.bits found.1.low found.1.high refl)
 
-passes : (value : ℤ) (code : ℕ) → IsAlawCode value code → is_alaw_code value code ≡ true
-passes value code c =
-    let bits = alaw_bits code in
-    let low : nat_le (alaw_low (exponent_of bits) (mantissa_of bits)) (alaw_magnitude value) ≡ true = le-leb (alaw_low (exponent_of bits) (mantissa_of bits)) (alaw_magnitude value) c.interval.low in
-    let high : nat_lt (alaw_magnitude value) (alaw_high (exponent_of bits) (mantissa_of bits)) ≡ true = lt-ltb (alaw_magnitude value) (alaw_high (exponent_of bits) (mantissa_of bits)) c.interval.high in
-    and_from _ _ (and_from _ _ (sign_same (is_negative value) (alaw_is_negative code) c.sign) low) high
-
-passed : (value : ℤ) (code : ℕ) → code < 256 → is_alaw_code value code ≡ true → IsAlawCode value code
-passed value code byte works =
-    let bits = alaw_bits code in
-    let outer = and_parts (is_same_sign (is_negative value) (alaw_is_negative code) && nat_le (alaw_low (exponent_of bits) (mantissa_of bits)) (alaw_magnitude value)) (nat_lt (alaw_magnitude value) (alaw_high (exponent_of bits) (mantissa_of bits))) works in
-    let inner = and_parts (is_same_sign (is_negative value) (alaw_is_negative code)) (nat_le (alaw_low (exponent_of bits) (mantissa_of bits)) (alaw_magnitude value)) outer.0 in
-    record {
-      byte = byte;
-      sign = same_sign (is_negative value) (alaw_is_negative code) inner.0;
-      interval = record { low = leb-true (alaw_low (exponent_of bits) (mantissa_of bits)) (alaw_magnitude value) inner.1; high = ltb-true (alaw_magnitude value) (alaw_high (exponent_of bits) (mantissa_of bits)) outer.1 };
-    }
-
--- the code that passes is the first that passes
 pub alaw_code_is : (value : ℤ) (code : ℕ) → IsAlawCode value code → alaw_code value ≡ code
 unfolding alaw_code
-alaw_code_is value code c =
-    position_or_len_is (is_alaw_code value) (range_with_len 0 256) code 0 (omega (arith, c.byte))
-    (λ k less.
-    let here : get_or (range_with_len 0 256) k 0 ≡ k = get_or-range_with_len 0 256 k 0 (omega (arith, less, c.byte)) ∙ zero-add k in
-    ap (is_alaw_code value) here ∙ false_from_ne_true (is_alaw_code value k) (λ works. omega (arith, less, alaw_apart (is_negative value) (alaw_magnitude value) k code (passed value k (omega (arith, less, c.byte)) works) c)))
-    (λ within. ap (is_alaw_code value) (get_or-range_with_len 0 256 code 0 c.byte ∙ zero-add code) ∙ passes value code c)
+alaw_code_is value code c = first_byte (is_alaw_code value) code c.byte (passes _ _ _ _ _ c.sign c.interval.low c.interval.high) (λ k byte works.
+    let within = passed (is_negative value) (alaw_is_negative k) _ (alaw_magnitude value) _ works in
+    alaw_apart (is_negative value) (alaw_magnitude value) k code (record { byte = byte; sign = within.sign; interval = record { low = within.low; high = within.high } }) c)
 
 pub alaw_encodes : AlawEncodes
 alaw_encodes value fits =
@@ -242,7 +199,7 @@ below_zero (pos n) = le-ltb n 0 zero-le
 below_zero (negsuc n) = refl
 
 -- the code of a value: its sign's, with the bits of an interval that holds its magnitude
-pub alaw_encoded : (value seen : ℤ) (negative : Bool) (b all magnitude : ℕ) → seen ≡ value → lt_z seen (pos 0) ≡ negative → magnitude ≡ alaw_magnitude seen → b < 128 → alaw_low (exponent_of b) (mantissa_of b) ≤ magnitude → magnitude < alaw_high (exponent_of b) (mantissa_of b) → all ≡ b + sign_bit negative → bit_xor all 0x55 ≡ alaw_code value
+pub alaw_encoded : (value seen : ℤ) (negative : Bool) (b all magnitude : ℕ) → seen ≡ value → lt_z seen (pos 0) ≡ negative → magnitude ≡ alaw_magnitude seen → b < 128 → alaw_low (exponent_of b) (mantissa_of b) ≤ magnitude → magnitude < alaw_high (exponent_of b) (mantissa_of b) → all ≡ b + first_bit (not negative) → bit_xor all 0x55 ≡ alaw_code value
 alaw_encoded value seen negative b all magnitude same sign size small low high whole =
     let made : IsAlawCodeOf negative magnitude (bit_xor all 0x55) = alaw_coded negative magnitude b (bit_xor all 0x55) small low high (ap (λ (x : ℕ). bit_xor x 0x55) whole) in
     let signed_so : negative ≡ is_negative value = sym sign ∙ (below_zero seen ∙ ap (λ (v : ℤ). is_negative v) same) in

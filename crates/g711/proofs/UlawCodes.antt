@@ -1,15 +1,13 @@
 -- mu-law: each magnitude has one code of each sign.
-use Rattle.std.proofs.Common.{ℕ, zero, suc, ℤ, pos, negsuc, ◌≡◌, ◌≢◌, ◌≤◌, ◌<◌, ◌^◌, ◌*◌, ◌+◌, ◌-◌, nat_le, nat_lt, Bool, true, false, not, ◌&&◌, inl, inr, ap, refl, subst, sym, ◌∙◌, get_or, arith}
-use Rattle.std.proofs.lemmas.Bool.{cases_lt, and_parts, and_from, le-leb, lt-leb, lt-ltb, leb-true, ltb-true, false_from_ne_true}
+use Rattle.std.proofs.Common.{ℕ, zero, suc, ℤ, pos, negsuc, ◌≡◌, ◌≢◌, ◌≤◌, ◌<◌, ◌^◌, ◌*◌, ◌+◌, ◌-◌, nat_le, Bool, true, false, inl, inr, ap, refl, subst, sym, ◌∙◌, arith}
+use Rattle.std.proofs.lemmas.Bool.{cases_lt, lt-leb}
 use Rattle.std.proofs.lemmas.Nat.{pow_pos}
-use Rattle.std.proofs.lemmas.List.Sums.{position_or_len_is}
-use Rattle.std.proofs.lemmas.List.FromFn.{get_or-range_with_len}
-use Rattle.std.proofs.Math.Nat.{mul-le-mul_left, min-le_right, zero-add}
-use Rattle.std.specs.List.{range_with_len}
-use Rattle.codec_definitions.specs.G711.{exponent_of, mantissa_of, is_negative, signed, is_same_sign, ulaw_bits, ulaw_is_negative, ulaw_low, ulaw_high, ulaw_level, ulaw_value, ulaw_magnitude, IsInUlawInterval, IsUlawCodeOf, IsUlawCode, is_ulaw_code, ulaw_code}
+use Rattle.std.proofs.Math.Nat.{mul-le-mul_left, min-le_right}
+use Rattle.codec_definitions.specs.G711.{exponent_of, mantissa_of, is_negative, signed, ulaw_bits, ulaw_is_negative, ulaw_low, ulaw_high, ulaw_level, ulaw_value, ulaw_magnitude, IsInUlawInterval, IsUlawCodeOf, IsUlawCode, is_ulaw_code, ulaw_code}
 use Rattle.g711.specs.Segments.{IsInSegment}
 use Rattle.g711.specs.Laws.{UlawIntervalsAreApart, UlawIntervalsCover, UlawEncodes, UlawEncodesOnce, UlawDecodesWithin, UlawComesBack}
 use Rattle.g711.proofs.Bits.{small_exponent, small_mantissa, same_bits}
+use Rattle.g711.proofs.Codes.{first_bit, behind, passes, passed, first_byte}
 use Rattle.g711.proofs.Segments.{grows, one_segment, some_segment}
 
 -- a mu-law interval is a segment, 132 lower
@@ -34,83 +32,31 @@ ulaw_apart negative k code other a b =
     let same : x ≡ y = same_bits x y (omega arith) (omega arith) (a.sign ∙ sym b.sign) parts.0 parts.1 in
     omega (arith, same, a.byte, b.byte)
 
--- the first bit of a sign
-abbrev pub sign_bit : Bool → ℕ
-sign_bit true = 128
-sign_bit false = 0
-
-sign_of_bits : (negative : Bool) (b : ℕ) → b < 128 → nat_le 128 (b + sign_bit negative) ≡ negative
-sign_of_bits true b small = le-leb 128 (b + 128) (omega arith)
-sign_of_bits false b small = lt-leb 128 (b + 0) (omega (arith, small))
-
-exponent_signed : (negative : Bool) (b : ℕ) → b < 128 → exponent_of (b + sign_bit negative) ≡ exponent_of b
-exponent_signed true b small = omega (arith, small)
-exponent_signed false b small = omega (arith, small)
-
-mantissa_signed : (negative : Bool) (b : ℕ) → mantissa_of (b + sign_bit negative) ≡ mantissa_of b
-mantissa_signed true b = omega arith
-mantissa_signed false b = omega arith
-
-small_sign : (negative : Bool) → sign_bit negative ≤ 128
-small_sign true = omega arith
-small_sign false = omega arith
-
 -- the code that a sign and seven bits make
-pub ulaw_coded : (negative : Bool) (k b code : ℕ) → b < 128 → IsInSegment (exponent_of b) (mantissa_of b) (k + 132) → code ≡ 255 - (b + sign_bit negative) → IsUlawCodeOf negative k code
+pub ulaw_coded : (negative : Bool) (k b code : ℕ) → b < 128 → IsInSegment (exponent_of b) (mantissa_of b) (k + 132) → code ≡ 255 - (b + first_bit negative) → IsUlawCodeOf negative k code
 ulaw_coded negative k b code small s made =
-    let limit : sign_bit negative ≤ 128 = small_sign negative in
-    let bits : ulaw_bits code ≡ b + sign_bit negative = omega (arith, made, small, limit) in
-    let e : exponent_of (ulaw_bits code) ≡ exponent_of b = ap (λ (x : ℕ). exponent_of x) bits ∙ exponent_signed negative b small in
-    let m : mantissa_of (ulaw_bits code) ≡ mantissa_of b = ap (λ (x : ℕ). mantissa_of x) bits ∙ mantissa_signed negative b in
+    let own = behind negative b small in
+    let bits : ulaw_bits code ≡ b + first_bit negative = omega (arith, made, own.byte) in
+    let e : exponent_of (ulaw_bits code) ≡ exponent_of b = ap (λ (x : ℕ). exponent_of x) bits ∙ own.exponent in
+    let m : mantissa_of (ulaw_bits code) ≡ mantissa_of b = ap (λ (x : ℕ). mantissa_of x) bits ∙ own.mantissa in
     let segment : IsInSegment (exponent_of (ulaw_bits code)) (mantissa_of (ulaw_bits code)) (k + 132) =
     subst (λ (x : ℕ). IsInSegment x (mantissa_of (ulaw_bits code)) (k + 132)) (sym e) (subst (λ (x : ℕ). IsInSegment (exponent_of b) x (k + 132)) (sym m) s) in
     record {
       byte = omega (arith, made);
-      sign = ap (λ (x : ℕ). nat_le 128 x) bits ∙ sign_of_bits negative b small;
+      sign = ap (λ (x : ℕ). nat_le 128 x) bits ∙ own.sign;
       interval = record { low = low_from (exponent_of (ulaw_bits code)) (mantissa_of (ulaw_bits code)) k segment; high = high_from (exponent_of (ulaw_bits code)) (mantissa_of (ulaw_bits code)) k segment };
     }
 
 pub ulaw_cover : UlawIntervalsCover
 ulaw_cover negative k clipped =
     let found : (bits : ℕ) × (bits < 128) × IsInSegment (exponent_of bits) (mantissa_of bits) (k + 132) = some_segment (k + 132) (omega arith) (omega (arith, clipped)) in
-    (255 - (found.0 + sign_bit negative), ulaw_coded negative k found.0 (255 - (found.0 + sign_bit negative)) found.1 found.2 refl)
+    (255 - (found.0 + first_bit negative), ulaw_coded negative k found.0 (255 - (found.0 + first_bit negative)) found.1 found.2 refl)
 
-pub same_sign : (a b : Bool) → is_same_sign a b ≡ true → b ≡ a
-same_sign false false e = refl
-same_sign false true e = sym e
-same_sign true b e = e
-
-pub sign_same : (a b : Bool) → b ≡ a → is_same_sign a b ≡ true
-sign_same false b e = ap not e
-sign_same true b e = e
-
-passes : (value : ℤ) (code : ℕ) → IsUlawCode value code → is_ulaw_code value code ≡ true
-passes value code c =
-    let bits = ulaw_bits code in
-    let low : nat_le (ulaw_low (exponent_of bits) (mantissa_of bits)) (ulaw_magnitude value) ≡ true = le-leb (ulaw_low (exponent_of bits) (mantissa_of bits)) (ulaw_magnitude value) c.interval.low in
-    let high : nat_lt (ulaw_magnitude value) (ulaw_high (exponent_of bits) (mantissa_of bits)) ≡ true = lt-ltb (ulaw_magnitude value) (ulaw_high (exponent_of bits) (mantissa_of bits)) c.interval.high in
-    and_from _ _ (and_from _ _ (sign_same (is_negative value) (ulaw_is_negative code) c.sign) low) high
-
-passed : (value : ℤ) (code : ℕ) → code < 256 → is_ulaw_code value code ≡ true → IsUlawCode value code
-passed value code byte works =
-    let bits = ulaw_bits code in
-    let outer = and_parts (is_same_sign (is_negative value) (ulaw_is_negative code) && nat_le (ulaw_low (exponent_of bits) (mantissa_of bits)) (ulaw_magnitude value)) (nat_lt (ulaw_magnitude value) (ulaw_high (exponent_of bits) (mantissa_of bits))) works in
-    let inner = and_parts (is_same_sign (is_negative value) (ulaw_is_negative code)) (nat_le (ulaw_low (exponent_of bits) (mantissa_of bits)) (ulaw_magnitude value)) outer.0 in
-    record {
-      byte = byte;
-      sign = same_sign (is_negative value) (ulaw_is_negative code) inner.0;
-      interval = record { low = leb-true (ulaw_low (exponent_of bits) (mantissa_of bits)) (ulaw_magnitude value) inner.1; high = ltb-true (ulaw_magnitude value) (ulaw_high (exponent_of bits) (mantissa_of bits)) outer.1 };
-    }
-
--- the code that passes is the first that passes
 pub ulaw_code_is : (value : ℤ) (code : ℕ) → IsUlawCode value code → ulaw_code value ≡ code
 unfolding ulaw_code
-ulaw_code_is value code c =
-    position_or_len_is (is_ulaw_code value) (range_with_len 0 256) code 0 (omega (arith, c.byte))
-    (λ k less.
-    let here : get_or (range_with_len 0 256) k 0 ≡ k = get_or-range_with_len 0 256 k 0 (omega (arith, less, c.byte)) ∙ zero-add k in
-    ap (is_ulaw_code value) here ∙ false_from_ne_true (is_ulaw_code value k) (λ works. omega (arith, less, ulaw_apart (is_negative value) (ulaw_magnitude value) k code (passed value k (omega (arith, less, c.byte)) works) c)))
-    (λ within. ap (is_ulaw_code value) (get_or-range_with_len 0 256 code 0 c.byte ∙ zero-add code) ∙ passes value code c)
+ulaw_code_is value code c = first_byte (is_ulaw_code value) code c.byte (passes _ _ _ _ _ c.sign c.interval.low c.interval.high) (λ k byte works.
+    let within = passed (is_negative value) (ulaw_is_negative k) _ (ulaw_magnitude value) _ works in
+    ulaw_apart (is_negative value) (ulaw_magnitude value) k code (record { byte = byte; sign = within.sign; interval = record { low = within.low; high = within.high } }) c)
 
 clipped : (value : ℤ) → ulaw_magnitude value ≤ 32635
 clipped (pos n) = min-le_right n 32635
