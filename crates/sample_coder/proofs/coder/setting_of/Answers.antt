@@ -1,9 +1,6 @@
 use Rattle.std.proofs.Common.{◌<◌, ◌≤◌, subst, sym}
-use Rattle.wc_config.specs.declared.config.AudioDecoderConfig.{AudioDecoderConfig}
-use Rattle.wc_config.specs.declared.config.AudioEncoderConfig.{AudioEncoderConfig}
-use Rattle.sample_coder.specs.Coding.{id_of}
-use Rattle.sample_coder.specs.Value.{IsInRange}
-use Rattle.sample_coder.specs.declared.coder.Setting.TheVariants as setting
+use Rattle.wc_config.specs.declared.config.{AudioDecoderConfig.AudioDecoderConfig, AudioEncoderConfig.AudioEncoderConfig}
+use Rattle.sample_coder.specs.{Coding.id_of, Value.IsInRange, declared.coder.Setting.Setting}
 use Rattle.sample_coder.proofs.Served.{decoder_range, encoder_range, sampled}
 use Rattle.sample_coder.proofs.coder.setting_of.Goals as goal
 
@@ -15,4 +12,4 @@ returns-in_ok-copy-in-AudioDecoder-clause-range c =
 pub returns-in_ok-copy-in-AudioEncoder-clause-range :
     goal.returns-in_ok-copy-in-AudioEncoder-clause-range
 returns-in_ok-copy-in-AudioEncoder-clause-range c =
-    subst (λ (x : AudioEncoderConfig). IsInRange (setting.Encoder x)) (sym c.in_ok-copy-in-AudioEncoder.ensures) (encoder_range (record { role = c.args.role; codec = id_of c.args.coding }) c.in-AudioEncoder.c (sampled c.args.coding) (rw c.in-AudioEncoder.is at c.requires))
+    subst (λ (x : AudioEncoderConfig). IsInRange (Setting.Encoder x)) (sym c.in_ok-copy-in-AudioEncoder.ensures) (encoder_range (record { role = c.args.role; codec = id_of c.args.coding }) c.in-AudioEncoder.c (sampled c.args.coding) (rw c.in-AudioEncoder.is at c.requires))

@@ -1,7 +1,6 @@
 use Rattle.std.proofs.Common.{ℕ, ◌≡◌, ◌∙◌, List, IfOk, ap, sym, subst}
 use Rattle.codec_definitions.specs.SampleCodecs.{coded}
-use Rattle.sample_coder.specs.Coding.{definition}
-use Rattle.sample_coder.specs.declared.coding.Coding.{Coding}
+use Rattle.sample_coder.specs.{Coding.definition, declared.coding.Coding.Coding}
 use Rattle.sample_coder.proofs.coding.Coding.coded.Goals as goal
 
 pub returns-in_ok-interleaved-in-Pcm : goal.returns-in_ok-interleaved-in-Pcm
