@@ -4,30 +4,15 @@ use Rattle.std.specs.Prelude.{unwrap_or, option_map, option_to_list, Result, Ok,
 use Rattle.std.proofs.lemmas.List.{map-append}
 use Rattle.wc_base.specs.declared.who.Who.{Who}
 use Rattle.wc_pool.specs.declared.reference.MediaRef.{MediaRef}
-use Rattle.codec_model.specs.declared.entry.Pair.{Pair}
-use Rattle.codec_model.specs.declared.entry.HeldSound.{HeldSound}
-use Rattle.codec_model.specs.declared.entry.Handed.TheVariants as handed
-use Rattle.codec_model.specs.declared.entry.Call.{Call}
-use Rattle.codec_model.specs.declared.entry.Call.TheVariants as call
-use Rattle.codec_model.specs.declared.entry.Task.{Task}
+use Rattle.codec_model.specs.declared.entry.{Pair.Pair, HeldSound.HeldSound, Handed.Handed, Call.Call, Task.Task, Work.Work, Item.Item}
 use Rattle.coder_api.specs.Lent.{Lent}
-use Rattle.codec_model.specs.declared.entry.Work.{Work}
-use Rattle.codec_model.specs.declared.entry.Item.{Item}
-use Rattle.codec_model.specs.declared.entry.Running.{Running}
-use Rattle.codec_model.specs.declared.entry.Entry.{Entry}
-use Rattle.codec_model.specs.declared.entry.Entry.TheVariants as entry
+use Rattle.codec_model.specs.{declared.entry.Running.Running, declared.entry.Entry.Entry, Replay.State, Replay.entry_of, Held.HeldMoves}
 use Rattle.codec_model.specs.Control.{held_of, front, may_start, start_item, turn_closes}
-use Rattle.codec_model.specs.Replay.{State, entry_of}
 use Rattle.codec_model.specs.Held.{in_order, held_by, items_held, messages_held, running_pairs, waiting_held, front_held, behind_held, waiting_after, running_after, closes_codec}
-use Rattle.codec_model.specs.Held.{HeldMoves}
-use Rattle.codec_core.specs.declared.reply.Reply.{Reply}
-use Rattle.codec_core.specs.declared.reply.Taken.{Taken}
-use Rattle.codec_core.specs.declared.reply.CallFault.{CallFault}
-use Rattle.codec_core.specs.declared.reply.CallFault.TheVariants as fault
+use Rattle.codec_core.specs.{declared.reply.Reply.Reply, declared.reply.Taken.Taken, declared.reply.CallFault.CallFault, Owning.GoesBack}
 use Rattle.codec_core.specs.Codec.{Codec, state_at, Makes, Replied, FaultIs, item_parts, closes_now, removed_if, refused_as, RemovedValue}
 use Rattle.codec_media.specs.Holding.{pair_of, IsHolding, TakesIf, without_media}
 use Rattle.codec_media.specs.Holding as holding
-use Rattle.codec_core.specs.Owning.{GoesBack}
 
 -- an entry that was made, with what the codec holds after it
 pub holds_after : HeldMoves → (old new : Codec) (e : Entry) (working : Option MediaRef) (waiting : List MediaRef) → Makes old new e → map pair_of (in_order working) ≡ running_after e (state_at old) → map pair_of waiting ≡ waiting_after e (state_at old) → IsHolding new working waiting
@@ -36,42 +21,42 @@ holds_after held_moves old new e working waiting m r w =
     record { runs = r ∙ sym moves.runs; waits = w ∙ sym moves.waits }
 
 call_waits : (who : Who) (x : Call) (s : State) → waiting_after (entry_of who x) s ≡ waiting_held s.control ++ []
-call_waits who (call.Configure config) s = refl
-call_waits who (call.Decode chunk) s = refl
-call_waits who call.Flush s = refl
+call_waits who (Call.Configure config) s = refl
+call_waits who (Call.Decode chunk) s = refl
+call_waits who Call.Flush s = refl
 
 call_runs : (who : Who) (x : Call) (s : State) → running_after (entry_of who x) s ≡ running_pairs s
-call_runs who (call.Configure config) s = refl
-call_runs who (call.Decode chunk) s = refl
-call_runs who call.Flush s = refl
+call_runs who (Call.Configure config) s = refl
+call_runs who (Call.Decode chunk) s = refl
+call_runs who Call.Flush s = refl
 
 made_call : HeldMoves → (old new : Codec) (who : Who) (x : Call) (working : Option MediaRef) (waiting : List MediaRef) → Makes old new (entry_of who x) → IsHolding old working waiting → IsHolding new working waiting
 made_call moves old new who x working waiting m h = holds_after moves old new (entry_of who x) working waiting m (h.runs ∙ sym (call_runs who x (state_at old))) (h.waits ∙ (sym (append-nil (waiting_held (state_at old).control)) ∙ sym (call_waits who x (state_at old))))
 
 pub call_holds : HeldMoves → (result : Result Reply CallFault) (old new : Codec) (who : Who) (x : Call) (working : Option MediaRef) (waiting : List MediaRef) → IfOk result (λ reply. Replied old new who x reply.place None) → IfErr result (FaultIs old new who x) → IsHolding old working waiting → IsHolding new working waiting
 call_holds moves (Ok reply) old new who x working waiting ok err h = made_call moves old new who x working waiting ok.made h
-call_holds moves (Err (fault.Dom error at)) old new who x working waiting ok err h = made_call moves old new who x working waiting err.made h
-call_holds moves (Err fault.NoMemory) old new who x working waiting ok err h = let P : Codec → Type 0 = λ c. IsHolding c working waiting in subst P (sym err) h
+call_holds moves (Err (CallFault.Dom error at)) old new who x working waiting ok err h = made_call moves old new who x working waiting err.made h
+call_holds moves (Err CallFault.NoMemory) old new who x working waiting ok err h = let P : Codec → Type 0 = λ c. IsHolding c working waiting in subst P (sym err) h
 
 -- an encode that is refused holds nothing
-refused_waits : (who : Who) (detached : Bool) (s : State) → waiting_after (entry.Encode who (refused_as detached)) s ≡ waiting_held s.control ++ []
+refused_waits : (who : Who) (detached : Bool) (s : State) → waiting_after (Entry.Encode who (refused_as detached)) s ≡ waiting_held s.control ++ []
 refused_waits who true s = refl
 refused_waits who false s = refl
 
-pub refused_holds : {A : Type 0} {E : Type 0} → HeldMoves → (result : Result A E) (old new : Codec) (who : Who) (detached : Bool) (working : Option MediaRef) (waiting : List MediaRef) → OnOk result (Makes old new (entry.Encode who (refused_as detached))) → OnErr result (new ≡ old) → IsHolding old working waiting → IsHolding new working waiting
-refused_holds moves (Ok a) old new who detached working waiting m same h = holds_after moves old new (entry.Encode who (refused_as detached)) working waiting m h.runs (h.waits ∙ (sym (append-nil (waiting_held (state_at old).control)) ∙ sym (refused_waits who detached (state_at old))))
+pub refused_holds : {A : Type 0} {E : Type 0} → HeldMoves → (result : Result A E) (old new : Codec) (who : Who) (detached : Bool) (working : Option MediaRef) (waiting : List MediaRef) → OnOk result (Makes old new (Entry.Encode who (refused_as detached))) → OnErr result (new ≡ old) → IsHolding old working waiting → IsHolding new working waiting
+refused_holds moves (Ok a) old new who detached working waiting m same h = holds_after moves old new (Entry.Encode who (refused_as detached)) working waiting m h.runs (h.waits ∙ (sym (append-nil (waiting_held (state_at old).control)) ∙ sym (refused_waits who detached (state_at old))))
 refused_holds moves (Err e) old new who detached working waiting m same h = let P : Codec → Type 0 = λ c. IsHolding c working waiting in subst P (sym same) h
 
 -- a take
-pub take_holds : {E : Type 0} → HeldMoves → (result : Result (Option Taken) E) (old new : Codec) (who : Who) (working : Option MediaRef) (waiting : List MediaRef) → IfOk result (λ taken. IfSome taken (λ t. Makes old new (entry.Take who t.number))) → IfOk result (λ taken. IfNone taken (new ≡ old)) → OnErr result (new ≡ old) → IsHolding old working waiting → IsHolding new working waiting
-take_holds moves (Ok (Some t)) old new who working waiting m none err h = holds_after moves old new (entry.Take who t.number) working waiting m h.runs (h.waits ∙ sym (append-nil (waiting_held (state_at old).control)))
+pub take_holds : {E : Type 0} → HeldMoves → (result : Result (Option Taken) E) (old new : Codec) (who : Who) (working : Option MediaRef) (waiting : List MediaRef) → IfOk result (λ taken. IfSome taken (λ t. Makes old new (Entry.Take who t.number))) → IfOk result (λ taken. IfNone taken (new ≡ old)) → OnErr result (new ≡ old) → IsHolding old working waiting → IsHolding new working waiting
+take_holds moves (Ok (Some t)) old new who working waiting m none err h = holds_after moves old new (Entry.Take who t.number) working waiting m h.runs (h.waits ∙ sym (append-nil (waiting_held (state_at old).control)))
 take_holds moves (Ok None) old new who working waiting m none err h = let P : Codec → Type 0 = λ c. IsHolding c working waiting in subst P (sym none) h
 take_holds moves (Err e) old new who working waiting m none err h = let P : Codec → Type 0 = λ c. IsHolding c working waiting in subst P (sym err) h
 
 -- an encode
-pub encode_holds : HeldMoves → (old new : Codec) (who : Who) (x : HeldSound) (r : MediaRef) (working : Option MediaRef) (waiting : List MediaRef) → Makes old new (entry.Encode who (handed.Cloned x)) → x.pair ≡ pair_of r → IsHolding old working waiting → IsHolding new working (waiting ++ r ∷ [])
+pub encode_holds : HeldMoves → (old new : Codec) (who : Who) (x : HeldSound) (r : MediaRef) (working : Option MediaRef) (waiting : List MediaRef) → Makes old new (Entry.Encode who (Handed.Cloned x)) → x.pair ≡ pair_of r → IsHolding old working waiting → IsHolding new working (waiting ++ r ∷ [])
 encode_holds moves old new who x r working waiting m e h =
-    holds_after moves old new (entry.Encode who (handed.Cloned x)) working (waiting ++ r ∷ []) m h.runs
+    holds_after moves old new (Entry.Encode who (Handed.Cloned x)) working (waiting ++ r ∷ []) m h.runs
     (map-append pair_of waiting (r ∷ []) ∙ (ap (λ l. l ++ pair_of r ∷ []) h.waits ∙ ap (λ (p : Pair). waiting_held (state_at old).control ++ p ∷ []) (sym e)))
 
 -- a start
@@ -107,10 +92,10 @@ starts s n w h =
     }
 
 -- the item that starts holds nothing
-pub start_empty : HeldMoves → (old new : Codec) (epoch number : ℕ) (w : Work) (working : Option MediaRef) (waiting : List MediaRef) → Makes old new (entry.Start epoch number) → Starts (state_at old) w → held_of w ≡ None → IsHolding old working waiting → IsHolding new working waiting
+pub start_empty : HeldMoves → (old new : Codec) (epoch number : ℕ) (w : Work) (working : Option MediaRef) (waiting : List MediaRef) → Makes old new (Entry.Start epoch number) → Starts (state_at old) w → held_of w ≡ None → IsHolding old working waiting → IsHolding new working waiting
 start_empty moves old new epoch number w working waiting m at none h =
     let empty : in_order (held_of w) ≡ [] = ap (λ (o : Option Pair). in_order o) none in
-    holds_after moves old new (entry.Start epoch number) working waiting m
+    holds_after moves old new (Entry.Start epoch number) working waiting m
     (h.runs ∙ (at.idle ∙ (sym empty ∙ sym at.fronts)))
     (h.waits ∙ (at.queue ∙ ap (λ l. l ++ (behind_held (state_at old).control.work ++ messages_held (state_at old).control.messages)) empty))
 
@@ -125,15 +110,15 @@ taken_at (Some r) before after p rest e d h =
     ((let same : pair_of r ≡ p = cc in ap (λ x. x ∷ []) same), cc)
 
 -- the item that starts holds the front reference
-pub start_taken : HeldMoves → (old new : Codec) (epoch number : ℕ) (w : Work) (p : Pair) (working : Option MediaRef) (waiting after : List MediaRef) → Makes old new (entry.Start epoch number) → Starts (state_at old) w → held_of w ≡ Some p → map pair_of waiting ≡ waiting_held (state_at old).control → waiting ≡ option_to_list working ++ after → after ≡ drop 1 waiting → IsHolding new working after
+pub start_taken : HeldMoves → (old new : Codec) (epoch number : ℕ) (w : Work) (p : Pair) (working : Option MediaRef) (waiting after : List MediaRef) → Makes old new (Entry.Start epoch number) → Starts (state_at old) w → held_of w ≡ Some p → map pair_of waiting ≡ waiting_held (state_at old).control → waiting ≡ option_to_list working ++ after → after ≡ drop 1 waiting → IsHolding new working after
 start_taken moves old new epoch number w p working waiting after m at is waits e d =
     let one : in_order (held_of w) ≡ p ∷ [] = ap (λ (o : Option Pair). in_order o) is in
     let rest = behind_held (state_at old).control.work ++ messages_held (state_at old).control.messages in
     let taken = taken_at working waiting after p rest e d (waits ∙ (at.queue ∙ ap (λ l. l ++ rest) one)) in
-    holds_after moves old new (entry.Start epoch number) working after m (taken.0 ∙ (sym one ∙ sym at.fronts)) taken.1
+    holds_after moves old new (Entry.Start epoch number) working after m (taken.0 ∙ (sym one ∙ sym at.fronts)) taken.1
 
 -- a start, with what it takes
-pub start_holds : HeldMoves → (held : Option Pair) (old new : Codec) (epoch number : ℕ) (w : Work) (working now : Option MediaRef) (waiting after : List MediaRef) → held_of w ≡ held → Makes old new (entry.Start epoch number) → Starts (state_at old) w → TakesIf (is_some held) waiting after working now → IsHolding old working waiting → IsHolding new now after
+pub start_holds : HeldMoves → (held : Option Pair) (old new : Codec) (epoch number : ℕ) (w : Work) (working now : Option MediaRef) (waiting after : List MediaRef) → held_of w ≡ held → Makes old new (Entry.Start epoch number) → Starts (state_at old) w → TakesIf (is_some held) waiting after working now → IsHolding old working waiting → IsHolding new now after
 start_holds moves None old new epoch number w working now waiting after is m at takes h =
     let P : List MediaRef → Type 0 = λ l. IsHolding new now l in
     let Q : Option MediaRef → Type 0 = λ o. IsHolding new o waiting in
@@ -142,8 +127,8 @@ start_holds moves (Some p) old new epoch number w working now waiting after is m
     start_taken moves old new epoch number w p now waiting after m at is h.waits takes.0 takes.1
 
 -- the end of an item
-pub done_holds : HeldMoves → (old new : Codec) (epoch number moment : ℕ) (o : _) (working : Option MediaRef) (waiting : List MediaRef) → Makes old new (entry.Done epoch number moment o) → IsHolding old working waiting → IsHolding new None waiting
-done_holds moves old new epoch number moment o working waiting m h = holds_after moves old new (entry.Done epoch number moment o) None waiting m refl (h.waits ∙ sym (append-nil (waiting_held (state_at old).control)))
+pub done_holds : HeldMoves → (old new : Codec) (epoch number moment : ℕ) (o : _) (working : Option MediaRef) (waiting : List MediaRef) → Makes old new (Entry.Done epoch number moment o) → IsHolding old working waiting → IsHolding new None waiting
+done_holds moves old new epoch number moment o working waiting m h = holds_after moves old new (Entry.Done epoch number moment o) None waiting m refl (h.waits ∙ sym (append-nil (waiting_held (state_at old).control)))
 
 -- a removal, made or refused
 pub removal_holds : HeldMoves → (e : Entry) (b : Bool) (old new : Codec) (working : Option MediaRef) (waiting after : List MediaRef) → waiting_after e (state_at old) ≡ cond b [] (waiting_held (state_at old).control) ++ [] → running_after e (state_at old) ≡ running_pairs (state_at old) → Makes old new e → after ≡ cond b [] waiting → IsHolding old working waiting → IsHolding new working after
@@ -159,10 +144,10 @@ some_if true at coder = refl
 some_if false at coder = refl
 
 -- a turn removes where its task closes the codec
-pub turn_holds : HeldMoves → (old new : Codec) (removed : Option RemovedValue) (at : ℕ) (coder : Option Lent) (working : Option MediaRef) (waiting after : List MediaRef) → removed ≡ removed_if (closes_now (state_at old).control) at coder → Makes old new entry.Turn → after ≡ cond (is_some removed) [] waiting → IsHolding old working waiting → IsHolding new working after
+pub turn_holds : HeldMoves → (old new : Codec) (removed : Option RemovedValue) (at : ℕ) (coder : Option Lent) (working : Option MediaRef) (waiting after : List MediaRef) → removed ≡ removed_if (closes_now (state_at old).control) at coder → Makes old new Entry.Turn → after ≡ cond (is_some removed) [] waiting → IsHolding old working waiting → IsHolding new working after
 turn_holds moves old new removed at coder working waiting after is m left h =
     let some : is_some removed ≡ closes_codec (state_at old).control.tasks = ap (λ (o : Option RemovedValue). is_some o) is ∙ (some_if (closes_now (state_at old).control) at coder ∙ closes_same (state_at old).control.tasks) in
-    removal_holds moves entry.Turn (closes_codec (state_at old).control.tasks) old new working waiting after refl refl m (left ∙ ap (λ (b : Bool). cond b [] waiting) some) h
+    removal_holds moves Entry.Turn (closes_codec (state_at old).control.tasks) old new working waiting after refl refl m (left ∙ ap (λ (b : Bool). cond b [] waiting) some) h
 
 -- what such a turn leaves beside the references
 pub turn_box : (x : Option holding.RemovedValue) (removed : Option RemovedValue) (b : Bool) (at : ℕ) (coder : Option Lent) → option_map without_media x ≡ removed → removed ≡ removed_if b at coder → IfSome x (λ r. (r.place ≡ at) × (r.coder ≡ coder))

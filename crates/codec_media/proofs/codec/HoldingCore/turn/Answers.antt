@@ -1,8 +1,7 @@
 use Rattle.std.proofs.Common.{◌≡◌, arith, ap, ◌∙◌, sym, subst}
 use Rattle.std.specs.Prelude.{IfSome}
-use Rattle.codec_core.specs.Owning.{GoesBack}
+use Rattle.codec_core.specs.{Owning.GoesBack, Job.stopped_box}
 use Rattle.codec_core.specs.Codec.{TurnedValue, state_at, closes_now, removed_if}
-use Rattle.codec_core.specs.Job.{stopped_box}
 use Rattle.codec_media.proofs.Holds.{turn_holds, turn_box, turn_back}
 use Rattle.codec_media.proofs.codec.HoldingCore.turn.Goals as goal
 
