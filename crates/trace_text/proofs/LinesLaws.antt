@@ -1,8 +1,7 @@
 -- Lines that are left.
 use Rattle.std.proofs.Common.{◌≡◌, ℕ, List, [], ◌∷◌, refl}
 use Rattle.std.specs.List.{zip}
-use Rattle.codec_model.specs.declared.entry.Entry.{Entry}
-use Rattle.codec_model.specs.declared.entry.Shown.{Shown}
+use Rattle.codec_model.specs.declared.entry.{Entry.Entry, Shown.Shown}
 use Rattle.trace_text.specs.Report.{lines_from, entry_lines}
 
 -- entries that showed nothing have no lines

@@ -2,7 +2,7 @@
 use Rattle.std.proofs.Common.{refl, false, [], ◌∷◌, Some, None}
 use Rattle.std.specs.Fmt.{digits}
 use Rattle.hex.specs.Hex.{encode_with}
-use Rattle.wc_base.specs.declared.who.By.TheVariants as by
+use Rattle.wc_base.specs.declared.who.By.{By}
 use Rattle.codec_model.specs.Rows.{four, ordinary}
 use Rattle.trace_text.specs.Rows.{coder, results, acquire_entry}
 use Rattle.trace_text.proofs.rows.ordinary_report.Goals as goal
@@ -16,7 +16,7 @@ pub returns-clause-follows : goal.returns-clause-follows
 returns-clause-follows c = record {
   course = record {
     callers = results ∷ [];
-    codecs = record { opening = four; history = ordinary; holding = record { box = Some (record { id = coder; number = 0; by = by.Codec 0 3 }); refusal = None } } ∷ [];
+    codecs = record { opening = four; history = ordinary; holding = record { box = Some (record { id = coder; number = 0; by = By.Codec 0 3 }); refusal = None } } ∷ [];
     media = record { variables = [] ∷ []; pool = [] };
     slots = record { made = coder ∷ []; history = acquire_entry ∷ [] };
   };

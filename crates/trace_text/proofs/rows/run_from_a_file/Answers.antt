@@ -1,6 +1,6 @@
 -- No end wants memory, and the codec has its box in the end.
 use Rattle.std.proofs.Common.{refl, false, [], ◌∷◌, Some, None}
-use Rattle.wc_base.specs.declared.who.By.TheVariants as by
+use Rattle.wc_base.specs.declared.who.By.{By}
 use Rattle.codec_model.specs.Rows.{four, ordinary}
 use Rattle.trace_text.specs.Rows.{coder, results, acquire_entry}
 use Rattle.trace_text.proofs.rows.run_from_a_file.Goals as goal
@@ -9,7 +9,7 @@ pub returns-clause-follows : goal.returns-clause-follows
 returns-clause-follows c = record {
   course = record {
     callers = results ∷ [];
-    codecs = record { opening = four; history = ordinary; holding = record { box = Some (record { id = coder; number = 0; by = by.Codec 0 3 }); refusal = None } } ∷ [];
+    codecs = record { opening = four; history = ordinary; holding = record { box = Some (record { id = coder; number = 0; by = By.Codec 0 3 }); refusal = None } } ∷ [];
     media = record { variables = [] ∷ []; pool = [] };
     slots = record { made = coder ∷ []; history = acquire_entry ∷ [] };
   };

@@ -2,7 +2,7 @@
 use Rattle.std.proofs.Common.{refl, false, [], ◌∷◌, Some, None}
 use Rattle.std.specs.Fmt.{digits}
 use Rattle.hex.specs.Hex.{encode_with}
-use Rattle.wc_base.specs.declared.who.By.TheVariants as by
+use Rattle.wc_base.specs.declared.who.By.{By}
 use Rattle.media_variables.specs.Variables.{SoundOf, ChunkOf}
 use Rattle.trace_text.specs.Rows.{sound}
 use Rattle.trace_text.specs.EncodingRows.{results, opened, entries, coded, references, coder, acquire_entry}
@@ -24,7 +24,7 @@ pub returns-clause-follows : goal.returns-clause-follows
 returns-clause-follows c = record {
   course = record {
     callers = results ∷ [];
-    codecs = record { opening = opened; history = entries; holding = record { box = Some (record { id = coder; number = 0; by = by.Codec 0 2 }); refusal = None } } ∷ [];
+    codecs = record { opening = opened; history = entries; holding = record { box = Some (record { id = coder; number = 0; by = By.Codec 0 2 }); refusal = None } } ∷ [];
     media = record {
       variables = (None ∷ Some (record { shape = SoundOf sound.shape; held = None }) ∷ None ∷ None ∷ Some (record { shape = ChunkOf coded; held = None }) ∷ []) ∷ [];
       pool = references;

@@ -2,7 +2,7 @@
 use Rattle.std.proofs.Common.{refl, false, [], ◌∷◌, Some, None}
 use Rattle.std.specs.Fmt.{digits}
 use Rattle.hex.specs.Hex.{encode_with}
-use Rattle.wc_base.specs.declared.who.By.TheVariants as by
+use Rattle.wc_base.specs.declared.who.By.{By}
 use Rattle.codec_model.specs.Rows.{four}
 use Rattle.media_variables.specs.Variables.{SoundOf}
 use Rattle.trace_text.specs.Rows.{coder, sound, taking_history, taking_results, make_entry, acquire_entry}
@@ -24,7 +24,7 @@ pub returns-clause-follows : goal.returns-clause-follows
 returns-clause-follows c = record {
   course = record {
     callers = taking_results ∷ [];
-    codecs = record { opening = four; history = taking_history; holding = record { box = Some (record { id = coder; number = 0; by = by.Codec 0 3 }); refusal = None } } ∷ [];
+    codecs = record { opening = four; history = taking_history; holding = record { box = Some (record { id = coder; number = 0; by = By.Codec 0 3 }); refusal = None } } ∷ [];
     media = record {
       variables =
           (None ∷ None ∷ None ∷ None ∷ None ∷ Some (record { shape = SoundOf sound.shape; held = Some (record { resource = 0; number = 0; bytes = sound.bytes }) }) ∷ []) ∷ [];
