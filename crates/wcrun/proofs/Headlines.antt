@@ -4,22 +4,19 @@ use Rattle.wc_base.specs.Told.{AppendsPart}
 use Rattle.wcrun.proofs.Parts.{one_after_another, then_a_part}
 use Rattle.wc_config.specs.declared.codec.CoderId.{CoderId}
 use Rattle.script_types.specs.declared.fault.Fault.{Fault}
-use Rattle.script_types.specs.declared.fault.Fault.TheVariants as fault
 use Rattle.chunk_files.specs.declared.fault.Stop.{Stop}
-use Rattle.chunk_files.specs.declared.fault.Stop.TheVariants as stop
 use Rattle.wcrun.specs.Refusals.{status_of, line_of, usage_line, memory_line}
 use Rattle.wcrun.specs.Headline.{Reading, Writing, IsReport, IsCut, Comes, IsRefusal, SinkFailed, Headline}
-use Rattle.wcrun.specs.Writing.{WritesText, WritesLine}
-use Rattle.wcrun.specs.Stops.{MayStop}
+use Rattle.wcrun.specs.{Writing.WritesText, Writing.WritesLine, Stops.MayStop}
 
 -- no fault has status 0
 not_zero : (x : Fault) → status_of x ≢ 0
-not_zero fault.NotJson = λ e. omega arith
-not_zero (fault.At p w) = λ e. omega arith
-not_zero (fault.TooMany what) = λ e. omega arith
-not_zero (fault.Unread name) = λ e. omega arith
-not_zero (fault.Chunks name f) = λ e. omega arith
-not_zero (fault.NoIndex name p) = λ e. omega arith
+not_zero Fault.NotJson = λ e. omega arith
+not_zero (Fault.At p w) = λ e. omega arith
+not_zero (Fault.TooMany what) = λ e. omega arith
+not_zero (Fault.Unread name) = λ e. omega arith
+not_zero (Fault.Chunks name f) = λ e. omega arith
+not_zero (Fault.NoIndex name p) = λ e. omega arith
 
 not_five : (n : ℕ) → n ≡ 0 → n ≢ 5
 not_five n e = λ q. omega arith
@@ -91,5 +88,5 @@ headline_of_memory r ids w p = record {
 }
 
 -- a fault that stops a replay may come
-pub stop_comes : (r : Reading) (e : Stop Fault) (x : Fault) → e ≡ stop.Fault x → MayStop r e → Comes r x
+pub stop_comes : (r : Reading) (e : Stop Fault) (x : Fault) → e ≡ Stop.Fault x → MayStop r e → Comes r x
 stop_comes r e x q k = subst (λ s. MayStop r s) q k

@@ -2,12 +2,9 @@
 use Rattle.std.proofs.Common.{◌≡◌, ◌≢◌, ◌⊎◌, inl, inr, ℕ, zero, suc, List, Option, Some, None, Result, Ok, Err, refl, sym, ap, ◌∙◌, arith}
 use Rattle.std.specs.Prelude.{IsSomeAnd}
 use Rattle.wc_base.specs.Causes.{Rose}
-use Rattle.script_types.specs.declared.script.ScriptData.{ScriptData}
+use Rattle.script_types.specs.declared.{script.ScriptData.ScriptData, fault.Counted.Counted, fault.Fault.Fault}
 use Rattle.media_files.specs.Laws.{OneReading, SomeReading}
-use Rattle.script_types.specs.declared.fault.Counted.TheVariants as counted
-use Rattle.script_types.specs.declared.fault.Fault.{Fault}
-use Rattle.script_types.specs.declared.fault.Fault.TheVariants as fault
-use Rattle.chunk_files.specs.declared.fault.Stop.TheVariants as stop
+use Rattle.chunk_files.specs.declared.fault.Stop.{Stop}
 use Rattle.wcrun.specs.Refusals.{status_of, line_of, usage_line, memory_line}
 use Rattle.wcrun.specs.Outcome.{Ready, Outcome, Playable, playable_of, ready_of, Becomes, IsOutcome}
 use Rattle.wcrun.specs.Headline.{Reading, Writing, Holding, IfFile, ComesTo, Comes, Decides, IsComplete, status_for}
@@ -34,14 +31,14 @@ not_none r name none is = let e : ◌≡◌ {A = Option (List ℕ)} None (Some n
 
 -- a fault that may come is that of a read, or what the file's bytes come to
 abbrev Caused : Reading → Fault → Holding → List ℕ → Type 0
-Caused r x files bytes = ((status_of x ≡ 4) × Rose r.faults_before r.faults_after) ⊎ IsOutcome files bytes (Err (stop.Fault x))
+Caused r x files bytes = ((status_of x ≡ 4) × Rose r.faults_before r.faults_after) ⊎ IsOutcome files bytes (Err (Stop.Fault x))
 
 caused : (r : Reading) (x : Fault) (name : List ℕ) (files : Holding) (bytes : List ℕ) → Comes r x
     → r.command ≡ Some name → r.content ≡ Some files → files name ≡ Some bytes → Caused r x files bytes
-caused r (fault.Unread n) name files bytes (named, failed) is holds there = inl (refl, failed.0)
-caused r (fault.TooMany counted.Script) name files bytes h is holds there =
+caused r (Fault.Unread n) name files bytes (named, failed) is holds there = inl (refl, failed.0)
+caused r (Fault.TooMany Counted.Script) name files bytes h is holds there =
     inr (of_there (List ℕ) _ (files name) bytes (told _ _ r.content files (of_there (List ℕ) _ r.command name h is) holds) there)
-caused r (fault.TooMany counted.File) name files bytes h is holds there =
+caused r (Fault.TooMany Counted.File) name files bytes h is holds there =
     inr (of_there (List ℕ) _ (files name) bytes (told _ _ r.content files (of_there (List ℕ) _ r.command name h is) holds) there)
 caused r x name files bytes h is holds there = inr (of_file r _ name files bytes h is holds there)
 
@@ -72,13 +69,13 @@ complete_report r w text p = if_file r _ (λ name files bytes is holds there rea
 decided : (r : Reading) (w : Writing) (x : Fault) (one : OneReading) (files : Holding) (bytes : List ℕ) (outcome : Outcome) → IsOutcome files bytes outcome
     → Caused r x files bytes → w.answer ≡ status_of x → w.answer ≢ 4 → w.answer ≡ status_for outcome
 decided r w x one files bytes outcome h (inl c) is n4 = absurd (n4 (is ∙ c.0))
-decided r w x one files bytes outcome h (inr c) is n4 = is ∙ sym (ap status_for (one_outcome one files bytes outcome (Err (stop.Fault x)) h c))
+decided r w x one files bytes outcome h (inr c) is n4 = is ∙ sym (ap status_for (one_outcome one files bytes outcome (Err (Stop.Fault x)) h c))
 
 has_command : (r : Reading) (x : Fault) → Comes r x → r.command ≡ None → ⊥
-has_command r (fault.Unread n) (inl c, rose) none = not_none r n none c
-has_command r (fault.Unread n) (inr c, rose) none = no_usage _ r.command c none
-has_command r (fault.TooMany counted.Script) c none = no_usage _ r.command c none
-has_command r (fault.TooMany counted.File) c none = no_usage _ r.command c none
+has_command r (Fault.Unread n) (inl c, rose) none = not_none r n none c
+has_command r (Fault.Unread n) (inr c, rose) none = no_usage _ r.command c none
+has_command r (Fault.TooMany Counted.Script) c none = no_usage _ r.command c none
+has_command r (Fault.TooMany Counted.File) c none = no_usage _ r.command c none
 has_command r x c none = no_usage _ r.command c none
 
 pub decides_fault : OneReading → SomeReading → (r : Reading) (w : Writing) (x : Fault) → Comes r x → WritesLine (status_of x) (line_of x) w → Decides r w
@@ -92,7 +89,7 @@ decides_fault one some r w x c p = record {
 not_faulty : (r : Reading) (x : Fault) (one : OneReading) (files : Holding) (bytes : List ℕ) (ready : Ready) → IsOutcome files bytes (Ok ready)
     → Caused r x files bytes → (Rose r.faults_before r.faults_after → ⊥) → ⊥
 not_faulty r x one files bytes ready h (inl c) none = none c.1
-not_faulty r x one files bytes ready h (inr c) none = let is = one_outcome one files bytes (Ok ready) (Err (stop.Fault x)) h c in absurd cc
+not_faulty r x one files bytes ready h (inr c) none = let is = one_outcome one files bytes (Ok ready) (Err (Stop.Fault x)) h c in absurd cc
 
 pub complete_fault : OneReading → (r : Reading) (w : Writing) (x : Fault) → Comes r x → IsComplete r w
 complete_fault one r w x c = if_file r _ (λ name files bytes is holds there ready h reads writes n6.

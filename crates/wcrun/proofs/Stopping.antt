@@ -2,15 +2,10 @@
 use Rattle.std.proofs.Common.{◌≡◌, ◌≢◌, ◌<◌, ◌≤◌, inr, ℕ, List, [], ◌∷◌, ◌++◌, length, Bool, true, false, Option, Some, None, IfSome, Result, Ok, Err, refl, sym, ap, subst, ◌∙◌, arith}
 use Rattle.std.specs.Prelude.{IsSomeAnd, MatchOption, nat_lt, if◌then◌else◌}
 use Rattle.wc_base.specs.Causes.{RoseBy}
-use Rattle.script_types.specs.declared.fault.Counted.TheVariants as counted
-use Rattle.script_types.specs.declared.fault.Fault.{Fault}
-use Rattle.script_types.specs.declared.fault.Fault.TheVariants as fault
+use Rattle.script_types.specs.declared.{fault.Counted.Counted, fault.Fault.Fault, script.ScriptData.ScriptData}
 use Rattle.chunk_files.specs.declared.fault.Stop.{Stop}
-use Rattle.chunk_files.specs.declared.fault.Stop.TheVariants as stop
-use Rattle.script_types.specs.declared.script.ScriptData.{ScriptData}
 use Rattle.media_files.specs.Media.{FailedBy, GivesMedia, IsReached, MayFail}
-use Rattle.wc_script.specs.Faults.{IsOfScript}
-use Rattle.wc_script.specs.Read.{script_of}
+use Rattle.wc_script.specs.{Faults.IsOfScript, Read.script_of}
 use Rattle.wcrun.specs.Headline.{Reading, reading, Holding, ComesTo, Comes}
 use Rattle.wcrun.specs.Outcome.{Outcome, playable_of, if_spelled, Becomes, IsOutcome}
 use Rattle.wcrun.specs.Stops.{MayStop, MayStopFor}
@@ -42,19 +37,19 @@ named_in (Some held) file name s h m = named_at (Some held) s name (held file) h
 
 -- what is known of names after an error, whatever else the answer could have held
 pub failed_as : (T : Type 0) (xb xc : List (List ℕ)) (e : Stop Fault) → FailedBy {T = T} xb xc (Err e) → FailedBy {T = Unit {0}} xb xc (Err e)
-failed_as T xb xc stop.NoMemory h = h
-failed_as T xb xc (stop.Fault (fault.Unread n)) h = h
-failed_as T xb xc (stop.Fault x) h = h
+failed_as T xb xc Stop.NoMemory h = h
+failed_as T xb xc (Stop.Fault (Fault.Unread n)) h = h
+failed_as T xb xc (Stop.Fault x) h = h
 
 -- why there is no replay of a script that can be replayed
 pub stops : (content : Option Holding) (name : List ℕ) (s : ScriptData) (fa fb fc ba bb bc : ℕ) (xa xb xc : List (List ℕ)) (e : Stop Fault) → fa ≤ fb → ba ≤ bb → xb ≡ xa → Spells content name s
     → MayStopFor content s fb fc bb bc e → FailedBy {T = Unit {0}} xb xc (Err e) → MayStop (reading (Some name) content fa fc ba bc xa xc) e
-stops content name s fa fb fc ba bb bc xa xb xc stop.NoMemory le le' same h g f = tt
-stops content name s fa fb fc ba bb bc xa xb xc (stop.Fault (fault.Unread n)) le le' same h (m, rose) f =
+stops content name s fa fb fc ba bb bc xa xb xc Stop.NoMemory le le' same h g f = tt
+stops content name s fa fb fc ba bb bc xa xb xc (Stop.Fault (Fault.Unread n)) le le' same h (m, rose) f =
     (inr (named_in content name n s h m), (rose_since 1 fa fb fc le rose, f ∙ ap (λ (l : List (List ℕ)). l ++ n ∷ []) same))
-stops content name s fa fb fc ba bb bc xa xb xc (stop.Fault (fault.TooMany counted.Script)) le le' same h g f = elim g [ ]
-stops content name s fa fb fc ba bb bc xa xb xc (stop.Fault (fault.TooMany counted.File)) le le' same h g f = long_file content name s _ ba bb bc le' h g
-stops content name s fa fb fc ba bb bc xa xb xc (stop.Fault x) le le' same h g f = comes_to content name s _ h g
+stops content name s fa fb fc ba bb bc xa xb xc (Stop.Fault (Fault.TooMany Counted.Script)) le le' same h g f = elim g [ ]
+stops content name s fa fb fc ba bb bc xa xb xc (Stop.Fault (Fault.TooMany Counted.File)) le le' same h g f = long_file content name s _ ba bb bc le' h g
+stops content name s fa fb fc ba bb bc xa xb xc (Stop.Fault x) le le' same h g f = comes_to content name s _ h g
 
 -- ---- the chunk files
 
@@ -69,12 +64,12 @@ long_becomes (Some files) s e P h = (Err e, h, refl)
 
 -- a fault of the chunk files
 pub media_stops : (content : Option Holding) (s : ScriptData) (fb fc bb bc : ℕ) (e : Stop Fault) → MayFail content s fb fc bb bc e → MayStopFor content s fb fc bb bc e
-media_stops content s fb fc bb bc stop.NoMemory h = tt
-media_stops content s fb fc bb bc (stop.Fault (fault.Unread n)) h = h
-media_stops content s fb fc bb bc (stop.Fault (fault.TooMany counted.File)) h = long_becomes content s _ _ h
-media_stops content s fb fc bb bc (stop.Fault (fault.Chunks n f)) h = becomes content s _ h
-media_stops content s fb fc bb bc (stop.Fault (fault.TooMany counted.Chunk)) h = becomes content s _ h
-media_stops content s fb fc bb bc (stop.Fault (fault.TooMany counted.Media)) h = becomes content s _ h
+media_stops content s fb fc bb bc Stop.NoMemory h = tt
+media_stops content s fb fc bb bc (Stop.Fault (Fault.Unread n)) h = h
+media_stops content s fb fc bb bc (Stop.Fault (Fault.TooMany Counted.File)) h = long_becomes content s _ _ h
+media_stops content s fb fc bb bc (Stop.Fault (Fault.Chunks n f)) h = becomes content s _ h
+media_stops content s fb fc bb bc (Stop.Fault (Fault.TooMany Counted.Chunk)) h = becomes content s _ h
+media_stops content s fb fc bb bc (Stop.Fault (Fault.TooMany Counted.Media)) h = becomes content s _ h
 media_stops content s fb fc bb bc e h = elim h [ ]
 
 -- ---- a script that can not be replayed
@@ -87,29 +82,29 @@ refused_in : (content : Option Holding) (name bytes : List ℕ) (e : Stop Fault)
 refused_in None name bytes e h q = tt
 refused_in (Some held) name bytes e h q = refused_at held e bytes (held name) h q
 
-by_script : (r : Reading) (x : Fault) → IsOfScript (stop.Fault x) → ComesTo r (Err (stop.Fault x)) → Comes r x
-by_script r (fault.Unread n) o h = elim o [ ]
-by_script r (fault.TooMany counted.Script) o h = elim o [ ]
-by_script r (fault.TooMany counted.File) o h = elim o [ ]
+by_script : (r : Reading) (x : Fault) → IsOfScript (Stop.Fault x) → ComesTo r (Err (Stop.Fault x)) → Comes r x
+by_script r (Fault.Unread n) o h = elim o [ ]
+by_script r (Fault.TooMany Counted.Script) o h = elim o [ ]
+by_script r (Fault.TooMany Counted.File) o h = elim o [ ]
 by_script r x o h = h
 
 -- a script that was read can not be replayed
 pub script_stops : (content : Option Holding) (name bytes : List ℕ) (fa fc ba bc : ℕ) (xa xc : List (List ℕ)) (e : Stop Fault) → IfSome content (λ held. held name ≡ Some bytes)
-    → IsOfScript e → (e ≢ stop.NoMemory → playable_of bytes ≡ Err e) → MayStop (reading (Some name) content fa fc ba bc xa xc) e
-script_stops content name bytes fa fc ba bc xa xc stop.NoMemory h o k = tt
-script_stops content name bytes fa fc ba bc xa xc (stop.Fault x) h o k =
-    by_script (reading (Some name) content fa fc ba bc xa xc) x o (refused_in content name bytes (stop.Fault x) h (k (λ is. absurd cc)))
+    → IsOfScript e → (e ≢ Stop.NoMemory → playable_of bytes ≡ Err e) → MayStop (reading (Some name) content fa fc ba bc xa xc) e
+script_stops content name bytes fa fc ba bc xa xc Stop.NoMemory h o k = tt
+script_stops content name bytes fa fc ba bc xa xc (Stop.Fault x) h o k =
+    by_script (reading (Some name) content fa fc ba bc xa xc) x o (refused_in content name bytes (Stop.Fault x) h (k (λ is. absurd cc)))
 
-long_at : (held : Holding) (b : Option (List ℕ)) → IsSomeAnd b (λ bytes. 16777216 < length bytes) → IsSomeAnd b (λ bytes. IsOutcome held bytes (Err (stop.Fault (fault.TooMany counted.Script))))
+long_at : (held : Holding) (b : Option (List ℕ)) → IsSomeAnd b (λ bytes. 16777216 < length bytes) → IsSomeAnd b (λ bytes. IsOutcome held bytes (Err (Stop.Fault (Fault.TooMany Counted.Script))))
 long_at held None h = elim h [ ]
-long_at held (Some bytes) h = subst (λ p. Becomes held p (Err (stop.Fault (fault.TooMany counted.Script)))) (sym (long bytes h)) refl
+long_at held (Some bytes) h = subst (λ p. Becomes held p (Err (Stop.Fault (Fault.TooMany Counted.Script)))) (sym (long bytes h)) refl
   where
-    long : (bytes : List ℕ) → 16777216 < length bytes → playable_of bytes ≡ Err (stop.Fault (fault.TooMany counted.Script))
+    long : (bytes : List ℕ) → 16777216 < length bytes → playable_of bytes ≡ Err (Stop.Fault (Fault.TooMany Counted.Script))
     long bytes lt =
         let many : nat_lt 16777216 (length bytes) ≡ true = search arith in
-        ap (λ (b : Bool). if b then Err (stop.Fault (fault.TooMany counted.Script)) else if_spelled (script_of bytes)) many
+        ap (λ (b : Bool). if b then Err (Stop.Fault (Fault.TooMany Counted.Script)) else if_spelled (script_of bytes)) many
 
 -- a script file that is too long
-pub script_is_long : (content : Option Holding) (name : List ℕ) (b c : ℕ) → MatchOption content (RoseBy 16777217 b c) (λ files. IsSomeAnd (files name) (λ bytes. 16777216 < length bytes)) → MatchOption content (RoseBy 16777217 b c) (λ files. IsSomeAnd (files name) (λ bytes. IsOutcome files bytes (Err (stop.Fault (fault.TooMany counted.Script)))))
+pub script_is_long : (content : Option Holding) (name : List ℕ) (b c : ℕ) → MatchOption content (RoseBy 16777217 b c) (λ files. IsSomeAnd (files name) (λ bytes. 16777216 < length bytes)) → MatchOption content (RoseBy 16777217 b c) (λ files. IsSomeAnd (files name) (λ bytes. IsOutcome files bytes (Err (Stop.Fault (Fault.TooMany Counted.Script)))))
 script_is_long None name b c h = h
 script_is_long (Some held) name b c h = long_at held (held name) h

@@ -1,11 +1,8 @@
 -- What is left of a report that was cut short.
 use Rattle.std.proofs.Common.{◌≡◌, ℕ, List, Option, refl, arith}
-use Rattle.wc_base.specs.Causes.{Rose}
-use Rattle.wc_base.specs.Told.{appended, AppendsPart}
+use Rattle.wc_base.specs.{Causes.Rose, Told.appended, Told.AppendsPart}
 use Rattle.wcrun.proofs.Parts.{nothing_yet}
-use Rattle.wcrun.specs.Refusals.{memory_line}
-use Rattle.wcrun.specs.Headline.{writing}
-use Rattle.wcrun.specs.Writing.{WritesText}
+use Rattle.wcrun.specs.{Refusals.memory_line, Headline.writing, Writing.WritesText}
 
 -- the sink failed
 pub text_failed : (old : Option (List ℕ)) (text : List ℕ) (new : Option (List ℕ)) (before now : ℕ) → AppendsPart old text new → Rose before now → WritesText text (writing old new before now 5)

@@ -1,5 +1,5 @@
 use Rattle.std.proofs.Common.{◌≡◌, Some, refl}
-use Rattle.chunk_files.specs.declared.fault.Stop.TheVariants as stop
+use Rattle.chunk_files.specs.declared.fault.Stop.{Stop}
 use Rattle.wcrun.specs.Headline.{Reading, reading, writing}
 use Rattle.wcrun.proofs.Headlines.{headline_of_report, headline_of_fault, headline_of_memory, stop_comes}
 use Rattle.wcrun.proofs.Outcomes.{decides_report, complete_report, decides_fault, complete_fault, decides_memory, complete_memory}
@@ -18,21 +18,21 @@ returns-in-Ok-clause-complete g c = complete_report (reading (Some c.args.name.n
 pub returns-in-Err-Fault-clause-headline : goal.returns-in-Err-Fault-clause-headline
 returns-in-Err-Fault-clause-headline g c =
     let h = c.in-Err-Fault.field-0-is in
-    let q : c.in-Err-Fault.field-0 ≡ stop.Fault c.in-Err-Fault.fault = cc in
+    let q : c.in-Err-Fault.field-0 ≡ Stop.Fault c.in-Err-Fault.fault = cc in
     let r : Reading = reading (Some c.args.name.now) (g.F.Files.content c.args.files.now) (g.F.Files.faults c.args.files.now) (g.F.Files.faults c.replayed.new.files) (g.F.Files.bytes_read c.args.files.now) (g.F.Files.bytes_read c.replayed.new.files) (g.F.Files.failed_names c.args.files.now) (g.F.Files.failed_names c.replayed.new.files) in
     headline_of_fault r _ _ c.in-Err-Fault.fault (stop_comes r c.in-Err-Fault.field-0 c.in-Err-Fault.fault q c.in-Err-Fault.ensures.stop) c.refuse.ensures
 
 pub returns-in-Err-Fault-clause-decided : goal.returns-in-Err-Fault-clause-decided
 returns-in-Err-Fault-clause-decided g c =
     let h = c.in-Err-Fault.field-0-is in
-    let q : c.in-Err-Fault.field-0 ≡ stop.Fault c.in-Err-Fault.fault = cc in
+    let q : c.in-Err-Fault.field-0 ≡ Stop.Fault c.in-Err-Fault.fault = cc in
     let r : Reading = reading (Some c.args.name.now) (g.F.Files.content c.args.files.now) (g.F.Files.faults c.args.files.now) (g.F.Files.faults c.replayed.new.files) (g.F.Files.bytes_read c.args.files.now) (g.F.Files.bytes_read c.replayed.new.files) (g.F.Files.failed_names c.args.files.now) (g.F.Files.failed_names c.replayed.new.files) in
     decides_fault c.media_have_one_reading.ensures.one c.media_have_one_reading.ensures.some r _ c.in-Err-Fault.fault (stop_comes r c.in-Err-Fault.field-0 c.in-Err-Fault.fault q c.in-Err-Fault.ensures.stop) c.refuse.ensures
 
 pub returns-in-Err-Fault-clause-complete : goal.returns-in-Err-Fault-clause-complete
 returns-in-Err-Fault-clause-complete g c =
     let h = c.in-Err-Fault.field-0-is in
-    let q : c.in-Err-Fault.field-0 ≡ stop.Fault c.in-Err-Fault.fault = cc in
+    let q : c.in-Err-Fault.field-0 ≡ Stop.Fault c.in-Err-Fault.fault = cc in
     let r : Reading = reading (Some c.args.name.now) (g.F.Files.content c.args.files.now) (g.F.Files.faults c.args.files.now) (g.F.Files.faults c.replayed.new.files) (g.F.Files.bytes_read c.args.files.now) (g.F.Files.bytes_read c.replayed.new.files) (g.F.Files.failed_names c.args.files.now) (g.F.Files.failed_names c.replayed.new.files) in
     complete_fault c.media_have_one_reading.ensures.one r (writing (g.S.Sink.told c.args.sink.now) (g.S.Sink.told c.refuse.new.sink) (g.S.Sink.faults c.args.sink.now) (g.S.Sink.faults c.refuse.new.sink) c.refuse.result) c.in-Err-Fault.fault (stop_comes r c.in-Err-Fault.field-0 c.in-Err-Fault.fault q c.in-Err-Fault.ensures.stop)
 

@@ -1,8 +1,6 @@
 use Rattle.std.proofs.Common.{sym}
-use Rattle.wcrun.specs.Words.{words_of, command_of}
-use Rattle.wcrun.specs.Headline.{reading, writing}
-use Rattle.wcrun.proofs.Headlines.{headline_of_usage}
-use Rattle.wcrun.proofs.Outcomes.{decides_usage, complete_usage}
+use Rattle.wcrun.specs.{Words.words_of, Words.command_of, Headline.reading, Headline.writing}
+use Rattle.wcrun.proofs.{Headlines.headline_of_usage, Outcomes.decides_usage, Outcomes.complete_usage}
 use Rattle.wcrun.proofs.calls.top.Goals as goal
 
 pub returns-in-None-clause-headline : goal.returns-in-None-clause-headline
