@@ -2,8 +2,7 @@
 use Rattle.std.proofs.Common.{◌≡◌, ℕ, ◌+◌, ◌<◌, ◌≤◌, ◌/◌, ◌%◌, List, [], ◌∷◌, ◌++◌, length, drop, get_or, drop-cons, add-one, refl, append_assoc, append-nil, codes}
 use Rattle.std.proofs.lemmas.List.{drop_all}
 use Rattle.hex.specs.Hex.{encode_with, encode_lower, lower_digits}
-use Rattle.report_text.specs.Words.{◌<>◌}
-use Rattle.report_text.specs.Text.{hex_or_dash}
+use Rattle.report_text.specs.{Words.◌<>◌, Text.hex_or_dash}
 
 hex_at : (xs line : List ℕ) (i : ℕ) → i < length xs
     → line ++ encode_lower (drop i xs)
