@@ -2,6 +2,5 @@ pub mod Erased
 pub mod Filling
 pub mod Answered
 pub mod Moves
-pub mod Callers
 pub mod OutputLaws
 pub mod ErrorLaws

@@ -1,14 +1,12 @@
 -- The outputs of a history are of its codec's kind, where its configs are.
-use Rattle.std.proofs.Common.{ℕ, zero, suc, ◌≡◌, ◌<◌, ◌&&◌, ◌||◌, not, Bool, true, false, List, [], ◌∷◌, length, Option, Some, None, is_some, refl, subst, arith, ◌%◌, ◌^◌, take, drop, bytes_eq, codes}
+use Rattle.std.proofs.Common.{ℕ, suc, ◌≡◌, ◌<◌, ◌&&◌, ◌||◌, not, true, List, [], ◌∷◌, length, Option, Some, None, is_some, refl, subst, ◌%◌, ◌^◌, take, drop, bytes_eq, codes}
 use Rattle.std.proofs.lemmas.Bool.{and_parts, leb-true}
 use Rattle.std.specs.Prelude.{◌==◌, nat_le}
 use Rattle.std.specs.List.{AllByRecursion}
 use Rattle.wc_base.specs.declared.media.Samples.{Samples}
-use Rattle.wc_config.specs.declared.codec.CodecId.{CodecId}
 use Rattle.wc_config.specs.declared.codec.Role.TheVariants as role
 use Rattle.wc_config.specs.declared.config.AudioDecoderConfig.{AudioDecoderConfig}
 use Rattle.wc_config.specs.declared.config.AudioEncoderConfig.{AudioEncoderConfig}
-use Rattle.wc_config.specs.declared.config.VideoDecoderConfig.{VideoDecoderConfig}
 use Rattle.wc_config.specs.declared.config.Config.{Config}
 use Rattle.wc_config.specs.declared.config.Config.TheVariants as config
 use Rattle.wc_config.specs.declared.stream_info.StreamInfo.{StreamInfo}
@@ -18,9 +16,7 @@ use Rattle.wc_chunk.specs.declared.chunk.Chunk.{Chunk}
 use Rattle.codec_definitions.specs.declared.unit.Unit as media
 use Rattle.codec_definitions.specs.declared.unit.Unit.TheVariants as unit
 use Rattle.codec_definitions.specs.Flac.{described}
-use Rattle.wc_base.specs.declared.media.Picture.{Picture}
 use Rattle.codec_definitions.specs.FlacCode.{stream_description}
-use Rattle.coder_api.specs.Meaning.{description_for}
 use Rattle.wc_config.specs.declared.kind.Kind.{Kind}
 use Rattle.wc_config.specs.declared.kind.Kind.TheVariants as kind
 use Rattle.codec_model.specs.declared.entry.Handed.TheVariants as handed
@@ -46,14 +42,7 @@ AllOf k us = AllByRecursion (IsOutputOf k) us
 -- a config that a codec of this kind was given, if it was given one
 abbrev IsOwn : Kind → Config → Type 0
 IsOwn kind.AudioDecoder (config.AudioDecoder c) = 0 < c.rate
-IsOwn kind.AudioEncoder (config.AudioEncoder c) = Unit {0}
-IsOwn kind.VideoDecoder (config.VideoDecoder c) = Unit {0}
-IsOwn k config.Bad = Unit {0}
-IsOwn k c = ⊥
-
-bad_own : (k : Kind) → IsOwn k config.Bad
-bad_own kind.AudioDecoder = tt
-bad_own _ = tt
+IsOwn k c = IsConfigOf k c
 
 -- a stream that is described has a rate
 read_rate : (d : List ℕ) (info : StreamInfo) → streaminfo_of d ≡ Some info → 0 < info.rate
@@ -77,10 +66,6 @@ chunk_own : (k : Kind) (c : AudioEncoderConfig) (chunk : Chunk) → IsOwn k (con
 chunk_own kind.AudioEncoder c chunk own = tt
 chunk_own _ c chunk own = absurd own
 
-picture_own : (k : Kind) (c : VideoDecoderConfig) (picture : Picture) → IsOwn k (config.VideoDecoder c) → IsOutputOf k (unit.Image picture)
-picture_own kind.VideoDecoder c picture own = tt
-picture_own _ c picture own = absurd own
-
 each_own : (k : Kind) → EachAnswer (λ c before x us. IsOwn k c → AllOf k us)
 each_own k = record {
   nothing = λ c before x own. tt;
@@ -88,49 +73,34 @@ each_own k = record {
   frame = λ info c before chunk f says is own. (sound_own k c _ own (λ rate. described_rate c.description info says), tt);
   chunk = λ id s c before samples is own. (chunk_own k c (coded_chunk s samples) own, tt);
   blocks = λ c before x us h own. blocks_where (IsOutputOf k) c (λ number values place few. chunk_own k c _ own) us (answers_blocks c before x us h);
-  picture = λ id c shape before chunk bytes is last own. (picture_own k c (picture_given shape chunk bytes) own, tt);
+  picture = λ id c shape before chunk bytes is last own. (elim k as (λ j. IsOwn j (config.VideoDecoder c) → IsOutputOf j (unit.Image (picture_given shape chunk bytes))) [ kind.VideoDecoder ↦ λ h. h | _ ↦ λ h. absurd h ] own, tt);
 }
 
 -- ---- a config that is valid and of the codec's kind
 
-rate_of : (a : Bool) (rate : ℕ) (b : Bool) → (a && nat_le 1 rate && b) ≡ true → 0 < rate
-rate_of true (suc n) b h = omega arith
-rate_of _ _ b h = absurd cc
-
 own_config : (k : Kind) (c : Config) → IsConfigOf k c → is_valid c ≡ true → IsOwn k c
-own_config kind.AudioDecoder (config.AudioDecoder c) own h = rate_of (not (is_blank c.codec)) c.rate (nat_le 1 c.channels) h
-own_config kind.AudioEncoder (config.AudioEncoder c) own h = tt
-own_config kind.VideoDecoder (config.VideoDecoder c) own h = tt
-own_config k config.Bad own h = absurd cc
-own_config _ _ own h = absurd own
+own_config kind.AudioDecoder (config.AudioDecoder c) own h =
+    let front = and_parts (not (is_blank c.codec) && nat_le 1 c.rate) (nat_le 1 c.channels) h in
+    leb-true 1 c.rate (and_parts (not (is_blank c.codec)) (nat_le 1 c.rate) front.0).1
+own_config _ _ own h = own
 
 -- ---- the config that an encoded output carries
 
 known_text : (text : List ℕ) → is_some (id_with role.Encode (audio_codec text)) ≡ true → is_codec_string text ≡ true
-known_text text h = by (audio_codec text) h
-  where
-    by : (o : Option CodecId) → is_some (id_with role.Encode o) ≡ true → (is_some o || is_some (video_codec text)) ≡ true
-    by None e = absurd cc
-    by (Some id) e = refl
+known_text text h = elim (audio_codec text) as (λ o. is_some (id_with role.Encode o) ≡ true → (is_some o || is_some (video_codec text)) ≡ true) [ None ↦ λ e. absurd cc | Some id ↦ λ e. refl ] h
 
 -- a list of some length is not empty
 plain_bytes : (n : ℕ) (bytes : List ℕ) → length bytes ≡ suc n → IsPlainDescription (Some bytes)
 plain_bytes n [] long = absurd cc
 plain_bytes n (b ∷ bs) long = tt
 
-plain_description : (c : AudioEncoderConfig) → IsPlainDescription (description_for c)
-plain_description c = described_where IsPlainDescription c tt (plain_bytes 41 (stream_description c) (length-stream_description c))
-
 plain_label : (c : Config) (d : AudioDecoderConfig) → is_some (coder_id_of c) ≡ true → decoder_config c ≡ Some d → IsPlainConfig (Some d)
-plain_label (config.AudioEncoder c) d coder is = subst (λ (x : AudioDecoderConfig). IsPlainConfig (Some x)) (some_same _ d is) (known_text c.codec coder, plain_description c)
+plain_label (config.AudioEncoder c) d coder is = subst (λ (x : AudioDecoderConfig). IsPlainConfig (Some x)) (some_same _ d is) (known_text c.codec coder, described_where IsPlainDescription c tt (plain_bytes 41 (stream_description c) (length-stream_description c)))
 plain_label _ d coder is = absurd cc
 
-plain_carried : (k : Kind) (new : Option AudioDecoderConfig) → MayCarry (IsOwn k) new → IsPlainConfig new
-plain_carried k None may = tt
-plain_carried k (Some d) may = plain_label may.config d may.has_coder may.decodes
-
 relabelled : (k : Kind) (c : Chunk) (old new : Option AudioDecoderConfig) → MayCarry (IsOwn k) new → IsOutputOf k (unit.Coded c old) → IsOutputOf k (unit.Coded c new)
-relabelled kind.AudioEncoder c old new may h = plain_carried kind.AudioEncoder new may
+relabelled kind.AudioEncoder c old None may h = tt
+relabelled kind.AudioEncoder c old (Some d) may h = plain_label may.config d may.has_coder may.decodes
 relabelled _ c old new may h = h
 
 -- the outputs of a codec of this kind
@@ -140,7 +110,7 @@ judge_of k = record {
   chunk = λ chunk. Unit {0};
   sound = λ samples. Unit {0};
   output = IsOutputOf k;
-  nothing = bad_own k;
+  nothing = elim k as (λ j. IsOwn j config.Bad) [ kind.AudioDecoder ↦ tt | _ ↦ tt ];
   gives = λ id c before x us own input h. by_answers (λ d b y vs. IsOwn k d → AllOf k vs) (each_own k) id c before x us h own;
   relabel = relabelled k;
 }
