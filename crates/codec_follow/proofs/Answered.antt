@@ -173,7 +173,8 @@ needs_before [] w phase new on h = rw (on h) refl
 needs_before (v ∷ vs) w phase new on h = h
 
 -- one message more, which configures or finds the codec configured
-sent : (c : Control) (m : Message) (new : CodecState) (place size : ℕ) (key : Bool) (pending : List ℕ) (given busy : Given) → (not (is_configure m.work) ≡ true → c.phase ≡ Configured) → Parts (seen c) given busy → Parts (seen (process_queue (c.messages ++ m ∷ []) (record c { place = place; phase = new; key_required = key; size = size; pending = pending; messages = c.messages ++ m ∷ [] }))) given busy
+sent : (c : Control) (m : Message) (new : CodecState) (place size : ℕ) (key : Bool) (pending : List ℕ) (given busy : Given) → (not (is_configure m.work) ≡ true → c.phase ≡ Configured) → Parts (seen c) given busy
+    → Parts (seen (process_queue (c.messages ++ m ∷ []) (record c { place = place; phase = new; key_required = key; size = size; pending = pending; messages = c.messages ++ m ∷ [] }))) given busy
 sent c m new place size key pending given busy on h = processed (record c { place = place; phase = new; key_required = key; size = size; pending = pending; messages = c.messages ++ m ∷ [] }) given busy (record {
   flushed = h.flushed;
   opens = λ need. h.opens (needs_before (works_on c.work c.messages) m.work c.phase new on (simp (map-append, ← append_assoc) at need));
@@ -200,15 +201,12 @@ removal_sound (Some e) r s h = h
 
 -- ---- starts and ends
 
-idle_is : (halted : Bool) (running : Option Running) → (is_none running && not halted) ≡ true → (halted ≡ false) × (running ≡ None)
-idle_is false None h = (refl, refl)
-idle_is true None h = absurd cc
-idle_is halted (Some r) h = absurd cc
-
 started_sound : (i : Item) (is : List Item) (epoch item : ℕ) (s : State) → s.control.work ≡ i ∷ is → begins epoch item i s.control ≡ true → Sound s → Sound (begun (i ∷ is) i s)
 started_sound i is epoch item s e may h =
-    let idle = idle_is s.control.halted s.control.running (begins_free epoch item i s.control may) in
-    let ready : not (is_configure i.work) ≡ true → IsOpen s.given = λ first. h.opens (rw e first) idle.0 (rw idle.1 refl) in
+    let idle = and_parts (is_none s.control.running) (not s.control.halted) (begins_free epoch item i s.control may) in
+    let awake = elim s.control.halted as (λ b. not b ≡ true → b ≡ false) [ true ↦ λ k. absurd cc | false ↦ λ k. refl ] idle.1 in
+    let free = elim s.control.running as (λ q. is_none q ≡ true → settles s.control.epoch q s.running_given ≡ true) [ None ↦ λ k. refl | Some r ↦ λ k. absurd cc ] idle.0 in
+    let ready : not (is_configure i.work) ≡ true → IsOpen s.given = λ first. h.opens (rw e first) awake free in
     record { flushed = answered i.work s.given ready; opens = λ need on has. open_past i.work s.given ready (rw (eq-eqb s.control.epoch s.control.epoch refl) at has) }
 
 -- an item of this epoch ended: the coder is still open, or the codec is halted

@@ -122,9 +122,6 @@ each_fine = record {
   reclaim = λ moment s may served fine. elim served [ ];
 }
 
-step_fine : (e : Entry) (s t : State) → step e s ≡ Some t → IsServed e s → AllFine s.control.tasks → AllFine t.control.tasks
-step_fine = by_steps (λ e s t. IsServed e s → AllFine s.control.tasks → AllFine t.control.tasks) each_fine
-
 -- ---- what is shown
 
 abbrev AllFor : List Event → Type 0
@@ -174,11 +171,10 @@ shown_for : (h : List Entry) (s : State) → AreServedFrom h s → AllFine s.con
 shown_for [] s served fine = tt
 shown_for (e ∷ es) s served fine =
     all_append Placed (map (λ (x : Event). (s.control.place, x)) (shows e s)) (unwrap_or (option_map (shown_from es) (step e s)) []) (placed s.control.place (shows e s) (shows_for e s served.0 fine))
-    (rest (step e s) refl served.1 (λ t is more. shown_for es t more (step_fine e s t is served.0 fine)))
-  where
-    rest : (o : Option State) → step e s ≡ o → IfSome o (AreServedFrom es) → ((t : State) → step e s ≡ Some t → AreServedFrom es t → AllByRecursion Placed (shown_from es t)) → AllByRecursion Placed (unwrap_or (option_map (shown_from es) o) [])
-    rest None is more next = tt
-    rest (Some t) is more next = next t is more
+    (elim (step e s) as (λ o. step e s ≡ o → IfSome o (AreServedFrom es) → AllByRecursion Placed (unwrap_or (option_map (shown_from es) o) [])) [
+      | None ↦ λ is more. tt
+      | Some t ↦ λ is more. shown_for es t more (by_steps _ each_fine e s t is served.0 fine)
+    ] refl served.1)
 
 pub served_give_no_error : (o : Opening) (h : List Entry) → IsLegal o h → AreServed o h → AllByRecursion Placed (shown o h)
 served_give_no_error o h legal served = shown_for h (opening_state o) served tt

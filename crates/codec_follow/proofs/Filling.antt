@@ -82,19 +82,21 @@ fill_order k (x ∷ xs) us few = fill_order k xs us few
 abbrev Begins : List media.Unit → List media.Unit → Type 0
 Begins us front = (rest : List media.Unit) × (us ≡ front ++ rest)
 
-order_rest : (k : Kind) → (es : List Entry) (e : Entry) (s : State) (us : List media.Unit) (o : Option State) → ((t : State) (vs : List media.Unit) → length (units_shown (each_filled_from k es t vs)) ≤ length vs → Begins vs (units_shown (each_filled_from k es t vs))) → length (units_shown (unwrap_or (option_map (λ t. filled_at k e s us ∷ each_filled_from k es t (filled k (shows e s) us).1) o) [])) ≤ length us → Begins us (units_shown (unwrap_or (option_map (λ t. filled_at k e s us ∷ each_filled_from k es t (filled k (shows e s) us).1) o) []))
-order_rest k es e s us None ih few = (us, refl)
-order_rest k es e s us (Some t) ih few =
-    let front = units_in (filled k (shows e s) us).0 in
-    let more = units_shown (each_filled_from k es t (filled k (shows e s) us).1) in
-    let here = fill_order k (shows e s) us (omega (arith, few, length-append front more)) in
-    let long : length us ≡ length front + length (filled k (shows e s) us).1 = ap (λ (l : List media.Unit). length l) here ∙ length-append front (filled k (shows e s) us).1 in
-    let later = ih t (filled k (shows e s) us).1 (omega (arith, few, length-append front more, long)) in
-    (later.0, here ∙ (ap (λ (l : List media.Unit). front ++ l) later.1 ∙ sym (append_assoc front more later.0)))
-
 order_all : (k : Kind) → (h : List Entry) (s : State) (us : List media.Unit) → length (units_shown (each_filled_from k h s us)) ≤ length us → Begins us (units_shown (each_filled_from k h s us))
 order_all k [] s us few = (us, refl)
-order_all k (e ∷ es) s us few = order_rest k es e s us (follow_step e s) (order_all k es) few
+order_all k (e ∷ es) s us few = elim (follow_step e s) as (λ o. length (units_shown (next o)) ≤ length us → Begins us (units_shown (next o))) [
+  | None ↦ λ none. (us, refl)
+  | Some t ↦ λ some.
+      let front = units_in (filled k (shows e s) us).0 in
+      let left = (filled k (shows e s) us).1 in
+      let more = units_shown (each_filled_from k es t left) in
+      let here = fill_order k (shows e s) us (omega (arith, some, length-append front more)) in
+      let later = order_all k es t left (omega (arith, some, length-append front more, length-append front left, ap length here)) in
+      (later.0, here ∙ (ap (λ (l : List media.Unit). front ++ l) later.1 ∙ sym (append_assoc front more later.0)))
+] few
+  where
+    next : Option State → List Shown
+    next o = unwrap_or (option_map (λ t. filled_at k e s us ∷ each_filled_from k es t (filled k (shows e s) us).1) o) []
 
 pub units_in_order : UnitsInOrder
 units_in_order o h us few =

@@ -1,5 +1,5 @@
 -- The outputs of a history are of its codec's kind, where its configs are.
-use Rattle.std.proofs.Common.{ℕ, suc, ◌≡◌, ◌<◌, ◌&&◌, ◌||◌, not, true, List, [], ◌∷◌, length, Option, Some, None, is_some, refl, subst, ◌%◌, ◌^◌, take, drop, bytes_eq, codes}
+use Rattle.std.proofs.Common.{ℕ, ◌≡◌, ◌<◌, ◌&&◌, ◌||◌, not, true, List, [], ◌∷◌, length, Option, Some, None, is_some, refl, subst, ◌%◌, ◌^◌, take, drop, bytes_eq, codes}
 use Rattle.std.proofs.lemmas.Bool.{and_parts, leb-true}
 use Rattle.std.specs.Prelude.{◌==◌, nat_le}
 use Rattle.std.specs.List.{AllByRecursion}
@@ -10,13 +10,14 @@ use Rattle.wc_config.specs.declared.config.AudioEncoderConfig.{AudioEncoderConfi
 use Rattle.wc_config.specs.declared.config.Config.{Config}
 use Rattle.wc_config.specs.declared.config.Config.TheVariants as config
 use Rattle.wc_config.specs.declared.stream_info.StreamInfo.{StreamInfo}
-use Rattle.wc_config.specs.Streams.{big_endian, stream_info_of, is_usable, streaminfo_of}
+use Rattle.wc_config.specs.Streams.{big_endian, stream_info_of, is_usable}
 use Rattle.wc_config.specs.Configs.{is_valid, is_blank, audio_codec, video_codec, id_with, coder_id_of}
 use Rattle.wc_chunk.specs.declared.chunk.Chunk.{Chunk}
 use Rattle.codec_definitions.specs.declared.unit.Unit as media
 use Rattle.codec_definitions.specs.declared.unit.Unit.TheVariants as unit
 use Rattle.codec_definitions.specs.Flac.{described}
 use Rattle.codec_definitions.specs.FlacCode.{stream_description}
+use Rattle.coder_api.specs.Meaning.{description_for}
 use Rattle.wc_config.specs.declared.kind.Kind.{Kind}
 use Rattle.wc_config.specs.declared.kind.Kind.TheVariants as kind
 use Rattle.codec_model.specs.declared.entry.Handed.TheVariants as handed
@@ -45,17 +46,14 @@ IsOwn kind.AudioDecoder (config.AudioDecoder c) = 0 < c.rate
 IsOwn k c = IsConfigOf k c
 
 -- a stream that is described has a rate
-read_rate : (d : List ℕ) (info : StreamInfo) → streaminfo_of d ≡ Some info → 0 < info.rate
-read_rate d info h =
+described_rate : (d : Option (List ℕ)) (info : StreamInfo) → described d ≡ Some info → 0 < info.rate
+described_rate None info h = absurd cc
+described_rate (Some d) info h =
     let said = stream_info_of (take 34 (drop 8 d)) in
     let front = nat_le 42 (length d) && bytes_eq (take 4 d) (codes "fLaC") && (big_endian (take 4 (drop 4 d)) % 2 ^ 31 == 34) in
     let read = cond_is (front && is_usable said) (Some said) info h in
     let usable = and_parts front (is_usable said) read.0 in
     subst (λ (i : StreamInfo). 0 < i.rate) (some_same said info read.1) (leb-true 1 said.rate (and_parts (nat_le 1 said.rate) (nat_le 4 said.depth) usable.1).0)
-
-described_rate : (d : Option (List ℕ)) (info : StreamInfo) → described d ≡ Some info → 0 < info.rate
-described_rate None info h = absurd cc
-described_rate (Some d) info h = read_rate d info h
 
 -- what a codec gives is of its kind, where its config is
 sound_own : (k : Kind) (c : AudioDecoderConfig) (samples : Samples) → IsOwn k (config.AudioDecoder c) → (0 < c.rate → 0 < samples.shape.rate) → IsOutputOf k (unit.Sound samples)
@@ -89,13 +87,11 @@ own_config _ _ own h = own
 known_text : (text : List ℕ) → is_some (id_with role.Encode (audio_codec text)) ≡ true → is_codec_string text ≡ true
 known_text text h = elim (audio_codec text) as (λ o. is_some (id_with role.Encode o) ≡ true → (is_some o || is_some (video_codec text)) ≡ true) [ None ↦ λ e. absurd cc | Some id ↦ λ e. refl ] h
 
--- a list of some length is not empty
-plain_bytes : (n : ℕ) (bytes : List ℕ) → length bytes ≡ suc n → IsPlainDescription (Some bytes)
-plain_bytes n [] long = absurd cc
-plain_bytes n (b ∷ bs) long = tt
+plain_description : (c : AudioEncoderConfig) → IsPlainDescription (description_for c)
+plain_description c = described_where IsPlainDescription c tt (elim (stream_description c) as (λ l. length l ≡ 42 → IsPlainDescription (Some l)) [ [] ↦ λ long. absurd cc | b ∷ bs ↦ λ long. tt ] (length-stream_description c))
 
 plain_label : (c : Config) (d : AudioDecoderConfig) → is_some (coder_id_of c) ≡ true → decoder_config c ≡ Some d → IsPlainConfig (Some d)
-plain_label (config.AudioEncoder c) d coder is = subst (λ (x : AudioDecoderConfig). IsPlainConfig (Some x)) (some_same _ d is) (known_text c.codec coder, described_where IsPlainDescription c tt (plain_bytes 41 (stream_description c) (length-stream_description c)))
+plain_label (config.AudioEncoder c) d coder is = subst (λ (x : AudioDecoderConfig). IsPlainConfig (Some x)) (some_same _ d is) (known_text c.codec coder, plain_description c)
 plain_label _ d coder is = absurd cc
 
 relabelled : (k : Kind) (c : Chunk) (old new : Option AudioDecoderConfig) → MayCarry (IsOwn k) new → IsOutputOf k (unit.Coded c old) → IsOutputOf k (unit.Coded c new)
@@ -117,12 +113,9 @@ judge_of k = record {
 
 entries_own : (k : Kind) (es : List Entry) → AllByRecursion (ConfiguresAs k) es → AllByRecursion (HoldsOwn (judge_of k)) es
 entries_own k [] own = tt
-entries_own k (e ∷ es) own = (by e own.0, entries_own k es own.1)
-  where
-    by : (x : Entry) → ConfiguresAs k x → HoldsOwn (judge_of k) x
-    by (entry.Configure who c) is = own_config k c is
-    by (entry.Encode who (handed.Cloned sound)) is = tt
-    by e is = tt
+entries_own k (entry.Configure who c ∷ es) own = (own_config k c own.0, entries_own k es own.1)
+entries_own k (entry.Encode who (handed.Cloned sound) ∷ es) own = (tt, entries_own k es own.1)
+entries_own k (e ∷ es) own = (tt, entries_own k es own.1)
 
 units_own : (k : Kind) (xs : List Shown) → AllByRecursion (λ x. AllOf k (units_in x.events)) xs → AllOf k (units_shown xs)
 units_own k [] h = tt
