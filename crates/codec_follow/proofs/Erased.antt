@@ -50,13 +50,10 @@ abbrev pub erased_end : Ended → Ended
 erased_end (ended.Ran units) = ended.Ran (blanks (length units))
 erased_end e = e
 
-pub carried_blanks : (n : ℕ) → carried None (blanks n) ≡ blanks n
-carried_blanks zero = refl
-carried_blanks (suc n) = refl
-
-none_active : (n : ℕ) → active_after None (blanks n) ≡ None
-none_active zero = refl
-none_active (suc n) = refl
+-- blanks stay as they are, and leave no config active
+pub blanks_plain : (n : ℕ) → (carried None (blanks n) ≡ blanks n) × (active_after None (blanks n) ≡ None)
+blanks_plain zero = (refl, refl)
+blanks_plain (suc n) = (refl, refl)
 
 either_way : {X Y : Type 0} (f : X → Y) (b : Bool) (x y : X) → cond b (f x) (f y) ≡ f (cond b x y)
 either_way f true x y = refl
@@ -109,8 +106,8 @@ task_erased : (t : Task) (c : Control) → run_task (erased_task t) (erased c) �
 task_erased task.Unblock c = ap (λ (ts : List Task). record (erased c) { blocked = false; tasks = ts }) (sym (pushed c.tasks task.Process))
 task_erased task.Process c = process_erased c.messages c
 task_erased task.Desaturate c = process_erased c.messages (record c { saturated = false })
-task_erased (task.Output units) c = rw (none_active (length units), length-replicate (length units) blank) refl
-task_erased (task.Flushed promise units) c = rw (none_active (length units), length-replicate (length units) blank) refl
+task_erased (task.Output units) c = rw ((blanks_plain (length units)).1, length-replicate (length units) blank) refl
+task_erased (task.Flushed promise units) c = rw ((blanks_plain (length units)).1, length-replicate (length units) blank) refl
 task_erased task.Dequeue c = refl
 task_erased (task.Close x) c = close_erased c
 

@@ -20,7 +20,7 @@ use Rattle.codec_model.specs.Shown.{shows, outputs_from, turn_shows, shown_from,
 use Rattle.codec_follow.specs.Follow.{blanks, follow_step, follow_from, filled, filled_at, each_filled_from, each_filled}
 use Rattle.codec_follow.specs.Laws.{LegalFollows, LegalFills, UnitsInOrder}
 use Rattle.codec_follow.proofs.Answered.{some_is, Sound, step_sound, opened}
-use Rattle.codec_follow.proofs.Erased.{carried_blanks, erased_task, erased, erased_state, step_erased}
+use Rattle.codec_follow.proofs.Erased.{blanks_plain, erased_task, erased, erased_state, step_erased}
 use Rattle.history_laws.specs.CountLaws.{length-carried, outputs_tagged}
 
 -- events with blanks for their outputs, filled with the units of these events, are these
@@ -38,7 +38,7 @@ fill_outputs k n (v ∷ vs) xs us = ap (λ (p : List Event × List media.Unit). 
 
 -- outputs as they are shown
 fill_carried : (k : Kind) (n : ℕ) (active : Option AudioDecoderConfig) (vs : List media.Unit) (xs : List Event) → Fills k (outputs_from n (carried None (blanks (length vs))) ++ xs) (outputs_from n (carried active vs) ++ xs)
-fill_carried k n active vs xs us = rw (carried_blanks (length vs), ← length-carried active vs) (fill_outputs k n (carried active vs) xs us)
+fill_carried k n active vs xs us = rw ((blanks_plain (length vs)).0, ← length-carried active vs) (fill_outputs k n (carried active vs) xs us)
 
 fill_turn : (k : Kind) (ts : List Task) (c : Control) → Fills k (turn_shows (map erased_task ts) (erased c)) (turn_shows ts c)
 fill_turn k (task.Output units ∷ ts) c us = simp append-nil at (fill_carried k c.shown c.active units [] us)
