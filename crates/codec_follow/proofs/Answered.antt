@@ -3,41 +3,18 @@ use Rattle.std.proofs.Common.{ℕ, ◌≡◌, ◌&&◌, ◌||◌, not, Bool, tru
 use Rattle.std.proofs.lemmas.Bool.{and_parts, cond_both, eqb-true}
 use Rattle.std.proofs.lemmas.List.{map-append}
 use Rattle.std.proofs.lemmas.Option.{cond_some}
-use Rattle.wc_base.specs.declared.error.DomError.{DomError}
-use Rattle.wc_config.specs.declared.codec.CoderId.{CoderId}
-use Rattle.wc_config.specs.declared.codec.CodecId.TheVariants as codec
-use Rattle.wc_config.specs.declared.config.AudioDecoderConfig.{AudioDecoderConfig}
-use Rattle.wc_config.specs.declared.config.Config.{Config}
-use Rattle.wc_config.specs.declared.config.Config.TheVariants as config
+use Rattle.wc_base.specs.{declared.error.DomError.DomError, Options.some_same}
+use Rattle.wc_config.specs.declared.{codec.CoderId.CoderId, codec.CodecId.CodecId, config.AudioDecoderConfig.AudioDecoderConfig, config.Config.Config}
 use Rattle.wc_config.specs.Configs.{is_valid, is_within, is_supported, coder_id_of}
 use Rattle.codec_definitions.specs.declared.unit.Unit as media
 use Rattle.codec_definitions.specs.declared.command.Command.{Command}
-use Rattle.codec_definitions.specs.declared.command.Command.TheVariants as command
 use Rattle.codec_definitions.specs.Answers.{answer_after, answers, answers_from, audio_decoder_answer, audio_encoder_answer, until_refused, last_answer}
-use Rattle.codec_model.specs.declared.entry.CodecState.{CodecState}
+use Rattle.codec_model.specs.declared.entry.{CodecState.CodecState, Opening.Opening, Removal.Removal, Call.Call, Entry.Entry, Work.Work}
 use Rattle.codec_model.specs.declared.entry.CodecState.TheVariants.{Unconfigured, Configured, Closed}
-use Rattle.codec_model.specs.declared.entry.Opening.{Opening}
-use Rattle.codec_model.specs.declared.entry.Removal.{Removal}
-use Rattle.codec_model.specs.declared.entry.Removal.TheVariants as removal
-use Rattle.codec_model.specs.declared.entry.Call.{Call}
-use Rattle.codec_model.specs.declared.entry.Call.TheVariants as call
-use Rattle.codec_model.specs.declared.entry.Entry.{Entry}
-use Rattle.codec_model.specs.declared.entry.Work.{Work}
-use Rattle.codec_model.specs.declared.entry.Work.TheVariants as work
-use Rattle.codec_model.specs.declared.entry.WorkKind.{WorkKind}
-use Rattle.codec_model.specs.declared.entry.WorkKind.TheVariants as kind
-use Rattle.codec_model.specs.declared.entry.Message.{Message}
-use Rattle.codec_model.specs.declared.entry.Item.{Item}
-use Rattle.codec_model.specs.declared.entry.Running.{Running}
-use Rattle.codec_model.specs.declared.entry.Task.{Task}
-use Rattle.codec_model.specs.declared.entry.Task.TheVariants as task
-use Rattle.codec_model.specs.declared.entry.Ended.{Ended}
-use Rattle.codec_model.specs.declared.entry.Ended.TheVariants as ended
-use Rattle.codec_model.specs.declared.entry.Outcome.{Outcome}
+use Rattle.codec_model.specs.declared.entry.{WorkKind.WorkKind, Message.Message, Item.Item, Running.Running, Task.Task, Ended.Ended, Outcome.Outcome}
 use Rattle.codec_model.specs.Control.{Control, kind_of, after_message, process_queue, at_next_place, done_running, halts, after_close}
 use Rattle.codec_model.specs.Facts.{is_configure}
 use Rattle.codec_model.specs.Replay.{State, Given, command_of, decoder_config, labelled_answer, given_more, answer_to, answers_to, opening_state, step, ended_of, ended_run, ended_refused, removal_error, after_call, call_error, with_control, remove_or_refuse, removed}
-use Rattle.wc_base.specs.Options.{some_same}
 use Rattle.history_laws.specs.Answers.{ran_answer}
 use Rattle.codec_model.specs.StepLaws.{begins, begins_free, begun, task_ran, EachStep, by_queue, by_steps}
 
@@ -66,14 +43,14 @@ pub record RanEnd (n : ℕ) (a : Option (List media.Unit)) (e : Ended) : Type 0 
   pub units : List media.Unit
   pub answered : a ≡ Some units
   pub count : n ≡ length units
-  pub is : ended.Ran units ≡ e
+  pub is : Ended.Ran units ≡ e
 
 pub ran_ends : (n : ℕ) (a : Option (List media.Unit)) (e : Ended) → ended_run n a ≡ Some e → RanEnd n a e
 ran_ends n None e h = absurd cc
-ran_ends n (Some us) e h = let k = cond_some (eqb n (length us)) (ended.Ran us) e h in record { units = us; answered = refl; count = eqb-true n (length us) k.0; is = k.1 }
+ran_ends n (Some us) e h = let k = cond_some (eqb n (length us)) (Ended.Ran us) e h in record { units = us; answered = refl; count = eqb-true n (length us) k.0; is = k.1 }
 
-pub refused_ends : (a : Option (List media.Unit)) (e : Ended) → ended_refused a ≡ Some e → (is_some a ≡ false) × (ended.Refused ≡ e)
-refused_ends None e h = (refl, some_same ended.Refused e h)
+pub refused_ends : (a : Option (List media.Unit)) (e : Ended) → ended_refused a ≡ Some e → (is_some a ≡ false) × (Ended.Refused ≡ e)
+refused_ends None e h = (refl, some_same Ended.Refused e h)
 refused_ends (Some us) e h = absurd cc
 
 -- The coder was given all this, and refused none of it: what comes next is answered from here.
@@ -96,31 +73,31 @@ open_more g x k h = record {
   goes_on = λ y ys. rw (append_assoc g.commands (x ∷ []) (y ∷ ys)) (k.goes_on x (y ∷ ys) ∙ last_past (answer_after k.id g.config g.commands x) _ _ (sym (last_some g x k) ∙ h));
 }
 
-open_configured : (config : Config) → is_some (answer_to kind.Configure (record { config = config; commands = [] })) ≡ true → IsOpen (record { config = config; commands = [] })
+open_configured : (config : Config) → is_some (answer_to WorkKind.Configure (record { config = config; commands = [] })) ≡ true → IsOpen (record { config = config; commands = [] })
 open_configured config h =
-    let supported = (cond_some (is_supported config) [] _ (some_is (answer_to kind.Configure (record { config = config; commands = [] })) h).1).0 in
+    let supported = (cond_some (is_supported config) [] _ (some_is (answer_to WorkKind.Configure (record { config = config; commands = [] })) h).1).0 in
     let id = some_is (coder_id_of config) (and_parts (is_valid config) (is_some (coder_id_of config)) (and_parts (is_valid config && is_some (coder_id_of config)) (is_within config) supported).0).1 in
     record { id = id.0; asked = id.1; goes_on = λ x xs. refl }
 
 -- a codec's definition answers each drain
-drain_answered : (id : CoderId) (c : Config) (before : List Command) → is_some (answer_after id c before command.Drain) ≡ true
-drain_answered id (config.AudioDecoder c) before = elim id.codec as (λ k. is_some (audio_decoder_answer k c command.Drain) ≡ true) [ codec.Flac ↦ refl | _ ↦ refl ]
-drain_answered id (config.AudioEncoder c) before = elim id.codec as (λ k. is_some (audio_encoder_answer k c before command.Drain) ≡ true) [ codec.Flac ↦ refl | _ ↦ refl ]
+drain_answered : (id : CoderId) (c : Config) (before : List Command) → is_some (answer_after id c before Command.Drain) ≡ true
+drain_answered id (Config.AudioDecoder c) before = elim id.codec as (λ k. is_some (audio_decoder_answer k c Command.Drain) ≡ true) [ CodecId.Flac ↦ refl | _ ↦ refl ]
+drain_answered id (Config.AudioEncoder c) before = elim id.codec as (λ k. is_some (audio_encoder_answer k c before Command.Drain) ≡ true) [ CodecId.Flac ↦ refl | _ ↦ refl ]
 drain_answered id _ before = refl
 
 -- an item of this kind that was the last one given is no flush that is refused
 abbrev pub IsAnswered : WorkKind → Given → Type 0
-IsAnswered kind.Flush g = is_some (answer_to kind.Flush g) ≡ true
+IsAnswered WorkKind.Flush g = is_some (answer_to WorkKind.Flush g) ≡ true
 IsAnswered k g = Unit {0}
 
 answered : (w : Work) (g : Given) → (not (is_configure w) ≡ true → IsOpen g) → IsAnswered (kind_of w) (given_more w g)
-answered work.Flush g ready = let k = ready refl in last_some g command.Drain k ∙ drain_answered k.id g.config g.commands
+answered Work.Flush g ready = let k = ready refl in last_some g Command.Drain k ∙ drain_answered k.id g.config g.commands
 answered _ g ready = tt
 
 open_past : (w : Work) (g : Given) → (not (is_configure w) ≡ true → IsOpen g) → is_some (answer_to (kind_of w) (given_more w g)) ≡ true → IsOpen (given_more w g)
-open_past (work.Configure config) g ready h = open_configured config h
-open_past (work.Coded input) g ready h = open_more g (command_of input) (ready refl) h
-open_past work.Flush g ready h = open_more g command.Drain (ready refl) h
+open_past (Work.Configure config) g ready h = open_configured config h
+open_past (Work.Coded input) g ready h = open_more g (command_of input) (ready refl) h
+open_past Work.Flush g ready h = open_more g Command.Drain (ready refl) h
 
 -- ---- what keeps each flush item from being refused
 
@@ -160,7 +137,7 @@ Sound s = Parts (seen s.control) s.given s.running_given
 -- ---- processing
 
 taken_seen : (w : Work) (at : ℕ) (ms : List Message) (c : Control) → c.messages ≡ record { place = at; work = w } ∷ ms → seen (record (after_message (record { place = at; work = w }) c) { messages = ms }) ≡ seen c
-taken_seen work.Flush at ms c e = ap (λ (ws : List Work). record (seen c) { works = ws }) (rw e (simp (map-append, append_assoc)))
+taken_seen Work.Flush at ms c e = ap (λ (ws : List Work). record (seen c) { works = ws }) (rw e (simp (map-append, append_assoc)))
 taken_seen w at ms c e = ap (λ (ws : List Work). record (seen c) { works = ws }) (rw e (simp (map-append, append_assoc)))
 
 processed : (c : Control) (given busy : Given) → Parts (seen c) given busy → Parts (seen (process_queue c.messages c)) given busy
@@ -185,7 +162,7 @@ configured_where Configured x y z other h = refl
 configured_where _ x y z other h = absurd (other h)
 
 called_sound : (o : Option DomError) (x : Call) (s : State) → call_error x s.control ≡ o → Sound s → Sound (with_control (after_call o x s.control) s)
-called_sound None (call.Configure config) s e h = sent s.control _ _ _ _ _ _ s.given s.running_given (λ k. cc) h
+called_sound None (Call.Configure config) s e h = sent s.control _ _ _ _ _ _ s.given s.running_given (λ k. cc) h
 called_sound None x s e h = sent s.control _ _ _ _ _ _ s.given s.running_given (λ k. configured_where s.control.phase _ _ None (λ never. cc) e) h
 called_sound (Some error) x s e h = h
 
@@ -195,8 +172,8 @@ closed_sound : (s : State) → Sound s → Sound (removed (after_close (at_next_
 closed_sound s h = record { flushed = h.flushed; opens = λ need. absurd cc }
 
 removal_sound : (o : Option DomError) (r : Removal) (s : State) → Sound s → Sound (remove_or_refuse o r s)
-removal_sound None removal.Reset s h = record { flushed = h.flushed; opens = λ need. absurd cc }
-removal_sound None removal.Close s h = closed_sound s h
+removal_sound None Removal.Reset s h = record { flushed = h.flushed; opens = λ need. absurd cc }
+removal_sound None Removal.Close s h = closed_sound s h
 removal_sound (Some e) r s h = h
 
 -- ---- starts and ends
@@ -211,7 +188,7 @@ started_sound i is epoch item s e may h =
 
 -- an item of this epoch ended: the coder is still open, or the codec is halted
 ended_open : (r : Running) (e : Ended) (x : Outcome) (v : Seen) (given busy : Given) → v.running ≡ Some r → eqb r.epoch v.epoch ≡ true → ended_of r.kind busy x ≡ Some e → Parts v given busy → needs v.works v.phase ≡ true → (halts e || v.halted) ≡ false → IsOpen given
-ended_open r (ended.Ran us) x v given busy running now is h need on = h.opens need on (rw (running, now, ran_answer r.kind busy x us is) refl)
+ended_open r (Ended.Ran us) x v given busy running now is h need on = h.opens need on (rw (running, now, ran_answer r.kind busy x us is) refl)
 ended_open r e x v given busy running now is h need on = absurd cc
 
 done_sound : (r : Running) (e : Ended) (x : Outcome) (moment : ℕ) (s : State) → s.control.running ≡ Some r → ended_of r.kind s.running_given x ≡ Some e → Sound s → Sound (with_control (done_running r e moment (at_next_place s.control)) s)
@@ -223,9 +200,9 @@ done_sound r e x moment s running is h =
 -- ---- entries
 
 task_sound : (x : Task) (ts : List Task) (s : State) → Sound s → Sound (task_ran x ts s)
-task_sound task.Process ts s h = processed (record (at_next_place s.control) { tasks = ts }) s.given s.running_given h
-task_sound task.Desaturate ts s h = processed (record (at_next_place s.control) { tasks = ts; saturated = false }) s.given s.running_given h
-task_sound (task.Close x) ts s h = closed_sound (record s { control = record s.control { tasks = ts } }) h
+task_sound Task.Process ts s h = processed (record (at_next_place s.control) { tasks = ts }) s.given s.running_given h
+task_sound Task.Desaturate ts s h = processed (record (at_next_place s.control) { tasks = ts; saturated = false }) s.given s.running_given h
+task_sound (Task.Close x) ts s h = closed_sound (record s { control = record s.control { tasks = ts } }) h
 task_sound x ts s h = h
 
 each_sound : EachStep (λ e s t. Sound s → Sound t)

@@ -3,34 +3,13 @@ use Rattle.std.proofs.Common.{ℕ, ◌≡◌, ◌+◌, not, Bool, false, eqb, co
 use Rattle.std.proofs.lemmas.Bool.{cond_both}
 use Rattle.std.specs.Prelude.{option_map, unwrap_or}
 use Rattle.std.specs.List.{AllByRecursion}
-use Rattle.wc_base.specs.declared.error.DomError.{DomError}
-use Rattle.wc_base.specs.declared.error.DomError.TheVariants as dom
+use Rattle.wc_base.specs.{declared.error.DomError.DomError, Options.some_same}
 use Rattle.codec_definitions.specs.declared.unit.Unit as media
-use Rattle.codec_model.specs.declared.entry.Removal.{Removal}
-use Rattle.codec_model.specs.declared.entry.Removal.TheVariants as removal
-use Rattle.codec_model.specs.declared.entry.Call.{Call}
-use Rattle.codec_model.specs.declared.entry.Call.TheVariants as call
-use Rattle.codec_model.specs.declared.entry.Opening.{Opening}
-use Rattle.codec_model.specs.declared.entry.Entry.{Entry}
-use Rattle.codec_model.specs.declared.entry.Entry.TheVariants as entry
-use Rattle.codec_model.specs.declared.entry.Event.{Event}
-use Rattle.codec_model.specs.declared.entry.Event.TheVariants as event
-use Rattle.codec_model.specs.declared.entry.Work.{Work}
-use Rattle.codec_model.specs.declared.entry.Work.TheVariants as work
-use Rattle.codec_model.specs.declared.entry.WorkKind.{WorkKind}
-use Rattle.codec_model.specs.declared.entry.WorkKind.TheVariants as kind
-use Rattle.codec_model.specs.declared.entry.Message.{Message}
-use Rattle.codec_model.specs.declared.entry.Running.{Running}
-use Rattle.codec_model.specs.declared.entry.Task.{Task}
-use Rattle.codec_model.specs.declared.entry.Task.TheVariants as task
-use Rattle.codec_model.specs.declared.entry.Ended.{Ended}
-use Rattle.codec_model.specs.declared.entry.Ended.TheVariants as ended
-use Rattle.codec_model.specs.declared.entry.Outcome.{Outcome}
-use Rattle.codec_model.specs.declared.entry.Outcome.TheVariants as outcome
+use Rattle.codec_model.specs.declared.entry.{Removal.Removal, Call.Call, Opening.Opening, Entry.Entry, Event.Event, Work.Work, WorkKind.WorkKind}
+use Rattle.codec_model.specs.declared.entry.{Message.Message, Running.Running, Task.Task, Ended.Ended, Outcome.Outcome}
 use Rattle.codec_model.specs.Control.{Control, is_dequeue, after_message, process_queue, at_next_place, with_desaturate, with_ran, with_end, done_running, carried, after_reset, run_task}
 use Rattle.codec_model.specs.Replay.{State, Given, answer_to, opening_state, step, IsLegal, ended_of, call_error, after_call, removal_error, remove_or_refuse}
 use Rattle.codec_model.specs.Shown.{shows, shown_from, shown, refusal, rejection, rejections, removal_shows, outputs_from, turn_shows}
-use Rattle.wc_base.specs.Options.{some_same}
 use Rattle.codec_model.specs.StepLaws.{EachStep, by_queue, by_steps}
 use Rattle.history_laws.specs.OutputLaws.{all_append}
 use Rattle.codec_follow.proofs.Answered.{ran_ends, refused_ends}
@@ -38,7 +17,7 @@ use Rattle.codec_follow.specs.Errors.{IsServedEnd, IsServed, AreServedFrom, AreS
 
 -- a queued task closes the codec only for want of memory
 abbrev Fine : Task → Type 0
-Fine (task.Close x) = x ≡ dom.OutOfMemory
+Fine (Task.Close x) = x ≡ DomError.OutOfMemory
 Fine _ = Unit {0}
 
 abbrev AllFine : List Task → Type 0
@@ -56,11 +35,11 @@ dequeues_fine (t ∷ ts) fine = if_fine (is_dequeue t) (t ∷ filter is_dequeue 
 
 -- ---- calls and removals
 
-dequeue_fine : (b : Bool) (ts : List Task) → AllFine ts → AllFine (cond b (ts ++ task.Dequeue ∷ []) ts)
-dequeue_fine b ts fine = if_fine b (ts ++ task.Dequeue ∷ []) ts (with_one ts task.Dequeue fine tt) fine
+dequeue_fine : (b : Bool) (ts : List Task) → AllFine ts → AllFine (cond b (ts ++ Task.Dequeue ∷ []) ts)
+dequeue_fine b ts fine = if_fine b (ts ++ Task.Dequeue ∷ []) ts (with_one ts Task.Dequeue fine tt) fine
 
 message_fine : (place : ℕ) (w : Work) (ms : List Message) (c : Control) → AllFine c.tasks → AllFine (record (after_message (record { place = place; work = w }) c) { messages = ms }).tasks
-message_fine place (work.Coded chunk) ms c fine = dequeue_fine (not c.scheduled) c.tasks fine
+message_fine place (Work.Coded chunk) ms c fine = dequeue_fine (not c.scheduled) c.tasks fine
 message_fine place w ms c fine = fine
 
 process_fine : (ms : List Message) (c : Control) → c.messages ≡ ms → AllFine c.tasks → AllFine (process_queue ms c).tasks
@@ -68,7 +47,7 @@ process_fine = by_queue (λ (d : Control). AllFine d.tasks) (λ m ms d e h. mess
 
 call_fine : (o : Option DomError) (x : Call) (c : Control) → AllFine c.tasks → AllFine (after_call o x c).tasks
 call_fine (Some e) x c fine = fine
-call_fine None call.Flush c fine = process_fine (c.messages ++ _ ∷ []) _ refl fine
+call_fine None Call.Flush c fine = process_fine (c.messages ++ _ ∷ []) _ refl fine
 call_fine None x c fine = process_fine (c.messages ++ _ ∷ []) _ refl fine
 
 reset_fine : (c : Control) → AllFine c.tasks → AllFine (after_reset c).tasks
@@ -76,23 +55,23 @@ reset_fine c fine = dequeue_fine _ (filter is_dequeue c.tasks) (dequeues_fine c.
 
 removal_fine : (o : Option DomError) (r : Removal) (s : State) → AllFine s.control.tasks → AllFine (remove_or_refuse o r s).control.tasks
 removal_fine (Some e) r s fine = fine
-removal_fine None removal.Reset s fine = reset_fine (at_next_place s.control) fine
-removal_fine None removal.Close s fine = reset_fine (at_next_place s.control) fine
+removal_fine None Removal.Reset s fine = reset_fine (at_next_place s.control) fine
+removal_fine None Removal.Close s fine = reset_fine (at_next_place s.control) fine
 
 -- ---- ends
 
 ran_tasks : (k : WorkKind) (r : Running) (us : List media.Unit) (b : Bool) (ts : List Task) → AllFine ts → AllFine (with_ran (record r { kind = k }) us b ts)
-ran_tasks kind.Coded r us b ts fine =
-    let before = if_fine _ (ts ++ task.Desaturate ∷ []) ts (with_one ts task.Desaturate fine tt) fine in
-    if_fine _ (with_desaturate b ts) (with_desaturate b ts ++ task.Output us ∷ []) before (with_one (with_desaturate b ts) (task.Output us) before tt)
+ran_tasks WorkKind.Coded r us b ts fine =
+    let before = if_fine _ (ts ++ Task.Desaturate ∷ []) ts (with_one ts Task.Desaturate fine tt) fine in
+    if_fine _ (with_desaturate b ts) (with_desaturate b ts ++ Task.Output us ∷ []) before (with_one (with_desaturate b ts) (Task.Output us) before tt)
 ran_tasks _ r us b ts fine = with_one ts _ fine tt
 
 -- an item that was served ran, or memory was wanted
 end_tasks : (r : Running) (o : Outcome) (e : Ended) (g : Given) (b : Bool) (ts : List Task) → IsServedEnd o (Some r) g → ended_of r.kind g o ≡ Some e → AllFine ts → AllFine (with_end r e b ts)
-end_tasks r (outcome.Ran n) e g b ts served is fine = let ran = ran_ends n (answer_to r.kind g) e is in rw (← ran.is) (ran_tasks r.kind r ran.units b ts fine)
-end_tasks r outcome.Refused e g b ts served is fine = let never = sym served ∙ (refused_ends (answer_to r.kind g) e is).0 in absurd cc
-end_tasks r (outcome.NoSlot n) e g b ts served is fine = elim served [ ]
-end_tasks r outcome.NoMemory e g b ts served is fine = rw (← some_same ended.NoMemory e is) (with_one ts (task.Close dom.OutOfMemory) fine refl)
+end_tasks r (Outcome.Ran n) e g b ts served is fine = let ran = ran_ends n (answer_to r.kind g) e is in rw (← ran.is) (ran_tasks r.kind r ran.units b ts fine)
+end_tasks r Outcome.Refused e g b ts served is fine = let never = sym served ∙ (refused_ends (answer_to r.kind g) e is).0 in absurd cc
+end_tasks r (Outcome.NoSlot n) e g b ts served is fine = elim served [ ]
+end_tasks r Outcome.NoMemory e g b ts served is fine = rw (← some_same Ended.NoMemory e is) (with_one ts (Task.Close DomError.OutOfMemory) fine refl)
 
 done_tasks : (r : Running) (o : Outcome) (e : Ended) (moment : ℕ) (g : Given) (c : Control) → IsServedEnd o (Some r) g → ended_of r.kind g o ≡ Some e → AllFine c.tasks → AllFine (done_running r e moment c).tasks
 done_tasks r o e moment g c served is fine = cond_both (eqb r.epoch c.epoch) _ _ (λ (d : Control). AllFine d.tasks) (λ now. end_tasks r o e g c.saturated c.tasks served is fine) (λ older. fine)
@@ -100,10 +79,10 @@ done_tasks r o e moment g c served is fine = cond_both (eqb r.epoch c.epoch) _ _
 -- ---- turns
 
 run_fine : (x : Task) (c : Control) → AllFine c.tasks → AllFine (run_task x c).tasks
-run_fine task.Unblock c fine = with_one c.tasks task.Process fine tt
-run_fine task.Process c fine = process_fine c.messages c refl fine
-run_fine task.Desaturate c fine = process_fine c.messages (record c { saturated = false }) refl fine
-run_fine (task.Close x) c fine = reset_fine c fine
+run_fine Task.Unblock c fine = with_one c.tasks Task.Process fine tt
+run_fine Task.Process c fine = process_fine c.messages c refl fine
+run_fine Task.Desaturate c fine = process_fine c.messages (record c { saturated = false }) refl fine
+run_fine (Task.Close x) c fine = reset_fine c fine
 run_fine x c fine = fine
 
 -- ---- entries
@@ -140,7 +119,7 @@ rejections_for e [] = tt
 rejections_for e (p ∷ ps) = (tt, rejections_for e ps)
 
 removal_for : (o : Option DomError) (ps : List ℕ) → AllFor (removal_shows o ps)
-removal_for None ps = rejections_for dom.Abort ps
+removal_for None ps = rejections_for DomError.Abort ps
 removal_for (Some e) ps = (tt, tt)
 
 outputs_for : (n : ℕ) (us : List media.Unit) → AllFor (outputs_from n us)
@@ -149,15 +128,15 @@ outputs_for n (u ∷ us) = (tt, outputs_for (n + 1) us)
 
 -- a task that is fine closes the codec for want of memory, whatever config its outputs carry
 turn_for : (ts : List Task) (c : Control) → AllFine ts → AllFor (turn_shows ts c)
-turn_for (task.Output units ∷ ts) c fine = outputs_for c.shown (carried c.active units)
-turn_for (task.Flushed promise units ∷ ts) c fine = all_append IsForMemory (outputs_from c.shown (carried c.active units)) (event.Resolve promise ∷ []) (outputs_for c.shown (carried c.active units)) (tt, tt)
-turn_for (task.Dequeue ∷ ts) c fine = (tt, tt)
-turn_for (task.Close x ∷ ts) c fine = all_append IsForMemory (rejections x c.pending) (event.ErrorCall x ∷ []) (rejections_for x c.pending) (fine.0, tt)
+turn_for (Task.Output units ∷ ts) c fine = outputs_for c.shown (carried c.active units)
+turn_for (Task.Flushed promise units ∷ ts) c fine = all_append IsForMemory (outputs_from c.shown (carried c.active units)) (Event.Resolve promise ∷ []) (outputs_for c.shown (carried c.active units)) (tt, tt)
+turn_for (Task.Dequeue ∷ ts) c fine = (tt, tt)
+turn_for (Task.Close x ∷ ts) c fine = all_append IsForMemory (rejections x c.pending) (Event.ErrorCall x ∷ []) (rejections_for x c.pending) (fine.0, tt)
 turn_for _ c fine = tt
 
 shows_for : (e : Entry) (s : State) → IsServed e s → AllFine s.control.tasks → AllFor (shows e s)
-shows_for entry.Turn s served fine = turn_for s.control.tasks s.control fine
-shows_for (entry.Reclaim moment) s served fine = elim served [ ]
+shows_for Entry.Turn s served fine = turn_for s.control.tasks s.control fine
+shows_for (Entry.Reclaim moment) s served fine = elim served [ ]
 shows_for e s served fine = search (refusal_for, rejection_for, removal_for)
 
 abbrev Placed : ℕ × Event → Type 0

@@ -5,15 +5,8 @@ use Rattle.std.proofs.lemmas.List.{append-nil}
 use Rattle.std.proofs.lemmas.Option.{option_and_then_some}
 use Rattle.std.proofs.Math.Seq.{take-append_seam}
 use Rattle.codec_definitions.specs.declared.unit.Unit as media
-use Rattle.wc_config.specs.declared.config.AudioDecoderConfig.{AudioDecoderConfig}
-use Rattle.wc_config.specs.declared.kind.Kind.{Kind}
-use Rattle.codec_model.specs.declared.entry.Entry.{Entry}
-use Rattle.codec_model.specs.declared.entry.Entry.TheVariants as entry
-use Rattle.codec_model.specs.declared.entry.Event.{Event}
-use Rattle.codec_model.specs.declared.entry.Event.TheVariants as event
-use Rattle.codec_model.specs.declared.entry.Shown.{Shown}
-use Rattle.codec_model.specs.declared.entry.Task.{Task}
-use Rattle.codec_model.specs.declared.entry.Task.TheVariants as task
+use Rattle.wc_config.specs.declared.{config.AudioDecoderConfig.AudioDecoderConfig, kind.Kind.Kind}
+use Rattle.codec_model.specs.declared.entry.{Entry.Entry, Event.Event, Shown.Shown, Task.Task}
 use Rattle.codec_model.specs.Control.{Control, carried}
 use Rattle.codec_model.specs.Replay.{State, opening_state, step, replay, replay_from}
 use Rattle.codec_model.specs.Shown.{shows, outputs_from, turn_shows, shown_from, shown_at, each_shown_from, turn_word, word_at, units_in, units_shown, outputs_of}
@@ -29,32 +22,32 @@ Fills k xs ys = (us : List media.Unit) → filled k xs (units_in ys ++ us) ≡ (
 
 fill_own : (k : Kind) (xs : List Event) → Fills k xs xs
 fill_own k [] us = refl
-fill_own k (event.Output number unit ∷ xs) us = ap (λ (p : List Event × List media.Unit). (event.Output number unit ∷ p.0, p.1)) (fill_own k xs us)
+fill_own k (Event.Output number unit ∷ xs) us = ap (λ (p : List Event × List media.Unit). (Event.Output number unit ∷ p.0, p.1)) (fill_own k xs us)
 fill_own k (x ∷ xs) us = ap (λ (p : List Event × List media.Unit). (x ∷ p.0, p.1)) (fill_own k xs us)
 
 fill_outputs : (k : Kind) (n : ℕ) (vs : List media.Unit) (xs : List Event) → Fills k (outputs_from n (blanks (length vs)) ++ xs) (outputs_from n vs ++ xs)
 fill_outputs k n [] xs us = fill_own k xs us
-fill_outputs k n (v ∷ vs) xs us = ap (λ (p : List Event × List media.Unit). (event.Output n v ∷ p.0, p.1)) (fill_outputs k (n + 1) vs xs us)
+fill_outputs k n (v ∷ vs) xs us = ap (λ (p : List Event × List media.Unit). (Event.Output n v ∷ p.0, p.1)) (fill_outputs k (n + 1) vs xs us)
 
 -- outputs as they are shown
 fill_carried : (k : Kind) (n : ℕ) (active : Option AudioDecoderConfig) (vs : List media.Unit) (xs : List Event) → Fills k (outputs_from n (carried None (blanks (length vs))) ++ xs) (outputs_from n (carried active vs) ++ xs)
 fill_carried k n active vs xs us = rw ((blanks_plain (length vs)).0, ← length-carried active vs) (fill_outputs k n (carried active vs) xs us)
 
 fill_turn : (k : Kind) (ts : List Task) (c : Control) → Fills k (turn_shows (map erased_task ts) (erased c)) (turn_shows ts c)
-fill_turn k (task.Output units ∷ ts) c us = simp append-nil at (fill_carried k c.shown c.active units [] us)
-fill_turn k (task.Flushed promise units ∷ ts) c us = fill_carried k c.shown c.active units (event.Resolve promise ∷ []) us
+fill_turn k (Task.Output units ∷ ts) c us = simp append-nil at (fill_carried k c.shown c.active units [] us)
+fill_turn k (Task.Flushed promise units ∷ ts) c us = fill_carried k c.shown c.active units (Event.Resolve promise ∷ []) us
 fill_turn k ts c us = fill_own k (turn_shows ts c) us
 
 fill_shows : (k : Kind) (e : Entry) (s : State) → Fills k (shows e (erased_state s)) (shows e s)
-fill_shows k entry.Turn s us = fill_turn k s.control.tasks s.control us
+fill_shows k Entry.Turn s us = fill_turn k s.control.tasks s.control us
 fill_shows k e s us = fill_own k (shows e s) us
 
 word_erased_on : (ts : List Task) → turn_word (map erased_task ts) ≡ turn_word ts
-word_erased_on (task.Unblock ∷ ts) = refl
+word_erased_on (Task.Unblock ∷ ts) = refl
 word_erased_on _ = refl
 
 word_erased : (e : Entry) (s : State) → word_at e (erased_state s) ≡ word_at e s
-word_erased entry.Turn s = word_erased_on s.control.tasks
+word_erased Entry.Turn s = word_erased_on s.control.tasks
 word_erased e s = refl
 
 -- a legal history follows, and shows the same, with its own outputs
@@ -75,8 +68,8 @@ legal_fills o h legal = let k = some_is (replay o h) legal in (tells o.kind h (o
 -- the units come in order
 fill_order : (k : Kind) → (xs : List Event) (us : List media.Unit) → length (units_in (filled k xs us).0) ≤ length us → us ≡ units_in (filled k xs us).0 ++ (filled k xs us).1
 fill_order k [] us few = refl
-fill_order k (event.Output number unit ∷ xs) [] few = absurd (omega (arith, few))
-fill_order k (event.Output number unit ∷ xs) (u ∷ us) few = ap (λ (l : List media.Unit). u ∷ l) (fill_order k xs us (omega (arith, few)))
+fill_order k (Event.Output number unit ∷ xs) [] few = absurd (omega (arith, few))
+fill_order k (Event.Output number unit ∷ xs) (u ∷ us) few = ap (λ (l : List media.Unit). u ∷ l) (fill_order k xs us (omega (arith, few)))
 fill_order k (x ∷ xs) us few = fill_order k xs us few
 
 abbrev Begins : List media.Unit → List media.Unit → Type 0

@@ -3,34 +3,21 @@ use Rattle.std.proofs.Common.{ℕ, ◌≡◌, ◌<◌, ◌&&◌, ◌||◌, not, 
 use Rattle.std.proofs.lemmas.Bool.{and_parts, leb-true}
 use Rattle.std.specs.Prelude.{◌==◌, nat_le}
 use Rattle.std.specs.List.{AllByRecursion}
-use Rattle.wc_base.specs.declared.media.Samples.{Samples}
-use Rattle.wc_config.specs.declared.codec.Role.TheVariants as role
-use Rattle.wc_config.specs.declared.config.AudioDecoderConfig.{AudioDecoderConfig}
-use Rattle.wc_config.specs.declared.config.AudioEncoderConfig.{AudioEncoderConfig}
-use Rattle.wc_config.specs.declared.config.Config.{Config}
-use Rattle.wc_config.specs.declared.config.Config.TheVariants as config
-use Rattle.wc_config.specs.declared.stream_info.StreamInfo.{StreamInfo}
+use Rattle.wc_base.specs.{declared.media.Samples.Samples, Options.cond_is, Options.some_same}
+use Rattle.wc_config.specs.declared.{codec.Role.Role, config.AudioDecoderConfig.AudioDecoderConfig, config.AudioEncoderConfig.AudioEncoderConfig}
+use Rattle.wc_config.specs.declared.{config.Config.Config, stream_info.StreamInfo.StreamInfo, kind.Kind.Kind}
 use Rattle.wc_config.specs.Streams.{big_endian, stream_info_of, is_usable}
 use Rattle.wc_config.specs.Configs.{is_valid, is_blank, audio_codec, video_codec, id_with, coder_id_of}
 use Rattle.wc_chunk.specs.declared.chunk.Chunk.{Chunk}
 use Rattle.codec_definitions.specs.declared.unit.Unit as media
 use Rattle.codec_definitions.specs.declared.unit.Unit.TheVariants as unit
-use Rattle.codec_definitions.specs.Flac.{described}
-use Rattle.codec_definitions.specs.FlacCode.{stream_description}
+use Rattle.codec_definitions.specs.{Flac.described, FlacCode.stream_description}
 use Rattle.coder_api.specs.Meaning.{description_for}
-use Rattle.wc_config.specs.declared.kind.Kind.{Kind}
-use Rattle.wc_config.specs.declared.kind.Kind.TheVariants as kind
-use Rattle.codec_model.specs.declared.entry.Handed.TheVariants as handed
-use Rattle.codec_model.specs.declared.entry.Entry.{Entry}
-use Rattle.codec_model.specs.declared.entry.Entry.TheVariants as entry
-use Rattle.codec_model.specs.declared.entry.Shown.{Shown}
-use Rattle.codec_model.specs.Replay.{decoder_config}
+use Rattle.codec_model.specs.{declared.entry.Handed.Handed, declared.entry.Entry.Entry, declared.entry.Shown.Shown, Replay.decoder_config}
 use Rattle.codec_model.specs.Shown.{units_in, each_shown, units_shown}
-use Rattle.wc_base.specs.Options.{cond_is, some_same}
 use Rattle.history_laws.specs.UnitLaws.{decoded_sound, coded_chunk, picture_given, EachAnswer, by_answers}
-use Rattle.history_laws.specs.BlockLaws.{answers_blocks, blocks_where}
+use Rattle.history_laws.specs.{BlockLaws.answers_blocks, BlockLaws.blocks_where, OutputLaws.all_append, OutputLaws.outputs_are}
 use Rattle.history_laws.specs.Outputs.{MayCarry, Judge, HoldsOwn}
-use Rattle.history_laws.specs.OutputLaws.{all_append, outputs_are}
 use Rattle.history_laws.specs.StreamLaws.{length-stream_description, described_where}
 use Rattle.codec_follow.specs.Outputs.{is_codec_string, IsPlainDescription, IsPlainConfig, IsOutputOf, IsConfigOf, ConfiguresAs}
 use Rattle.codec_follow.specs.Laws.{OutputsAreOfKind}
@@ -42,7 +29,7 @@ AllOf k us = AllByRecursion (IsOutputOf k) us
 
 -- a config that a codec of this kind was given, if it was given one
 abbrev IsOwn : Kind → Config → Type 0
-IsOwn kind.AudioDecoder (config.AudioDecoder c) = 0 < c.rate
+IsOwn Kind.AudioDecoder (Config.AudioDecoder c) = 0 < c.rate
 IsOwn k c = IsConfigOf k c
 
 -- a stream that is described has a rate
@@ -56,12 +43,12 @@ described_rate (Some d) info h =
     subst (λ (i : StreamInfo). 0 < i.rate) (some_same said info read.1) (leb-true 1 said.rate (and_parts (nat_le 1 said.rate) (nat_le 4 said.depth) usable.1).0)
 
 -- what a codec gives is of its kind, where its config is
-sound_own : (k : Kind) (c : AudioDecoderConfig) (samples : Samples) → IsOwn k (config.AudioDecoder c) → (0 < c.rate → 0 < samples.shape.rate) → IsOutputOf k (unit.Sound samples)
-sound_own kind.AudioDecoder c samples own rate = rate own
+sound_own : (k : Kind) (c : AudioDecoderConfig) (samples : Samples) → IsOwn k (Config.AudioDecoder c) → (0 < c.rate → 0 < samples.shape.rate) → IsOutputOf k (unit.Sound samples)
+sound_own Kind.AudioDecoder c samples own rate = rate own
 sound_own _ c samples own rate = absurd own
 
-chunk_own : (k : Kind) (c : AudioEncoderConfig) (chunk : Chunk) → IsOwn k (config.AudioEncoder c) → IsOutputOf k (unit.Coded chunk None)
-chunk_own kind.AudioEncoder c chunk own = tt
+chunk_own : (k : Kind) (c : AudioEncoderConfig) (chunk : Chunk) → IsOwn k (Config.AudioEncoder c) → IsOutputOf k (unit.Coded chunk None)
+chunk_own Kind.AudioEncoder c chunk own = tt
 chunk_own _ c chunk own = absurd own
 
 each_own : (k : Kind) → EachAnswer (λ c before x us. IsOwn k c → AllOf k us)
@@ -71,32 +58,32 @@ each_own k = record {
   frame = λ info c before chunk f says is own. (sound_own k c _ own (λ rate. described_rate c.description info says), tt);
   chunk = λ id s c before samples is own. (chunk_own k c (coded_chunk s samples) own, tt);
   blocks = λ c before x us h own. blocks_where (IsOutputOf k) c (λ number values place few. chunk_own k c _ own) us (answers_blocks c before x us h);
-  picture = λ id c shape before chunk bytes is last own. (elim k as (λ j. IsOwn j (config.VideoDecoder c) → IsOutputOf j (unit.Image (picture_given shape chunk bytes))) [ kind.VideoDecoder ↦ λ h. h | _ ↦ λ h. absurd h ] own, tt);
+  picture = λ id c shape before chunk bytes is last own. (elim k as (λ j. IsOwn j (Config.VideoDecoder c) → IsOutputOf j (unit.Image (picture_given shape chunk bytes))) [ Kind.VideoDecoder ↦ λ h. h | _ ↦ λ h. absurd h ] own, tt);
 }
 
 -- ---- a config that is valid and of the codec's kind
 
 own_config : (k : Kind) (c : Config) → IsConfigOf k c → is_valid c ≡ true → IsOwn k c
-own_config kind.AudioDecoder (config.AudioDecoder c) own h =
+own_config Kind.AudioDecoder (Config.AudioDecoder c) own h =
     let front = and_parts (not (is_blank c.codec) && nat_le 1 c.rate) (nat_le 1 c.channels) h in
     leb-true 1 c.rate (and_parts (not (is_blank c.codec)) (nat_le 1 c.rate) front.0).1
 own_config _ _ own h = own
 
 -- ---- the config that an encoded output carries
 
-known_text : (text : List ℕ) → is_some (id_with role.Encode (audio_codec text)) ≡ true → is_codec_string text ≡ true
-known_text text h = elim (audio_codec text) as (λ o. is_some (id_with role.Encode o) ≡ true → (is_some o || is_some (video_codec text)) ≡ true) [ None ↦ λ e. absurd cc | Some id ↦ λ e. refl ] h
+known_text : (text : List ℕ) → is_some (id_with Role.Encode (audio_codec text)) ≡ true → is_codec_string text ≡ true
+known_text text h = elim (audio_codec text) as (λ o. is_some (id_with Role.Encode o) ≡ true → (is_some o || is_some (video_codec text)) ≡ true) [ None ↦ λ e. absurd cc | Some id ↦ λ e. refl ] h
 
 plain_description : (c : AudioEncoderConfig) → IsPlainDescription (description_for c)
 plain_description c = described_where IsPlainDescription c tt (elim (stream_description c) as (λ l. length l ≡ 42 → IsPlainDescription (Some l)) [ [] ↦ λ long. absurd cc | b ∷ bs ↦ λ long. tt ] (length-stream_description c))
 
 plain_label : (c : Config) (d : AudioDecoderConfig) → is_some (coder_id_of c) ≡ true → decoder_config c ≡ Some d → IsPlainConfig (Some d)
-plain_label (config.AudioEncoder c) d coder is = subst (λ (x : AudioDecoderConfig). IsPlainConfig (Some x)) (some_same _ d is) (known_text c.codec coder, plain_description c)
+plain_label (Config.AudioEncoder c) d coder is = subst (λ (x : AudioDecoderConfig). IsPlainConfig (Some x)) (some_same _ d is) (known_text c.codec coder, plain_description c)
 plain_label _ d coder is = absurd cc
 
 relabelled : (k : Kind) (c : Chunk) (old new : Option AudioDecoderConfig) → MayCarry (IsOwn k) new → IsOutputOf k (unit.Coded c old) → IsOutputOf k (unit.Coded c new)
-relabelled kind.AudioEncoder c old None may h = tt
-relabelled kind.AudioEncoder c old (Some d) may h = plain_label may.config d may.has_coder may.decodes
+relabelled Kind.AudioEncoder c old None may h = tt
+relabelled Kind.AudioEncoder c old (Some d) may h = plain_label may.config d may.has_coder may.decodes
 relabelled _ c old new may h = h
 
 -- the outputs of a codec of this kind
@@ -106,15 +93,15 @@ judge_of k = record {
   chunk = λ chunk. Unit {0};
   sound = λ samples. Unit {0};
   output = IsOutputOf k;
-  nothing = elim k as (λ j. IsOwn j config.Bad) [ kind.AudioDecoder ↦ tt | _ ↦ tt ];
+  nothing = elim k as (λ j. IsOwn j Config.Bad) [ Kind.AudioDecoder ↦ tt | _ ↦ tt ];
   gives = λ id c before x us own input h. by_answers (λ d b y vs. IsOwn k d → AllOf k vs) (each_own k) id c before x us h own;
   relabel = relabelled k;
 }
 
 entries_own : (k : Kind) (es : List Entry) → AllByRecursion (ConfiguresAs k) es → AllByRecursion (HoldsOwn (judge_of k)) es
 entries_own k [] own = tt
-entries_own k (entry.Configure who c ∷ es) own = (own_config k c own.0, entries_own k es own.1)
-entries_own k (entry.Encode who (handed.Cloned sound) ∷ es) own = (tt, entries_own k es own.1)
+entries_own k (Entry.Configure who c ∷ es) own = (own_config k c own.0, entries_own k es own.1)
+entries_own k (Entry.Encode who (Handed.Cloned sound) ∷ es) own = (tt, entries_own k es own.1)
 entries_own k (e ∷ es) own = (tt, entries_own k es own.1)
 
 units_own : (k : Kind) (xs : List Shown) → AllByRecursion (λ x. AllOf k (units_in x.events)) xs → AllOf k (units_shown xs)
