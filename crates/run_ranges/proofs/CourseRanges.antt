@@ -1,12 +1,15 @@
 -- A course that follows a script's order has no more of anything than the order has items, and what its variables hold and its
 -- codecs were given is within its types.
-use Rattle.std.proofs.Common.{ℕ, zero, suc, ◌≡◌, ◌<◌, ◌≤◌, ◌+◌, ◌*◌, ◌^◌, ◌⊎◌, inl, inr, not, Bool, true, false, cond, List, [], ◌∷◌, ◌++◌, length, length-append, Option, Some, None, refl, ap, sym, subst, ◌∙◌, add-mul, arith}
-use Rattle.std.specs.Prelude.{slice_get, slice_set, option_map, option_and_then, unwrap_or, map}
+use Rattle.std.proofs.Common.{ℕ, zero, suc, ◌≡◌, ◌<◌, ◌≤◌, ◌+◌, ◌*◌, ◌^◌, ◌⊎◌, inl, inr, not, Bool, true, false, List, [], ◌∷◌, ◌++◌, length, length-append, Option, Some, None, refl, ap, sym, subst, add-mul, arith}
+use Rattle.std.specs.Prelude.{IfSome, slice_get, slice_set, option_map, map}
 use Rattle.std.specs.List.{find, range_with_len}
 use Rattle.std.proofs.Math.Nat.{mul-add, mul-one, one-mul}
-use Rattle.std.proofs.lemmas.List.{length-map}
+use Rattle.std.proofs.lemmas.Bool.{cond_both}
+use Rattle.std.proofs.lemmas.List.{append-nil, length-map}
+use Rattle.std.proofs.lemmas.Option.{option_and_then_some}
 use Rattle.std.proofs.lemmas.List.Sums.{count_by-le-length}
 use Rattle.wc_base.specs.declared.media.SoundShape.{SoundShape}
+use Rattle.wc_base.specs.Options.{some_same}
 use Rattle.wc_base.specs.declared.who.Who.{Who}
 use Rattle.wc_base.specs.declared.who.By.{By}
 use Rattle.wc_base.specs.declared.who.By.TheVariants as by
@@ -31,11 +34,8 @@ use Rattle.codec_model.specs.declared.entry.Pair.{Pair}
 use Rattle.codec_model.specs.declared.entry.Handed.TheVariants as handed
 use Rattle.codec_model.specs.declared.entry.Entry.{Entry}
 use Rattle.codec_model.specs.declared.entry.Entry.TheVariants as entry
-use Rattle.codec_model.specs.declared.entry.Item.{Item}
 use Rattle.codec_model.specs.declared.entry.Removal.{Removal}
 use Rattle.codec_model.specs.declared.entry.Removal.TheVariants as removal
-use Rattle.codec_model.specs.declared.entry.Running.{Running}
-use Rattle.codec_model.specs.declared.entry.Task.{Task}
 use Rattle.codec_model.specs.Control.{start_item, may_reclaim}
 use Rattle.codec_model.specs.Replay.{State, opening_state, step as legal_step, replay, replay_from, is_configured, removal_entry}
 use Rattle.codec_model.specs.Held.{running_pairs, waiting_held, held_in, is_removal, is_done, lets_go, leaves_held, adds_held, HeldStays}
@@ -43,7 +43,7 @@ use Rattle.codec_model.specs.Shown.{shown, outputs_of}
 use Rattle.codec_accounts.specs.Owed.{at, append_at}
 use Rattle.codec_accounts.specs.ListLaws.{Same, Longer, growth, get_more, at_empty}
 use Rattle.codec_accounts.specs.Registry.{BoxOut}
-use Rattle.codec_accounts.specs.Codec.{CodecValue, Holding, new_codec, BoxStep, Keep, Give, Renew, give_of, after_give, holding_by, slots_after, holding_after, step_by, next_by, state_after, state_of, after_entry, codec_at, histories}
+use Rattle.codec_accounts.specs.Codec.{CodecValue, Holding, new_codec, BoxStep, Keep, Give, Renew, after_give, holding_by, slots_after, holding_after, step_by, next_by, state_after, state_of, after_entry, codec_at, histories}
 use Rattle.codec_accounts.specs.AccountLaws.{history_at, histories_more}
 use Rattle.script_types.specs.declared.script.CallerItem.{CallerItem}
 use Rattle.script_types.specs.declared.script.CodecItem.{CodecItem}
@@ -65,6 +65,7 @@ use Rattle.history_laws.specs.OutputLaws.{outputs_are}
 use Rattle.history_laws.specs.CountLaws.{outputs_each}
 use Rattle.run_ranges.specs.Counts.{all_from, all_at}
 use Rattle.run_ranges.specs.Ranges.{IsMoment, IsConfigWithin, IsChunkWithin, IsShapeWithin, AreWithin}
+use Rattle.run_ranges.proofs.Cases.{by_option, by_default}
 use Rattle.run_ranges.proofs.CodeRanges.{CodesAreBytes}
 use Rattle.run_ranges.proofs.UnitRanges.{AreSamplesWithin, IsUnitWithin, judge}
 use Rattle.run_ranges.proofs.MediaRanges.{AreVariables, IsChunkThere, chunk_found, IsRefWithin, IsSoundThere, sound_found, IsCameWithin, IsContentWithin, IsOutputWithin, came_within}
@@ -90,44 +91,50 @@ IsOpUpTo most (slot.Refused id out made) = (out ≤ most) × (made ≤ most)
 IsOpUpTo most (slot.Give id number) = number ≤ most
 
 abbrev IsBoxUpTo : ℕ → Option BoxOut → Type 0
-IsBoxUpTo most None = Unit {0}
-IsBoxUpTo most (Some b) = b.number ≤ most
+IsBoxUpTo most o = IfSome o (λ b. b.number ≤ most)
+
+-- so much of a registry
+pub record AreSlotsUpTo (n most long : ℕ) (s : SlotsValue) : Type 0 where
+  pub long_at_most : length s.history ≤ long
+  pub made : length s.made ≤ most
+  pub ops : (i : ℕ) (e : SlotEntry) → slice_get s.history i ≡ Some e → IsByUpTo n e.by × IsOpUpTo most e.op
+
+-- so much of codecs and their registry
+pub record AreCodecsUpTo (n most : ℕ) (cs : List CodecValue) (s : SlotsValue) : Type 0 where
+  pub few : (k : ℕ) → length (at k (histories cs)) ≤ n
+  pub slots : AreSlotsUpTo n most (2 * n) s
+  pub boxes : (k : ℕ) → IsBoxUpTo most (codec_at k cs).holding.box
 
 -- what its codecs were given, and what its callers' variables hold, are within their types
 pub record IsCourseOwn (v : Course) : Type 0 where
   pub entries : (k p : ℕ) (e : Entry) → slice_get (at k (histories v.codecs)) p ≡ Some e → IsOwnEntry e
   pub variables : (c : ℕ) → AreVariables (variables_of c v.media.variables)
 
--- After so many items, with so many boxes made. Each item adds to the pool what its codec lets go, which is at most one reference
--- for each of the codec's entries, and two entries more.
-pub record IsCourseUpTo (n most : ℕ) (v : Course) : Type 0 where
-  pub callers : (c : ℕ) → length (at c v.callers) ≤ n
-  pub codecs : (k : ℕ) → length (at k (histories v.codecs)) ≤ n
-  pub pool : length v.media.pool ≤ n * n + 2 * n
-  pub slots : length v.slots.history ≤ 2 * n
+-- with so many results of each caller, so many entries of each codec, so much in the pool and so many boxes made
+pub record IsCourseUpTo (results n pool most : ℕ) (v : Course) : Type 0 where
+  pub callers : (c : ℕ) → length (at c v.callers) ≤ results
+  pub codecs : AreCodecsUpTo n most v.codecs v.slots
+  pub media : length v.media.pool ≤ pool
   pub own : IsCourseOwn v
-  pub made : length v.slots.made ≤ most
-  pub ops : (i : ℕ) (e : SlotEntry) → slice_get v.slots.history i ≡ Some e → IsByUpTo n e.by × IsOpUpTo most e.op
-  pub boxes : (k : ℕ) → IsBoxUpTo most (codec_at k v.codecs).holding.box
 
-by_up : (n : ℕ) (b : By) → IsByUpTo n b → IsByUpTo (n + 1) b
-by_up n (by.Caller who) h = tt
-by_up n (by.Codec k place) h = omega (arith, h)
+-- After so many items. Each item adds to the pool what its codec lets go, which is at most one reference for each of the codec's
+-- entries, and two entries more.
+abbrev pub IsCourseAfter : ℕ → ℕ → Course → Type 0
+IsCourseAfter n most v = IsCourseUpTo n n (n * n + 2 * n) most v
 
--- what an item adds to the pool
-more_pool : (n old new : ℕ) → new ≤ old + n + 2 → old ≤ n * n + 2 * n → new ≤ (n + 1) * (n + 1) + 2 * (n + 1)
-more_pool n old new more h = omega (arith, more, h, mul-add (n + 1) n 1, mul-one (n + 1), add-mul n 1 n, one-mul n)
+pub by_up : (n m : ℕ) (b : By) → n ≤ m → IsByUpTo n b → IsByUpTo m b
+by_up n m (by.Caller who) le h = tt
+by_up n m (by.Codec k place) le h = omega (arith, le, h)
 
-up : (n most : ℕ) (v : Course) → IsCourseUpTo n most v → IsCourseUpTo (n + 1) most v
-up n most v h = record {
-  callers = λ c. omega (arith, h.callers c);
-  codecs = λ k. omega (arith, h.codecs k);
-  pool = more_pool n _ _ (omega arith) h.pool;
-  slots = omega (arith, h.slots);
+slots_raised : (n m most long more : ℕ) (s : SlotsValue) → n ≤ m → long ≤ more → AreSlotsUpTo n most long s → AreSlotsUpTo m most more s
+slots_raised n m most long more s le longer h = record { long_at_most = omega (arith, h.long_at_most, longer); made = h.made; ops = λ i e is. (by_up n m e.by le (h.ops i e is).0, (h.ops i e is).1) }
+
+raised : (a b n m p q most : ℕ) (v : Course) → a ≤ b → n ≤ m → p ≤ q → IsCourseUpTo a n p most v → IsCourseUpTo b m q most v
+raised a b n m p q most v results entries pool h = record {
+  callers = λ c. omega (arith, h.callers c, results);
+  codecs = record { few = λ k. omega (arith, h.codecs.few k, entries); slots = slots_raised n m most (2 * n) (2 * m) v.slots entries (omega (arith, entries)) h.codecs.slots; boxes = h.codecs.boxes };
+  media = omega (arith, h.media, pool);
   own = h.own;
-  made = h.made;
-  ops = λ i e is. (by_up n e.by (h.ops i e is).0, (h.ops i e is).1);
-  boxes = h.boxes;
 }
 
 longer : {X : Type 0} (c d n : ℕ) (x : X) (ls : List (List X)) → ((k : ℕ) → length (at k ls) ≤ n) → length (at c (append_at d x ls)) ≤ n + 1
@@ -136,19 +143,8 @@ longer c d n x ls h = elim (growth c d x ls) [
   | Longer p e ↦ omega (arith, ap length e, length-append (at c ls) (x ∷ []), h c)
 ]
 
--- ---- results
-
-result_up : (n most c : ℕ) (r : StepResult) (v : Course) → IsCourseUpTo n most v → IsCourseUpTo (n + 1) most (with_result c r v)
-result_up n most c r v h = let more = up n most v h in record {
-  callers = λ k. longer k c n r v.callers h.callers;
-  codecs = more.codecs;
-  pool = more.pool;
-  slots = more.slots;
-  own = record { entries = h.own.entries; variables = h.own.variables };
-  made = more.made;
-  ops = more.ops;
-  boxes = more.boxes;
-}
+result_up : (a n p most c : ℕ) (r : StepResult) (v : Course) → IsCourseUpTo a n p most v → IsCourseUpTo (a + 1) n p most (with_result c r v)
+result_up a n p most c r v h = record { callers = λ k. longer k c a r v.callers h.callers; codecs = h.codecs; media = h.media; own = record { entries = h.own.entries; variables = h.own.variables } }
 
 -- ---- media
 
@@ -163,54 +159,40 @@ entries_few : (who : Who) (o : Option PoolOp) → length (entries_of who o) ≤ 
 entries_few who None = omega arith
 entries_few who (Some o) = omega arith
 
-media_up : (n most : ℕ) (who : Who) (y : Came) (v : Course) → AreVariables y.variables → IsCourseUpTo n most v → IsCourseUpTo (n + 1) most (with_result who.caller y.answer (with_media who y v))
-media_up n most who y v own h = let more = up n most v h in record {
-  callers = λ k. longer k who.caller n y.answer v.callers h.callers;
-  codecs = more.codecs;
-  pool = more_pool n _ _ (omega (arith, length-append v.media.pool (entries_of who y.does), entries_few who y.does)) h.pool;
-  slots = more.slots;
+media_up : (a n p most : ℕ) (who : Who) (y : Came) (v : Course) → AreVariables y.variables → IsCourseUpTo a n p most v → IsCourseUpTo a n (p + 1) most (with_media who y v)
+media_up a n p most who y v own h = record {
+  callers = h.callers;
+  codecs = h.codecs;
+  media = omega (arith, length-append v.media.pool (entries_of who y.does), entries_few who y.does, h.media);
   own = record { entries = h.own.entries; variables = λ c. variables_set c who.caller y.variables v.media.variables own h.own.variables };
-  made = more.made;
-  ops = more.ops;
-  boxes = more.boxes;
 }
 
 -- ---- references that codecs hold
-
-cond_few : {X : Type 0} (b : Bool) (xs ys : List X) (n : ℕ) → length xs ≤ n → length ys ≤ n → length (cond b xs ys) ≤ n
-cond_few true xs ys n one other = one
-cond_few false xs ys n one other = other
 
 parts_few : (s : State) → (length (running_pairs s) ≤ length (held_in s)) × (length (waiting_held s.control) ≤ length (held_in s))
 parts_few s = let both = length-append (running_pairs s) (waiting_held s.control) in (omega (arith, both), omega (arith, both))
 
 lets_few : (e : Entry) (s : State) → length (lets_go e s) ≤ length (held_in s)
-lets_few e s = cond_few (is_done e) (running_pairs s) _ _ (parts_few s).0 (cond_few (is_removal e s) (waiting_held s.control) [] _ (parts_few s).1 (omega arith))
+lets_few e s =
+    let few = λ (ps : List Pair). length ps ≤ length (held_in s) in
+    cond_both (is_done e) _ _ few (λ is. (parts_few s).0) (λ is. cond_both (is_removal e s) _ _ few (λ is. (parts_few s).1) (λ is. omega arith))
 
 leaves_few : (e : Entry) (s : State) → length (leaves_held e s) ≤ length (held_in s)
-leaves_few e s = cond_few (is_done e) (waiting_held s.control) _ _ (parts_few s).1 (cond_few (is_removal e s) (running_pairs s) (held_in s) _ (parts_few s).0 (omega arith))
+leaves_few e s =
+    let few = λ (ps : List Pair). length ps ≤ length (held_in s) in
+    cond_both (is_done e) _ _ few (λ is. (parts_few s).1) (λ is. cond_both (is_removal e s) _ _ few (λ is. (parts_few s).0) (λ is. omega arith))
 
 adds_few : (e : Entry) → length (adds_held e) ≤ 1
-adds_few (entry.Encode who handed.Gone) = omega arith
-adds_few (entry.Encode who handed.Kept) = omega arith
 adds_few (entry.Encode who (handed.Cloned sound)) = omega arith
 adds_few e = omega arith
 
 replay_few : HeldStays → (h : List Entry) (s t : State) → replay_from h s ≡ Some t → length (held_in t) ≤ length (held_in s) + length h
-replay_few stays [] s t is = let same : s ≡ t = cc in omega (arith, ap (λ (x : State). length (held_in x)) same)
-replay_few stays (e ∷ es) s t is = by (legal_step e s) refl is (λ u made rest. replay_few stays es u t rest)
-  where
-    by : (o : Option State) → legal_step e s ≡ o → option_and_then (replay_from es) o ≡ Some t → ((u : State) → legal_step e s ≡ Some u → replay_from es u ≡ Some t → length (held_in t) ≤ length (held_in u) + length es) → length (held_in t) ≤ length (held_in s) + suc (length es)
-    by None made rest more = absurd cc
-    by (Some u) made rest more = omega (arith, more u made rest, ap length (stays e s u made), length-append (leaves_held e s) (adds_held e), leaves_few e s, adds_few e)
+replay_few stays [] s t is = omega (arith, ap (λ (x : State). length (held_in x)) (some_same s t is))
+replay_few stays (e ∷ es) s t is = option_and_then_some (replay_from es) (legal_step e s) t is (λ u made rest. omega (arith, replay_few stays es u t rest, ap length (stays e s u made), length-append (leaves_held e s) (adds_held e), leaves_few e s, adds_few e))
 
 -- a codec holds at most one reference for each of its entries
 held_few : HeldStays → (o : Opening) (h : List Entry) → length (held_in (state_after o h)) ≤ length h
-held_few stays o h = by (replay o h) refl
-  where
-    by : (r : Option State) → replay o h ≡ r → length (held_in (unwrap_or r (opening_state o))) ≤ length h
-    by None is = omega arith
-    by (Some t) is = omega (arith, replay_few stays h (opening_state o) t is)
+held_few stays o h = by_default (λ t. length (held_in t) ≤ length h) (replay o h) (opening_state o) (omega arith) (λ t is. omega (arith, replay_few stays h (opening_state o) t is))
 
 ends_count : (cause : By) (ps : List Pair) (pool : List PoolEntry) → length (ends_behind cause pool ps) ≡ length ps
 ends_count cause [] pool = refl
@@ -227,71 +209,49 @@ pool_few stays cause e d pool n few =
 
 found_below : (p : ℕ → Bool) (a n x : ℕ) → find p (range_with_len a n) ≡ Some x → x < a + n
 found_below p a zero x h = absurd cc
-found_below p a (suc n) x h = by (p a) h (λ e. found_below p (a + 1) n x e)
-  where
-    by : (b : Bool) → cond b (Some a) (find p (range_with_len (a + 1) n)) ≡ Some x → (find p (range_with_len (a + 1) n) ≡ Some x → x < a + 1 + n) → x < a + suc n
-    by true e more = let same : a ≡ x = cc in omega (arith, same)
-    by false e more = omega (arith, more e)
+found_below p a (suc n) x h =
+    cond_both (p a) (Some a) (find p (range_with_len (a + 1) n)) (λ o. o ≡ Some x → x < a + suc n)
+    (λ is e. omega (arith, some_same a x e)) (λ is e. omega (arith, found_below p (a + 1) n x e)) h
 
 range_count : (a n : ℕ) → length (range_with_len a n) ≡ n
 range_count a zero = refl
 range_count a (suc n) = ap suc (range_count (a + 1) n)
 
--- the number of a free box, or how many are out of how many
-op_up : (most : ℕ) (id : CoderId) (s : SlotsValue) → length s.made ≤ most → IsOpUpTo most (acquire_op id (out_of id s.made s.history) (made_of id s.made) (least_free id s.made s.history))
-op_up most id s few = by (least_free id s.made s.history) refl
-  where
-    all : made_of id s.made ≤ most
-    all = omega (arith, count_by-le-length (is_id id) s.made, few)
+-- a box that is free has a number, and how many are out of how many
+free_few : (most : ℕ) (id : CoderId) (s : SlotsValue) (number : ℕ) → length s.made ≤ most → least_free id s.made s.history ≡ Some number → number ≤ most
+free_few most id s number few is = omega (arith, found_below (λ k. not (is_out id k s.history)) 0 (made_of id s.made) number is, count_by-le-length (is_id id) s.made, few)
 
-    by : (o : Option ℕ) → least_free id s.made s.history ≡ o → IsOpUpTo most (acquire_op id (out_of id s.made s.history) (made_of id s.made) o)
-    by None is = (omega (arith, count_by-le-length (λ number. is_out id number s.history) (range_with_len 0 (made_of id s.made)), range_count 0 (made_of id s.made), all), all)
-    by (Some number) is = omega (arith, found_below (λ k. not (is_out id k s.history)) 0 (made_of id s.made) number is, all)
+op_up : (most : ℕ) (id : CoderId) (s : SlotsValue) → length s.made ≤ most → IsOpUpTo most (acquire_op id (out_of id s.made s.history) (made_of id s.made) (least_free id s.made s.history))
+op_up most id s few =
+    let all : made_of id s.made ≤ most = omega (arith, count_by-le-length (is_id id) s.made, few) in
+    by_option (λ o. IsOpUpTo most (acquire_op id (out_of id s.made s.history) (made_of id s.made) o)) (least_free id s.made s.history)
+    (omega (arith, count_by-le-length (λ number. is_out id number s.history) (range_with_len 0 (made_of id s.made)), range_count 0 (made_of id s.made), all), all) (λ number is. free_few most id s number few is)
 
 -- a registry's history grows by an entry of a cause
-slot_more : (n most : ℕ) (es : List SlotEntry) (x : SlotEntry) → ((i : ℕ) (e : SlotEntry) → slice_get es i ≡ Some e → IsByUpTo n e.by × IsOpUpTo most e.op) → IsByUpTo n x.by × IsOpUpTo most x.op
-    → (i : ℕ) (e : SlotEntry) → slice_get (es ++ x ∷ []) i ≡ Some e → IsByUpTo n e.by × IsOpUpTo most e.op
-slot_more n most es x all own i e is = elim (get_more es x i e is) [ inl old ↦ all i e old | inr new ↦ subst (λ (y : SlotEntry). IsByUpTo n y.by × IsOpUpTo most y.op) (sym new.1) own ]
-
--- so much of a registry
-record AreSlotsUpTo (n most long : ℕ) (s : SlotsValue) : Type 0 where
-  slots : length s.history ≤ long
-  made : length s.made ≤ most
-  ops : (i : ℕ) (e : SlotEntry) → slice_get s.history i ≡ Some e → IsByUpTo n e.by × IsOpUpTo most e.op
+slot_more : (n most long : ℕ) (x : SlotEntry) (s : SlotsValue) → IsByUpTo n x.by × IsOpUpTo most x.op → AreSlotsUpTo n most long s → AreSlotsUpTo n most (long + 1) (record s { history = s.history ++ x ∷ [] })
+slot_more n most long x s own h = record {
+  long_at_most = omega (arith, length-append s.history (x ∷ []), h.long_at_most);
+  made = h.made;
+  ops = λ i e is. elim (get_more s.history x i e is) [ inl old ↦ h.ops i e old | inr new ↦ subst (λ (y : SlotEntry). IsByUpTo n y.by × IsOpUpTo most y.op) (sym new.1) own ];
+}
 
 given_up : (n most long : ℕ) (cause : By) (box : Option BoxOut) (s : SlotsValue) → IsByUpTo n cause → IsBoxUpTo most box → AreSlotsUpTo n most long s → AreSlotsUpTo n most (long + 1) (after_give cause box s)
-given_up n most long cause None s own few h = record {
-  slots = omega (arith, length-append s.history [], h.slots);
-  made = h.made;
-  ops = subst (λ (l : List SlotEntry). (i : ℕ) (e : SlotEntry) → slice_get l i ≡ Some e → IsByUpTo n e.by × IsOpUpTo most e.op) (sym (Rattle.std.proofs.Common.append-nil s.history)) h.ops;
-}
-given_up n most long cause (Some b) s own few h = record {
-  slots = omega (arith, length-append s.history (give_of cause (Some b)), h.slots);
-  made = h.made;
-  ops = slot_more n most s.history (record { by = cause; op = slot.Give b.id b.number }) h.ops (own, few);
-}
+given_up n most long cause None s own few h = rw (append-nil s.history) (slots_raised n n most long (long + 1) s (omega arith) (omega arith) h)
+given_up n most long cause (Some b) s own few h = slot_more n most long (record { by = cause; op = slot.Give b.id b.number }) s (own, few) h
 
-slots_up : (n most long : ℕ) (cause : By) (change : BoxStep) (box : Option BoxOut) (s : SlotsValue) → IsByUpTo n cause → IsBoxUpTo most box → AreSlotsUpTo n most long s → AreSlotsUpTo n most (long + 2) (slots_after cause change box s)
-slots_up n most long cause Keep box s own few h = record { slots = omega (arith, h.slots); made = h.made; ops = h.ops }
-slots_up n most long cause Give box s own few h = let g = given_up n most long cause box s own few h in record { slots = omega (arith, g.slots); made = g.made; ops = g.ops }
+slots_up : (n most long : ℕ) (cause : By) (change : BoxStep) (box : Option BoxOut) (s : SlotsValue) → IsByUpTo n cause → IsBoxUpTo most box → AreSlotsUpTo n most long s → AreSlotsUpTo n most (long + 1 + 1) (slots_after cause change box s)
+slots_up n most long cause Keep box s own few h = slots_raised n n most long (long + 1 + 1) s (omega arith) (omega arith) h
+slots_up n most long cause Give box s own few h = slots_raised n n most (long + 1) (long + 1 + 1) (after_give cause box s) (omega arith) (omega arith) (given_up n most long cause box s own few h)
 slots_up n most long cause (Renew id) box s own few h =
     let g = given_up n most long cause box s own few h in
-    let t = after_give cause box s in
-    record {
-      slots = omega (arith, length-append t.history (acquire_entry cause id t ∷ []), g.slots);
-      made = g.made;
-      ops = slot_more n most t.history (acquire_entry cause id t) g.ops (own, op_up most id t g.made);
-    }
+    slot_more n most (long + 1) (acquire_entry cause id (after_give cause box s)) (after_give cause box s) (own, op_up most id (after_give cause box s) g.made) g
 
 held_up : (most : ℕ) (cause : By) (change : BoxStep) (x : Holding) (s : SlotsValue) → length s.made ≤ most → IsBoxUpTo most x.box → IsBoxUpTo most (holding_after cause change x s).box
 held_up most cause Keep x s few own = own
 held_up most cause Give x s few own = tt
 held_up most cause (Renew id) x s few own =
-    by (least_free id (after_give cause x.box s).made (after_give cause x.box s).history) refl
-  where
-    by : (o : Option ℕ) → least_free id s.made (after_give cause x.box s).history ≡ o → IsBoxUpTo most (holding_by cause id (length (after_give cause x.box s).history) o).box
-    by None is = tt
-    by (Some number) is = omega (arith, found_below (λ k. not (is_out id k (after_give cause x.box s).history)) 0 (made_of id s.made) number is, count_by-le-length (is_id id) s.made, few)
+    let t = after_give cause x.box s in
+    by_option (λ o. IsBoxUpTo most (holding_by cause id (length t.history) o).box) (least_free id t.made t.history) tt (λ number is. free_few most id t number few is)
 
 -- ---- entries
 
@@ -304,40 +264,27 @@ set_either (suc j) (suc k) d (c ∷ ds) = set_either j k d ds
 
 own_more : (k : ℕ) (e : Entry) (hs : List (List Entry)) → ((j p : ℕ) (x : Entry) → slice_get (at j hs) p ≡ Some x → IsOwnEntry x) → IsOwnEntry e → (j p : ℕ) (x : Entry) → slice_get (at j (append_at k e hs)) p ≡ Some x → IsOwnEntry x
 own_more k e hs all own j p x is = elim (growth j k e hs) [
-  | Same same ↦ all j p x (ap (λ (l : List Entry). slice_get l p) (sym same) ∙ is)
-  | Longer here more ↦ elim (get_more (at j hs) e p x (ap (λ (l : List Entry). slice_get l p) (sym more) ∙ is)) [
-    | inl old ↦ all j p x old
-    | inr new ↦ subst IsOwnEntry (sym new.1) own
-  ]
+  | Same same ↦ all j p x (rw same at is)
+  | Longer here more ↦ elim (get_more (at j hs) e p x (rw more at is)) [ inl old ↦ all j p x old | inr new ↦ subst IsOwnEntry (sym new.1) own ]
 ]
 
--- what one entry more makes of all but the callers' results and variables; beside it a caller's step may add to the pool once more
-record IsEntryUpTo (n most k : ℕ) (e : Entry) (v : Course) : Type 0 where
-  codecs : (j : ℕ) → length (at j (histories (with_entry k e v).codecs)) ≤ n + 1
-  pool : length (with_entry k e v).media.pool ≤ length v.media.pool + n + 1
-  slots : length (with_entry k e v).slots.history ≤ 2 * (n + 1)
-  entries : (j p : ℕ) (x : Entry) → slice_get (at j (histories (with_entry k e v).codecs)) p ≡ Some x → IsOwnEntry x
-  made : length (with_entry k e v).slots.made ≤ most
-  ops : (i : ℕ) (x : SlotEntry) → slice_get (with_entry k e v).slots.history i ≡ Some x → IsByUpTo (n + 1) x.by × IsOpUpTo most x.op
-  boxes : (j : ℕ) → IsBoxUpTo most (codec_at j (with_entry k e v).codecs).holding.box
-
-entry_up : HeldStays → (n most k : ℕ) (e : Entry) (v : Course) → IsOwnEntry e → IsCourseUpTo n most v → IsEntryUpTo n most k e v
-entry_up stays n most k e v own h =
+entry_up : HeldStays → (a n p most k : ℕ) (e : Entry) (v : Course) → IsOwnEntry e → IsCourseUpTo a n p most v → IsCourseUpTo a (n + 1) (p + n + 1) most (with_entry k e v)
+entry_up stays a n p most k e v own h =
     let d = codec_at k v.codecs in
-    let more = up n most v h in
-    let few : length d.history ≤ n = omega (arith, h.codecs k, ap length (history_at k v.codecs)) in
-    let registry = slots_up (n + 1) most (2 * n) (next_by k d) (step_by e d) d.holding.box v.slots (omega (arith, few)) (h.boxes k) (record { slots = h.slots; made = h.made; ops = more.ops }) in
+    let few : length d.history ≤ n = omega (arith, h.codecs.few k, ap length (history_at k v.codecs)) in
+    let slots = slots_raised n (n + 1) most (2 * n) (2 * n) v.slots (omega arith) (omega arith) h.codecs.slots in
     record {
-      codecs = λ j. subst (λ (hs : List (List Entry)). length (at j hs) ≤ n + 1) (sym (histories_more k e v.slots v.codecs)) (longer j k n e (histories v.codecs) h.codecs);
-      pool = pool_few stays (by.Codec k (length d.history)) e d v.media.pool n few;
-      slots = omega (arith, registry.slots);
-      entries = subst (λ (hs : List (List Entry)). (j p : ℕ) (x : Entry) → slice_get (at j hs) p ≡ Some x → IsOwnEntry x) (sym (histories_more k e v.slots v.codecs)) (own_more k e (histories v.codecs) h.own.entries own);
-      made = registry.made;
-      ops = registry.ops;
-      boxes = λ j. elim (set_either j k (after_entry k e v.slots d) v.codecs) [
-        | inl old ↦ subst (λ (x : CodecValue). IsBoxUpTo most x.holding.box) (sym old) (h.boxes j)
-        | inr new ↦ subst (λ (x : CodecValue). IsBoxUpTo most x.holding.box) (sym new) (held_up most (next_by k d) (step_by e d) d.holding v.slots h.made (h.boxes k))
-      ];
+      callers = h.callers;
+      codecs = record {
+        few = λ j. rw (histories_more k e v.slots v.codecs) (longer j k n e (histories v.codecs) h.codecs.few);
+        slots = slots_raised (n + 1) (n + 1) most (2 * n + 1 + 1) (2 * (n + 1)) _ (omega arith) (omega arith) (slots_up (n + 1) most (2 * n) (next_by k d) (step_by e d) d.holding.box v.slots (omega (arith, few)) (h.codecs.boxes k) slots);
+        boxes = λ j. elim (set_either j k (after_entry k e v.slots d) v.codecs) [
+          | inl old ↦ subst (λ (x : CodecValue). IsBoxUpTo most x.holding.box) (sym old) (h.codecs.boxes j)
+          | inr new ↦ subst (λ (x : CodecValue). IsBoxUpTo most x.holding.box) (sym new) (held_up most (next_by k d) (step_by e d) d.holding v.slots slots.made (h.codecs.boxes k))
+        ];
+      };
+      media = omega (arith, pool_few stays (by.Codec k (length d.history)) e d v.media.pool n few, h.media);
+      own = record { entries = rw (histories_more k e v.slots v.codecs) (own_more k e (histories v.codecs) h.own.entries own); variables = h.own.variables };
     }
 
 -- ---- moves
@@ -350,55 +297,33 @@ MoveHolds (Ask c k e error) = IsOwnEntry e
 MoveHolds (Handle who y) = AreVariables y.variables
 MoveHolds (Receive who k e y) = IsOwnEntry e × AreVariables y.variables
 
-move_up : HeldStays → (n most : ℕ) (m : Move) (v : Course) → MoveHolds m → IsCourseUpTo n most v → IsCourseUpTo (n + 1) most (after_move m v)
-move_up stays n most Idle v own h = up n most v h
-move_up stays n most (Answer c r) v own h = result_up n most c r v h
-move_up stays n most (Advance k e) v own h = let more = entry_up stays n most k e v own h in record {
-  callers = (up n most v h).callers;
-  codecs = more.codecs;
-  pool = more_pool n _ _ (omega (arith, more.pool)) h.pool;
-  slots = more.slots;
-  own = record { entries = more.entries; variables = h.own.variables };
-  made = more.made;
-  ops = more.ops;
-  boxes = more.boxes;
-}
-move_up stays n most (Ask c k e error) v own h = let more = entry_up stays n most k e v own h in record {
-  callers = λ j. longer j c n _ v.callers h.callers;
-  codecs = more.codecs;
-  pool = more_pool n _ _ (omega (arith, more.pool)) h.pool;
-  slots = more.slots;
-  own = record { entries = more.entries; variables = h.own.variables };
-  made = more.made;
-  ops = more.ops;
-  boxes = more.boxes;
-}
-move_up stays n most (Handle who y) v own h = media_up n most who y v own h
-move_up stays n most (Receive who k e y) v own h = let more = entry_up stays n most k e v own.0 h in record {
-  callers = λ j. longer j who.caller n y.answer v.callers h.callers;
-  codecs = more.codecs;
-  pool = more_pool n _ _ (omega (arith, length-append (with_entry k e v).media.pool (entries_of who y.does), entries_few who y.does, more.pool)) h.pool;
-  slots = more.slots;
-  own = record { entries = more.entries; variables = λ c. variables_set c who.caller y.variables v.media.variables own.1 h.own.variables };
-  made = more.made;
-  ops = more.ops;
-  boxes = more.boxes;
-}
+-- what an item may add to the pool
+more_pool : (n p : ℕ) → p ≤ n * n + 2 * n + n + 1 + 1 → p ≤ (n + 1) * (n + 1) + 2 * (n + 1)
+more_pool n p few = omega (arith, few, mul-add (n + 1) n 1, mul-one (n + 1), add-mul n 1 n, one-mul n)
+
+move_up : HeldStays → (n most : ℕ) (m : Move) (v : Course) → MoveHolds m → IsCourseAfter n most v → IsCourseAfter (n + 1) most (after_move m v)
+move_up stays n most m v own h = by m own
+  where
+    p : ℕ
+    p = n * n + 2 * n
+
+    done : (a b q : ℕ) (u : Course) → a ≤ n + 1 → b ≤ n + 1 → q ≤ p + n + 1 + 1 → IsCourseUpTo a b q most u → IsCourseAfter (n + 1) most u
+    done a b q u results entries pool up = raised a (n + 1) b (n + 1) q ((n + 1) * (n + 1) + 2 * (n + 1)) most u results entries (more_pool n q pool) up
+
+    by : (x : Move) → MoveHolds x → IsCourseAfter (n + 1) most (after_move x v)
+    by Idle fine = done n n p v (omega arith) (omega arith) (omega arith) h
+    by (Answer c r) fine = done (n + 1) n p _ (omega arith) (omega arith) (omega arith) (result_up n n p most c r v h)
+    by (Advance k e) fine = done n (n + 1) (p + n + 1) _ (omega arith) (omega arith) (omega arith) (entry_up stays n n p most k e v fine h)
+    by (Ask c k e error) fine = done (n + 1) (n + 1) (p + n + 1) _ (omega arith) (omega arith) (omega arith) (result_up n (n + 1) (p + n + 1) most c _ (with_entry k e v) (entry_up stays n n p most k e v fine h))
+    by (Handle who y) fine = done (n + 1) n (p + 1) _ (omega arith) (omega arith) (omega arith) (result_up n n (p + 1) most who.caller y.answer (with_media who y v) (media_up n n p most who y v fine h))
+    by (Receive who k e y) fine = done (n + 1) (n + 1) (p + n + 1 + 1) _ (omega arith) (omega arith) (omega arith)
+        (result_up n (n + 1) (p + n + 1 + 1) most who.caller y.answer (with_media who y (with_entry k e v)) (media_up n (n + 1) (p + n + 1) most who y (with_entry k e v) fine.1 (entry_up stays n n p most k e v fine.0 h)))
 
 -- ---- what steps are given
 
--- a chunk of a step
-chunk_step : (media : List (List Chunk)) (steps : List Step) (j : ℕ) (o : Option Step) (chunk : Chunk) → slice_get steps j ≡ o → option_and_then (chunk_by media) o ≡ Some chunk → (x : Step) × (slice_get steps j ≡ Some x) × (chunk_by media x ≡ Some chunk)
-chunk_step media steps j None chunk is made = absurd cc
-chunk_step media steps j (Some x) chunk is made = (x, is, made)
-
 pub chunk_made : (s : ScriptData) (media : List (List Chunk)) (made : List CoderId) → AreWithin s media made → (c j : ℕ) → IsChunkThere (chunk_at media (steps_of s c) j)
-chunk_made s media made within c j = one (chunk_at media (steps_of s c) j) refl
-  where
-    one : (o : Option Chunk) → chunk_at media (steps_of s c) j ≡ o → IsChunkThere o
-    one None is = tt
-    one (Some chunk) is =
-        let found = chunk_step media (steps_of s c) j (slice_get (steps_of s c) j) chunk refl is in within.chunks c j found.0 chunk found.1 found.2
+chunk_made s media made within c j = by_option IsChunkThere (chunk_at media (steps_of s c) j) tt (λ chunk is.
+    option_and_then_some (chunk_by media) (slice_get (steps_of s c) j) chunk is (λ x there made. within.chunks c j x chunk there made))
 
 pub contents_within : (s : ScriptData) (media : List (List Chunk)) (made : List CoderId) (c j : ℕ) (x : MediaStep) → AreWithin s media made → slice_get (steps_of s c) j ≡ Some (step.Media x) → IsContentWithin x
 contents_within s media made c j (on_media.Audio bind (Some init)) within is = within.sounds c j bind init is
@@ -427,17 +352,11 @@ output_own laws o h each n u is =
     all_at IsUnitWithin (outputs_of (shown o h)) n u (outputs_each IsUnitWithin o h (outputs_are (judge laws) o h own)) is
 
 found_own : CodesAreBytes → (k : ℕ) (v : Course) → IsCourseOwn v → IsOutputWithin (found_at k (codec_at k v.codecs))
-found_own laws k v h = one (output_at d.opening d.history (state_of d).control.taken) refl
-  where
-    d : CodecValue
-    d = codec_at k v.codecs
-
-    each : (p : ℕ) (e : Entry) → slice_get d.history p ≡ Some e → IsOwnEntry e
-    each p e is = h.entries k p e (ap (λ (l : List Entry). slice_get l p) (history_at k v.codecs) ∙ is)
-
-    one : (o : Option output.Unit) → output_at d.opening d.history (state_of d).control.taken ≡ o → IsOutputWithin (option_map (λ u. record { unit = u; answer = result.Unit k (length d.history) (state_of d).control.taken }) o)
-    one None is = tt
-    one (Some u) is = output_own laws d.opening d.history each (state_of d).control.taken u is
+found_own laws k v h =
+    let d = codec_at k v.codecs in
+    let n = (state_of d).control.taken in
+    by_option (λ o. IsOutputWithin (option_map (λ u. record { unit = u; answer = result.Unit k (length d.history) n }) o)) (output_at d.opening d.history n) tt
+    (λ u is. output_own laws d.opening d.history (λ p e there. h.entries k p e (rw (← history_at k v.codecs) at there)) n u is)
 
 -- ---- steps
 
@@ -489,38 +408,26 @@ next_holds laws s media made who (Some x) v within is h = step_holds laws s medi
 
 -- ---- items
 
-start_holds : (k epoch : ℕ) (o : Option Item) → MoveHolds (advance k (option_map (λ i. entry.Start epoch i.number) o))
-start_holds k epoch None = tt
-start_holds k epoch (Some i) = tt
-
-done_holds : (k moment : ℕ) (o : Option Running) (f : Running → Entry) → ((r : Running) → IsOwnEntry (f r)) → MoveHolds (advance k (option_map f o))
-done_holds k moment None f h = tt
-done_holds k moment (Some r) f h = h r
-
-turn_holds : (k : ℕ) (ts : List Task) → MoveHolds (advance k (turn_on ts))
-turn_holds k [] = tt
-turn_holds k (t ∷ ts) = tt
-
-reclaim_holds : (k moment : ℕ) (b : Bool) → moment < 2 ^ 64 → MoveHolds (advance k (cond b (Some (entry.Reclaim moment)) None))
-reclaim_holds k moment true own = own
-reclaim_holds k moment false own = tt
+advance_holds : {X : Type 0} (k : ℕ) (f : X → Entry) (o : Option X) → ((x : X) → IsOwnEntry (f x)) → MoveHolds (advance k (option_map f o))
+advance_holds k f None h = tt
+advance_holds k f (Some x) h = h x
 
 item_holds : CodesAreBytes → (s : ScriptData) (media : List (List Chunk)) (made : List CoderId) (wants : Bool) (x : OrderItem) (v : Course) → AreWithin s media made → IsMoment x → IsCourseOwn v → MoveHolds (item_move s media wants x v)
 item_holds laws s media made wants (item.Caller c) v within own h =
     let j = length (at c v.callers) in next_holds laws s media made (record { caller = c; step = j }) (slice_get (steps_of s c) j) v within refl h
-item_holds laws s media made wants (item.Start k) v within own h = start_holds k (state_of (codec_at k v.codecs)).control.epoch (start_item (state_of (codec_at k v.codecs)).control)
-item_holds laws s media made wants (item.Done k moment) v within own h = done_holds k moment (state_of (codec_at k v.codecs)).control.running _ (λ r. own)
-item_holds laws s media made wants (item.Turn k) v within own h = turn_holds k (state_of (codec_at k v.codecs)).control.tasks
-item_holds laws s media made wants (item.Reclaim k moment) v within own h = reclaim_holds k moment (may_reclaim moment (state_of (codec_at k v.codecs)).control) own
+item_holds laws s media made wants (item.Start k) v within own h = advance_holds k _ (start_item (state_of (codec_at k v.codecs)).control) (λ i. tt)
+item_holds laws s media made wants (item.Done k moment) v within own h = advance_holds k _ (state_of (codec_at k v.codecs)).control.running (λ r. own)
+item_holds laws s media made wants (item.Turn k) v within own h = elim (state_of (codec_at k v.codecs)).control.tasks as (λ ts. MoveHolds (advance k (turn_on ts))) [ [] ↦ tt | t ∷ ts ↦ tt ]
+item_holds laws s media made wants (item.Reclaim k moment) v within own h = cond_both (may_reclaim moment (state_of (codec_at k v.codecs)).control) _ _ (λ o. MoveHolds (advance k o)) (λ is. own) (λ is. tt)
 
 -- ---- the order
 
 follows_up : CodesAreBytes → HeldStays → (s : ScriptData) (media : List (List Chunk)) (made : List CoderId) (most : ℕ) (xs : List OrderItem) (v u : Course) (n : ℕ) → AreWithin s media made → ((i : ℕ) (x : OrderItem) → slice_get xs i ≡ Some x → IsMoment x)
-    → IsCourseUpTo n most v → Follows s media xs v u → IsCourseUpTo (n + length xs) most u
-follows_up laws stays s media made most [] v u n within all h follows = subst (λ (w : Course). IsCourseUpTo (n + 0) most w) (sym follows) (subst (λ (m : ℕ). IsCourseUpTo m most v) (omega arith) h)
+    → IsCourseAfter n most v → Follows s media xs v u → IsCourseAfter (n + length xs) most u
+follows_up laws stays s media made most [] v u n within all h follows = rw follows (subst (λ (m : ℕ). IsCourseAfter m most v) (omega arith) h)
 follows_up laws stays s media made most (x ∷ xs) v u n within all h follows =
     let next = move_up stays n most (item_move s media follows.0 x v) v (item_holds laws s media made follows.0 x v within (all 0 x refl) h.own) h in
-    subst (λ (m : ℕ). IsCourseUpTo m most u) (omega arith) (follows_up laws stays s media made most xs (follow_item s media follows.0 x v) u (n + 1) within (λ i y is. all (suc i) y is) next follows.1)
+    subst (λ (m : ℕ). IsCourseAfter m most u) (omega arith) (follows_up laws stays s media made most xs (follow_item s media follows.0 x v) u (n + 1) within (λ i y is. all (suc i) y is) next follows.1)
 
 no_history : (cs : List CodecItem) (k : ℕ) → at k (histories (map (λ c. new_codec (opening_of c)) cs)) ≡ []
 no_history (c ∷ cs) (suc k) = no_history cs k
@@ -534,18 +441,14 @@ no_variables : (cs : List CallerItem) (c : ℕ) → AreVariables (variables_of c
 no_variables (x ∷ cs) (suc c) = no_variables cs c
 no_variables _ _ = tt
 
-pub course_up : CodesAreBytes → HeldStays → (s : ScriptData) (media : List (List Chunk)) (made : List CoderId) (u : Course) → AreWithin s media made → Follows s media (order_items s) (nothing_yet s made) u → IsCourseUpTo (length (order_items s)) (length made) u
+pub course_up : CodesAreBytes → HeldStays → (s : ScriptData) (media : List (List Chunk)) (made : List CoderId) (u : Course) → AreWithin s media made → Follows s media (order_items s) (nothing_yet s made) u → IsCourseAfter (length (order_items s)) (length made) u
 course_up laws stays s media made u within follows =
-    subst (λ (m : ℕ). IsCourseUpTo m (length made) u) (omega arith) (follows_up laws stays s media made (length made) (order_items s) (nothing_yet s made) u 0 within within.moments begun follows)
+    subst (λ (m : ℕ). IsCourseAfter m (length made) u) (omega arith) (follows_up laws stays s media made (length made) (order_items s) (nothing_yet s made) u 0 within within.moments begun follows)
   where
-    begun : IsCourseUpTo 0 (length made) (nothing_yet s made)
+    begun : IsCourseAfter 0 (length made) (nothing_yet s made)
     begun = record {
       callers = λ c. omega (arith, ap length (at_empty {X = StepResult} c s.callers));
-      codecs = λ k. omega (arith, ap length (no_history s.codecs k));
-      pool = omega arith;
-      slots = omega arith;
-      own = record { entries = λ k p e is. absurd (let none : None ≡ Some e = sym (ap (λ (l : List Entry). slice_get l p) (no_history s.codecs k)) ∙ is in cc); variables = no_variables s.callers };
-      made = omega arith;
-      ops = λ i e is. absurd cc;
-      boxes = λ k. no_box (length made) s.codecs k;
+      codecs = record { few = λ k. omega (arith, ap length (no_history s.codecs k)); slots = record { long_at_most = omega arith; made = omega arith; ops = λ i e is. absurd cc }; boxes = no_box (length made) s.codecs };
+      media = omega arith;
+      own = record { entries = λ k p e is. absurd (let none : None ≡ Some e = rw (no_history s.codecs k) at is in cc); variables = no_variables s.callers };
     }

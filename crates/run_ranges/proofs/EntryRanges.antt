@@ -1,6 +1,6 @@
 -- The lines of one codec's legal history are within their types.
 use Rattle.std.proofs.Common.{ℕ, ◌≡◌, ◌<◌, ◌≤◌, ◌+◌, ◌^◌, ◌&&◌, true, eqb, List, [], ◌∷◌, ◌++◌, length, Option, Some, None, is_some, refl, subst, ◌∙◌, arith, lit<}
-use Rattle.std.specs.Prelude.{flat_map, option_map, option_and_then, unwrap_or}
+use Rattle.std.specs.Prelude.{flat_map}
 use Rattle.std.specs.List.{AllByRecursion, zip}
 use Rattle.std.proofs.lemmas.Bool.{and_parts, eqb-true}
 use Rattle.wc_base.specs.Options.{cond_is}
@@ -25,8 +25,8 @@ use Rattle.codec_model.specs.declared.entry.Ended.TheVariants as ended
 use Rattle.codec_model.specs.declared.entry.Outcome.{Outcome}
 use Rattle.codec_model.specs.declared.entry.Outcome.TheVariants as outcome
 use Rattle.codec_model.specs.Control.{Control, may_start, carried}
-use Rattle.codec_model.specs.Replay.{State, Given, step, replay, replay_from, start_step, done_step, done_ended, ended_of, ended_run, answer_to, decoder_config, labelled, configure_error, decode_error, flush_error, removal_error}
-use Rattle.codec_model.specs.Shown.{refusal, rejection, rejections, outputs_from, turn_shows, removal_shows, handed_error, shows, units_in, shown_at, each_shown_from}
+use Rattle.codec_model.specs.Replay.{State, Given, step, replay, replay_from, start_step, done_step, done_ended, ended_of, ended_run, answer_to, decoder_config, labelled}
+use Rattle.codec_model.specs.Shown.{refusal, rejection, rejections, outputs_from, turn_shows, removal_shows, shows, units_in, shown_at, each_shown_from}
 use Rattle.codec_model.specs.ShownLaws.{replay_append}
 use Rattle.codec_model.specs.Facts.{NamesEarlier, IsNeverStuck, Always}
 use Rattle.codec_model.specs.Earlier.{pending_below, resolved_below}
@@ -39,6 +39,7 @@ use Rattle.history_laws.specs.NumberLaws.{step_up}
 use Rattle.history_laws.specs.Outputs.{HoldsOwn}
 use Rattle.history_laws.specs.OutputLaws.{all_append, IsOwn, IsOwnGiven, Own, step_own}
 use Rattle.codec_accounts.specs.Calls.{who_of}
+use Rattle.run_ranges.proofs.Cases.{by_option, comes_after}
 use Rattle.run_ranges.proofs.CodeRanges.{CodesAreBytes}
 use Rattle.run_ranges.proofs.UnitRanges.{IsCarriedWithin, IsUnitWithin, are_given, judge}
 
@@ -73,14 +74,9 @@ labelled_few _ _ few = few
 
 -- an item that ran gave fewer units than 2^64, by what its coder was given
 outcome_small : (laws : CodesAreBytes) (k : WorkKind) (g : Given) (x : Outcome) (e : Ended) → ended_of k g x ≡ Some e → IsOwnGiven (judge laws) g → IsOutcomeWithin x → FitsOutcome x
-outcome_small laws k g (outcome.Ran units) e is given own = by (answer_to k g) refl is
-  where
-    by : (a : Option (List media.Unit)) → answer_to k g ≡ a → ended_run units a ≡ Some e → units < 2 ^ 64
-    by None same made = absurd cc
-    by (Some us) same made =
-        let few : length us < 2 ^ 64 = answer_where (IsOwn (judge laws)) (λ vs. length vs < 2 ^ 64) k g us (lit< tt) (λ id before x vs fine h. (are_given id g.config before x vs h).few fine)
-        (λ vs some few. labelled_few (decoder_config g.config) vs few) given.1 same in
-        omega (arith, eqb-true units (length us) (cond_is (eqb units (length us)) (Some (ended.Ran us)) e made).0, few)
+outcome_small laws k g (outcome.Ran units) e is given own = by_option (λ a. ended_run units a ≡ Some e → units < 2 ^ 64) (answer_to k g) (λ made. absurd cc) (λ us same made.
+    let few : length us < 2 ^ 64 = answer_where (IsOwn (judge laws)) (λ vs. length vs < 2 ^ 64) k g us (lit< tt) (λ id before x vs fine h. (are_given id g.config before x vs h).few fine) (λ vs some few. labelled_few (decoder_config g.config) vs few) given.1 same in
+    omega (arith, eqb-true units (length us) (cond_is (eqb units (length us)) (Some (ended.Ran us)) e made).0, few)) is
 outcome_small laws k g (outcome.NoSlot n) e is given own = own
 outcome_small laws k g _ e is given own = tt
 
@@ -90,11 +86,8 @@ ended_small laws n (Some r) epoch number moment x s t busy made h given own =
     let parts = cond_is (eqb r.epoch epoch && eqb r.number number) (done_ended r (ended_of r.kind s.running_given x) moment s) t made in
     let same = and_parts (eqb r.epoch epoch) (eqb r.number number) parts.0 in
     let small = h.running r busy in
-    (omega (arith, small.0, eqb-true r.epoch epoch same.0), omega (arith, small.1, eqb-true r.number number same.1), by (ended_of r.kind s.running_given x) refl parts.1)
-  where
-    by : (e : Option Ended) → ended_of r.kind s.running_given x ≡ e → done_ended r e moment s ≡ Some t → FitsOutcome x
-    by None is done = absurd cc
-    by (Some e) is done = outcome_small laws r.kind s.running_given x e is given own
+    (omega (arith, small.0, eqb-true r.epoch epoch same.0), omega (arith, small.1, eqb-true r.number number same.1),
+      by_option (λ e. done_ended r e moment s ≡ Some t → FitsOutcome x) (ended_of r.kind s.running_given x) (λ done. absurd cc) (λ e is done. outcome_small laws r.kind s.running_given x e is given own) parts.1)
 
 entry_fits : (laws : CodesAreBytes) (script : ScriptData) (n : ℕ) (e : Entry) (s t : State) → step e s ≡ Some t → IsUpTo n s.control → IsOwnGiven (judge laws) s.running_given → n < 2 ^ 64 → IsEntryWithin script e → FitsEntryLine script (entry_line_of e (shown_at e s))
 entry_fits laws script n (entry.Start epoch number) s t is h given few own =
@@ -114,11 +107,11 @@ IsPromiseWithin x = Unit {0}
 abbrev ArePromises : List Event → Type 0
 ArePromises xs = AllByRecursion IsPromiseWithin xs
 
-rejected_within : (n : ℕ) (error : DomError) (ps : List ℕ) → n ≤ 2 ^ 64 → AllByRecursion (λ p. p < n) ps → ArePromises (rejections error ps)
+rejected_within : (n : ℕ) (error : DomError) (ps : List ℕ) → n < 2 ^ 64 → AllByRecursion (λ p. p < n) ps → ArePromises (rejections error ps)
 rejected_within n error [] few h = tt
 rejected_within n error (p ∷ ps) few h = (omega (arith, h.0, few), rejected_within n error ps few h.1)
 
-closed_within : (n : ℕ) (x y : DomError) (ps : List ℕ) → n ≤ 2 ^ 64 → AllByRecursion (λ p. p < n) ps → ArePromises (rejections x ps ++ event.ErrorCall y ∷ [])
+closed_within : (n : ℕ) (x y : DomError) (ps : List ℕ) → n < 2 ^ 64 → AllByRecursion (λ p. p < n) ps → ArePromises (rejections x ps ++ event.ErrorCall y ∷ [])
 closed_within n x y ps few h = all_append IsPromiseWithin (rejections x ps) (event.ErrorCall y ∷ []) (rejected_within n x ps few h) (tt, tt)
 
 outputs_within : (n : ℕ) (us : List media.Unit) → ArePromises (outputs_from n us)
@@ -133,11 +126,11 @@ rejection_within : (place : ℕ) (o : Option DomError) → place < 2 ^ 64 → Ar
 rejection_within place None few = tt
 rejection_within place (Some error) few = (few, tt)
 
-removal_within : (n : ℕ) (o : Option DomError) (ps : List ℕ) → n ≤ 2 ^ 64 → AllByRecursion (λ p. p < n) ps → ArePromises (removal_shows o ps)
+removal_within : (n : ℕ) (o : Option DomError) (ps : List ℕ) → n < 2 ^ 64 → AllByRecursion (λ p. p < n) ps → ArePromises (removal_shows o ps)
 removal_within n None ps few h = rejected_within n dom.Abort ps few h
 removal_within n (Some error) ps few h = (tt, tt)
 
-turned_within : (ts : List Task) (c : Control) → c.tasks ≡ ts → c.place ≤ 2 ^ 64 → NamesEarlier c → ArePromises (turn_shows ts c)
+turned_within : (ts : List Task) (c : Control) → c.tasks ≡ ts → c.place < 2 ^ 64 → NamesEarlier c → ArePromises (turn_shows ts c)
 turned_within (task.Output units ∷ ts) c is few h = outputs_within c.shown (carried c.active units)
 turned_within (task.Flushed promise units ∷ ts) c is few h =
     all_append IsPromiseWithin (outputs_from c.shown (carried c.active units)) (event.Resolve promise ∷ []) (outputs_within c.shown (carried c.active units)) (omega (arith, resolved_below c promise units ts h is, few), tt)
@@ -145,16 +138,9 @@ turned_within (task.Dequeue ∷ ts) c is few h = (tt, tt)
 turned_within (task.Close error ∷ ts) c is few h = closed_within c.place error error c.pending few (pending_below c h)
 turned_within _ c is few h = tt
 
-shown_promises : (n : ℕ) (e : Entry) (s : State) → IsUpTo n s.control → n < 2 ^ 64 → NamesEarlier s.control → ArePromises (shows e s)
-shown_promises n (entry.Configure who config) s h few names = refused_within (configure_error config s.control)
-shown_promises n (entry.Decode who chunk) s h few names = refused_within (decode_error chunk s.control)
-shown_promises n (entry.Encode who handed) s h few names = refused_within (handed_error handed)
-shown_promises n (entry.Flush who) s h few names = rejection_within s.control.place (flush_error s.control) (omega (arith, h.place, few))
-shown_promises n (entry.Reset who) s h few names = removal_within s.control.place (removal_error s.control) s.control.pending (omega (arith, h.place, few)) (pending_below s.control names)
-shown_promises n (entry.Close who) s h few names = removal_within s.control.place (removal_error s.control) s.control.pending (omega (arith, h.place, few)) (pending_below s.control names)
-shown_promises n entry.Turn s h few names = turned_within s.control.tasks s.control refl (omega (arith, h.place, few)) names
-shown_promises n (entry.Reclaim moment) s h few names = closed_within s.control.place dom.QuotaExceeded dom.QuotaExceeded s.control.pending (omega (arith, h.place, few)) (pending_below s.control names)
-shown_promises n _ s h few names = tt
+shown_promises : (e : Entry) (s : State) → s.control.place < 2 ^ 64 → NamesEarlier s.control → AllByRecursion (λ p. p < s.control.place) s.control.pending → ArePromises (shows e s)
+shown_promises entry.Turn s few names below = turned_within s.control.tasks s.control refl few names
+shown_promises e s few names below = search (refused_within, rejection_within, removal_within, closed_within)
 
 -- the config that stands behind a chunk
 config_fits : (script : ScriptData) (o : Option AudioDecoderConfig) → IsCarriedWithin o → AllByRecursion (FitsLine script) (config_lines o)
@@ -182,20 +168,10 @@ pub lines_within : (laws : CodesAreBytes) (script : ScriptData) (o : Opening) �
     → AllByRecursion (IsEntryWithin script) es → AllByRecursion (HoldsOwn (judge laws)) es → AreUnits (each_shown_from es s) → AllByRecursion (FitsLine script) (lines_from entry_lines n (zip es (each_shown_from es s)))
 lines_within laws script o always some before [] s n r legal h given few own inputs units = tt
 lines_within laws script o always some before (e ∷ es) s n r legal h given few own inputs units =
-    by (step e s) refl legal units.1
-    (λ t made rest shown. lines_within laws script o always some (before ++ e ∷ []) es t (n + 1) (replay_append o before e s r ∙ made) rest (step_up n e s t made h) (step_own (judge laws) e s t made inputs.0 given) (omega (arith, few)) own.1 inputs.1 shown)
-  where
-    names : NamesEarlier s.control
-    names = (always o before s some r).names
-
-    small : n < 2 ^ 64
-    small = omega (arith, few)
-
-    by : (next : Option State) → step e s ≡ next → is_some (option_and_then (replay_from es) next) ≡ true → AreUnits (unwrap_or (option_map (each_shown_from es) next) [])
-        → ((t : State) → step e s ≡ Some t → is_some (replay_from es t) ≡ true → AreUnits (each_shown_from es t) → AllByRecursion (FitsLine script) (lines_from entry_lines (n + 1) (zip es (each_shown_from es t))))
-        → AllByRecursion (FitsLine script) (entry_lines n (e, shown_at e s) ++ lines_from entry_lines (n + 1) (zip es (unwrap_or (option_map (each_shown_from es) next) [])))
-    by None is there shown more = absurd cc
-    by (Some t) is there shown more = (
-      (small, entry_fits laws script n e s t is h given.busy small own.0),
-      all_append (FitsLine script) (flat_map event_lines (shows e s)) _ (events_fit script (shows e s) (shown_promises n e s h small names) units.0) (more t is there shown),
-    )
+    let made = comes_after (replay_from es) (step e s) legal in
+    let t = made.0 in
+    let small : n < 2 ^ 64 = omega (arith, few) in
+    let names = (always o before s some r).names in
+    let promises = shown_promises e s (omega (arith, h.place, small)) names (pending_below s.control names) in
+    let rest = lines_within laws script o always some (before ++ e ∷ []) es t (n + 1) (replay_append o before e s r ∙ made.1) made.2 (step_up n e s t made.1 h) (step_own (judge laws) e s t made.1 inputs.0 given) (omega (arith, few)) own.1 inputs.1 (rw made.1 at units.1) in
+    rw made.1 ((small, entry_fits laws script n e s t made.1 h given.busy small own.0), all_append (FitsLine script) (flat_map event_lines (shows e s)) _ (events_fit script (shows e s) promises units.0) rest)

@@ -1,3 +1,4 @@
+mod Cases
 mod ByteRanges
 mod FlacRanges
 mod BlockRanges

@@ -1,12 +1,11 @@
 -- What callers' variables hold, and what steps on media answer, is within its types.
-use Rattle.std.proofs.Common.{ℕ, zero, suc, ◌≡◌, ◌≤◌, Bool, true, false, cond, List, [], ◌∷◌, length, take, Option, Some, None, refl, ap, sym, subst, arith}
+use Rattle.std.proofs.Common.{ℕ, zero, suc, ◌≡◌, ◌≤◌, true, List, [], ◌∷◌, Option, Some, None, IfSome, ap, ◌∙◌, sym, subst, arith}
 use Rattle.std.specs.Prelude.{nat_le, slice_get, option_map, option_and_then, unwrap_or}
 use Rattle.std.specs.List.{AllByRecursion}
 use Rattle.std.proofs.lemmas.Bool.{and_parts, leb-true}
+use Rattle.std.proofs.lemmas.Option.{option_and_then_some}
 use Rattle.hex.specs.Hex.{IsBytes}
-use Rattle.wc_base.specs.declared.error.DomError.TheVariants as dom
 use Rattle.wc_base.specs.declared.media.PictureShape.{PictureShape}
-use Rattle.wc_base.specs.declared.media.SoundShape.{SoundShape}
 use Rattle.wc_base.specs.declared.who.Who.{Who}
 use Rattle.wc_chunk.specs.declared.chunk.Chunk.{Chunk}
 use Rattle.codec_definitions.specs.declared.unit.Unit as output
@@ -22,8 +21,6 @@ use Rattle.script_types.specs.declared.script.CodecItem.{CodecItem}
 use Rattle.script_types.specs.declared.script.ScriptData.{ScriptData}
 use Rattle.script_types.specs.declared.options.Options.{Options}
 use Rattle.script_types.specs.declared.options.Options.TheVariants as options
-use Rattle.script_types.specs.declared.steps.PictureInit.{PictureInit}
-use Rattle.script_types.specs.declared.steps.SoundInit.{SoundInit}
 use Rattle.script_types.specs.declared.steps.MediaStep.{MediaStep}
 use Rattle.script_types.specs.declared.steps.MediaStep.TheVariants as media
 use Rattle.script_types.specs.declared.steps.Step.{Step}
@@ -32,11 +29,12 @@ use Rattle.script_types.specs.Names.{is_copied}
 use Rattle.script_types.specs.Sound.{is_variable, are_options_of, is_sound_media, most_chunk}
 use Rattle.report_text.specs.declared.result.StepResult.{StepResult}
 use Rattle.media_variables.specs.CameLaws.{EachCame, by_came}
-use Rattle.media_variables.specs.Variables.{Reference, Shape, SoundOf, PictureOf, ChunkOf, Medium, Came, Taken, Brought, medium_at, with_medium, detached, only_answers, refused, makes, audio_came, frame_came, clone_held, transfer_held, close_held, if_there, zeros, media_ref, sound_of, frame_of, copy_options, rect_of, layouts_in, copy_chunk, copy_sound, copy_frame, size_of_sound, size_of_frame, copy_medium, size_of_medium, chunk_in_medium, chunk_of_variable, copy_came, chunk_medium, sound_in, sound_at, unit_came, taken_came, media_came}
+use Rattle.media_variables.specs.Variables.{Reference, Shape, SoundOf, PictureOf, ChunkOf, Medium, Came, Taken, Brought, medium_at, with_medium, detached, zeros, media_ref, sound_of, frame_of, copy_options, rect_of, layouts_in, copy_chunk, copy_medium, size_of_medium, chunk_in_medium, chunk_of_variable, chunk_medium, sound_in, sound_at, unit_came, media_came}
 use Rattle.media_accounts.specs.Accounts.{step_by, before_step, media_of, variables_by, came_on, variables_in, came_in}
 use Rattle.trace_text.specs.Fits.{IsMediaAnswer}
 use Rattle.report_lines.specs.Fits.{FitsResult}
 use Rattle.run_ranges.specs.Ranges.{IsChunkWithin, IsShapeWithin}
+use Rattle.run_ranges.proofs.Cases.{by_option}
 use Rattle.run_ranges.proofs.ByteRanges.{nothing_small, take_small, zeros_small}
 use Rattle.run_ranges.proofs.UnitRanges.{IsUnitWithin}
 use Rattle.run_ranges.proofs.CopyRanges.{sound_copy_fits, sound_size_fits, chunk_copy_fits, plan_within, frame_copy_fits, frame_size_fits}
@@ -51,12 +49,10 @@ IsKindWithin (ChunkOf chunk) = IsChunkWithin chunk
 
 -- what is held is bytes
 abbrev pub IsHeldWithin : Option Reference → Type 0
-IsHeldWithin None = Unit {0}
-IsHeldWithin (Some r) = IsBytes r.bytes
+IsHeldWithin o = IfSome o (λ r. IsBytes r.bytes)
 
 abbrev pub IsVariableWithin : Option Medium → Type 0
-IsVariableWithin None = Unit {0}
-IsVariableWithin (Some m) = IsKindWithin m.shape × IsHeldWithin m.held
+IsVariableWithin o = IfSome o (λ m. IsKindWithin m.shape × IsHeldWithin m.held)
 
 abbrev pub AreVariables : List (Option Medium) → Type 0
 AreVariables vs = AllByRecursion IsVariableWithin vs
@@ -75,40 +71,29 @@ with_within (suc j) m (v ∷ vs) own h = (h.0, with_within j m vs own h.1)
 -- ---- the chunk and the audio data of a variable
 
 abbrev pub IsChunkThere : Option Chunk → Type 0
-IsChunkThere None = Unit {0}
-IsChunkThere (Some c) = IsChunkWithin c
-
-chunk_in_shape : (shape : Shape) (held : Option Reference) → IsKindWithin shape → IsChunkThere (chunk_in_medium (record { shape = shape; held = held }))
-chunk_in_shape (ChunkOf chunk) held own = own
-chunk_in_shape _ held own = tt
+IsChunkThere o = IfSome o IsChunkWithin
 
 chunk_in_variable : (o : Option Medium) → IsVariableWithin o → IsChunkThere (option_and_then chunk_in_medium o)
 chunk_in_variable None own = tt
-chunk_in_variable (Some m) own = chunk_in_shape m.shape m.held own.0
+chunk_in_variable (Some m) own = elim m.shape as (λ x. IsKindWithin x → IsChunkThere (chunk_in_medium (record m { shape = x }))) [ ChunkOf chunk ↦ λ h. h | _ ↦ λ h. tt ] own.0
 
 pub chunk_found : (made : Option Chunk) (vs : List (Option Medium)) (j : ℕ) → IsChunkThere made → AreVariables vs → IsChunkThere (chunk_of_variable made vs j)
 chunk_found None vs j own h = chunk_in_variable (medium_at vs j) (medium_within vs j h)
 chunk_found (Some c) vs j own h = own
 
 abbrev pub IsRefWithin : Option MediaRef → Type 0
-IsRefWithin None = Unit {0}
-IsRefWithin (Some r) = IsBytes r.bytes
+IsRefWithin o = IfSome o (λ r. IsBytes r.bytes)
 
 abbrev pub IsSoundThere : Option audio.Sound → Type 0
-IsSoundThere None = Unit {0}
-IsSoundThere (Some x) = IsShapeWithin x.shape × IsRefWithin x.held
+IsSoundThere o = IfSome o (λ x. IsShapeWithin x.shape × IsRefWithin x.held)
 
 ref_within : (held : Option Reference) → IsHeldWithin held → IsRefWithin (option_map media_ref held)
 ref_within None h = tt
 ref_within (Some r) h = h
 
-sound_in_shape : (shape : Shape) (held : Option Reference) → IsKindWithin shape → IsHeldWithin held → IsSoundThere (sound_in (record { shape = shape; held = held }))
-sound_in_shape (SoundOf shape) held own h = (own, ref_within held h)
-sound_in_shape _ held own h = tt
-
 sound_in_variable : (o : Option Medium) → IsVariableWithin o → IsSoundThere (option_and_then sound_in o)
 sound_in_variable None own = tt
-sound_in_variable (Some m) own = sound_in_shape m.shape m.held own.0 own.1
+sound_in_variable (Some m) own = elim m.shape as (λ x. IsKindWithin x → IsSoundThere (sound_in (record m { shape = x }))) [ SoundOf shape ↦ λ h. (h, ref_within m.held own.1) | _ ↦ λ h. tt ] own.0
 
 pub sound_found : (vs : List (Option Medium)) (j : ℕ) → AreVariables vs → IsSoundThere (sound_at vs j)
 sound_found vs j h = sound_in_variable (medium_at vs j) (medium_within vs j h)
@@ -116,8 +101,7 @@ sound_found vs j h = sound_in_variable (medium_at vs j) (medium_within vs j h)
 -- ---- what steps leave in variables
 
 abbrev pub IsCameWithin : Option Came → Type 0
-IsCameWithin None = Unit {0}
-IsCameWithin (Some y) = AreVariables y.variables
+IsCameWithin o = IfSome o (λ y. AreVariables y.variables)
 
 -- the content of an init is bytes, and the shape of audio data is within its types
 abbrev pub IsContentWithin : MediaStep → Type 0
@@ -127,8 +111,7 @@ IsContentWithin x = Unit {0}
 
 -- an output that is taken is within its type
 abbrev pub IsOutputWithin : Option Taken → Type 0
-IsOutputWithin None = Unit {0}
-IsOutputWithin (Some t) = IsUnitWithin t.unit
+IsOutputWithin o = IfSome o (λ t. IsUnitWithin t.unit)
 
 unit_within : (pool : List PoolEntry) (j : ℕ) (answer : StepResult) (u : output.Unit) (vs : List (Option Medium)) → IsUnitWithin u → AreVariables vs → AreVariables (unit_came pool j answer u vs).variables
 unit_within pool j answer (unit.Sound samples) vs own h = with_within j _ vs ((own.frames, own.timestamp), own.are_bytes) h
@@ -155,17 +138,12 @@ each_within pool who b vs own h = record {
 }
 
 pub came_within : (pool : List PoolEntry) (who : Who) (b : Brought) (x : MediaStep) (vs : List (Option Medium)) → IsContentWithin x → IsOutputWithin b.taken → AreVariables vs → IsCameWithin (media_came pool who b x vs)
-came_within pool who b x vs small own h = by (media_came pool who b x vs) refl
-  where
-    by : (o : Option Came) → media_came pool who b x vs ≡ o → IsCameWithin o
-    by None is = tt
-    by (Some y) is = by_came pool who b vs _ (each_within pool who b vs own h) x y is small
+came_within pool who b x vs small own h = by_option IsCameWithin (media_came pool who b x vs) tt (λ y is. by_came pool who b vs _ (each_within pool who b vs own h) x y is small)
 
 -- ---- what steps answer
 
 abbrev pub IsAnswerWithin : ScriptData → Option Came → Type 0
-IsAnswerWithin s None = Unit {0}
-IsAnswerWithin s (Some y) = FitsResult s y.answer
+IsAnswerWithin s o = IfSome o (λ y. FitsResult s y.answer)
 
 -- a destination's size is at most what a script may ask for
 abbrev pub IsSizeSmall : MediaStep → Type 0
@@ -187,38 +165,21 @@ frame_small : (shape : PictureShape) (held : Option Reference) → IsHeldWithin 
 frame_small shape None h = nothing_small
 frame_small shape (Some r) h = take_small (picture_size shape) r.bytes h
 
-sound_answers : (s : ScriptData) (shape : SoundShape) (held : Option Reference) (o : Options) (size : ℕ) → size ≤ most_chunk → FitsResult s (copy_sound (sound_of shape held) o size)
-sound_answers s shape held (options.Audio (Some o)) size few = sound_copy_fits s size shape (unwrap_or (audio.content_of (sound_of shape held)) []) (sound.plan_of (sound_of shape held) (copy_options o)) (omega (arith, few))
-sound_answers s shape held _ size few = tt
-
-frame_answers : (s : ScriptData) (shape : PictureShape) (held : Option Reference) (o : Options) (size : ℕ) → IsHeldWithin held → FitsResult s (copy_frame (frame_of shape held) o size)
-frame_answers s shape held (options.Frame (Some o)) size own =
+copies_fit : (s : ScriptData) (shape : Shape) (held : Option Reference) (o : Options) (size : ℕ) → size ≤ most_chunk → IsHeldWithin held → FitsResult s (copy_medium (record { shape = shape; held = held }) o size)
+copies_fit s (SoundOf shape) held (options.Audio (Some o)) size few own = sound_copy_fits s size shape (unwrap_or (audio.content_of (sound_of shape held)) []) (sound.plan_of (sound_of shape held) (copy_options o)) (omega (arith, few))
+copies_fit s (PictureOf shape) held (options.Frame (Some o)) size few own =
     let f = frame_of shape held in
     frame_copy_fits s (unwrap_or (frames.content_of f) []) (zeros size) (video.plan_for f (option_map rect_of o.rect) (layouts_in o)) (frame_small shape held own) (zeros_small size) (plan_within f (option_map rect_of o.rect) (layouts_in o))
-frame_answers s shape held _ size own = tt
-
-sound_sizes : (s : ScriptData) (shape : SoundShape) (held : Option Reference) (o : Options) → FitsResult s (size_of_sound (sound_of shape held) o)
-sound_sizes s shape held (options.Audio (Some o)) = sound_size_fits s shape (sound.plan_of (sound_of shape held) (copy_options o))
-sound_sizes s shape held _ = tt
-
-frame_sizes : (s : ScriptData) (shape : PictureShape) (held : Option Reference) (o : Options) → FitsResult s (size_of_frame (frame_of shape held) o)
-frame_sizes s shape held (options.Frame (Some o)) = frame_size_fits s (video.plan_for (frame_of shape held) (option_map rect_of o.rect) (layouts_in o)) (plan_within (frame_of shape held) (option_map rect_of o.rect) (layouts_in o))
-frame_sizes s shape held _ = tt
-
-copies_fit : (s : ScriptData) (shape : Shape) (held : Option Reference) (o : Options) (size : ℕ) → size ≤ most_chunk → IsHeldWithin held → FitsResult s (copy_medium (record { shape = shape; held = held }) o size)
-copies_fit s (SoundOf shape) held o size few own = sound_answers s shape held o size few
-copies_fit s (PictureOf shape) held o size few own = frame_answers s shape held o size own
-copies_fit s (ChunkOf chunk) held o size few own = tt
+copies_fit s _ held _ size few own = tt
 
 sizes_fit : (s : ScriptData) (shape : Shape) (held : Option Reference) (o : Options) → FitsResult s (size_of_medium (record { shape = shape; held = held }) o)
-sizes_fit s (SoundOf shape) held o = sound_sizes s shape held o
-sizes_fit s (PictureOf shape) held o = frame_sizes s shape held o
-sizes_fit s (ChunkOf chunk) held o = tt
+sizes_fit s (SoundOf shape) held (options.Audio (Some o)) = sound_size_fits s shape (sound.plan_of (sound_of shape held) (copy_options o))
+sizes_fit s (PictureOf shape) held (options.Frame (Some o)) = frame_size_fits s (video.plan_for (frame_of shape held) (option_map rect_of o.rect) (layouts_in o)) (plan_within (frame_of shape held) (option_map rect_of o.rect) (layouts_in o))
+sizes_fit s _ held _ = tt
 
 -- what a take that found an output answers
 abbrev pub FitsTaken : ScriptData → Option Taken → Type 0
-FitsTaken s None = Unit {0}
-FitsTaken s (Some t) = FitsResult s t.answer
+FitsTaken s o = IfSome o (λ t. FitsResult s t.answer)
 
 unit_answers : (s : ScriptData) (pool : List PoolEntry) (j : ℕ) (answer : StepResult) (u : output.Unit) (vs : List (Option Medium)) → FitsResult s answer → FitsResult s (unit_came pool j answer u vs).answer
 unit_answers s pool j answer (unit.Coded chunk config) vs told = told
@@ -241,11 +202,7 @@ each_answers s pool who b vs small told h = record {
 }
 
 media_answers : (s : ScriptData) (pool : List PoolEntry) (who : Who) (b : Brought) (x : MediaStep) (vs : List (Option Medium)) → IsChunkThere b.chunk → FitsTaken s b.taken → IsSizeSmall x → AreVariables vs → IsAnswerWithin s (media_came pool who b x vs)
-media_answers s pool who b x vs small told few h = by (media_came pool who b x vs) refl
-  where
-    by : (o : Option Came) → media_came pool who b x vs ≡ o → IsAnswerWithin s o
-    by None is = tt
-    by (Some y) is = by_came pool who b vs _ (each_answers s pool who b vs small told h) x y is few
+media_answers s pool who b x vs small told few h = by_option (IsAnswerWithin s) (media_came pool who b x vs) tt (λ y is. by_came pool who b vs _ (each_answers s pool who b vs small told h) x y is few)
 
 -- ---- a caller's steps
 
@@ -262,19 +219,16 @@ media_of_is (step.Media x) m is = cc
 media_of_is x m is = absurd cc
 
 media_is : (o : Option Step) (m : MediaStep) → option_and_then media_of o ≡ Some m → o ≡ Some (step.Media m)
-media_is None m is = absurd cc
-media_is (Some x) m is = ap (λ (y : Step). Some y) (media_of_is x m is)
+media_is o m is = option_and_then_some media_of o m is (λ x there made. there ∙ ap (λ (y : Step). Some y) (media_of_is x m made))
 
 variables_kept : (o : Option Came) (vs : List (Option Medium)) → IsCameWithin o → AreVariables vs → AreVariables (variables_by o vs)
 variables_kept None vs own h = h
 variables_kept (Some y) vs own h = own
 
 came_on_within : (s : ScriptData) (steps : ℕ → List Step) (brought : ℕ → ℕ → MediaStep → Brought) (pool : List PoolEntry) (c j : ℕ) (vs : List (Option Medium)) → AreSteps s steps brought → AreVariables vs → IsCameWithin (came_on steps brought pool c j vs)
-came_on_within s steps brought pool c j vs given h = one (option_and_then media_of (slice_get (steps c) j)) (λ x is. given.contents c j x (media_is (slice_get (steps c) j) x is))
-  where
-    one : (o : Option MediaStep) → ((x : MediaStep) → o ≡ Some x → IsContentWithin x) → IsCameWithin (option_and_then (λ x. media_came (before_step c j pool) (step_by c j) (brought c j x) x vs) o)
-    one None own = tt
-    one (Some x) own = came_within (before_step c j pool) (step_by c j) (brought c j x) x vs (own x refl) (given.outputs c j x) h
+came_on_within s steps brought pool c j vs given h =
+    by_option (λ o. IsCameWithin (option_and_then (λ x. media_came (before_step c j pool) (step_by c j) (brought c j x) x vs) o)) (option_and_then media_of (slice_get (steps c) j)) tt
+    (λ x is. came_within (before_step c j pool) (step_by c j) (brought c j x) x vs (given.contents c j x (media_is (slice_get (steps c) j) x is)) (given.outputs c j x) h)
 
 -- what a caller's variables hold after so many of its steps
 pub variables_within : (s : ScriptData) (steps : ℕ → List Step) (brought : ℕ → ℕ → MediaStep → Brought) (pool : List PoolEntry) (c j : ℕ) → AreSteps s steps brought → AreVariables (variables_in steps brought pool c j)
@@ -285,11 +239,10 @@ variables_within s steps brought pool c (suc j) given =
     variables_kept (came_on steps brought pool c j vs) vs (came_on_within s steps brought pool c j vs given h) h
 
 pub came_answers : (s : ScriptData) (steps : ℕ → List Step) (brought : ℕ → ℕ → MediaStep → Brought) (pool : List PoolEntry) (c j : ℕ) → AreSteps s steps brought → IsAnswerWithin s (came_in steps brought pool c j)
-came_answers s steps brought pool c j given = one (option_and_then media_of (slice_get (steps c) j)) (λ x is. given.sizes c j x (media_is (slice_get (steps c) j) x is))
-  where
-    one : (o : Option MediaStep) → ((x : MediaStep) → o ≡ Some x → IsSizeSmall x) → IsAnswerWithin s (option_and_then (λ x. media_came (before_step c j pool) (step_by c j) (brought c j x) x (variables_in steps brought pool c j)) o)
-    one None few = tt
-    one (Some x) few = media_answers s (before_step c j pool) (step_by c j) (brought c j x) x (variables_in steps brought pool c j) (given.copied c j x) (given.told c j x) (few x refl) (variables_within s steps brought pool c j given)
+came_answers s steps brought pool c j given =
+    let vs = variables_in steps brought pool c j in
+    by_option (λ o. IsAnswerWithin s (option_and_then (λ x. media_came (before_step c j pool) (step_by c j) (brought c j x) x vs) o)) (option_and_then media_of (slice_get (steps c) j)) tt
+    (λ x is. media_answers s (before_step c j pool) (step_by c j) (brought c j x) x vs (given.copied c j x) (given.told c j x) (given.sizes c j x (media_is (slice_get (steps c) j) x is)) (variables_within s steps brought pool c j given))
 
 -- the answer of a step on media
 pub media_fits : (s : ScriptData) (o : Option Came) (r : StepResult) → IsAnswerWithin s o → IsMediaAnswer o r → FitsResult s r

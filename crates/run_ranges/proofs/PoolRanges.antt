@@ -1,7 +1,6 @@
 -- What the history of a pool that callers' steps and codecs' entries account for holds is within its types.
 use Rattle.std.proofs.Common.{ℕ, zero, suc, ◌≡◌, ◌<◌, ◌≤◌, ◌+◌, ◌^◌, not, Bool, true, false, cond, List, [], ◌∷◌, ◌++◌, length, length-append, Option, Some, None, refl, ap, sym, subst, ◌∙◌, arith, append_assoc, append-nil, eq-eqb}
 use Rattle.std.specs.Prelude.{nat_lt, slice_get, map, ◌==◌, ◌&&◌}
-use Rattle.std.specs.List.{AllByRecursion}
 use Rattle.std.proofs.lemmas.Bool.{and_parts, and_from, eqb-true, ltb-true}
 use Rattle.std.proofs.lemmas.List.Sums.{count_by-le-length}
 use Rattle.wc_base.specs.declared.who.By.{By}
@@ -11,13 +10,11 @@ use Rattle.wc_pool.specs.declared.entry.PoolOp.{PoolOp}
 use Rattle.wc_pool.specs.declared.entry.PoolOp.TheVariants as op
 use Rattle.wc_pool.specs.Bag.{makes, mints, resource_of, is_number, is_live, resources_made, references_made, references_of, is_held, held_in, count_below, is_legal_next, is_legal_from, is_legal_pool}
 use Rattle.wc_pool.specs.Laws.{LiveAreNumbered}
-use Rattle.script_types.specs.declared.script.ScriptData.{ScriptData}
 use Rattle.script_types.specs.declared.steps.MediaStep.{MediaStep}
 use Rattle.script_types.specs.declared.steps.Step.{Step}
 use Rattle.media_variables.specs.Variables.{Came, Brought}
 use Rattle.media_accounts.specs.Accounts.{is_by_step, is_by_entry, ops_where, without_last, owes, MediaAreIn, came_in}
-use Rattle.trace_text.specs.Report.{lines_from, pool_lines}
-use Rattle.report_lines.specs.Fits.{FitsBy, FitsPoolOp, FitsLine}
+use Rattle.report_lines.specs.Fits.{FitsPoolOp}
 
 -- ---- counts
 
@@ -140,9 +137,3 @@ entry_made steps brought lends made pool h n e is = of (e.by) refl
     of (by.Codec k place) its =
         let own : is_by_entry k place e.by ≡ true = ap (is_by_entry k place) its ∙ same k place in
         λ none. ops_some (is_by_entry k place) n pool e is own (unmapped (ops_where (is_by_entry k place) pool) (h.codecs k place ∙ none))
-
--- ---- the lines
-
-pub pool_lines_fit : (s : ScriptData) (n : ℕ) (es : List PoolEntry) → n + length es < 2 ^ 64 → ((i : ℕ) (e : PoolEntry) → slice_get es i ≡ Some e → FitsBy s e.by × FitsPoolOp e.op) → AllByRecursion (FitsLine s) (lines_from pool_lines n es)
-pool_lines_fit s n [] few h = tt
-pool_lines_fit s n (e ∷ es) few h = let own = h 0 e refl in ((omega (arith, few), own.0, own.1), pool_lines_fit s (n + 1) es (omega (arith, few)) (λ i d is. h (suc i) d is))

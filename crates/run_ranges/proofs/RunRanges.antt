@@ -4,8 +4,9 @@ use Rattle.std.specs.Prelude.{nat_le, option_map, option_and_then, unwrap_or}
 use Rattle.std.specs.List.{AllByRecursion, zip, slice_get, sum_by}
 use Rattle.std.proofs.Math.Nat.{mul-le-mul}
 use Rattle.std.proofs.lemmas.Bool.{and_parts, leb-true}
-use Rattle.std.proofs.lemmas.List.{length-map}
-use Rattle.std.proofs.lemmas.Option.{slice_get_within}
+use Rattle.std.proofs.lemmas.List.{length-map, length-take}
+use Rattle.std.proofs.lemmas.Option.{option_and_then_some, slice_get_within}
+use Rattle.wc_base.specs.Options.{some_same}
 use Rattle.wc_base.specs.declared.error.DomError.{DomError}
 use Rattle.wc_base.specs.declared.who.Who.{Who}
 use Rattle.wc_base.specs.declared.who.By.{By}
@@ -13,8 +14,6 @@ use Rattle.wc_base.specs.declared.who.By.TheVariants as by
 use Rattle.wc_config.specs.declared.codec.CoderId.{CoderId}
 use Rattle.wc_chunk.specs.declared.chunk.Chunk.{Chunk}
 use Rattle.wc_pool.specs.Laws.{LiveAreNumbered}
-use Rattle.wc_video.specs.declared.layout.Layouts.{Layouts}
-use Rattle.codec_definitions.specs.declared.unit.Unit as output
 use Rattle.coder_api.specs.declared.slot.SlotEntry.{SlotEntry}
 use Rattle.coder_api.specs.declared.slot.SlotOp.{SlotOp}
 use Rattle.coder_api.specs.declared.slot.SlotOp.TheVariants as slot
@@ -47,11 +46,13 @@ use Rattle.trace_text.specs.declared.run.Run.{Run}
 use Rattle.trace_text.specs.Report.{lines_from, result_lines, caller_lines, entry_lines, codec_lines, pool_lines, slot_lines, lines_of}
 use Rattle.media_variables.specs.Variables.{Medium, Came, chunk_in}
 use Rattle.media_accounts.specs.Accounts.{called_at, lent_at}
-use Rattle.trace_text.specs.Follow.{Recorded, record_of, opening_at, output_at, steps_of, chunk_at, order_items}
+use Rattle.trace_text.specs.Follow.{Recorded, opening_at, output_at, steps_of, chunk_at, order_items}
 use Rattle.trace_text.specs.FitsLaws.{calls_by_places, order_by_places}
-use Rattle.trace_text.specs.Fits.{recorded_of, result_in, entry_in, step_in, CallsAreIn, LookShows, LooksAreIn, IsLocalAnswer, LocalsAreIn, IsResultOf, taken_by, variables_at, came_at, brought_to, made_steps, lends_in, Fits, IsLegalTrace, AreLegalTraces, IsLegalRun}
+use Rattle.trace_text.specs.Fits.{recorded_of, mark_of, result_in, entry_in, step_in, CallsAreIn, LookShows, LooksAreIn, IsLocalAnswer, LocalsAreIn, IsResultOf, taken_by, variables_at, came_at, brought_to, made_steps, lends_in, Fits, IsLegalTrace, AreLegalTraces, IsLegalRun}
 use Rattle.codec_accounts.specs.Owed.{at}
+use Rattle.report_text.specs.declared.line.Line.{Line}
 use Rattle.codec_accounts.specs.Calls.{who_of}
+use Rattle.codec_accounts.specs.Calls as mark
 use Rattle.codec_accounts.specs.Codec.{state_after}
 use Rattle.codec_accounts.specs.Registry.{BoxesAccounted, EndSays}
 use Rattle.codec_accounts.specs.SlotPlaces.{IsOfCodec, cause_there}
@@ -62,13 +63,14 @@ use Rattle.history_laws.specs.NumberLaws.{step_up, opening_up}
 use Rattle.history_laws.specs.OutputLaws.{all_append, opening_own, outputs_are}
 use Rattle.run_ranges.specs.Counts.{traces_count, caller_of_step, all_from}
 use Rattle.run_ranges.specs.Ranges.{AreWithin}
+use Rattle.run_ranges.proofs.Cases.{by_option, by_default}
 use Rattle.run_ranges.proofs.CodeRanges.{CodesAreBytes}
 use Rattle.run_ranges.proofs.UnitRanges.{judge}
 use Rattle.run_ranges.proofs.TakenRanges.{takes_small}
-use Rattle.run_ranges.proofs.PoolRanges.{held_up_to, pool_ops_fit, pool_lines_fit, IsMadeBy, entry_made}
+use Rattle.run_ranges.proofs.PoolRanges.{held_up_to, pool_ops_fit, IsMadeBy, entry_made}
 use Rattle.run_ranges.proofs.MediaRanges.{IsChunkThere, IsOutputWithin, IsAnswerWithin, FitsTaken, size_small_of, AreSteps, came_answers, media_fits}
 use Rattle.run_ranges.proofs.EntryRanges.{IsOutcomeWithin, IsEntryWithin, lines_within}
-use Rattle.run_ranges.proofs.CourseRanges.{IsOwnEntry, IsByUpTo, IsOpUpTo, IsCourseUpTo, chunk_made, contents_within, holds_own, output_own, course_up}
+use Rattle.run_ranges.proofs.CourseRanges.{IsOwnEntry, IsByUpTo, IsOpUpTo, by_up, chunk_made, contents_within, holds_own, output_own, course_up}
 
 -- ---- a script's counts
 
@@ -93,64 +95,50 @@ are_few_in s sound =
 
 -- ---- what was recorded
 
--- what was recorded has the script's callers and codecs, no more of anything than the order has items, and no more in the pool than
--- each item adds
-pub record IsKnown (s : ScriptData) (media : List (List Chunk)) (made : List CoderId) (w : Recorded) : Type 0 where
-  callers : length w.callers ≡ length s.callers
-  codecs : length w.codecs ≡ length s.codecs
-  few : AreFew s
+-- no more of anything than the order has items, and no more in the pool than each item adds
+pub record IsRecordedUpTo (most : ℕ) (w : Recorded) : Type 0 where
   results : (c : ℕ) → length (at c w.callers) ≤ most_order
   entries : (k : ℕ) → length (at k w.codecs) ≤ most_order
   slots : length w.slots ≤ 2 * most_order
   pool : length w.pool < 2 ^ 64
   own : (k p : ℕ) (e : Entry) → entry_in w k p ≡ Some e → IsOwnEntry e
+  ops : (i : ℕ) (e : SlotEntry) → slice_get w.slots i ≡ Some e → IsByUpTo most_order e.by × IsOpUpTo most e.op
+
+-- what was recorded has the script's callers and codecs, and takes that are numbered
+pub record IsKnown (s : ScriptData) (media : List (List Chunk)) (made : List CoderId) (w : Recorded) : Type 0 where
+  callers : length w.callers ≡ length s.callers
+  codecs : length w.codecs ≡ length s.codecs
+  few : AreFew s
   takes : (k p : ℕ) (who : Who) (unit : ℕ) → entry_in w k p ≡ Some (entry.Take who unit) → unit ≤ p
-  ops : (i : ℕ) (e : SlotEntry) → slice_get w.slots i ≡ Some e → IsByUpTo most_order e.by × IsOpUpTo (length made) e.op
-
-by_most : (n m : ℕ) (b : By) → n ≤ m → IsByUpTo n b → IsByUpTo m b
-by_most n m (by.Caller who) le h = tt
-by_most n m (by.Codec k place) le h = omega (arith, le, h)
-
--- each item adds at most two more to the pool than there are items before it
-pool_small : (n pool : ℕ) → n ≤ most_order → pool ≤ n * n + 2 * n → pool < 2 ^ 64
-pool_small n pool few h = omega (arith, h, few, mul-le-mul few few)
+  recorded : IsRecordedUpTo (length made) w
+  open recorded use *
 
 known : CodesAreBytes → HeldStays → (s : ScriptData) (media : List (List Chunk)) (made : List CoderId) (run : Run) → is_sound s ≡ true → AreWithin s media made → IsLegalRun s run → Fits s media made run → IsKnown s media made (recorded_of run)
 known laws stays s media made run sound within legal fits =
     let few = are_few_in s sound in
-    let v = fits.follows.course in
-    let up : IsCourseUpTo (length (order_items s)) (length made) v = course_up laws stays s media made v within fits.follows.follows in
-    let of_course : Recorded = record_of v in
-    let facts : ((c : ℕ) → length (at c of_course.callers) ≤ most_order) × ((k : ℕ) → length (at k of_course.codecs) ≤ most_order) × (length of_course.slots ≤ 2 * most_order)
-    × ((k p : ℕ) (e : Entry) → entry_in of_course k p ≡ Some e → IsOwnEntry e)
-    × ((i : ℕ) (e : SlotEntry) → slice_get of_course.slots i ≡ Some e → IsByUpTo most_order e.by × IsOpUpTo (length made) e.op) × (length of_course.pool < 2 ^ 64) = (
-      λ c. omega (arith, up.callers c, few.order),
-      λ k. omega (arith, up.codecs k, few.order),
-      omega (arith, up.slots, few.order),
-      up.own.entries,
-      λ i e is. (by_most (length (order_items s)) most_order e.by few.order (up.ops i e is).0, (up.ops i e is).1),
-      pool_small (length (order_items s)) (length of_course.pool) few.order up.pool,
-    ) in
-    let here = subst (λ (w : Recorded). ((c : ℕ) → length (at c w.callers) ≤ most_order) × ((k : ℕ) → length (at k w.codecs) ≤ most_order) × (length w.slots ≤ 2 * most_order)
-    × ((k p : ℕ) (e : Entry) → entry_in w k p ≡ Some e → IsOwnEntry e)
-    × ((i : ℕ) (e : SlotEntry) → slice_get w.slots i ≡ Some e → IsByUpTo most_order e.by × IsOpUpTo (length made) e.op) × (length w.pool < 2 ^ 64)) (sym fits.follows.is_recorded) facts in
+    let up = course_up laws stays s media made fits.follows.course within fits.follows.follows in
     record {
       callers = length-map run.callers _ ∙ legal.callers;
       codecs = length-map run.codecs _ ∙ traces_count s.codecs run.codecs legal.codecs;
       few = few;
-      results = here.0;
-      entries = here.1;
-      slots = here.2;
-      own = here.3;
       takes = takes_small s.codecs run.codecs legal.codecs;
-      ops = here.4;
-      pool = here.5;
+      recorded = subst (IsRecordedUpTo (length made)) (sym fits.follows.is_recorded) (record {
+        results = λ c. omega (arith, up.callers c, few.order);
+        entries = λ k. omega (arith, up.codecs.few k, few.order);
+        slots = omega (arith, up.codecs.slots.long_at_most, few.order);
+        pool = omega (arith, up.media, few.order, mul-le-mul few.order few.order);
+        own = up.own.entries;
+        ops = λ i e is. (by_up (length (order_items s)) most_order e.by few.order (up.codecs.slots.ops i e is).0, (up.codecs.slots.ops i e is).1);
+      });
     }
 
+at_some : {X : Type 0} (k j : ℕ) (ls : List (List X)) → j < length (at k ls) → k < length ls
+at_some k j [] lt = absurd (omega (arith, lt))
+at_some zero j (l ∷ ls) lt = omega arith
+at_some (suc k) j (l ∷ ls) lt = omega (arith, at_some k j ls lt)
+
 at_there : {X : Type 0} (k p : ℕ) (ls : List (List X)) (x : X) → slice_get (at k ls) p ≡ Some x → k < length ls
-at_there k p [] x is = absurd cc
-at_there zero p (l ∷ ls) x is = omega arith
-at_there (suc k) p (l ∷ ls) x is = omega (arith, at_there k p ls x is)
+at_there k p ls x is = at_some k p ls (slice_get_within (at k ls) p x is)
 
 codec_known : (s : ScriptData) (media : List (List Chunk)) (made : List CoderId) (w : Recorded) (k : ℕ) → IsKnown s media made w → k < length w.codecs → IsCodec s k
 codec_known s media made w k h lt = (omega (arith, lt, h.codecs), omega (arith, lt, h.codecs, h.few.codecs))
@@ -184,24 +172,11 @@ look_there s media made w c k n end _ h calls shows = absurd shows
 
 -- the size after a history is at most its length
 replay_up : (h : List Entry) (s t : State) (n : ℕ) → replay_from h s ≡ Some t → IsUpTo n s.control → IsUpTo (n + length h) t.control
-replay_up [] s t n r up = let same : s ≡ t = cc in subst (λ (u : State). IsUpTo (n + 0) u.control) same (subst (λ (m : ℕ). IsUpTo m s.control) (omega arith) up)
-replay_up (e ∷ es) s t n r up = by (legal_step e s) refl r (λ u made rest. replay_up es u t (n + 1) rest (step_up n e s u made up))
-  where
-    by : (o : Option State) → legal_step e s ≡ o → option_and_then (replay_from es) o ≡ Some t → ((u : State) → legal_step e s ≡ Some u → replay_from es u ≡ Some t → IsUpTo (n + 1 + length es) t.control) → IsUpTo (n + suc (length es)) t.control
-    by None is rest more = absurd cc
-    by (Some u) is rest more = subst (λ (m : ℕ). IsUpTo m t.control) (omega arith) (more u is rest)
+replay_up [] s t n r up = subst (λ (u : State). IsUpTo (n + 0) u.control) (some_same s t r) (subst (λ (m : ℕ). IsUpTo m s.control) (omega arith) up)
+replay_up (e ∷ es) s t n r up = option_and_then_some (replay_from es) (legal_step e s) t r (λ u made rest. subst (λ (m : ℕ). IsUpTo m t.control) (omega arith) (replay_up es u t (n + 1) rest (step_up n e s u made up)))
 
 size_small : (o : Opening) (h : List Entry) → (state_after o h).control.size ≤ length h
-size_small o h = by (replay o h) refl
-  where
-    by : (r : Option State) → replay o h ≡ r → (unwrap_or r (opening_state o)).control.size ≤ length h
-    by None is = omega arith
-    by (Some t) is = let up = (replay_up h (opening_state o) t 0 is (opening_up o)).size in omega (arith, up)
-
-take_few : {X : Type 0} (n : ℕ) (xs : List X) → length (take n xs) ≤ length xs
-take_few zero xs = omega arith
-take_few (suc n) [] = omega arith
-take_few (suc n) (x ∷ xs) = omega (arith, take_few n xs)
+size_small o h = by_default (λ t. t.control.size ≤ length h) (replay o h) (opening_state o) (omega arith) (λ t is. omega (arith, (replay_up h (opening_state o) t 0 is (opening_up o)).size))
 
 -- a look of a take that found no output
 none_fits : (s : ScriptData) (media : List (List Chunk)) (made : List CoderId) (w : Recorded) (c j k n : ℕ) (x : Step) → is_sound s ≡ true → IsKnown s media made w → step_in s c j ≡ Some x → LookShows s w c x (result.NoUnit k n) → IsCodec s k
@@ -219,25 +194,20 @@ state_fits s media made w c j k n state size (step.State on) sound h is shows =
     let caller = caller_of_step s.callers c j (step.State on) is in
     let there = codec_within s.codecs any_kind on (step_at s c j caller.0 (step.State on) sound caller.1 caller.2) in
     let codec : k < length s.codecs = omega (arith, shows.0, there) in
-    ((codec, omega (arith, codec, h.few.codecs)), omega (arith, shows.2, size_small (opening_at s k) (take n (at k w.codecs)), take_few n (at k w.codecs), h.entries k))
+    ((codec, omega (arith, codec, h.few.codecs)), omega (arith, shows.2, size_small (opening_at s k) (take n (at k w.codecs)), length-take n (at k w.codecs), h.entries k))
 state_fits s media made w c j k n state size (step.Media (media_step.Take on bind kind)) sound h is shows = absurd shows
 state_fits s media made w c j k n state size _ sound h is shows = absurd shows
 
 -- what a caller's step took
 taken_within : CodesAreBytes → (s : ScriptData) (media : List (List Chunk)) (made : List CoderId) (w : Recorded) → IsKnown s media made w → (o : Option StepResult) → IsOutputWithin (taken_by s w o)
-taken_within laws s media made w h (Some (result.Unit k p n)) = one (output_at (opening_at s k) (at k w.codecs) n) refl
-  where
-    one : (o : Option output.Unit) → output_at (opening_at s k) (at k w.codecs) n ≡ o → IsOutputWithin (option_map (λ u. record { unit = u; answer = result.Unit k p n }) o)
-    one None is = tt
-    one (Some u) is = output_own laws (opening_at s k) (at k w.codecs) (λ q e there. h.own k q e there) n u is
+taken_within laws s media made w h (Some (result.Unit k p n)) =
+    by_option (λ o. IsOutputWithin (option_map (λ u. record { unit = u; answer = result.Unit k p n }) o)) (output_at (opening_at s k) (at k w.codecs) n) tt
+    (λ u is. output_own laws (opening_at s k) (at k w.codecs) (λ q e there. h.own k q e there) n u is)
 taken_within laws s media made w h o = tt
 
 taken_fits : (s : ScriptData) (media : List (List Chunk)) (made : List CoderId) (w : Recorded) → IsKnown s media made w → CallsAreIn s w → (c j : ℕ) (o : Option StepResult) → result_in w c j ≡ o → FitsTaken s (taken_by s w o)
-taken_fits s media made w h calls c j (Some (result.Unit k p n)) is = one (output_at (opening_at s k) (at k w.codecs) n)
-  where
-    one : (o : Option output.Unit) → FitsTaken s (option_map (λ u. record { unit = u; answer = result.Unit k p n }) o)
-    one None = tt
-    one (Some u) = take_fits s media made w h calls c j k p n is
+taken_fits s media made w h calls c j (Some (result.Unit k p n)) is =
+    by_option (λ o. FitsTaken s (option_map (λ u. record { unit = u; answer = result.Unit k p n }) o)) (output_at (opening_at s k) (at k w.codecs) n) tt (λ u found. take_fits s media made w h calls c j k p n is)
 taken_fits s media made w h calls c j o is = tt
 
 -- what is known of a script's steps on media
@@ -255,26 +225,13 @@ steps_within laws s media made w sound within h calls = record {
 }
 
 -- copies and sizes are answers of steps on media alone
-copy_fits : (s : ScriptData) (media : List (List Chunk)) (w : Recorded) (vs : List (Option Medium)) (came : Option Came) (who : Who) (x : Step) (n : ℕ) (bytes : List ℕ) → IsAnswerWithin s came → IsResultOf s w who x (result.Copied n bytes) → IsLocalAnswer s media vs came who.caller x (result.Copied n bytes) → FitsResult s (result.Copied n bytes)
-copy_fits s media w vs came who (step.Chunk bind source) n bytes within of h = absurd cc
-copy_fits s media w vs came who (step.Media (media_step.Take on bind kind)) n bytes within of h = absurd of
-copy_fits s media w vs came who (step.Media (media_step.Encode on content)) n bytes within of h = absurd of
-copy_fits s media w vs came who (step.Media m) n bytes within of h = media_fits s came (result.Copied n bytes) within h
-copy_fits s media w vs came who x n bytes within of h = absurd h
-
-frame_copy_fits : (s : ScriptData) (media : List (List Chunk)) (w : Recorded) (vs : List (Option Medium)) (came : Option Came) (who : Who) (x : Step) (n : ℕ) (layouts : Layouts) (bytes : List ℕ) → IsAnswerWithin s came → IsResultOf s w who x (result.CopiedFrame n layouts bytes) → IsLocalAnswer s media vs came who.caller x (result.CopiedFrame n layouts bytes) → FitsResult s (result.CopiedFrame n layouts bytes)
-frame_copy_fits s media w vs came who (step.Chunk bind source) n layouts bytes within of h = absurd cc
-frame_copy_fits s media w vs came who (step.Media (media_step.Take on bind kind)) n layouts bytes within of h = absurd of
-frame_copy_fits s media w vs came who (step.Media (media_step.Encode on content)) n layouts bytes within of h = absurd of
-frame_copy_fits s media w vs came who (step.Media m) n layouts bytes within of h = media_fits s came (result.CopiedFrame n layouts bytes) within h
-frame_copy_fits s media w vs came who x n layouts bytes within of h = absurd h
-
-size_fits : (s : ScriptData) (media : List (List Chunk)) (w : Recorded) (vs : List (Option Medium)) (came : Option Came) (who : Who) (x : Step) (n : ℕ) → IsAnswerWithin s came → IsResultOf s w who x (result.Size n) → IsLocalAnswer s media vs came who.caller x (result.Size n) → FitsResult s (result.Size n)
-size_fits s media w vs came who (step.Chunk bind source) n within of h = absurd cc
-size_fits s media w vs came who (step.Media (media_step.Take on bind kind)) n within of h = absurd of
-size_fits s media w vs came who (step.Media (media_step.Encode on content)) n within of h = absurd of
-size_fits s media w vs came who (step.Media m) n within of h = media_fits s came (result.Size n) within h
-size_fits s media w vs came who x n within of h = absurd h
+local_fits : (s : ScriptData) (media : List (List Chunk)) (w : Recorded) (vs : List (Option Medium)) (came : Option Came) (who : Who) (x : Step) (r : StepResult) → mark_of r ≡ mark.Local → IsAnswerWithin s came → IsResultOf s w who x r → IsLocalAnswer s media vs came who.caller x r → FitsResult s r
+local_fits s media w vs came who x (result.Local error) local within of h = tt
+local_fits s media w vs came who x result.Absent local within of h = tt
+local_fits s media w vs came who (step.Media (media_step.Take on bind kind)) r local within of h = grind arith
+local_fits s media w vs came who (step.Media (media_step.Encode on content)) r local within of h = grind arith
+local_fits s media w vs came who (step.Media m) r local within of h = media_fits s came r within h
+local_fits s media w vs came who x r local within of h = grind arith
 
 results_fit : CodesAreBytes → (s : ScriptData) (media : List (List Chunk)) (made : List CoderId) (w : Recorded) → is_sound s ≡ true → AreWithin s media made → IsKnown s media made w → CallsAreIn s w → LooksAreIn s w → LocalsAreIn s media w → (c j : ℕ) (r : StepResult) → result_in w c j ≡ Some r → FitsResult s r
 results_fit laws s media made w sound within h calls looks locals c j (result.Call k p error) is = call_fits s media made w h calls c j k p error is
@@ -292,16 +249,9 @@ results_fit laws s media made w sound within h calls looks locals c j (result.No
     let step = calls.made c j (result.NoUnit k n) is in
     let seen = (order_by_places w looks.climbs).within c j k n (result.NoUnit k n) is refl in
     (none_fits s media made w c j k n step.0 sound h step.1 (looks.shows c j step.0 (result.NoUnit k n) step.1 is), omega (arith, seen, h.entries k))
-results_fit laws s media made w sound within h calls looks locals c j (result.Copied n bytes) is =
-    let step = calls.made c j (result.Copied n bytes) is in
-    copy_fits s media w (variables_at s media w c j) (came_at s media w c j) (record { caller = c; step = j }) step.0 n bytes (came_answers s (steps_of s) (brought_to s media w) w.pool c j (steps_within laws s media made w sound within h calls)) step.2 (locals c j step.0 (result.Copied n bytes) step.1 is)
-results_fit laws s media made w sound within h calls looks locals c j (result.CopiedFrame n layouts bytes) is =
-    let step = calls.made c j (result.CopiedFrame n layouts bytes) is in
-    frame_copy_fits s media w (variables_at s media w c j) (came_at s media w c j) (record { caller = c; step = j }) step.0 n layouts bytes (came_answers s (steps_of s) (brought_to s media w) w.pool c j (steps_within laws s media made w sound within h calls)) step.2 (locals c j step.0 (result.CopiedFrame n layouts bytes) step.1 is)
-results_fit laws s media made w sound within h calls looks locals c j (result.Size n) is =
-    let step = calls.made c j (result.Size n) is in
-    size_fits s media w (variables_at s media w c j) (came_at s media w c j) (record { caller = c; step = j }) step.0 n (came_answers s (steps_of s) (brought_to s media w) w.pool c j (steps_within laws s media made w sound within h calls)) step.2 (locals c j step.0 (result.Size n) step.1 is)
-results_fit laws s media made w sound within h calls looks locals c j _ is = tt
+results_fit laws s media made w sound within h calls looks locals c j r is =
+    let step = calls.made c j r is in
+    local_fits s media w (variables_at s media w c j) (came_at s media w c j) (record { caller = c; step = j }) step.0 r refl (came_answers s (steps_of s) (brought_to s media w) w.pool c j (steps_within laws s media made w sound within h calls)) step.2 (locals c j step.0 r step.1 is)
 
 -- ---- entries
 
@@ -309,19 +259,16 @@ outcome_within : (s : ScriptData) (media : List (List Chunk)) (made : List Coder
 outcome_within s media made w cause (outcome.NoSlot n) h says = omega (arith, slice_get_within w.slots n _ says.stands, h.slots)
 outcome_within s media made w cause _ h says = tt
 
-entry_within : (s : ScriptData) (media : List (List Chunk)) (made : List CoderId) (w : Recorded) → IsKnown s media made w → CallsAreIn s w → BoxesAccounted made (opening_at s) w.codecs w.slots → (k p : ℕ) (e : Entry) → entry_in w k p ≡ Some e → IsEntryWithin s e
-entry_within s media made w h calls boxes k p e is = by e is
-  where
-    who : (x : Entry) (name : Who) → entry_in w k p ≡ Some x → who_of x ≡ Some name → FitsWho s name
-    who x name at names = let kept = (calls_by_places s w calls).only k p x name at names in who_known s media made w name kept.0 h kept.1
+named_within : (s : ScriptData) (media : List (List Chunk)) (made : List CoderId) (w : Recorded) → IsKnown s media made w → CallsAreIn s w → (k p : ℕ) (e : Entry) (who : Who) → entry_in w k p ≡ Some e → who_of e ≡ Some who → FitsWho s who
+named_within s media made w h calls k p e who is names = let kept = (calls_by_places s w calls).only k p e who is names in who_known s media made w who kept.0 h kept.1
 
-    by : (x : Entry) → entry_in w k p ≡ Some x → IsEntryWithin s x
-    by (entry.Take name unit) there = (who (entry.Take name unit) name there refl, omega (arith, h.takes k p name unit there, slice_get_within (at k w.codecs) p (entry.Take name unit) there, h.entries k))
-    by (entry.Done epoch item moment o) at = (h.own k p (entry.Done epoch item moment o) at, let end = boxes.ends k p epoch item moment o at in outcome_within s media made w _ o h end.says)
-    by (entry.Reclaim moment) at = h.own k p (entry.Reclaim moment) at
-    by (entry.Start epoch item) at = tt
-    by entry.Turn at = tt
-    by x at = who x _ at refl
+entry_within : (s : ScriptData) (media : List (List Chunk)) (made : List CoderId) (w : Recorded) → IsKnown s media made w → CallsAreIn s w → BoxesAccounted made (opening_at s) w.codecs w.slots → (k p : ℕ) (e : Entry) → entry_in w k p ≡ Some e → IsEntryWithin s e
+entry_within s media made w h calls boxes k p (entry.Take who unit) is = (named_within s media made w h calls k p (entry.Take who unit) who is refl, omega (arith, h.takes k p who unit is, slice_get_within (at k w.codecs) p (entry.Take who unit) is, h.entries k))
+entry_within s media made w h calls boxes k p (entry.Done epoch item moment o) is = (h.own k p (entry.Done epoch item moment o) is, outcome_within s media made w _ o h (boxes.ends k p epoch item moment o is).says)
+entry_within s media made w h calls boxes k p (entry.Reclaim moment) is = h.own k p (entry.Reclaim moment) is
+entry_within s media made w h calls boxes k p (entry.Start epoch item) is = tt
+entry_within s media made w h calls boxes k p entry.Turn is = tt
+entry_within s media made w h calls boxes k p e is = named_within s media made w h calls k p e _ is refl
 
 -- ---- the registry
 
@@ -336,18 +283,9 @@ op_fits most (slot.Give id number) few up = omega (arith, few, up)
 
 -- ---- the pool
 
-at_some : {X : Type 0} (k j : ℕ) (ls : List (List X)) → j < length (at k ls) → k < length ls
-at_some k j [] lt = absurd (omega (arith, lt))
-at_some zero j (l ∷ ls) lt = omega arith
-at_some (suc k) j (l ∷ ls) lt = omega (arith, at_some k j ls lt)
-
 -- an entry that calls for something is there
 lent_there : (o : Opening) (h : List Entry) (place : ℕ) → (lent_at o h place ≡ [] → ⊥) → (e : Entry) × (slice_get h place ≡ Some e)
-lent_there o h place some = one (slice_get h place) refl some
-  where
-    one : (x : Option Entry) → slice_get h place ≡ x → (called_at o h place x ≡ [] → ⊥) → (e : Entry) × (slice_get h place ≡ Some e)
-    one None is lent = absurd (lent refl)
-    one (Some e) is lent = (e, is)
+lent_there o h place some = by_option (λ x. (called_at o h place x ≡ [] → ⊥) → (e : Entry) × (x ≡ Some e)) (slice_get h place) (λ lent. absurd (lent refl)) (λ e is lent. (e, refl)) some
 
 pool_by_fits : (s : ScriptData) (media : List (List Chunk)) (made : List CoderId) (w : Recorded) (b : By) → IsKnown s media made w → IsMadeBy (lends_in s w) (made_steps w) b → FitsBy s b
 pool_by_fits s media made w (by.Codec k place) h some =
@@ -359,9 +297,12 @@ pool_by_fits s media made w (by.Caller who) h step =
 
 -- ---- the lines of a run
 
-result_lines_fit : (s : ScriptData) (n : ℕ) (rs : List StepResult) → n + length rs < 2 ^ 64 → ((j : ℕ) (r : StepResult) → slice_get rs j ≡ Some r → FitsResult s r) → AllByRecursion (FitsLine s) (lines_from result_lines n rs)
-result_lines_fit s n [] few h = tt
-result_lines_fit s n (r ∷ rs) few h = ((omega (arith, few), h 0 r refl), result_lines_fit s (n + 1) rs (omega (arith, few)) (λ j x is. h (suc j) x is))
+-- what holds of the lines of each item holds of all
+each_lines : {X : Type 0} (P : Line → Type 0) (lines : ℕ → X → List Line) (n : ℕ) (xs : List X) → ((i : ℕ) (x : X) → slice_get xs i ≡ Some x → AllByRecursion P (lines (n + i) x)) → AllByRecursion P (lines_from lines n xs)
+each_lines P lines n [] h = tt
+each_lines P lines n (x ∷ xs) h =
+    let at = λ (m : ℕ) (y : _). AllByRecursion P (lines m y) in
+    all_append P (lines n x) (lines_from lines (n + 1) xs) (subst (λ (m : ℕ). at m x) (omega arith) (h 0 x refl)) (each_lines P lines (n + 1) xs (λ i y is. subst (λ (m : ℕ). at m y) (omega arith) (h (suc i) y is)))
 
 caller_lines_fit : (s : ScriptData) (k : ℕ) (cs : List CallerTrace) → k + length cs ≤ length s.callers → length s.callers ≤ most_callers → ((c : ℕ) → length (at c (map (λ c. c.results) cs)) ≤ most_order)
     → ((c j : ℕ) (r : StepResult) → slice_get (at c (map (λ c. c.results) cs)) j ≡ Some r → FitsResult s r) → AllByRecursion (FitsLine s) (lines_from caller_lines k cs)
@@ -369,7 +310,7 @@ caller_lines_fit s k [] le few long h = tt
 caller_lines_fit s k (c ∷ cs) le few long h = (
   (omega (arith, le), omega (arith, le, few)),
   all_append (FitsLine s) (lines_from result_lines 0 c.results) (lines_from caller_lines (k + 1) cs)
-      (result_lines_fit s 0 c.results (omega (arith, long 0)) (λ j r is. h 0 j r is)) (caller_lines_fit s (k + 1) cs (omega (arith, le)) few (λ i. long (suc i)) (λ i j r is. h (suc i) j r is)),
+      (each_lines (FitsLine s) result_lines 0 c.results (λ j r is. ((omega (arith, long 0, slice_get_within c.results j r is), h 0 j r is), tt))) (caller_lines_fit s (k + 1) cs (omega (arith, le)) few (λ i. long (suc i)) (λ i j r is. h (suc i) j r is)),
 )
 
 trace_lines_fit : (laws : CodesAreBytes) (s : ScriptData) (c : CodecItem) (t : CodecTrace) → Always IsNeverStuck → IsLegalTrace c t → (1 ≤ c.saturation) × (c.saturation ≤ 64) → length t.entries ≤ most_order
@@ -393,10 +334,6 @@ codec_lines_fit laws s k (c ∷ cs) (t ∷ ts) always legal le few some long h =
 )
 codec_lines_fit laws s k _ _ always legal le few some long h = tt
 
-slot_lines_fit : (s : ScriptData) (n : ℕ) (es : List SlotEntry) → n + length es < 2 ^ 64 → ((i : ℕ) (e : SlotEntry) → slice_get es i ≡ Some e → FitsBy s e.by × FitsOp e.op) → AllByRecursion (FitsLine s) (lines_from slot_lines n es)
-slot_lines_fit s n [] few h = tt
-slot_lines_fit s n (e ∷ es) few h = let own = h 0 e refl in ((omega (arith, few), own.0, own.1), slot_lines_fit s (n + 1) es (omega (arith, few)) (λ i d is. h (suc i) d is))
-
 saturations : (s : ScriptData) → is_sound s ≡ true → (i : ℕ) (c : CodecItem) → slice_get s.codecs i ≡ Some c → (1 ≤ c.saturation) × (c.saturation ≤ 64)
 saturations s sound i c is =
     let fine = codec_at s i c sound is in
@@ -413,12 +350,13 @@ lines_fit laws stays always numbered s media made run sound within legal fits =
     let callers = caller_lines_fit s 0 run.callers (omega (arith, legal.callers)) h.few.callers h.results (λ c j r is. results_fit laws s media made w sound within h fits.calls fits.looks fits.locals c j r is) in
     let codecs = codec_lines_fit laws s 0 s.codecs run.codecs always legal.codecs (omega (arith, count)) h.few.codecs (saturations s sound) h.entries
     (λ k p e is. (entry_within s media made w h fits.calls fits.boxes k p e is, holds_own laws e (h.own k p e is))) in
-    let pool = pool_lines_fit s 0 run.pool (omega (arith, h.pool)) (λ n e is. (
+    let pool = each_lines (FitsLine s) pool_lines 0 run.pool (λ n e is. ((
+      omega (arith, h.pool, slice_get_within run.pool n e is),
       pool_by_fits s media made w e.by h (entry_made (steps_of s) (brought_to s media w) (lends_in s w) (made_steps w) w.pool fits.accounted n e is),
       pool_ops_fit numbered run.pool (omega (arith, h.pool)) fits.accounted.legal n e is,
-    )) in
-    let slots = slot_lines_fit s 0 run.slots (omega (arith, h.slots)) (λ i e is. (let op = h.ops i e is in
-    (by_fits s media made w e.by h (cause_there made (opening_at s) w.codecs w.slots i e fits.boxes is) op.0, op_fits (length made) e.op within.boxes op.1))) in (
+    ), tt)) in
+    let slots = each_lines (FitsLine s) slot_lines 0 run.slots (λ i e is. (let op = h.ops i e is in
+    ((omega (arith, h.slots, slice_get_within run.slots i e is), by_fits s media made w e.by h (cause_there made (opening_at s) w.codecs w.slots i e fits.boxes is) op.0, op_fits (length made) e.op within.boxes op.1), tt))) in (
       tt,
       all_append (FitsLine s) (lines_from caller_lines 0 run.callers) _ callers
           (all_append (FitsLine s) (lines_from codec_lines 0 run.codecs) _ codecs

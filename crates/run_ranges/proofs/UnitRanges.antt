@@ -1,5 +1,5 @@
 -- The outputs that a codec's definition gives are within their types.
-use Rattle.std.proofs.Common.{ℕ, ℤ, ◌≡◌, ◌<◌, ◌≤◌, ◌+◌, ◌-◌, ◌*◌, ◌/◌, ◌%◌, ◌^◌, ◌&&◌, List, [], ◌∷◌, ◌++◌, length, take, drop, bytes_eq, codes, Option, Some, None, subst, arith, lit<}
+use Rattle.std.proofs.Common.{ℕ, ℤ, ◌≡◌, ◌<◌, ◌≤◌, ◌+◌, ◌-◌, ◌*◌, ◌/◌, ◌%◌, ◌^◌, ◌&&◌, List, [], ◌∷◌, ◌++◌, length, take, drop, bytes_eq, codes, Option, Some, None, IfSome, subst, arith, lit<}
 use Rattle.std.specs.Prelude.{slice_index_or as get_or, nat_le, ◌==◌, pos, ◌+ℤ◌, ◌*ℤ◌}
 use Rattle.std.specs.List.{AllByRecursion, list_any}
 use Rattle.std.proofs.Math.Nat.{div-le_self}
@@ -68,8 +68,7 @@ abbrev pub AreSamplesWithin : Samples → Type 0
 AreSamplesWithin samples = IsShapeWithin samples.shape × IsBytes samples.bytes
 
 abbrev pub IsCarriedWithin : Option AudioDecoderConfig → Type 0
-IsCarriedWithin None = Unit {0}
-IsCarriedWithin (Some d) = IsLabelWithin d
+IsCarriedWithin o = IfSome o IsLabelWithin
 
 -- samples, pictures and chunks that are within their types
 abbrev pub IsUnitWithin : media.Unit → Type 0
