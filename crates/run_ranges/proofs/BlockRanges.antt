@@ -1,10 +1,10 @@
 -- How many blocks a command gives to FLAC's encoder, how long one lasts, and when it begins.
-use Rattle.std.proofs.Common.{ℕ, zero, suc, ℤ, pos, negsuc, ◌≡◌, ◌<◌, ◌≤◌, ◌+◌, ◌-◌, ◌*◌, ◌/◌, ◌^◌, Bool, true, false, cond, List, [], ◌∷◌, ◌++◌, length, length-append, Some, refl, ap, subst, ◌∙◌, append-nil, arith, lit<}
+use Rattle.std.proofs.Common.{ℕ, zero, suc, ℤ, pos, negsuc, ◌≡◌, ◌<◌, ◌≤◌, ◌+◌, ◌-◌, ◌*◌, ◌/◌, ◌^◌, cond, List, [], ◌∷◌, ◌++◌, length, length-append, Some, refl, ap, subst, ◌∙◌, append-nil, arith, lit<}
 use Rattle.std.specs.Prelude.{◌==◌}
 use Rattle.std.specs.Int.{w64, saturate_signed}
 use Rattle.std.specs.Int.Signed.{mag}
 use Rattle.std.proofs.Math.Nat.{div-le_self, div-le_of_le-mul, mul-le-mul_left, mul-le-mul_right, div-lt_iff_lt-mul, lt-mul-div-succ}
-use Rattle.std.proofs.lemmas.Bool.{ne_eqb}
+use Rattle.std.proofs.lemmas.Bool.{ne_eqb, cond_both}
 use Rattle.std.proofs.lemmas.List.Concat.{flat_map-append}
 use Rattle.std.proofs.lemmas.List.FromFn.{length-map-range_with_len}
 use Rattle.wc_base.specs.Options.{cond_is, some_same}
@@ -80,8 +80,4 @@ pub lasts : (n channels frames rate : ℕ) → n ≤ frames * channels → frame
 lasts n channels frames rate few small = omega (arith, div-le_self (n / channels * 1000000) rate, div-le_of_le-mul channels {m = n} {n = frames} (omega (arith, few)), small)
 
 pub block_small : (c : AudioEncoderConfig) → c.block_size < 2 ^ 32 → block_frames c < 2 ^ 32
-block_small c small = by (c.block_size == 0)
-  where
-    by : (b : Bool) → cond b 4096 c.block_size < 2 ^ 32
-    by true = lit< tt
-    by false = small
+block_small c small = cond_both (c.block_size == 0) 4096 c.block_size (λ n. n < 2 ^ 32) (λ is. lit< tt) (λ is. small)

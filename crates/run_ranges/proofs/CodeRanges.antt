@@ -1,12 +1,12 @@
 -- What encoders give: samples that are coded by themselves make bytes, and the config that an output carries is within its type.
-use Rattle.std.proofs.Common.{ℕ, zero, suc, ℤ, pos, negsuc, neg_ℤ, ◌≡◌, ◌<◌, ◌≤◌, ◌-◌, ◌*◌, ◌^◌, ◌*ℤ◌, ◌-ℤ◌, inl, inr, not, Bool, true, false, cond, List, [], ◌∷◌, take, drop, bytes_eq, codes, Option, Some, None, is_some, refl, ap, sym, subst, ◌∙◌, arith, lit<}
+use Rattle.std.proofs.Common.{ℕ, zero, suc, ℤ, pos, negsuc, neg_ℤ, ◌≡◌, ◌<◌, ◌≤◌, ◌-◌, ◌*◌, ◌^◌, ◌*ℤ◌, ◌-ℤ◌, inl, inr, not, true, cond, List, [], ◌∷◌, take, drop, bytes_eq, codes, Option, Some, None, is_some, refl, ap, sym, subst, ◌∙◌, arith, lit<}
 use Rattle.std.specs.Prelude.{◌==◌, unwrap_or}
 use Rattle.std.specs.List.{list_all}
 use Rattle.std.specs.Int.{int_div_euclid}
 use Rattle.std.proofs.Math.IntN.{one, *ℤ-one, pos-*ℤ-pos, negsuc-*ℤ-pos}
 use Rattle.std.proofs.Math.Nat.{pow-suc}
 use lib.IntN.{sub_ℕ}
-use Rattle.std.proofs.lemmas.Bool.{cases_lt, lt-ltb, le-ltb, and_parts}
+use Rattle.std.proofs.lemmas.Bool.{cases_lt, lt-ltb, le-ltb, and_parts, cond_both}
 use Rattle.std.proofs.lemmas.Slice.Eq.{bytes_eq-Decides}
 use Rattle.hex.specs.Hex.{IsBytes}
 use Rattle.wc_base.specs.Options.{some_same}
@@ -133,20 +133,13 @@ no_blank (b ∷ bs) h = at (no_blank bs parts.1)
 -- a codec string that is found among others is a word where each of them is
 found_word : (text word : List ℕ) (k : CodecId) (rest : Option CodecId) → list_all (λ b. not (b == 32)) word ≡ true → list_all is_no_feed word ≡ true
     → (is_some rest ≡ true → IsWord text) → is_some (cond (bytes_eq text word) (Some k) rest) ≡ true → IsWord text
-found_word text word k rest blank feed others = by (bytes_eq text word) refl
-  where
-    by : (b : Bool) → bytes_eq text word ≡ b → is_some (cond b (Some k) rest) ≡ true → IsWord text
-    by true same there = subst IsWord (sym ((bytes_eq-Decides text word).0 same)) (no_blank word blank, feed)
-    by false same there = others there
+found_word text word k rest blank feed others =
+    cond_both (bytes_eq text word) (Some k) rest (λ o. is_some o ≡ true → IsWord text) (λ same there. subst IsWord (sym ((bytes_eq-Decides text word).0 same)) (no_blank word blank, feed)) (λ same there. others there)
 
 codec_word : (text : List ℕ) → is_some (audio_codec text) ≡ true → IsWord text
 codec_word text =
     found_word text (codes "pcm-u8") _ _ refl refl (found_word text (codes "pcm-s16") _ _ refl refl (found_word text (codes "pcm-s24") _ _ refl refl (found_word text (codes "pcm-s32") _ _ refl refl
     (found_word text (codes "alaw") _ _ refl refl (found_word text (codes "ulaw") _ _ refl refl (found_word text (codes "flac") _ _ refl refl (λ there. absurd cc)))))))
-
-named : (o : Option CodecId) → is_some (id_with role.Encode o) ≡ true → is_some o ≡ true
-named None h = absurd cc
-named (Some k) h = refl
 
 pub record IsLabelWithin (d : AudioDecoderConfig) : Type 0 where
   pub word : IsWord d.codec
@@ -160,5 +153,5 @@ label_within d label = by label.config label.passed label.has_coder label.decode
     by : (c : Config) → IsConfigWithin c → is_some (coder_id_of c) ≡ true → decoder_config c ≡ Some d → IsLabelWithin d
     by (config.AudioEncoder c) own coder is =
         let described = described_where (λ (o : Option (List ℕ)). IsBytes (unwrap_or o [])) c nothing_small (stream_description_fits c) in
-        subst IsLabelWithin (some_same _ d is) (record { word = codec_word c.codec (named (audio_codec c.codec) coder); rate = own.0; channels = own.1; description = described })
+        subst IsLabelWithin (some_same _ d is) (record { word = codec_word c.codec (elim (audio_codec c.codec) as (λ o. is_some (id_with role.Encode o) ≡ true → is_some o ≡ true) [ None ↦ λ h. absurd cc | Some i ↦ λ h. refl ] coder); rate = own.0; channels = own.1; description = described })
     by _ own coder is = absurd cc

@@ -1,9 +1,9 @@
 -- What copies of sound and pictures, and their sizes, come to is within its types.
-use Rattle.std.proofs.Common.{ℕ, zero, suc, ◌≡◌, ◌<◌, ◌≤◌, ◌+◌, ◌-◌, ◌*◌, ◌^◌, ◌&&◌, ◌⊎◌, inl, inr, not, Bool, true, false, cond, List, [], ◌∷◌, ◌++◌, length, drop, Option, Result, Ok, Err, refl, ap, ◌∙◌, arith}
-use Rattle.std.specs.Prelude.{nat_lt, nat_le, ◌==◌, slice_index, is_none}
+use Rattle.std.proofs.Common.{ℕ, suc, ◌≡◌, ◌<◌, ◌≤◌, ◌+◌, ◌-◌, ◌*◌, ◌^◌, ◌&&◌, ◌⊎◌, inl, inr, not, Bool, true, cond, List, [], ◌∷◌, ◌++◌, length, drop, Option, Result, Ok, Err, refl, ap, ◌∙◌, arith, eq-eqb}
+use Rattle.std.specs.Prelude.{nat_lt, nat_le, ◌==◌, is_none}
 use Rattle.std.specs.List.{AllByRecursion, list_all}
 use Rattle.std.proofs.Math.Nat.{mul-le-mul_left}
-use Rattle.std.proofs.lemmas.Bool.{and_parts, ltb-true, ltb-false, eqb-true}
+use Rattle.std.proofs.lemmas.Bool.{and_parts, cond_both, ltb-true, ltb-false, eqb-true}
 use Rattle.std.proofs.lemmas.List.{length-replicate}
 use Rattle.hex.specs.Hex.{IsBytes}
 use Rattle.wc_base.specs.declared.error.DomError.{DomError}
@@ -29,36 +29,33 @@ use Rattle.wc_video.specs.Copies as video
 use Rattle.script_types.specs.declared.script.ScriptData.{ScriptData}
 use Rattle.media_variables.specs.Variables.{zeros, audio_copied, frame_copied, planes_copied, chunk_copied, size_found}
 use Rattle.report_lines.specs.Fits.{FitsLayout, FitsLayouts, FitsResult, no_layout}
+use Rattle.run_ranges.proofs.Cases.{by_test}
 use Rattle.run_ranges.proofs.ByteRanges.{both_small, drop_small, zeros_small, spelled_small, flat_small, range_small, bytes_length, flat_length}
 
 -- ---- sound
 
 -- the bytes of a copy are as many as it says that it takes
 sound_length : (shape : SoundShape) (bytes : List ℕ) (p : Plan) → length (sound.copy_of shape bytes p) ≡ sound.copy_size shape p
-sound_length shape bytes p = one (is_planar p.format)
+sound_length shape bytes p =
+    by_test (λ b. length (cond b (channel_of (format_size p.format) shape bytes p.plane p.offset p.count) (frames_of (format_size p.format) shape bytes p.offset p.count)) ≡ format_size p.format * cond b 1 shape.channels * p.count) (is_planar p.format)
+    (λ is. omega (arith, flat_length (λ frame. resized_at (format_size shape.format) (format_size p.format) bytes (place_of shape frame p.plane)) (format_size p.format) (each p.plane) p.offset p.count))
+    (λ is. omega (arith, flat_length (frame_of (format_size p.format) shape bytes) (shape.channels * format_size p.format) frame_each p.offset p.count))
   where
     each : (channel frame : ℕ) → length (resized_at (format_size shape.format) (format_size p.format) bytes (place_of shape frame channel)) ≡ format_size p.format
     each channel frame = bytes_length (format_size p.format) _
 
-    one : (b : Bool) → length (cond b (channel_of (format_size p.format) shape bytes p.plane p.offset p.count) (frames_of (format_size p.format) shape bytes p.offset p.count)) ≡ format_size p.format * cond b 1 shape.channels * p.count
-    one true = omega (arith, flat_length (λ frame. resized_at (format_size shape.format) (format_size p.format) bytes (place_of shape frame p.plane)) (format_size p.format) (each p.plane) p.offset p.count)
-    one false = omega (
-      arith,
-      flat_length (frame_of (format_size p.format) shape bytes) (shape.channels * format_size p.format)
-          (λ frame. flat_length (λ channel. resized_at (format_size shape.format) (format_size p.format) bytes (place_of shape frame channel)) (format_size p.format) (λ channel. each channel frame) 0 shape.channels) p.offset p.count,
-    )
+    frame_each : (frame : ℕ) → length (frame_of (format_size p.format) shape bytes frame) ≡ shape.channels * format_size p.format
+    frame_each frame = flat_length (λ channel. resized_at (format_size shape.format) (format_size p.format) bytes (place_of shape frame channel)) (format_size p.format) (λ channel. each channel frame) 0 shape.channels
 
 -- each sample of a copy is spelled anew
 sound_small : (shape : SoundShape) (bytes : List ℕ) (p : Plan) → IsBytes (sound.copy_of shape bytes p)
-sound_small shape bytes p = one (is_planar p.format)
+sound_small shape bytes p =
+    cond_both (is_planar p.format) (channel_of (format_size p.format) shape bytes p.plane p.offset p.count) (frames_of (format_size p.format) shape bytes p.offset p.count) IsBytes
+    (λ is. flat_small (λ frame. resized_at (format_size shape.format) (format_size p.format) bytes (place_of shape frame p.plane)) (each p.plane) p.offset p.count)
+    (λ is. flat_small (frame_of (format_size p.format) shape bytes) (λ frame. flat_small (λ channel. resized_at (format_size shape.format) (format_size p.format) bytes (place_of shape frame channel)) (λ channel. each channel frame) 0 shape.channels) p.offset p.count)
   where
     each : (channel frame : ℕ) → IsBytes (resized_at (format_size shape.format) (format_size p.format) bytes (place_of shape frame channel))
     each channel frame = spelled_small (format_size p.format) (converted (8 * format_size shape.format) (8 * format_size p.format) (sample_at (format_size shape.format) bytes (place_of shape frame channel)))
-
-    one : (b : Bool) → IsBytes (cond b (channel_of (format_size p.format) shape bytes p.plane p.offset p.count) (frames_of (format_size p.format) shape bytes p.offset p.count))
-    one true = flat_small (λ frame. resized_at (format_size shape.format) (format_size p.format) bytes (place_of shape frame p.plane)) (each p.plane) p.offset p.count
-    one false = flat_small (frame_of (format_size p.format) shape bytes)
-        (λ frame. flat_small (λ channel. resized_at (format_size shape.format) (format_size p.format) bytes (place_of shape frame channel)) (λ channel. each channel frame) 0 shape.channels) p.offset p.count
 
 -- the bytes that were written, and the zeros behind them
 copied_fits : (s : ScriptData) (size : ℕ) (bytes : List ℕ) → size < 2 ^ 64 → length bytes ≤ size → IsBytes bytes → FitsResult s (audio_copied size (Ok bytes))
@@ -66,28 +63,21 @@ copied_fits s size bytes few le small = (omega (arith, few, le), both_small byte
 
 pub sound_copy_fits : (s : ScriptData) (size : ℕ) (shape : SoundShape) (bytes : List ℕ) (r : Result Plan DomError) → size < 2 ^ 64 → FitsResult s (audio_copied size (sound.copy_into shape bytes size r))
 sound_copy_fits s size shape bytes (Err e) few = tt
-sound_copy_fits s size shape bytes (Ok p) few = one (nat_lt size (sound.copy_size shape p)) refl
-  where
-    one : (b : Bool) → nat_lt size (sound.copy_size shape p) ≡ b → FitsResult s (audio_copied size (cond b (Err dom.RangeErr) (Ok (sound.copy_of shape bytes p))))
-    one true is = tt
-    one false is = copied_fits s size (sound.copy_of shape bytes p) few (omega (arith, sound_length shape bytes p, ltb-false size (sound.copy_size shape p) is)) (sound_small shape bytes p)
+sound_copy_fits s size shape bytes (Ok p) few =
+    let copy = sound.copy_of shape bytes p in
+    cond_both (nat_lt size (sound.copy_size shape p)) (Err dom.RangeErr) (Ok copy) (λ r. FitsResult s (audio_copied size r)) (λ is. tt)
+    (λ is. copied_fits s size copy few (omega (arith, sound_length shape bytes p, ltb-false size (sound.copy_size shape p) is)) (sound_small shape bytes p))
 
 pub sound_size_fits : (s : ScriptData) (shape : SoundShape) (r : Result Plan DomError) → FitsResult s (size_found (sound.size_in shape r))
 sound_size_fits s shape (Err e) = tt
-sound_size_fits s shape (Ok p) = one (nat_lt (sound.copy_size shape p) (2 ^ 64)) refl
-  where
-    one : (b : Bool) → nat_lt (sound.copy_size shape p) (2 ^ 64) ≡ b → FitsResult s (size_found (cond b (Ok (sound.copy_size shape p)) (Err dom.RangeErr)))
-    one true is = ltb-true (sound.copy_size shape p) (2 ^ 64) is
-    one false is = tt
+sound_size_fits s shape (Ok p) = cond_both (nat_lt (sound.copy_size shape p) (2 ^ 64)) (Ok (sound.copy_size shape p)) (Err dom.RangeErr) (λ r. FitsResult s (size_found r)) (λ is. ltb-true (sound.copy_size shape p) (2 ^ 64) is) (λ is. tt)
 
 -- ---- chunks
 
 pub chunk_copy_fits : (s : ScriptData) (size : ℕ) (bytes : List ℕ) → size < 2 ^ 64 → IsBytes bytes → FitsResult s (chunk_copied (copied_to bytes (zeros size)) (copied_count bytes (zeros size)))
-chunk_copy_fits s size bytes few small = one (nat_lt (length (zeros size)) (length bytes)) refl
-  where
-    one : (b : Bool) → nat_lt (length (zeros size)) (length bytes) ≡ b → FitsResult s (chunk_copied (cond b (zeros size) (bytes ++ drop (length bytes) (zeros size))) (cond b (Err dom.TypeErr) (Ok (length bytes))))
-    one true is = tt
-    one false is = (omega (arith, few, length-replicate {A = ℕ} size 0, ltb-false (length (zeros size)) (length bytes) is), both_small bytes (drop (length bytes) (zeros size)) small (drop_small (length bytes) (zeros size) (zeros_small size)))
+chunk_copy_fits s size bytes few small =
+    by_test (λ b. FitsResult s (chunk_copied (cond b (zeros size) (bytes ++ drop (length bytes) (zeros size))) (cond b (Err dom.TypeErr) (Ok (length bytes))))) (nat_lt (length (zeros size)) (length bytes)) (λ is. tt)
+    (λ is. (omega (arith, few, length-replicate {A = ℕ} size 0, ltb-false (length (zeros size)) (length bytes) is), both_small bytes (drop (length bytes) (zeros size)) small (drop_small (length bytes) (zeros size) (zeros_small size))))
 
 -- ---- planes
 
@@ -97,9 +87,7 @@ IsPlaneWithin c = FitsLayout c.layout × (end_of c < 2 ^ 32)
 
 rows_some : (p : Plane) (height : ℕ) → 1 ≤ height → 1 ≤ rows_of p height
 rows_some plane.Whole height h = omega arith
-rows_some plane.HalfAcross height h = omega arith
-rows_some plane.Quarter height h = omega arith
-rows_some plane.Pairs height h = omega arith
+rows_some p height h = omega arith
 
 plane_within : (at : ℕ) (shape : PictureShape) (r : Rect) (p : Plane) (l : PlaneLayout) → 1 ≤ r.height → is_fit (plane_copy at shape r p l) ≡ true → IsPlaneWithin (plane_copy at shape r p l)
 plane_within at shape r p l some fit =
@@ -126,11 +114,7 @@ size_small (c ∷ cs) h = omega (arith, h.0.1, size_small cs h.1)
 
 layout_small : (cs : List PlaneCopy) (i : ℕ) → AllByRecursion IsPlaneWithin cs → FitsLayout (layout_at cs i)
 layout_small [] i h = (omega arith, omega arith)
-layout_small (c ∷ cs) i h = one (i == 0) (layout_small cs (i - 1) h.1)
-  where
-    one : (b : Bool) → FitsLayout (layout_at cs (i - 1)) → FitsLayout (cond b c.layout (layout_at cs (i - 1)))
-    one true rest = h.0.0
-    one false rest = rest
+layout_small (c ∷ cs) i h = cond_both (i == 0) c.layout (layout_at cs (i - 1)) FitsLayout (λ is. h.0.0) (λ is. layout_small cs (i - 1) h.1)
 
 no_third : (cs : List PlaneCopy) → length cs ≡ 2 → layout_at cs 2 ≡ no_layout
 no_third [] two = absurd (omega (arith, two))
@@ -139,10 +123,8 @@ no_third (a ∷ b ∷ []) two = refl
 no_third (a ∷ b ∷ c ∷ cs) two = absurd (omega (arith, two))
 
 two_or_three : (f : PictureFormat) → (length (planes_of f) ≡ 2) ⊎ (length (planes_of f) ≡ 3)
-two_or_three picture.I420 = inr refl
-two_or_three picture.I422 = inr refl
-two_or_three picture.I444 = inr refl
 two_or_three picture.Nv12 = inl refl
+two_or_three _ = inr refl
 
 -- ---- plans of copies of pictures
 
@@ -159,15 +141,11 @@ layouts_small f cs count h = record {
   third = layout_small cs 2 h;
 }
 
-not_zero : (n : ℕ) → not (n == 0) ≡ true → 1 ≤ n
-not_zero zero h = absurd cc
-not_zero (suc n) h = omega arith
-
 front : (a b : Bool) → (a && b) ≡ true → a ≡ true
 front a b h = (and_parts a b h).0
 
 rect_some : (shape : PictureShape) (r : Rect) → is_rect_of shape r ≡ true → 1 ≤ r.height
-rect_some shape r h = not_zero r.height (and_parts (not (r.width == 0)) (not (r.height == 0)) (front _ _ (front _ _ (front _ _ h)))).1
+rect_some shape r h = let tall : not (r.height == 0) ≡ true = (and_parts (not (r.width == 0)) (not (r.height == 0)) (front _ _ (front _ _ (front _ _ h)))).1 in grind (arith, eq-eqb)
 
 abbrev planes_in : PictureShape → Rect → List PlaneLayout → List PlaneCopy
 planes_in shape r ls = copies_from 0 shape r (planes_of shape.format) ls
@@ -188,28 +166,18 @@ plan_in_within shape r ls = one (is_rect_of shape r) (length ls == length (plane
     one _ _ _ rect count taken = tt
 
 pub plan_within : (f : Frame) (rect : Option Rect) (layout : Option (List PlaneLayout)) → IsPlanWithin (video.plan_for f rect layout)
-plan_within f rect layout = one (is_none f.held)
-  where
-    one : (b : Bool) → IsPlanWithin (cond b (Err dom.InvalidState) (plan_of f.shape rect layout))
-    one true = tt
-    one false = plan_in_within f.shape (rect_in f.shape rect) (layouts_in f.shape (rect_in f.shape rect) layout)
+plan_within f rect layout = cond_both (is_none f.held) (Err dom.InvalidState) (plan_of f.shape rect layout) IsPlanWithin (λ is. tt) (λ is. plan_in_within f.shape (rect_in f.shape rect) (layouts_in f.shape (rect_in f.shape rect) layout))
 
 -- a byte of a copy is one of the picture's, or one that stood there
 byte_small : (cs : List PlaneCopy) (bytes old : List ℕ) → IsBytes bytes → IsBytes old → (j : ℕ) → video.byte_after cs bytes old j < 256
 byte_small [] bytes old small zeros j = zeros j
-byte_small (c ∷ cs) bytes old small zeros j = one (video.is_written c j) (byte_small cs bytes old small zeros j)
-  where
-    one : (b : Bool) → video.byte_after cs bytes old j < 256 → cond b (slice_index bytes (video.source_of c j)) (video.byte_after cs bytes old j) < 256
-    one true rest = small (video.source_of c j)
-    one false rest = rest
+byte_small (c ∷ cs) bytes old small zeros j = cond_both (video.is_written c j) _ _ (λ b. b < 256) (λ is. small (video.source_of c j)) (λ is. byte_small cs bytes old small zeros j)
 
 pub frame_copy_fits : (s : ScriptData) (bytes old : List ℕ) (r : Result (List PlaneCopy) DomError) → IsBytes bytes → IsBytes old → IsPlanWithin r → FitsResult s (planes_copied bytes old r)
 frame_copy_fits s bytes old (Err e) small zeros h = tt
-frame_copy_fits s bytes old (Ok cs) small zeros h = one (nat_lt (length old) (size_of cs))
-  where
-    one : (b : Bool) → FitsResult s (frame_copied (size_of cs) (layouts_of cs) (cond b (Err dom.TypeErr) (Ok (video.copy_of cs bytes old))))
-    one true = tt
-    one false = (omega (arith, h.1), h.0, range_small (video.byte_after cs bytes old) (byte_small cs bytes old small zeros) 0 (length old))
+frame_copy_fits s bytes old (Ok cs) small zeros h =
+    cond_both (nat_lt (length old) (size_of cs)) (Err dom.TypeErr) (Ok (video.copy_of cs bytes old)) (λ r. FitsResult s (frame_copied (size_of cs) (layouts_of cs) r)) (λ is. tt)
+    (λ is. (omega (arith, h.1), h.0, range_small (video.byte_after cs bytes old) (byte_small cs bytes old small zeros) 0 (length old)))
 
 pub frame_size_fits : (s : ScriptData) (r : Result (List PlaneCopy) DomError) → IsPlanWithin r → FitsResult s (size_found (video.size_in r))
 frame_size_fits s (Err e) h = tt

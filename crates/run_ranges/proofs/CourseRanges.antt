@@ -1,12 +1,13 @@
 -- A course that follows a script's order has no more of anything than the order has items, and what its variables hold and its
 -- codecs were given is within its types.
-use Rattle.std.proofs.Common.{ℕ, zero, suc, ◌≡◌, ◌<◌, ◌≤◌, ◌+◌, ◌*◌, ◌^◌, ◌⊎◌, inl, inr, not, Bool, true, false, List, [], ◌∷◌, ◌++◌, length, length-append, Option, Some, None, refl, ap, sym, subst, add-mul, arith}
+use Rattle.std.proofs.Common.{ℕ, zero, suc, ◌≡◌, ◌<◌, ◌≤◌, ◌+◌, ◌*◌, ◌^◌, ◌⊎◌, inl, inr, not, Bool, true, false, cond, List, [], ◌∷◌, ◌++◌, length, length-append, Option, Some, None, refl, ap, sym, subst, add-mul, arith}
 use Rattle.std.specs.Prelude.{IfSome, slice_get, slice_set, option_map, map}
 use Rattle.std.specs.List.{find, range_with_len}
 use Rattle.std.proofs.Math.Nat.{mul-add, mul-one, one-mul}
 use Rattle.std.proofs.lemmas.Bool.{cond_both}
 use Rattle.std.proofs.lemmas.List.{append-nil, length-map}
 use Rattle.std.proofs.lemmas.Option.{option_and_then_some}
+use Rattle.std.proofs.lemmas.List.FromFn.{length-range_with_len}
 use Rattle.std.proofs.lemmas.List.Sums.{count_by-le-length}
 use Rattle.wc_base.specs.declared.media.SoundShape.{SoundShape}
 use Rattle.wc_base.specs.Options.{some_same}
@@ -17,11 +18,9 @@ use Rattle.wc_config.specs.Configs.{is_valid}
 use Rattle.wc_config.specs.declared.codec.CoderId.{CoderId}
 use Rattle.wc_chunk.specs.declared.chunk.Chunk.{Chunk}
 use Rattle.wc_pool.specs.declared.entry.PoolEntry.{PoolEntry}
-use Rattle.wc_pool.specs.declared.entry.PoolOp.{PoolOp}
 use Rattle.wc_pool.specs.declared.entry.PoolOp.TheVariants as pool_op
 use Rattle.wc_pool.specs.declared.reference.MediaRef.{MediaRef}
 use Rattle.wc_pool.specs.Bag.{references_made}
-use Rattle.wc_audio.specs.Sound.{Sound}
 use Rattle.coder_api.specs.Meaning.{is_id}
 use Rattle.coder_api.specs.declared.slot.SlotEntry.{SlotEntry}
 use Rattle.coder_api.specs.declared.slot.SlotOp.{SlotOp}
@@ -34,10 +33,8 @@ use Rattle.codec_model.specs.declared.entry.Pair.{Pair}
 use Rattle.codec_model.specs.declared.entry.Handed.TheVariants as handed
 use Rattle.codec_model.specs.declared.entry.Entry.{Entry}
 use Rattle.codec_model.specs.declared.entry.Entry.TheVariants as entry
-use Rattle.codec_model.specs.declared.entry.Removal.{Removal}
-use Rattle.codec_model.specs.declared.entry.Removal.TheVariants as removal
 use Rattle.codec_model.specs.Control.{start_item, may_reclaim}
-use Rattle.codec_model.specs.Replay.{State, opening_state, step as legal_step, replay, replay_from, is_configured, removal_entry}
+use Rattle.codec_model.specs.Replay.{State, opening_state, step as legal_step, replay, replay_from, is_configured}
 use Rattle.codec_model.specs.Held.{running_pairs, waiting_held, held_in, is_removal, is_done, lets_go, leaves_held, adds_held, HeldStays}
 use Rattle.codec_model.specs.Shown.{shown, outputs_of}
 use Rattle.codec_accounts.specs.Owed.{at, append_at}
@@ -155,15 +152,11 @@ variables_set (suc c) zero vs (ws ∷ all) own h = h (suc c)
 variables_set zero (suc k) vs (ws ∷ all) own h = h 0
 variables_set (suc c) (suc k) vs (ws ∷ all) own h = variables_set c k vs all own (λ i. h (suc i))
 
-entries_few : (who : Who) (o : Option PoolOp) → length (entries_of who o) ≤ 1
-entries_few who None = omega arith
-entries_few who (Some o) = omega arith
-
 media_up : (a n p most : ℕ) (who : Who) (y : Came) (v : Course) → AreVariables y.variables → IsCourseUpTo a n p most v → IsCourseUpTo a n (p + 1) most (with_media who y v)
-media_up a n p most who y v own h = record {
+media_up a n p most who y v own h = let few = elim y.does as (λ o. length (entries_of who o) ≤ 1) [ None ↦ omega arith | Some o ↦ omega arith ] in record {
   callers = h.callers;
   codecs = h.codecs;
-  media = omega (arith, length-append v.media.pool (entries_of who y.does), entries_few who y.does, h.media);
+  media = omega (arith, length-append v.media.pool (entries_of who y.does), few, h.media);
   own = record { entries = h.own.entries; variables = λ c. variables_set c who.caller y.variables v.media.variables own h.own.variables };
 }
 
@@ -172,15 +165,8 @@ media_up a n p most who y v own h = record {
 parts_few : (s : State) → (length (running_pairs s) ≤ length (held_in s)) × (length (waiting_held s.control) ≤ length (held_in s))
 parts_few s = let both = length-append (running_pairs s) (waiting_held s.control) in (omega (arith, both), omega (arith, both))
 
-lets_few : (e : Entry) (s : State) → length (lets_go e s) ≤ length (held_in s)
-lets_few e s =
-    let few = λ (ps : List Pair). length ps ≤ length (held_in s) in
-    cond_both (is_done e) _ _ few (λ is. (parts_few s).0) (λ is. cond_both (is_removal e s) _ _ few (λ is. (parts_few s).1) (λ is. omega arith))
-
-leaves_few : (e : Entry) (s : State) → length (leaves_held e s) ≤ length (held_in s)
-leaves_few e s =
-    let few = λ (ps : List Pair). length ps ≤ length (held_in s) in
-    cond_both (is_done e) _ _ few (λ is. (parts_few s).1) (λ is. cond_both (is_removal e s) _ _ few (λ is. (parts_few s).0) (λ is. omega arith))
+either_few : (a b : Bool) (xs ys zs : List Pair) (n : ℕ) → length xs ≤ n → length ys ≤ n → length zs ≤ n → length (cond a xs (cond b ys zs)) ≤ n
+either_few a b xs ys zs n x y z = cond_both a xs (cond b ys zs) (λ ps. length ps ≤ n) (λ is. x) (λ is. cond_both b ys zs (λ ps. length ps ≤ n) (λ is. y) (λ is. z))
 
 adds_few : (e : Entry) → length (adds_held e) ≤ 1
 adds_few (entry.Encode who (handed.Cloned sound)) = omega arith
@@ -188,7 +174,7 @@ adds_few e = omega arith
 
 replay_few : HeldStays → (h : List Entry) (s t : State) → replay_from h s ≡ Some t → length (held_in t) ≤ length (held_in s) + length h
 replay_few stays [] s t is = omega (arith, ap (λ (x : State). length (held_in x)) (some_same s t is))
-replay_few stays (e ∷ es) s t is = option_and_then_some (replay_from es) (legal_step e s) t is (λ u made rest. omega (arith, replay_few stays es u t rest, ap length (stays e s u made), length-append (leaves_held e s) (adds_held e), leaves_few e s, adds_few e))
+replay_few stays (e ∷ es) s t is = option_and_then_some (replay_from es) (legal_step e s) t is (λ u made rest. omega (arith, replay_few stays es u t rest, ap length (stays e s u made), length-append (leaves_held e s) (adds_held e), either_few (is_done e) (is_removal e s) _ _ (held_in s) (length (held_in s)) (parts_few s).1 (parts_few s).0 (omega arith), adds_few e))
 
 -- a codec holds at most one reference for each of its entries
 held_few : HeldStays → (o : Opening) (h : List Entry) → length (held_in (state_after o h)) ≤ length h
@@ -203,7 +189,7 @@ pool_few : HeldStays → (cause : By) (e : Entry) (d : CodecValue) (pool : List 
 pool_few stays cause e d pool n few =
     let clones = clones_of cause (adds_held e) in
     let ends = ends_behind cause pool (lets_go e (state_of d)) in
-    omega (arith, few, length-append pool (clones ++ ends), length-append clones ends, length-map (adds_held e) (λ p. let x : PoolEntry = record { by = cause; op = pool_op.Clone p.resource p.reference } in x), adds_few e, ends_count cause (lets_go e (state_of d)) pool, lets_few e (state_of d), held_few stays d.opening d.history)
+    omega (arith, few, length-append pool (clones ++ ends), length-append clones ends, length-map (adds_held e) (λ p. let x : PoolEntry = record { by = cause; op = pool_op.Clone p.resource p.reference } in x), adds_few e, ends_count cause (lets_go e (state_of d)) pool, either_few (is_done e) (is_removal e (state_of d)) _ _ [] (length (held_in (state_of d))) (parts_few (state_of d)).0 (parts_few (state_of d)).1 (omega arith), held_few stays d.opening d.history)
 
 -- ---- the registry
 
@@ -213,10 +199,6 @@ found_below p a (suc n) x h =
     cond_both (p a) (Some a) (find p (range_with_len (a + 1) n)) (λ o. o ≡ Some x → x < a + suc n)
     (λ is e. omega (arith, some_same a x e)) (λ is e. omega (arith, found_below p (a + 1) n x e)) h
 
-range_count : (a n : ℕ) → length (range_with_len a n) ≡ n
-range_count a zero = refl
-range_count a (suc n) = ap suc (range_count (a + 1) n)
-
 -- a box that is free has a number, and how many are out of how many
 free_few : (most : ℕ) (id : CoderId) (s : SlotsValue) (number : ℕ) → length s.made ≤ most → least_free id s.made s.history ≡ Some number → number ≤ most
 free_few most id s number few is = omega (arith, found_below (λ k. not (is_out id k s.history)) 0 (made_of id s.made) number is, count_by-le-length (is_id id) s.made, few)
@@ -225,7 +207,7 @@ op_up : (most : ℕ) (id : CoderId) (s : SlotsValue) → length s.made ≤ most 
 op_up most id s few =
     let all : made_of id s.made ≤ most = omega (arith, count_by-le-length (is_id id) s.made, few) in
     by_option (λ o. IsOpUpTo most (acquire_op id (out_of id s.made s.history) (made_of id s.made) o)) (least_free id s.made s.history)
-    (omega (arith, count_by-le-length (λ number. is_out id number s.history) (range_with_len 0 (made_of id s.made)), range_count 0 (made_of id s.made), all), all) (λ number is. free_few most id s number few is)
+    (omega (arith, count_by-le-length (λ number. is_out id number s.history) (range_with_len 0 (made_of id s.made)), length-range_with_len 0 (made_of id s.made), all), all) (λ number is. free_few most id s number few is)
 
 -- a registry's history grows by an entry of a cause
 slot_more : (n most long : ℕ) (x : SlotEntry) (s : SlotsValue) → IsByUpTo n x.by × IsOpUpTo most x.op → AreSlotsUpTo n most long s → AreSlotsUpTo n most (long + 1) (record s { history = s.history ++ x ∷ [] })
@@ -297,10 +279,6 @@ MoveHolds (Ask c k e error) = IsOwnEntry e
 MoveHolds (Handle who y) = AreVariables y.variables
 MoveHolds (Receive who k e y) = IsOwnEntry e × AreVariables y.variables
 
--- what an item may add to the pool
-more_pool : (n p : ℕ) → p ≤ n * n + 2 * n + n + 1 + 1 → p ≤ (n + 1) * (n + 1) + 2 * (n + 1)
-more_pool n p few = omega (arith, few, mul-add (n + 1) n 1, mul-one (n + 1), add-mul n 1 n, one-mul n)
-
 move_up : HeldStays → (n most : ℕ) (m : Move) (v : Course) → MoveHolds m → IsCourseAfter n most v → IsCourseAfter (n + 1) most (after_move m v)
 move_up stays n most m v own h = by m own
   where
@@ -308,7 +286,7 @@ move_up stays n most m v own h = by m own
     p = n * n + 2 * n
 
     done : (a b q : ℕ) (u : Course) → a ≤ n + 1 → b ≤ n + 1 → q ≤ p + n + 1 + 1 → IsCourseUpTo a b q most u → IsCourseAfter (n + 1) most u
-    done a b q u results entries pool up = raised a (n + 1) b (n + 1) q ((n + 1) * (n + 1) + 2 * (n + 1)) most u results entries (more_pool n q pool) up
+    done a b q u results entries pool up = raised a (n + 1) b (n + 1) q ((n + 1) * (n + 1) + 2 * (n + 1)) most u results entries (omega (arith, pool, mul-add (n + 1) n 1, mul-one (n + 1), add-mul n 1 n, one-mul n)) up
 
     by : (x : Move) → MoveHolds x → IsCourseAfter (n + 1) most (after_move x v)
     by Idle fine = done n n p v (omega arith) (omega arith) (omega arith) h
@@ -360,51 +338,29 @@ found_own laws k v h =
 
 -- ---- steps
 
-removal_holds : (who : Who) (r : Removal) → IsOwnEntry (removal_entry who r)
-removal_holds who removal.Reset = tt
-removal_holds who removal.Close = tt
-
-decode_holds : (who : Who) (k : ℕ) (o : Option Chunk) (d : CodecValue) → IsChunkThere o → MoveHolds (decode_move who k o d)
-decode_holds who k None d own = tt
-decode_holds who k (Some chunk) d own = own
-
-encode_holds : (who : Who) (k : ℕ) (pool : List PoolEntry) (o : Option Sound) (d : CodecValue) → IsSoundThere o → MoveHolds (encode_move who k pool o d)
-encode_holds who k pool None d own = tt
-encode_holds who k pool (Some x) d own = handed_own who (references_made pool) (is_configured (state_of d).control) x.shape x.held own.0 own.1
-
-handle_holds : (who : Who) (o : Option Came) → IsCameWithin o → MoveHolds (handle_move who o)
-handle_holds who None own = tt
-handle_holds who (Some y) own = own
-
-take_holds : (who : Who) (k : ℕ) (d : CodecValue) (o : Option Came) → IsCameWithin o → MoveHolds (take_move who k d o)
-take_holds who k d None own = tt
-take_holds who k d (Some y) own = (tt, own)
-
 media_holds : CodesAreBytes → (s : ScriptData) (media : List (List Chunk)) (who : Who) (x : MediaStep) (v : Course) → IsContentWithin x → IsCourseOwn v → MoveHolds (media_move s media who x v)
 media_holds laws s media who (on_media.Take on bind kind) v content h =
     let b : Brought = record { chunk = None; taken = found_at on (codec_at on v.codecs) } in
     let vs = variables_of who.caller v.media.variables in
-    take_holds who on (codec_at on v.codecs) (media_came v.media.pool who b (on_media.Take on bind kind) vs) (came_within v.media.pool who b (on_media.Take on bind kind) vs content (found_own laws on v h) (h.variables who.caller))
+    by_option (λ o. IsCameWithin o → MoveHolds (take_move who on (codec_at on v.codecs) o)) (media_came v.media.pool who b (on_media.Take on bind kind) vs) (λ none. tt) (λ y is fine. (tt, fine))
+    (came_within v.media.pool who b (on_media.Take on bind kind) vs content (found_own laws on v h) (h.variables who.caller))
 media_holds laws s media who (on_media.Encode on sound) v content h =
     let vs = variables_of who.caller v.media.variables in
-    encode_holds who on v.media.pool (sound_at vs sound.step) (codec_at on v.codecs) (sound_found vs sound.step (h.variables who.caller))
+    by_option (λ o. IsSoundThere o → MoveHolds (encode_move who on v.media.pool o (codec_at on v.codecs))) (sound_at vs sound.step) (λ none. tt)
+    (λ x is fine. handed_own who (references_made v.media.pool) (is_configured (state_of (codec_at on v.codecs)).control) x.shape x.held fine.0 fine.1) (sound_found vs sound.step (h.variables who.caller))
 media_holds laws s media who x v content h =
     let b : Brought = record { chunk = copied_chunk media (steps_of s who.caller) x; taken = None } in
     let vs = variables_of who.caller v.media.variables in
-    handle_holds who (media_came v.media.pool who b x vs) (came_within v.media.pool who b x vs content tt (h.variables who.caller))
+    by_option (λ o. IsCameWithin o → MoveHolds (handle_move who o)) (media_came v.media.pool who b x vs) (λ none. tt) (λ y is fine. fine) (came_within v.media.pool who b x vs content tt (h.variables who.caller))
 
 step_holds : CodesAreBytes → (s : ScriptData) (media : List (List Chunk)) (made : List CoderId) (who : Who) (x : Step) (v : Course) → AreWithin s media made → slice_get (steps_of s who.caller) who.step ≡ Some x → IsCourseOwn v → MoveHolds (step_move s media who x v)
 step_holds laws s media made who (step.Configure on config) v within is h = λ valid. within.configs who.caller who.step on config is
 step_holds laws s media made who (step.Decode on chunk) v within is h =
     let vs = variables_of who.caller v.media.variables in
     let steps = steps_of s who.caller in
-    decode_holds who on (chunk_for media steps vs chunk.step) (codec_at on v.codecs) (chunk_found (chunk_at media steps chunk.step) vs chunk.step (chunk_made s media made within who.caller chunk.step) (h.variables who.caller))
+    by_option (λ o. IsChunkThere o → MoveHolds (decode_move who on o (codec_at on v.codecs))) (chunk_for media steps vs chunk.step) (λ none. tt) (λ x is fine. fine) (chunk_found (chunk_at media steps chunk.step) vs chunk.step (chunk_made s media made within who.caller chunk.step) (h.variables who.caller))
 step_holds laws s media made who (step.Media x) v within is h = media_holds laws s media who x v (contents_within s media made who.caller who.step x within is) h
 step_holds laws s media made who _ v within is h = tt
-
-next_holds : CodesAreBytes → (s : ScriptData) (media : List (List Chunk)) (made : List CoderId) (who : Who) (o : Option Step) (v : Course) → AreWithin s media made → slice_get (steps_of s who.caller) who.step ≡ o → IsCourseOwn v → MoveHolds (next_move s media who o v)
-next_holds laws s media made who None v within is h = tt
-next_holds laws s media made who (Some x) v within is h = step_holds laws s media made who x v within is h
 
 -- ---- items
 
@@ -414,7 +370,8 @@ advance_holds k f (Some x) h = h x
 
 item_holds : CodesAreBytes → (s : ScriptData) (media : List (List Chunk)) (made : List CoderId) (wants : Bool) (x : OrderItem) (v : Course) → AreWithin s media made → IsMoment x → IsCourseOwn v → MoveHolds (item_move s media wants x v)
 item_holds laws s media made wants (item.Caller c) v within own h =
-    let j = length (at c v.callers) in next_holds laws s media made (record { caller = c; step = j }) (slice_get (steps_of s c) j) v within refl h
+    let who : Who = record { caller = c; step = length (at c v.callers) } in
+    by_option (λ o. MoveHolds (next_move s media who o v)) (slice_get (steps_of s c) who.step) tt (λ x is. step_holds laws s media made who x v within is h)
 item_holds laws s media made wants (item.Start k) v within own h = advance_holds k _ (start_item (state_of (codec_at k v.codecs)).control) (λ i. tt)
 item_holds laws s media made wants (item.Done k moment) v within own h = advance_holds k _ (state_of (codec_at k v.codecs)).control.running (λ r. own)
 item_holds laws s media made wants (item.Turn k) v within own h = elim (state_of (codec_at k v.codecs)).control.tasks as (λ ts. MoveHolds (advance k (turn_on ts))) [ [] ↦ tt | t ∷ ts ↦ tt ]

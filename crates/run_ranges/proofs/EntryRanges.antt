@@ -31,7 +31,7 @@ use Rattle.codec_model.specs.ShownLaws.{replay_append}
 use Rattle.codec_model.specs.Facts.{NamesEarlier, IsNeverStuck, Always}
 use Rattle.codec_model.specs.Earlier.{pending_below, resolved_below}
 use Rattle.script_types.specs.declared.script.ScriptData.{ScriptData}
-use Rattle.trace_text.specs.Report.{entry_line_of, config_lines, output_lines, event_lines, lines_from, entry_lines}
+use Rattle.trace_text.specs.Report.{entry_line_of, output_lines, event_lines, lines_from, entry_lines}
 use Rattle.report_lines.specs.Fits.{FitsWho, FitsOutcome, FitsEntryLine, FitsLine}
 use Rattle.history_laws.specs.Answers.{answer_where}
 use Rattle.history_laws.specs.Numbers.{AreItemsUpTo, IsUpTo}
@@ -41,7 +41,7 @@ use Rattle.history_laws.specs.OutputLaws.{all_append, IsOwn, IsOwnGiven, Own, st
 use Rattle.codec_accounts.specs.Calls.{who_of}
 use Rattle.run_ranges.proofs.Cases.{by_option, comes_after}
 use Rattle.run_ranges.proofs.CodeRanges.{CodesAreBytes}
-use Rattle.run_ranges.proofs.UnitRanges.{IsCarriedWithin, IsUnitWithin, are_given, judge}
+use Rattle.run_ranges.proofs.UnitRanges.{IsUnitWithin, are_given, judge}
 
 -- ---- what a history does not tell
 
@@ -85,9 +85,11 @@ ended_small laws n None epoch number moment x s t busy made h given own = absurd
 ended_small laws n (Some r) epoch number moment x s t busy made h given own =
     let parts = cond_is (eqb r.epoch epoch && eqb r.number number) (done_ended r (ended_of r.kind s.running_given x) moment s) t made in
     let same = and_parts (eqb r.epoch epoch) (eqb r.number number) parts.0 in
-    let small = h.running r busy in
-    (omega (arith, small.0, eqb-true r.epoch epoch same.0), omega (arith, small.1, eqb-true r.number number same.1),
-      by_option (λ e. done_ended r e moment s ≡ Some t → FitsOutcome x) (ended_of r.kind s.running_given x) (λ done. absurd cc) (λ e is done. outcome_small laws r.kind s.running_given x e is given own) parts.1)
+    let small = h.running r busy in (
+      omega (arith, small.0, eqb-true r.epoch epoch same.0),
+      omega (arith, small.1, eqb-true r.number number same.1),
+      by_option (λ e. done_ended r e moment s ≡ Some t → FitsOutcome x) (ended_of r.kind s.running_given x) (λ done. absurd cc) (λ e is done. outcome_small laws r.kind s.running_given x e is given own) parts.1,
+    )
 
 entry_fits : (laws : CodesAreBytes) (script : ScriptData) (n : ℕ) (e : Entry) (s t : State) → step e s ≡ Some t → IsUpTo n s.control → IsOwnGiven (judge laws) s.running_given → n < 2 ^ 64 → IsEntryWithin script e → FitsEntryLine script (entry_line_of e (shown_at e s))
 entry_fits laws script n (entry.Start epoch number) s t is h given few own =
@@ -142,15 +144,12 @@ shown_promises : (e : Entry) (s : State) → s.control.place < 2 ^ 64 → NamesE
 shown_promises entry.Turn s few names below = turned_within s.control.tasks s.control refl few names
 shown_promises e s few names below = search (refused_within, rejection_within, removal_within, closed_within)
 
--- the config that stands behind a chunk
-config_fits : (script : ScriptData) (o : Option AudioDecoderConfig) → IsCarriedWithin o → AllByRecursion (FitsLine script) (config_lines o)
-config_fits script None own = tt
-config_fits script (Some d) own = ((own.word.0, own.word.1, own.rate, own.channels, own.description), tt)
-
+-- a unit, and the config that stands behind a chunk
 output_fits : (script : ScriptData) (u : media.Unit) → IsUnitWithin u → AllByRecursion (FitsLine script) (output_lines u)
 output_fits script (unit.Sound samples) own = (own, tt)
 output_fits script (unit.Image picture) own = (own, tt)
-output_fits script (unit.Coded chunk config) own = (own.0, config_fits script config own.1)
+output_fits script (unit.Coded chunk None) own = (own.0, tt)
+output_fits script (unit.Coded chunk (Some d)) own = (own.0, ((own.1.word.0, own.1.word.1, own.1.rate, own.1.channels, own.1.description), tt))
 
 events_fit : (script : ScriptData) (xs : List Event) → ArePromises xs → AllByRecursion IsUnitWithin (units_in xs) → AllByRecursion (FitsLine script) (flat_map event_lines xs)
 events_fit script [] promises units = tt

@@ -1,6 +1,7 @@
 -- The samples of a FLAC frame are within their types.
 use Rattle.std.proofs.Common.{ℕ, ℤ, ◌≡◌, ◌<◌, ◌+◌, ◌^◌, not, Bool, true, false, cond, List, Option, Some, None, Result, Ok, Err, subst, arith, lit<}
 use Rattle.std.specs.Prelude.{◌==◌}
+use Rattle.std.proofs.lemmas.Bool.{cond_both}
 use Rattle.wc_base.specs.Options.{cond_is, some_same}
 use Rattle.wc_config.specs.declared.stream_info.StreamInfo.{StreamInfo}
 use Rattle.flac_definitions.specs.declared.fault.HeaderFault.{HeaderFault}
@@ -11,7 +12,7 @@ use Rattle.flac_definitions.specs.Bits.{Place, number_at, start_of}
 use Rattle.flac_definitions.specs.Results.{or_fault, without_fault}
 use Rattle.flac_definitions.specs.Results as result
 use Rattle.flac_definitions.specs.GrammarLaws.{number}
-use Rattle.flac_definitions.specs.Header.{field_at, tested_at, is_long_block_size, common_block_size, block_size_at, codes_at, coded_number_at, sample_rate_at, header_sum_at, channels_of, depth_of, if_described, header_at}
+use Rattle.flac_definitions.specs.Header.{field_at, tested_at, is_long_block_size, common_block_size, block_size_at, codes_at, coded_number_at, sample_rate_at, header_sum_at, channels_of, depth_of, header_at}
 use Rattle.flac_definitions.specs.Subframe.{channels_at}
 use Rattle.flac_definitions.specs.Frame.{footer_at, frame_at, if_all_bytes, frame_of}
 use Rattle.history_laws.specs.WholeLaws.{bind_some, bind_ok, fault_none, given_header}
@@ -33,15 +34,10 @@ field_small n p x h = ((number n).sound p x.1 x.0 (fault_or _ (number_at n p) x 
 tested_small : (good : ℕ → Bool) (bad : ℕ → HeaderFault) (n : ℕ) (p : Place) (x : ℕ × Place) → tested_at good bad n p ≡ Ok x → x.0 < 2 ^ n
 tested_small good bad n p x h =
     let found = bind_ok (field_at n p) _ x h in
-    passed (good found.0.0) found.0 found.2 (field_small n p found.0 found.1)
-  where
-    passed : (b : Bool) (y : ℕ × Place) → cond b (Ok y) (Err (bad p.at)) ≡ Ok x → y.0 < 2 ^ n → x.0 < 2 ^ n
-    passed true y e small = subst (λ (z : ℕ × Place). z.0 < 2 ^ n) (ok_same y x e) small
-    passed false y e small = absurd cc
+    cond_both (good found.0.0) _ _ (λ r. r ≡ Ok x → x.0 < 2 ^ n) (λ is e. subst (λ (z : ℕ × Place). z.0 < 2 ^ n) (ok_same found.0 x e) (field_small n p found.0 found.1)) (λ is e. absurd cc) found.2
 
 either : (b : Bool) (m n k : ℕ) → m < k → n < k → cond b m n < k
-either true m n k a c = a
-either false m n k a c = c
+either b m n k a c = cond_both b m n (λ x. x < k) (λ is. a) (λ is. c)
 
 common_small : (code : ℕ) → common_block_size code < 2 ^ 32
 common_small code =
@@ -69,10 +65,6 @@ third : {A E : Type 0} (a b c : Bool) (d e f : E) (x y : A) → cond a (Err d) (
 third false false false d e f x y h = cc
 third _ _ _ d e f x y h = absurd cc
 
-described_same : (info : StreamInfo) (h y : FrameHeader × Place) → if_described info h ≡ Ok y → h ≡ y
-described_same info h y is =
-    third (not (h.0.rate == info.rate)) (not (channels_of h.0.assignment == info.channels)) (not (h.0.depth == info.depth)) (fault.Differs field.Rate) (fault.Differs field.Channels) (fault.Differs field.Depth) h y is
-
 header_small : (info : StreamInfo) (p : Place) (h : FrameHeader × Place) → header_at info p ≡ Ok h → h.0.block < 2 ^ 32
 unfolding header_at
 header_small info p h is =
@@ -82,7 +74,7 @@ header_small info p h is =
     let rate = bind_ok (sample_rate_at info.rate codes.0.0.rate block.0.1) _ h block.2 in
     let sum = bind_ok (header_sum_at p.at rate.0.1) _ h rate.2 in
     let made : FrameHeader × Place = (record { block = block.0.0; rate = rate.0.0; assignment = codes.0.0.assignment; depth = depth_of info.depth codes.0.0.depth; number = number.0.0 }, sum.0.1) in
-    subst (λ (z : FrameHeader × Place). z.0.block < 2 ^ 32) {x = made} (described_same info made h sum.2) (block_small codes.0.0.block number.0.1 block.0 block.1)
+    subst (λ (z : FrameHeader × Place). z.0.block < 2 ^ 32) {x = made} (third (not (made.0.rate == info.rate)) (not (channels_of made.0.assignment == info.channels)) (not (made.0.depth == info.depth)) (fault.Differs field.Rate) (fault.Differs field.Channels) (fault.Differs field.Depth) made h sum.2) (block_small codes.0.0.block number.0.1 block.0 block.1)
 
 frame_small : (info : StreamInfo) (p : Place) (g : (FrameHeader × List ℤ) × Place) → frame_at info p ≡ Some g → g.0.0.block < 2 ^ 32
 unfolding frame_at

@@ -87,13 +87,9 @@ IsRefWithin o = IfSome o (λ r. IsBytes r.bytes)
 abbrev pub IsSoundThere : Option audio.Sound → Type 0
 IsSoundThere o = IfSome o (λ x. IsShapeWithin x.shape × IsRefWithin x.held)
 
-ref_within : (held : Option Reference) → IsHeldWithin held → IsRefWithin (option_map media_ref held)
-ref_within None h = tt
-ref_within (Some r) h = h
-
 sound_in_variable : (o : Option Medium) → IsVariableWithin o → IsSoundThere (option_and_then sound_in o)
 sound_in_variable None own = tt
-sound_in_variable (Some m) own = elim m.shape as (λ x. IsKindWithin x → IsSoundThere (sound_in (record m { shape = x }))) [ SoundOf shape ↦ λ h. (h, ref_within m.held own.1) | _ ↦ λ h. tt ] own.0
+sound_in_variable (Some m) own = elim m.shape as (λ x. IsKindWithin x → IsSoundThere (sound_in (record m { shape = x }))) [ SoundOf shape ↦ λ h. (h, by_option (λ o. IsHeldWithin o → IsRefWithin (option_map media_ref o)) m.held (λ none. tt) (λ r is fine. fine) own.1) | _ ↦ λ h. tt ] own.0
 
 pub sound_found : (vs : List (Option Medium)) (j : ℕ) → AreVariables vs → IsSoundThere (sound_at vs j)
 sound_found vs j h = sound_in_variable (medium_at vs j) (medium_within vs j h)
@@ -156,10 +152,6 @@ size_small_of codecs before (media.Copy of o size) sound =
     leb-true size most_chunk (and_parts (are_options_of o of.kind) (nat_le size most_chunk) named.1).1
 size_small_of codecs before x sound = tt
 
-chunk_answers : (s : ScriptData) (o : Option Chunk) (size : ℕ) → size ≤ most_chunk → IsChunkThere o → FitsResult s (copy_chunk o size)
-chunk_answers s None size few own = tt
-chunk_answers s (Some c) size few own = chunk_copy_fits s size c.bytes (omega (arith, few)) own.2
-
 -- the bytes of a frame that its shape needs
 frame_small : (shape : PictureShape) (held : Option Reference) → IsHeldWithin held → IsBytes (unwrap_or (frames.content_of (frame_of shape held)) [])
 frame_small shape None h = nothing_small
@@ -181,22 +173,18 @@ sizes_fit s _ held _ = tt
 abbrev pub FitsTaken : ScriptData → Option Taken → Type 0
 FitsTaken s o = IfSome o (λ t. FitsResult s t.answer)
 
-unit_answers : (s : ScriptData) (pool : List PoolEntry) (j : ℕ) (answer : StepResult) (u : output.Unit) (vs : List (Option Medium)) → FitsResult s answer → FitsResult s (unit_came pool j answer u vs).answer
-unit_answers s pool j answer (unit.Coded chunk config) vs told = told
-unit_answers s pool j answer _ vs told = told
-
 each_answers : (s : ScriptData) (pool : List PoolEntry) (who : Who) (b : Brought) (vs : List (Option Medium)) → IsChunkThere b.chunk → FitsTaken s b.taken → AreVariables vs → EachCame pool who b vs (λ x y. IsSizeSmall x → FitsResult s y.answer)
 each_answers s pool who b vs small told h = record {
   refuses = λ x e few. tt;
   absent = λ x few. tt;
   audio = λ bind i few. tt;
   frame = λ bind i few. tt;
-  takes = λ on bind kind t is few. unit_answers s pool who.step t.answer t.unit vs (subst (FitsTaken s) is told);
+  takes = λ on bind kind t is few. elim t.unit as (λ u. FitsResult s (unit_came pool who.step t.answer u vs).answer) [ unit.Image picture ↦ subst (FitsTaken s) is told | _ ↦ subst (FitsTaken s) is told ];
   clones = λ of bind m r is holds few. tt;
   transfers = λ of bind m r is holds few. tt;
   closed = λ of m is holds few. tt;
   closes = λ of m r is holds few. tt;
-  copies_chunk = λ of size few. chunk_answers s (chunk_of_variable b.chunk vs of.step) size few (chunk_found b.chunk vs of.step small h);
+  copies_chunk = λ of size few. by_option (λ o. IsChunkThere o → FitsResult s (copy_chunk o size)) (chunk_of_variable b.chunk vs of.step) (λ none. tt) (λ x is own. chunk_copy_fits s size x.bytes (omega (arith, few)) own.2) (chunk_found b.chunk vs of.step small h);
   copies = λ of o size m is few. copies_fit s m.shape m.held o size few (there_within vs of.step m h is).1;
   sizes = λ of o m is few. sizes_fit s m.shape m.held o;
 }
@@ -221,10 +209,6 @@ media_of_is x m is = absurd cc
 media_is : (o : Option Step) (m : MediaStep) → option_and_then media_of o ≡ Some m → o ≡ Some (step.Media m)
 media_is o m is = option_and_then_some media_of o m is (λ x there made. there ∙ ap (λ (y : Step). Some y) (media_of_is x m made))
 
-variables_kept : (o : Option Came) (vs : List (Option Medium)) → IsCameWithin o → AreVariables vs → AreVariables (variables_by o vs)
-variables_kept None vs own h = h
-variables_kept (Some y) vs own h = own
-
 came_on_within : (s : ScriptData) (steps : ℕ → List Step) (brought : ℕ → ℕ → MediaStep → Brought) (pool : List PoolEntry) (c j : ℕ) (vs : List (Option Medium)) → AreSteps s steps brought → AreVariables vs → IsCameWithin (came_on steps brought pool c j vs)
 came_on_within s steps brought pool c j vs given h =
     by_option (λ o. IsCameWithin (option_and_then (λ x. media_came (before_step c j pool) (step_by c j) (brought c j x) x vs) o)) (option_and_then media_of (slice_get (steps c) j)) tt
@@ -236,7 +220,7 @@ variables_within s steps brought pool c zero given = tt
 variables_within s steps brought pool c (suc j) given =
     let h = variables_within s steps brought pool c j given in
     let vs = variables_in steps brought pool c j in
-    variables_kept (came_on steps brought pool c j vs) vs (came_on_within s steps brought pool c j vs given h) h
+    by_option (λ o. IsCameWithin o → AreVariables (variables_by o vs)) (came_on steps brought pool c j vs) (λ none. h) (λ y is own. own) (came_on_within s steps brought pool c j vs given h)
 
 pub came_answers : (s : ScriptData) (steps : ℕ → List Step) (brought : ℕ → ℕ → MediaStep → Brought) (pool : List PoolEntry) (c j : ℕ) → AreSteps s steps brought → IsAnswerWithin s (came_in steps brought pool c j)
 came_answers s steps brought pool c j given =

@@ -1,8 +1,9 @@
 -- What the history of a pool that callers' steps and codecs' entries account for holds is within its types.
-use Rattle.std.proofs.Common.{ℕ, zero, suc, ◌≡◌, ◌<◌, ◌≤◌, ◌+◌, ◌^◌, not, Bool, true, false, cond, List, [], ◌∷◌, ◌++◌, length, length-append, Option, Some, None, refl, ap, sym, subst, ◌∙◌, arith, append_assoc, append-nil, eq-eqb}
+use Rattle.std.proofs.Common.{ℕ, zero, suc, ◌≡◌, ◌<◌, ◌≤◌, ◌+◌, ◌^◌, not, Bool, true, false, cond, List, [], ◌∷◌, ◌++◌, length, length-append, Option, Some, refl, ap, sym, subst, ◌∙◌, arith, append_assoc, append-nil, eq-eqb}
 use Rattle.std.specs.Prelude.{nat_lt, slice_get, map, ◌==◌, ◌&&◌}
-use Rattle.std.proofs.lemmas.Bool.{and_parts, and_from, eqb-true, ltb-true}
+use Rattle.std.proofs.lemmas.Bool.{and_parts, and_from, cond_both, eqb-true, ltb-true}
 use Rattle.std.proofs.lemmas.List.Sums.{count_by-le-length}
+use Rattle.run_ranges.proofs.Cases.{by_option, by_test}
 use Rattle.wc_base.specs.declared.who.By.{By}
 use Rattle.wc_base.specs.declared.who.By.TheVariants as by
 use Rattle.wc_pool.specs.declared.entry.PoolEntry.{PoolEntry}
@@ -18,13 +19,9 @@ use Rattle.report_lines.specs.Fits.{FitsPoolOp}
 
 -- ---- counts
 
-one_if : (b : Bool) → cond b 1 0 ≤ 1
-one_if true = omega arith
-one_if false = omega arith
-
 count_small : (p : ℕ → Bool) (n : ℕ) → count_below p n ≤ n
 count_small p zero = omega arith
-count_small p (suc n) = omega (arith, count_small p n, one_if (p n))
+count_small p (suc n) = omega (arith, count_small p n, cond_both (p n) 1 0 (λ k. k ≤ 1) (λ is. omega arith) (λ is. omega arith))
 
 -- a number that passes a test
 record Passes (p : ℕ → Bool) : Type 0 where
@@ -33,20 +30,13 @@ record Passes (p : ℕ → Bool) : Type 0 where
 
 count_exists : (p : ℕ → Bool) (n : ℕ) → (count_below p n ≡ 0 → ⊥) → Passes p
 count_exists p zero some = absurd (some refl)
-count_exists p (suc n) some = one (p n) refl some (count_exists p n)
-  where
-    one : (b : Bool) → p n ≡ b → (count_below p n + cond b 1 0 ≡ 0 → ⊥) → ((count_below p n ≡ 0 → ⊥) → Passes p) → Passes p
-    one true is any rest = record { number = n; passes = is }
-    one false is any rest = rest (λ none. any (omega (arith, none)))
+count_exists p (suc n) some =
+    by_test (λ b. (count_below p n + cond b 1 0 ≡ 0 → ⊥) → p n ≡ b → Passes p) (p n) (λ is any same. record { number = n; passes = is }) (λ is any same. count_exists p n (λ none. any (omega (arith, none)))) some refl
 
 -- ---- what an entry does
 
-number_is : (o : Option ℕ) (r : ℕ) → is_number o r ≡ true → o ≡ Some r
-number_is None r h = absurd cc
-number_is (Some k) r h = ap (λ (n : ℕ). Some n) (eqb-true k r h)
-
 live_is : (r f : ℕ) (h : List PoolEntry) → is_live r f h ≡ true → resource_of f h ≡ Some r
-live_is r f h e = number_is (resource_of f h) r e
+live_is r f h e = by_option (λ o. is_number o r ≡ true → o ≡ Some r) (resource_of f h) (λ none. absurd cc) (λ k is same. ap (λ (n : ℕ). Some n) (eqb-true k r same)) e
 
 -- a resource that is held has a number below the next one
 held_small : LiveAreNumbered → (r : ℕ) (h : List PoolEntry) → is_legal_pool h ≡ true → is_held r h ≡ true → r < resources_made h
@@ -104,11 +94,7 @@ ops_some test zero (d ∷ ds) e is own none =
     let its : test d.by ≡ true = ap (λ (x : PoolEntry). test x.by) same ∙ own in
     let bad : d.op ∷ ops_where test ds ≡ [] = sym (ap (λ (b : Bool). cond b (d.op ∷ ops_where test ds) (ops_where test ds)) its) ∙ none in
     absurd cc
-ops_some test (suc n) (d ∷ ds) e is own none = next (test d.by) none (λ rest. ops_some test n ds e is own rest)
-  where
-    next : (b : Bool) → cond b (d.op ∷ ops_where test ds) (ops_where test ds) ≡ [] → (ops_where test ds ≡ [] → ⊥) → ⊥
-    next true some more = absurd cc
-    next false rest more = more rest
+ops_some test (suc n) (d ∷ ds) e is own none = cond_both (test d.by) _ _ (λ l. l ≡ [] → ⊥) (λ its some. absurd cc) (λ its rest. ops_some test n ds e is own rest) none
 
 owing : (b : Bool) (y : Option Came) → (owes b y ≡ [] → ⊥) → b ≡ true
 owing true y some = refl

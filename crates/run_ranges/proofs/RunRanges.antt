@@ -1,5 +1,5 @@
 -- The lines of a legal run that fits its script are within their types, and name callers and codecs that are there.
-use Rattle.std.proofs.Common.{◌≡◌, ℕ, zero, suc, ◌+◌, ◌*◌, ◌<◌, ◌≤◌, ◌^◌, ◌&&◌, true, List, [], ◌∷◌, length, map, take, Option, Some, None, refl, sym, subst, ◌∙◌, arith}
+use Rattle.std.proofs.Common.{◌≡◌, ℕ, zero, suc, ◌+◌, ◌*◌, ◌<◌, ◌≤◌, ◌^◌, ◌&&◌, Bool, true, List, [], ◌∷◌, length, map, take, Option, Some, refl, sym, subst, ◌∙◌, arith}
 use Rattle.std.specs.Prelude.{nat_le, option_map, option_and_then, unwrap_or}
 use Rattle.std.specs.List.{AllByRecursion, zip, slice_get, sum_by}
 use Rattle.std.proofs.Math.Nat.{mul-le-mul}
@@ -11,15 +11,14 @@ use Rattle.wc_base.specs.declared.error.DomError.{DomError}
 use Rattle.wc_base.specs.declared.who.Who.{Who}
 use Rattle.wc_base.specs.declared.who.By.{By}
 use Rattle.wc_base.specs.declared.who.By.TheVariants as by
+use Rattle.wc_config.specs.declared.kind.Kind.{Kind}
 use Rattle.wc_config.specs.declared.codec.CoderId.{CoderId}
 use Rattle.wc_chunk.specs.declared.chunk.Chunk.{Chunk}
 use Rattle.wc_pool.specs.Laws.{LiveAreNumbered}
 use Rattle.coder_api.specs.declared.slot.SlotEntry.{SlotEntry}
 use Rattle.coder_api.specs.declared.slot.SlotOp.{SlotOp}
 use Rattle.coder_api.specs.declared.slot.SlotOp.TheVariants as slot
-use Rattle.codec_model.specs.declared.entry.CodecState.{CodecState}
 use Rattle.codec_model.specs.declared.entry.Opening.{Opening}
-use Rattle.codec_model.specs.declared.entry.PromiseState.{PromiseState}
 use Rattle.codec_model.specs.declared.entry.Entry.{Entry}
 use Rattle.codec_model.specs.declared.entry.Entry.TheVariants as entry
 use Rattle.codec_model.specs.declared.entry.Outcome.{Outcome}
@@ -30,8 +29,6 @@ use Rattle.codec_model.specs.Held.{HeldStays}
 use Rattle.codec_model.specs.Facts.{IsNeverStuck, Always}
 use Rattle.script_types.specs.declared.script.ScriptData.{ScriptData}
 use Rattle.script_types.specs.declared.script.CodecItem.{CodecItem}
-use Rattle.script_types.specs.declared.script.CallerItem.{CallerItem}
-use Rattle.script_types.specs.declared.script.OrderItem.{OrderItem}
 use Rattle.script_types.specs.declared.steps.MediaStep.TheVariants as media_step
 use Rattle.script_types.specs.declared.steps.Step.{Step}
 use Rattle.script_types.specs.declared.steps.Step.TheVariants as step
@@ -47,7 +44,7 @@ use Rattle.trace_text.specs.Report.{lines_from, result_lines, caller_lines, entr
 use Rattle.media_variables.specs.Variables.{Medium, Came, chunk_in}
 use Rattle.media_accounts.specs.Accounts.{called_at, lent_at}
 use Rattle.trace_text.specs.Follow.{Recorded, opening_at, output_at, steps_of, chunk_at, order_items}
-use Rattle.trace_text.specs.FitsLaws.{calls_by_places, order_by_places}
+use Rattle.trace_text.specs.FitsLaws.{look_of, calls_by_places, order_by_places}
 use Rattle.trace_text.specs.Fits.{recorded_of, mark_of, result_in, entry_in, step_in, CallsAreIn, LookShows, LooksAreIn, IsLocalAnswer, LocalsAreIn, IsResultOf, taken_by, variables_at, came_at, brought_to, made_steps, lends_in, Fits, IsLegalTrace, AreLegalTraces, IsLegalRun}
 use Rattle.codec_accounts.specs.Owed.{at}
 use Rattle.report_text.specs.declared.line.Line.{Line}
@@ -79,10 +76,6 @@ record AreFew (s : ScriptData) : Type 0 where
   callers : length s.callers ≤ most_callers
   order : length (order_items s) ≤ most_order
 
-order_few : (codecs : ℕ) (callers : List CallerItem) (o : Option (List OrderItem)) → is_sound_order codecs callers o ≡ true → length (unwrap_or o []) ≤ most_order
-order_few codecs callers None h = omega arith
-order_few codecs callers (Some items) h = leb-true (length items) most_order (and_parts (nat_le (length items) most_order) _ h).0
-
 are_few_in : (s : ScriptData) → is_sound s ≡ true → AreFew s
 are_few_in s sound =
     let parts = parts_of s sound in
@@ -90,7 +83,7 @@ are_few_in s sound =
     record {
       codecs = leb-true (length s.codecs) most_codecs few.0;
       callers = leb-true (length s.callers) most_callers (and_parts (nat_le (length s.callers) most_callers) (nat_le (sum_by (λ c. length c.steps) s.callers) most_steps) few.1).0;
-      order = order_few (length s.codecs) s.callers s.order parts.order;
+      order = by_option (λ o. is_sound_order (length s.codecs) s.callers o ≡ true → length (unwrap_or o []) ≤ most_order) s.order (λ fine. omega arith) (λ items is fine. leb-true (length items) most_order (and_parts (nat_le (length items) most_order) _ fine).0) parts.order;
     }
 
 -- ---- what was recorded
@@ -164,12 +157,6 @@ take_fits s media made w h calls c j k p unit is =
     let place : p < 2 ^ 64 = omega (arith, slice_get_within (at k w.codecs) p (entry.Take who unit) stands, h.entries k) in
     (codec_known s media made w k h (at_there k p w.codecs (entry.Take who unit) stands), place, omega (arith, place, h.takes k p who unit stands))
 
-look_there : (s : ScriptData) (media : List (List Chunk)) (made : List CoderId) (w : Recorded) (c k n : ℕ) (end : PromiseState) (x : Step) → IsKnown s media made w → CallsAreIn s w → LookShows s w c x (result.Look k n end) → IsCodec s k
-look_there s media made w c k n end (step.Await promise) h calls shows = (call_fits s media made w h calls c promise.step k shows.0 shows.1 shows.2).0
-look_there s media made w c k n end (step.Poll promise) h calls shows = (call_fits s media made w h calls c promise.step k shows.0 shows.1 shows.2).0
-look_there s media made w c k n end (step.Media (media_step.Take on bind kind)) h calls shows = absurd shows
-look_there s media made w c k n end _ h calls shows = absurd shows
-
 -- the size after a history is at most its length
 replay_up : (h : List Entry) (s t : State) (n : ℕ) → replay_from h s ≡ Some t → IsUpTo n s.control → IsUpTo (n + length h) t.control
 replay_up [] s t n r up = subst (λ (u : State). IsUpTo (n + 0) u.control) (some_same s t r) (subst (λ (m : ℕ). IsUpTo m s.control) (omega arith) up)
@@ -178,25 +165,24 @@ replay_up (e ∷ es) s t n r up = option_and_then_some (replay_from es) (legal_s
 size_small : (o : Opening) (h : List Entry) → (state_after o h).control.size ≤ length h
 size_small o h = by_default (λ t. t.control.size ≤ length h) (replay o h) (opening_state o) (omega arith) (λ t is. omega (arith, (replay_up h (opening_state o) t 0 is (opening_up o)).size))
 
--- a look of a take that found no output
-none_fits : (s : ScriptData) (media : List (List Chunk)) (made : List CoderId) (w : Recorded) (c j k n : ℕ) (x : Step) → is_sound s ≡ true → IsKnown s media made w → step_in s c j ≡ Some x → LookShows s w c x (result.NoUnit k n) → IsCodec s k
-none_fits s media made w c j k n (step.Media (media_step.Take on bind kind)) sound h is shows =
+-- a codec that a step names
+codec_named : (s : ScriptData) (media : List (List Chunk)) (made : List CoderId) (w : Recorded) (kind : Kind → Bool) (on k : ℕ) → IsKnown s media made w → is_codec s.codecs kind on ≡ true → on ≡ k → IsCodec s k
+codec_named s media made w kind on k h fine same = let there = codec_within s.codecs kind on fine in (omega (arith, same, there), omega (arith, same, there, h.few.codecs))
+
+-- a look, by the step that looks
+look_fits : (s : ScriptData) (media : List (List Chunk)) (made : List CoderId) (w : Recorded) (c j l m : ℕ) (x : Step) (r : StepResult) → is_sound s ≡ true → IsKnown s media made w → CallsAreIn s w → step_in s c j ≡ Some x
+    → mark_of r ≡ mark.Look l m → ((k n : ℕ) → look_of r ≡ Some (k, n) → n ≤ length (at k w.codecs)) → LookShows s w c x r → FitsResult s r
+look_fits s media made w c j l m (step.Await promise) (result.Look k n end) sound h calls is looks seen shows = ((call_fits s media made w h calls c promise.step k shows.0 shows.1 shows.2).0, omega (arith, seen k n refl, h.entries k))
+look_fits s media made w c j l m (step.Poll promise) (result.Look k n end) sound h calls is looks seen shows = ((call_fits s media made w h calls c promise.step k shows.0 shows.1 shows.2).0, omega (arith, seen k n refl, h.entries k))
+look_fits s media made w c j l m (step.State on) (result.State k n state size) sound h calls is looks seen shows =
+    let caller = caller_of_step s.callers c j (step.State on) is in
+    (codec_named s media made w any_kind on k h (step_at s c j caller.0 (step.State on) sound caller.1 caller.2) shows.0, omega (arith, seen k n refl, h.entries k), omega (arith, shows.2, size_small (opening_at s k) (take n (at k w.codecs)), length-take n (at k w.codecs), h.entries k))
+look_fits s media made w c j l m (step.Media (media_step.Take on bind kind)) (result.NoUnit k n) sound h calls is looks seen shows =
     let x = step.Media (media_step.Take on bind kind) in
     let caller = caller_of_step s.callers c j x is in
     let fine = step_at s c j caller.0 x sound caller.1 caller.2 in
-    let there = codec_within s.codecs (gives kind) on (and_parts (is_codec s.codecs (gives kind) on) (is_free (take j caller.0.steps) bind) fine).0 in
-    let codec : k < length s.codecs = omega (arith, shows.0, there) in
-    (codec, omega (arith, codec, h.few.codecs))
-none_fits s media made w c j k n _ sound h is shows = absurd shows
-
-state_fits : (s : ScriptData) (media : List (List Chunk)) (made : List CoderId) (w : Recorded) (c j k n : ℕ) (state : CodecState) (size : ℕ) (x : Step) → is_sound s ≡ true → IsKnown s media made w → step_in s c j ≡ Some x → LookShows s w c x (result.State k n state size) → IsCodec s k × (size < 2 ^ 64)
-state_fits s media made w c j k n state size (step.State on) sound h is shows =
-    let caller = caller_of_step s.callers c j (step.State on) is in
-    let there = codec_within s.codecs any_kind on (step_at s c j caller.0 (step.State on) sound caller.1 caller.2) in
-    let codec : k < length s.codecs = omega (arith, shows.0, there) in
-    ((codec, omega (arith, codec, h.few.codecs)), omega (arith, shows.2, size_small (opening_at s k) (take n (at k w.codecs)), length-take n (at k w.codecs), h.entries k))
-state_fits s media made w c j k n state size (step.Media (media_step.Take on bind kind)) sound h is shows = absurd shows
-state_fits s media made w c j k n state size _ sound h is shows = absurd shows
+    (codec_named s media made w (gives kind) on k h (and_parts (is_codec s.codecs (gives kind) on) (is_free (take j caller.0.steps) bind) fine).0 shows.0, omega (arith, seen k n refl, h.entries k))
+look_fits s media made w c j l m x r sound h calls is looks seen shows = grind arith
 
 -- what a caller's step took
 taken_within : CodesAreBytes → (s : ScriptData) (media : List (List Chunk)) (made : List CoderId) (w : Recorded) → IsKnown s media made w → (o : Option StepResult) → IsOutputWithin (taken_by s w o)
@@ -211,14 +197,10 @@ taken_fits s media made w h calls c j (Some (result.Unit k p n)) is =
 taken_fits s media made w h calls c j o is = tt
 
 -- what is known of a script's steps on media
-chunk_copied : (s : ScriptData) (media : List (List Chunk)) (made : List CoderId) → AreWithin s media made → (c : ℕ) (o : Option ℕ) → IsChunkThere (option_and_then (chunk_at media (steps_of s c)) o)
-chunk_copied s media made within c None = tt
-chunk_copied s media made within c (Some j) = chunk_made s media made within c j
-
 steps_within : CodesAreBytes → (s : ScriptData) (media : List (List Chunk)) (made : List CoderId) (w : Recorded) → is_sound s ≡ true → AreWithin s media made → IsKnown s media made w → CallsAreIn s w → AreSteps s (steps_of s) (brought_to s media w)
 steps_within laws s media made w sound within h calls = record {
   contents = λ c j x is. contents_within s media made c j x within is;
-  copied = λ c j x. chunk_copied s media made within c (chunk_in x);
+  copied = λ c j x. by_option (λ o. IsChunkThere (option_and_then (chunk_at media (steps_of s c)) o)) (chunk_in x) tt (λ i is. chunk_made s media made within c i);
   outputs = λ c j x. taken_within laws s media made w h (result_in w c j);
   told = λ c j x. taken_fits s media made w h calls c j (result_in w c j) refl;
   sizes = λ c j x is. (let caller = caller_of_step s.callers c j (step.Media x) is in size_small_of s.codecs (take j caller.0.steps) x (step_at s c j caller.0 (step.Media x) sound caller.1 caller.2));
@@ -235,23 +217,14 @@ local_fits s media w vs came who x r local within of h = grind arith
 
 results_fit : CodesAreBytes → (s : ScriptData) (media : List (List Chunk)) (made : List CoderId) (w : Recorded) → is_sound s ≡ true → AreWithin s media made → IsKnown s media made w → CallsAreIn s w → LooksAreIn s w → LocalsAreIn s media w → (c j : ℕ) (r : StepResult) → result_in w c j ≡ Some r → FitsResult s r
 results_fit laws s media made w sound within h calls looks locals c j (result.Call k p error) is = call_fits s media made w h calls c j k p error is
-results_fit laws s media made w sound within h calls looks locals c j (result.Look k n end) is =
-    let step = calls.made c j (result.Look k n end) is in
-    let seen = (order_by_places w looks.climbs).within c j k n (result.Look k n end) is refl in
-    (look_there s media made w c k n end step.0 h calls (looks.shows c j step.0 (result.Look k n end) step.1 is), omega (arith, seen, h.entries k))
-results_fit laws s media made w sound within h calls looks locals c j (result.State k n state size) is =
-    let step = calls.made c j (result.State k n state size) is in
-    let seen = (order_by_places w looks.climbs).within c j k n (result.State k n state size) is refl in
-    let shown = state_fits s media made w c j k n state size step.0 sound h step.1 (looks.shows c j step.0 (result.State k n state size) step.1 is) in
-    (shown.0, omega (arith, seen, h.entries k), shown.1)
 results_fit laws s media made w sound within h calls looks locals c j (result.Unit k p n) is = take_fits s media made w h calls c j k p n is
-results_fit laws s media made w sound within h calls looks locals c j (result.NoUnit k n) is =
-    let step = calls.made c j (result.NoUnit k n) is in
-    let seen = (order_by_places w looks.climbs).within c j k n (result.NoUnit k n) is refl in
-    (none_fits s media made w c j k n step.0 sound h step.1 (looks.shows c j step.0 (result.NoUnit k n) step.1 is), omega (arith, seen, h.entries k))
 results_fit laws s media made w sound within h calls looks locals c j r is =
     let step = calls.made c j r is in
-    local_fits s media w (variables_at s media w c j) (came_at s media w c j) (record { caller = c; step = j }) step.0 r refl (came_answers s (steps_of s) (brought_to s media w) w.pool c j (steps_within laws s media made w sound within h calls)) step.2 (locals c j step.0 r step.1 is)
+    elim (mark_of r) as (λ m. mark_of r ≡ m → FitsResult s r) [
+      | mark.Call k p ↦ λ its. absurd cc
+      | mark.Look k n ↦ λ its. look_fits s media made w c j k n step.0 r sound h calls step.1 its (λ l m same. (order_by_places w looks.climbs).within c j l m r is same) (looks.shows c j step.0 r step.1 is)
+      | mark.Local ↦ λ its. local_fits s media w (variables_at s media w c j) (came_at s media w c j) (record { caller = c; step = j }) step.0 r its (came_answers s (steps_of s) (brought_to s media w) w.pool c j (steps_within laws s media made w sound within h calls)) step.2 (locals c j step.0 r step.1 is)
+    ] refl
 
 -- ---- entries
 
@@ -350,11 +323,14 @@ lines_fit laws stays always numbered s media made run sound within legal fits =
     let callers = caller_lines_fit s 0 run.callers (omega (arith, legal.callers)) h.few.callers h.results (λ c j r is. results_fit laws s media made w sound within h fits.calls fits.looks fits.locals c j r is) in
     let codecs = codec_lines_fit laws s 0 s.codecs run.codecs always legal.codecs (omega (arith, count)) h.few.codecs (saturations s sound) h.entries
     (λ k p e is. (entry_within s media made w h fits.calls fits.boxes k p e is, holds_own laws e (h.own k p e is))) in
-    let pool = each_lines (FitsLine s) pool_lines 0 run.pool (λ n e is. ((
-      omega (arith, h.pool, slice_get_within run.pool n e is),
-      pool_by_fits s media made w e.by h (entry_made (steps_of s) (brought_to s media w) (lends_in s w) (made_steps w) w.pool fits.accounted n e is),
-      pool_ops_fit numbered run.pool (omega (arith, h.pool)) fits.accounted.legal n e is,
-    ), tt)) in
+    let pool = each_lines (FitsLine s) pool_lines 0 run.pool (λ n e is. (
+      (
+        omega (arith, h.pool, slice_get_within run.pool n e is),
+        pool_by_fits s media made w e.by h (entry_made (steps_of s) (brought_to s media w) (lends_in s w) (made_steps w) w.pool fits.accounted n e is),
+        pool_ops_fit numbered run.pool (omega (arith, h.pool)) fits.accounted.legal n e is,
+      ),
+      tt,
+    )) in
     let slots = each_lines (FitsLine s) slot_lines 0 run.slots (λ i e is. (let op = h.ops i e is in
     ((omega (arith, h.slots, slice_get_within run.slots i e is), by_fits s media made w e.by h (cause_there made (opening_at s) w.codecs w.slots i e fits.boxes is) op.0, op_fits (length made) e.op within.boxes op.1), tt))) in (
       tt,

@@ -77,9 +77,6 @@ each_next = record {
   reclaim = λ moment s may. same_next s.control.taken _ refl;
 }
 
-step_next : (e : Entry) (s t : State) → step e s ≡ Some t → IsNext e s t
-step_next = by_steps IsNext each_next
-
 -- ---- a history
 
 -- a take's number is how many there were before it
@@ -89,7 +86,7 @@ takes_from (e ∷ es) s zero who unit legal is =
     let made = comes_after (replay_from es) (step e s) legal in
     let may = (cond_is (may_take unit s.control) _ made.0 (subst (λ (x : Entry). step x s ≡ Some made.0) (some_same e (entry.Take who unit) is) made.1)).0 in
     omega (arith, eqb-true unit s.control.taken (and_parts (eqb unit s.control.taken) (nat_lt unit s.control.shown) may).0)
-takes_from (e ∷ es) s (suc p) who unit legal is = let made = comes_after (replay_from es) (step e s) legal in omega (arith, takes_from es made.0 p who unit made.2 is, step_next e s made.0 made.1)
+takes_from (e ∷ es) s (suc p) who unit legal is = let made = comes_after (replay_from es) (step e s) legal in omega (arith, takes_from es made.0 p who unit made.2 is, by_steps IsNext each_next e s made.0 made.1)
 
 -- the takes of codecs whose histories are legal
 pub takes_small : (cs : List CodecItem) (ts : List CodecTrace) → AreLegalTraces cs ts → (k p : ℕ) (who : Who) (unit : ℕ) → slice_get (at k (map (λ t. t.entries) ts)) p ≡ Some (entry.Take who unit) → unit ≤ p

@@ -37,6 +37,7 @@ use Rattle.history_laws.specs.UnitLaws.{decoded_sound, coded_chunk, picture_give
 use Rattle.history_laws.specs.BlockLaws.{answers_blocks, blocks_where}
 use Rattle.history_laws.specs.StreamLaws.{code_fits}
 use Rattle.run_ranges.specs.Ranges.{IsSizeWithin, IsConfigWithin, IsChunkWithin, IsShapeWithin}
+use Rattle.run_ranges.proofs.Cases.{by_option}
 use Rattle.run_ranges.proofs.CodeRanges.{CodesAreBytes, CodesBytes, codes_bytes, coded_small, IsLabelWithin, label_within}
 use Rattle.run_ranges.proofs.ByteRanges.{spelled_small, flat_small, range_small}
 use Rattle.run_ranges.proofs.FlacRanges.{frame_within}
@@ -91,10 +92,6 @@ one_given c x u within = record { few = λ own. lit< tt; within = λ laws config
 duration_within : (n : ℕ) → n < 2 ^ 64 → FitsOrAbsent (Some n)
 duration_within n small k is = omega (arith, small, some_same n k is)
 
--- a duration is at most as many microseconds as frames have at one frame a second
-duration_small : (frames rate : ℕ) → frames < 2 ^ 32 → FitsOrAbsent (Some (frames * 1000000 / rate))
-duration_small frames rate few = duration_within _ (omega (arith, few, div-le_self (frames * 1000000) rate))
-
 -- ---- FLAC
 
 abbrev IsStreamWithin : StreamInfo → Type 0
@@ -140,7 +137,7 @@ each_given = record {
   frame = λ info c before chunk f said is. one_given (config.AudioDecoder c) (command.Chunk chunk) (flac_sound info chunk f.0 f.1)
       (λ laws config own. (let stream = described_within c.description info said in record { rate = stream.0; channels = stream.1; frames = frame_within info chunk.bytes f is; timestamp = own.0; are_bytes = frame_bytes_small f.0 f.1 }));
   chunk = λ id s c before samples is. one_given (config.AudioEncoder c) (command.Sound samples) (unit.Coded (coded_chunk s samples) None)
-      (λ laws config own. ((own.0.1, duration_small samples.shape.frames samples.shape.rate own.0.0, coded_small s samples.shape samples.bytes (subst CodesBytes is (codes_bytes laws id)) own.1), tt));
+      (λ laws config own. ((own.0.1, duration_within _ (omega (arith, own.0.0, div-le_self (samples.shape.frames * 1000000) samples.shape.rate)), coded_small s samples.shape samples.bytes (subst CodesBytes is (codes_bytes laws id)) own.1), tt));
   blocks = blocks_given;
   picture = λ id c shape before chunk bytes is made. one_given (config.VideoDecoder c) (command.Chunk chunk) (unit.Image (picture_given shape chunk bytes))
       (λ laws config own. (let size = shape_within (picture_format id) c.width c.height shape config.0 config.1 is in record { width = size.0; height = size.1; timestamp = own.0; duration = own.1; are_bytes = picture_small (picture_size shape) (chunks_since_drain before ++ chunk.bytes ∷ []) bytes made }));
@@ -148,10 +145,6 @@ each_given = record {
 
 pub are_given : (id : CoderId) (c : Config) (before : List Command) (x : Command) (us : List media.Unit) → answer_after id c before x ≡ Some us → AreGiven c x us
 are_given = by_answers (λ c before x us. AreGiven c x us) each_given
-
-pub carried_within : (o : Option AudioDecoderConfig) → MayCarry IsConfigWithin o → IsCarriedWithin o
-carried_within None may = tt
-carried_within (Some d) may = label_within d may
 
 abbrev pub judge : CodesAreBytes → Judge
 judge laws = record {
@@ -161,5 +154,5 @@ judge laws = record {
   output = IsUnitWithin;
   nothing = tt;
   gives = λ id c before x us own input h. (are_given id c before x us h).within laws own input;
-  relabel = λ c old new may own. (own.0, carried_within new may);
+  relabel = λ c old new may own. (own.0, by_option (λ o. MayCarry IsConfigWithin o → IsCarriedWithin o) new (λ none. tt) (λ d is fine. label_within d fine) may);
 }
