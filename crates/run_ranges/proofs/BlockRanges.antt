@@ -20,11 +20,7 @@ use Rattle.run_ranges.proofs.ByteRanges.{flat_length}
 -- ---- how many blocks
 
 block_pos : (c : AudioEncoderConfig) → 0 < block_frames c
-block_pos c = by c.block_size
-  where
-    by : (n : ℕ) → 0 < cond (n == 0) 4096 n
-    by zero = lit< tt
-    by (suc n) = rw (ne_eqb (suc n) 0 (omega arith)) (omega arith)
+block_pos c = elim c.block_size as (λ n. 0 < cond (n == 0) 4096 n) [ zero ↦ lit< tt | suc n ↦ rw (ne_eqb (suc n) 0 (omega arith)) (omega arith) ]
 
 -- as many values as frames have in all channels
 values_length : (c : AudioEncoderConfig) (s : Samples) → length (values_in c s) ≡ s.shape.frames * c.channels
@@ -53,10 +49,6 @@ completed c inputs s =
     let more = ap (λ (n : ℕ). n / block_samples c) (values_more c inputs s) in
     omega (arith, count, more, whole_more (length (values_of c inputs)) s.shape.frames c.channels (block_frames c) (block_pos c))
 
-rest_few : (rest : List ℤ) (u : media.Unit) → length (unit_of_rest rest u) ≤ 1
-rest_few [] u = omega arith
-rest_few (x ∷ xs) u = omega arith
-
 -- a command gives as many blocks as its samples have frames, or one
 pub blocks_few : (c : AudioEncoderConfig) (before : List Command) (x : Command) (us : List media.Unit) → ((s : Samples) → x ≡ command.Sound s → s.shape.frames < 2 ^ 32) → blocks_answer c before x ≡ Some us → length us < 2 ^ 64
 blocks_few c before (command.Sound s) us small h =
@@ -65,7 +57,7 @@ blocks_few c before (command.Sound s) us small h =
 blocks_few c before command.Drain us small h =
     let inputs = inputs_since before in
     let last = unit_at c inputs (whole_blocks c inputs) in
-    subst (λ (vs : List media.Unit). length vs < 2 ^ 64) (some_same (unit_of_rest (rest_of c inputs) last) us h) (omega (arith, rest_few (rest_of c inputs) last))
+    subst (λ (vs : List media.Unit). length vs < 2 ^ 64) (some_same (unit_of_rest (rest_of c inputs) last) us h) (elim (rest_of c inputs) as (λ l. length (unit_of_rest l last) < 2 ^ 64) [ [] ↦ lit< tt | x ∷ xs ↦ lit< tt ])
 blocks_few c before _ us small h = absurd cc
 
 -- ---- one block

@@ -1,12 +1,12 @@
 -- What encoders give: samples that are coded by themselves make bytes, and the config that an output carries is within its type.
-use Rattle.std.proofs.Common.{ℕ, zero, suc, ℤ, pos, negsuc, neg_ℤ, ◌≡◌, ◌<◌, ◌≤◌, ◌-◌, ◌*◌, ◌^◌, ◌*ℤ◌, ◌-ℤ◌, inl, inr, not, true, cond, List, [], ◌∷◌, take, drop, bytes_eq, codes, Option, Some, None, is_some, refl, ap, sym, subst, ◌∙◌, arith, lit<}
+use Rattle.std.proofs.Common.{ℕ, zero, suc, ℤ, pos, negsuc, neg_ℤ, ◌≡◌, ◌<◌, ◌-◌, ◌*◌, ◌^◌, ◌*ℤ◌, ◌-ℤ◌, inl, inr, not, true, cond, List, [], ◌∷◌, take, drop, bytes_eq, codes, Option, Some, None, is_some, refl, ap, sym, subst, ◌∙◌, arith, lit<}
 use Rattle.std.specs.Prelude.{◌==◌, unwrap_or}
 use Rattle.std.specs.List.{list_all}
 use Rattle.std.specs.Int.{int_div_euclid}
 use Rattle.std.proofs.Math.IntN.{one, *ℤ-one, pos-*ℤ-pos, negsuc-*ℤ-pos}
 use Rattle.std.proofs.Math.Nat.{pow-suc}
-use lib.IntN.{sub_ℕ}
-use Rattle.std.proofs.lemmas.Bool.{cases_lt, lt-ltb, le-ltb, and_parts, cond_both}
+use Rattle.std.proofs.lemmas.Bool.{cases_lt, lt-ltb, le-ltb, cond_both}
+use Rattle.std.proofs.lemmas.List.Folds.{list_all_at}
 use Rattle.std.proofs.lemmas.Slice.Eq.{bytes_eq-Decides}
 use Rattle.hex.specs.Hex.{IsBytes}
 use Rattle.wc_base.specs.Options.{some_same}
@@ -57,16 +57,7 @@ raised_16 (pos n) small = subst Is16 (sym (pos-*ℤ-pos n 256)) (omega (arith, s
 raised_16 (negsuc n) small = subst Is16 (sym (negsuc-*ℤ-pos n 256 ∙ negated (suc n * 256) (omega arith))) (omega (arith, small))
 
 middle_8 : (n : ℕ) → n < 256 → alaw_magnitude (pos n -ℤ pos 128) < 128
-middle_8 n small = elim (cases_lt n 128) [
-  | inl low ↦ subst (λ (z : ℤ). alaw_magnitude z < 128) (sym (below low)) (omega (arith, low))
-  | inr high ↦ subst (λ (z : ℤ). alaw_magnitude z < 128) (sym (above high)) (omega (arith, small, high))
-]
-  where
-    below : n < 128 → sub_ℕ n 128 ≡ negsuc (128 - suc n)
-    below low = rw (lt-ltb n 128 low) refl
-
-    above : 128 ≤ n → sub_ℕ n 128 ≡ pos (n - 128)
-    above high = rw (le-ltb n 128 high) refl
+middle_8 n small = elim (cases_lt n 128) [ inl low ↦ rw (lt-ltb n 128 low) (omega (arith, low)) | inr high ↦ rw (le-ltb n 128 high) (omega (arith, small, high)) ]
 
 kept_16 : (n : ℕ) → n < 2 ^ 16 → Is16 (signed 16 n *ℤ pos 1)
 unfolding one
@@ -120,15 +111,7 @@ abbrev pub IsWord : List ℕ → Type 0
 IsWord text = Lacks 32 text × (list_all is_no_feed text ≡ true)
 
 no_blank : (text : List ℕ) → list_all (λ b. not (b == 32)) text ≡ true → Lacks 32 text
-no_blank [] h = λ i lt same. absurd (omega (arith, lt))
-no_blank (b ∷ bs) h = at (no_blank bs parts.1)
-  where
-    parts : (not (b == 32) ≡ true) × (list_all (λ x. not (x == 32)) bs ≡ true)
-    parts = and_parts (not (b == 32)) _ h
-
-    at : Lacks 32 bs → Lacks 32 (b ∷ bs)
-    at rest zero lt same = absurd (let wrong : not (32 == 32) ≡ true = subst (λ (x : ℕ). not (x == 32) ≡ true) same parts.0 in cc)
-    at rest (suc i) lt same = rest i (omega (arith, lt)) same
+no_blank text h = λ i lt same. (let never = sym (list_all_at (λ (b : ℕ). not (b == 32)) text i 0 lt (ap (λ (b : ℕ). not (b == 32)) same)) ∙ h in absurd cc)
 
 -- a codec string that is found among others is a word where each of them is
 found_word : (text word : List ℕ) (k : CodecId) (rest : Option CodecId) → list_all (λ b. not (b == 32)) word ≡ true → list_all is_no_feed word ≡ true

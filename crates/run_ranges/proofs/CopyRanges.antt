@@ -57,16 +57,12 @@ sound_small shape bytes p =
     each : (channel frame : ℕ) → IsBytes (resized_at (format_size shape.format) (format_size p.format) bytes (place_of shape frame channel))
     each channel frame = spelled_small (format_size p.format) (converted (8 * format_size shape.format) (8 * format_size p.format) (sample_at (format_size shape.format) bytes (place_of shape frame channel)))
 
--- the bytes that were written, and the zeros behind them
-copied_fits : (s : ScriptData) (size : ℕ) (bytes : List ℕ) → size < 2 ^ 64 → length bytes ≤ size → IsBytes bytes → FitsResult s (audio_copied size (Ok bytes))
-copied_fits s size bytes few le small = (omega (arith, few, le), both_small bytes (drop (length bytes) (zeros size)) small (drop_small (length bytes) (zeros size) (zeros_small size)))
-
 pub sound_copy_fits : (s : ScriptData) (size : ℕ) (shape : SoundShape) (bytes : List ℕ) (r : Result Plan DomError) → size < 2 ^ 64 → FitsResult s (audio_copied size (sound.copy_into shape bytes size r))
 sound_copy_fits s size shape bytes (Err e) few = tt
 sound_copy_fits s size shape bytes (Ok p) few =
     let copy = sound.copy_of shape bytes p in
     cond_both (nat_lt size (sound.copy_size shape p)) (Err dom.RangeErr) (Ok copy) (λ r. FitsResult s (audio_copied size r)) (λ is. tt)
-    (λ is. copied_fits s size copy few (omega (arith, sound_length shape bytes p, ltb-false size (sound.copy_size shape p) is)) (sound_small shape bytes p))
+    (λ is. (omega (arith, few, sound_length shape bytes p, ltb-false size (sound.copy_size shape p) is), both_small copy (drop (length copy) (zeros size)) (sound_small shape bytes p) (drop_small (length copy) (zeros size) (zeros_small size))))
 
 pub sound_size_fits : (s : ScriptData) (shape : SoundShape) (r : Result Plan DomError) → FitsResult s (size_found (sound.size_in shape r))
 sound_size_fits s shape (Err e) = tt
@@ -117,10 +113,8 @@ layout_small [] i h = (omega arith, omega arith)
 layout_small (c ∷ cs) i h = cond_both (i == 0) c.layout (layout_at cs (i - 1)) FitsLayout (λ is. h.0.0) (λ is. layout_small cs (i - 1) h.1)
 
 no_third : (cs : List PlaneCopy) → length cs ≡ 2 → layout_at cs 2 ≡ no_layout
-no_third [] two = absurd (omega (arith, two))
-no_third (a ∷ []) two = absurd (omega (arith, two))
 no_third (a ∷ b ∷ []) two = refl
-no_third (a ∷ b ∷ c ∷ cs) two = absurd (omega (arith, two))
+no_third _ two = absurd (omega (arith, two))
 
 two_or_three : (f : PictureFormat) → (length (planes_of f) ≡ 2) ⊎ (length (planes_of f) ≡ 3)
 two_or_three picture.Nv12 = inl refl

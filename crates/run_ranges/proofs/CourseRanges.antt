@@ -279,23 +279,18 @@ MoveHolds (Ask c k e error) = IsOwnEntry e
 MoveHolds (Handle who y) = AreVariables y.variables
 MoveHolds (Receive who k e y) = IsOwnEntry e × AreVariables y.variables
 
+-- an item adds so much to the pool at most
+settled : (n a b q most : ℕ) (u : Course) → a ≤ n + 1 → b ≤ n + 1 → q ≤ n * n + 2 * n + n + 1 + 1 → IsCourseUpTo a b q most u → IsCourseAfter (n + 1) most u
+settled n a b q most u results entries pool h = raised a (n + 1) b (n + 1) q ((n + 1) * (n + 1) + 2 * (n + 1)) most u results entries (omega (arith, pool, mul-add (n + 1) n 1, mul-one (n + 1), add-mul n 1 n, one-mul n)) h
+
 move_up : HeldStays → (n most : ℕ) (m : Move) (v : Course) → MoveHolds m → IsCourseAfter n most v → IsCourseAfter (n + 1) most (after_move m v)
-move_up stays n most m v own h = by m own
-  where
-    p : ℕ
-    p = n * n + 2 * n
-
-    done : (a b q : ℕ) (u : Course) → a ≤ n + 1 → b ≤ n + 1 → q ≤ p + n + 1 + 1 → IsCourseUpTo a b q most u → IsCourseAfter (n + 1) most u
-    done a b q u results entries pool up = raised a (n + 1) b (n + 1) q ((n + 1) * (n + 1) + 2 * (n + 1)) most u results entries (omega (arith, pool, mul-add (n + 1) n 1, mul-one (n + 1), add-mul n 1 n, one-mul n)) up
-
-    by : (x : Move) → MoveHolds x → IsCourseAfter (n + 1) most (after_move x v)
-    by Idle fine = done n n p v (omega arith) (omega arith) (omega arith) h
-    by (Answer c r) fine = done (n + 1) n p _ (omega arith) (omega arith) (omega arith) (result_up n n p most c r v h)
-    by (Advance k e) fine = done n (n + 1) (p + n + 1) _ (omega arith) (omega arith) (omega arith) (entry_up stays n n p most k e v fine h)
-    by (Ask c k e error) fine = done (n + 1) (n + 1) (p + n + 1) _ (omega arith) (omega arith) (omega arith) (result_up n (n + 1) (p + n + 1) most c _ (with_entry k e v) (entry_up stays n n p most k e v fine h))
-    by (Handle who y) fine = done (n + 1) n (p + 1) _ (omega arith) (omega arith) (omega arith) (result_up n n (p + 1) most who.caller y.answer (with_media who y v) (media_up n n p most who y v fine h))
-    by (Receive who k e y) fine = done (n + 1) (n + 1) (p + n + 1 + 1) _ (omega arith) (omega arith) (omega arith)
-        (result_up n (n + 1) (p + n + 1 + 1) most who.caller y.answer (with_media who y (with_entry k e v)) (media_up n (n + 1) (p + n + 1) most who y (with_entry k e v) fine.1 (entry_up stays n n p most k e v fine.0 h)))
+move_up stays n most Idle v own h = settled n _ _ _ most _ (omega arith) (omega arith) (omega arith) h
+move_up stays n most (Answer c r) v own h = settled n _ _ _ most _ (omega arith) (omega arith) (omega arith) (result_up n n _ most c r v h)
+move_up stays n most (Advance k e) v own h = settled n _ _ _ most _ (omega arith) (omega arith) (omega arith) (entry_up stays n n _ most k e v own h)
+move_up stays n most (Ask c k e error) v own h = settled n _ _ _ most _ (omega arith) (omega arith) (omega arith) (result_up n (n + 1) _ most c _ (with_entry k e v) (entry_up stays n n _ most k e v own h))
+move_up stays n most (Handle who y) v own h = settled n _ _ _ most _ (omega arith) (omega arith) (omega arith) (result_up n n _ most who.caller y.answer (with_media who y v) (media_up n n _ most who y v own h))
+move_up stays n most (Receive who k e y) v own h = settled n _ _ _ most _ (omega arith) (omega arith) (omega arith)
+    (result_up n (n + 1) _ most who.caller y.answer (with_media who y (with_entry k e v)) (media_up n (n + 1) _ most who y (with_entry k e v) own.1 (entry_up stays n n _ most k e v own.0 h)))
 
 -- ---- what steps are given
 
@@ -386,13 +381,9 @@ follows_up laws stays s media made most (x ∷ xs) v u n within all h follows =
     let next = move_up stays n most (item_move s media follows.0 x v) v (item_holds laws s media made follows.0 x v within (all 0 x refl) h.own) h in
     subst (λ (m : ℕ). IsCourseAfter m most u) (omega arith) (follows_up laws stays s media made most xs (follow_item s media follows.0 x v) u (n + 1) within (λ i y is. all (suc i) y is) next follows.1)
 
-no_history : (cs : List CodecItem) (k : ℕ) → at k (histories (map (λ c. new_codec (opening_of c)) cs)) ≡ []
-no_history (c ∷ cs) (suc k) = no_history cs k
-no_history _ _ = refl
-
-no_box : (most : ℕ) (cs : List CodecItem) (k : ℕ) → IsBoxUpTo most (codec_at k (map (λ c. new_codec (opening_of c)) cs)).holding.box
-no_box most (c ∷ cs) (suc k) = no_box most cs k
-no_box most _ _ = tt
+no_codec : (most : ℕ) (cs : List CodecItem) (k : ℕ) → (at k (histories (map (λ c. new_codec (opening_of c)) cs)) ≡ []) × IsBoxUpTo most (codec_at k (map (λ c. new_codec (opening_of c)) cs)).holding.box
+no_codec most (c ∷ cs) (suc k) = no_codec most cs k
+no_codec _ _ _ = (refl, tt)
 
 no_variables : (cs : List CallerItem) (c : ℕ) → AreVariables (variables_of c (map (λ x. []) cs))
 no_variables (x ∷ cs) (suc c) = no_variables cs c
@@ -405,7 +396,7 @@ course_up laws stays s media made u within follows =
     begun : IsCourseAfter 0 (length made) (nothing_yet s made)
     begun = record {
       callers = λ c. omega (arith, ap length (at_empty {X = StepResult} c s.callers));
-      codecs = record { few = λ k. omega (arith, ap length (no_history s.codecs k)); slots = record { long_at_most = omega arith; made = omega arith; ops = λ i e is. absurd cc }; boxes = no_box (length made) s.codecs };
+      codecs = record { few = λ k. omega (arith, ap length (no_codec 0 s.codecs k).0); slots = record { long_at_most = omega arith; made = omega arith; ops = λ i e is. absurd cc }; boxes = λ k. (no_codec (length made) s.codecs k).1 };
       media = omega arith;
-      own = record { entries = λ k p e is. absurd (let none : None ≡ Some e = rw (no_history s.codecs k) at is in cc); variables = no_variables s.callers };
+      own = record { entries = λ k p e is. absurd (let none : None ≡ Some e = rw (no_codec 0 s.codecs k).0 at is in cc); variables = no_variables s.callers };
     }

@@ -1,5 +1,5 @@
 -- What the history of a pool that callers' steps and codecs' entries account for holds is within its types.
-use Rattle.std.proofs.Common.{ℕ, zero, suc, ◌≡◌, ◌<◌, ◌≤◌, ◌+◌, ◌^◌, not, Bool, true, false, cond, List, [], ◌∷◌, ◌++◌, length, length-append, Option, Some, refl, ap, sym, subst, ◌∙◌, arith, append_assoc, append-nil, eq-eqb}
+use Rattle.std.proofs.Common.{ℕ, zero, suc, ◌≡◌, ◌<◌, ◌≤◌, ◌+◌, ◌^◌, not, Bool, true, false, cond, List, [], ◌∷◌, ◌++◌, length, length-append, Some, refl, ap, sym, subst, ◌∙◌, arith, append_assoc, append-nil, eq-eqb}
 use Rattle.std.specs.Prelude.{nat_lt, slice_get, map, ◌==◌, ◌&&◌}
 use Rattle.std.proofs.lemmas.Bool.{and_parts, and_from, cond_both, eqb-true, ltb-true}
 use Rattle.std.proofs.lemmas.List.Sums.{count_by-le-length}
@@ -13,7 +13,7 @@ use Rattle.wc_pool.specs.Bag.{makes, mints, resource_of, is_number, is_live, res
 use Rattle.wc_pool.specs.Laws.{LiveAreNumbered}
 use Rattle.script_types.specs.declared.steps.MediaStep.{MediaStep}
 use Rattle.script_types.specs.declared.steps.Step.{Step}
-use Rattle.media_variables.specs.Variables.{Came, Brought}
+use Rattle.media_variables.specs.Variables.{Brought}
 use Rattle.media_accounts.specs.Accounts.{is_by_step, is_by_entry, ops_where, without_last, owes, MediaAreIn, came_in}
 use Rattle.report_lines.specs.Fits.{FitsPoolOp}
 
@@ -96,14 +96,6 @@ ops_some test zero (d ∷ ds) e is own none =
     absurd cc
 ops_some test (suc n) (d ∷ ds) e is own none = cond_both (test d.by) _ _ (λ l. l ≡ [] → ⊥) (λ its some. absurd cc) (λ its rest. ops_some test n ds e is own rest) none
 
-owing : (b : Bool) (y : Option Came) → (owes b y ≡ [] → ⊥) → b ≡ true
-owing true y some = refl
-owing false y some = absurd (some refl)
-
-unmapped : (ops : List PoolOp) → map without_last ops ≡ [] → ops ≡ []
-unmapped [] none = refl
-unmapped (o ∷ os) none = absurd cc
-
 -- a caller's step that was made, or an entry of a codec that calls for something
 abbrev pub IsMadeBy : (ℕ → ℕ → List PoolOp) → (ℕ → ℕ) → By → Type 0
 IsMadeBy lends made (by.Caller who) = who.step < made who.caller
@@ -119,7 +111,7 @@ entry_made steps brought lends made pool h n e is = of (e.by) refl
     of (by.Caller who) its =
         let own : is_by_step who.caller who.step e.by ≡ true = ap (is_by_step who.caller who.step) its ∙ same who.caller who.step in
         ltb-true who.step (made who.caller)
-        (owing (nat_lt who.step (made who.caller)) (came_in steps brought pool who.caller who.step) (λ none. ops_some (is_by_step who.caller who.step) n pool e is own (h.owed who.caller who.step ∙ none)))
+        (by_test (λ b. (owes b (came_in steps brought pool who.caller who.step) ≡ [] → ⊥) → b ≡ true) (nat_lt who.step (made who.caller)) (λ is some. refl) (λ is some. absurd (some refl)) (λ none. ops_some (is_by_step who.caller who.step) n pool e is own (h.owed who.caller who.step ∙ none)))
     of (by.Codec k place) its =
         let own : is_by_entry k place e.by ≡ true = ap (is_by_entry k place) its ∙ same k place in
-        λ none. ops_some (is_by_entry k place) n pool e is own (unmapped (ops_where (is_by_entry k place) pool) (h.codecs k place ∙ none))
+        λ none. ops_some (is_by_entry k place) n pool e is own (elim (ops_where (is_by_entry k place) pool) as (λ os. map without_last os ≡ [] → os ≡ []) [ [] ↦ λ same. refl | o ∷ os ↦ λ same. absurd cc ] (h.codecs k place ∙ none))

@@ -1,5 +1,5 @@
 -- The lines of a legal run that fits its script are within their types, and name callers and codecs that are there.
-use Rattle.std.proofs.Common.{◌≡◌, ℕ, zero, suc, ◌+◌, ◌*◌, ◌<◌, ◌≤◌, ◌^◌, ◌&&◌, Bool, true, List, [], ◌∷◌, length, map, take, Option, Some, refl, sym, subst, ◌∙◌, arith}
+use Rattle.std.proofs.Common.{◌≡◌, ℕ, zero, suc, ◌+◌, ◌*◌, ◌<◌, ◌≤◌, ◌^◌, ◌&&◌, Bool, true, List, [], ◌∷◌, length, map, take, Option, Some, refl, ap, sym, subst, ◌∙◌, arith}
 use Rattle.std.specs.Prelude.{nat_le, option_map, option_and_then, unwrap_or}
 use Rattle.std.specs.List.{AllByRecursion, zip, slice_get, sum_by}
 use Rattle.std.proofs.Math.Nat.{mul-le-mul}
@@ -185,24 +185,19 @@ look_fits s media made w c j l m (step.Media (media_step.Take on bind kind)) (re
 look_fits s media made w c j l m x r sound h calls is looks seen shows = grind arith
 
 -- what a caller's step took
-taken_within : CodesAreBytes → (s : ScriptData) (media : List (List Chunk)) (made : List CoderId) (w : Recorded) → IsKnown s media made w → (o : Option StepResult) → IsOutputWithin (taken_by s w o)
-taken_within laws s media made w h (Some (result.Unit k p n)) =
-    by_option (λ o. IsOutputWithin (option_map (λ u. record { unit = u; answer = result.Unit k p n }) o)) (output_at (opening_at s k) (at k w.codecs) n) tt
-    (λ u is. output_own laws (opening_at s k) (at k w.codecs) (λ q e there. h.own k q e there) n u is)
-taken_within laws s media made w h o = tt
-
-taken_fits : (s : ScriptData) (media : List (List Chunk)) (made : List CoderId) (w : Recorded) → IsKnown s media made w → CallsAreIn s w → (c j : ℕ) (o : Option StepResult) → result_in w c j ≡ o → FitsTaken s (taken_by s w o)
-taken_fits s media made w h calls c j (Some (result.Unit k p n)) is =
-    by_option (λ o. FitsTaken s (option_map (λ u. record { unit = u; answer = result.Unit k p n }) o)) (output_at (opening_at s k) (at k w.codecs) n) tt (λ u found. take_fits s media made w h calls c j k p n is)
-taken_fits s media made w h calls c j o is = tt
+taken_known : CodesAreBytes → (s : ScriptData) (media : List (List Chunk)) (made : List CoderId) (w : Recorded) → IsKnown s media made w → CallsAreIn s w → (c j : ℕ) (o : Option StepResult) → result_in w c j ≡ o → IsOutputWithin (taken_by s w o) × FitsTaken s (taken_by s w o)
+taken_known laws s media made w h calls c j (Some (result.Unit k p n)) is =
+    by_option (λ o. IsOutputWithin (option_map (λ u. record { unit = u; answer = result.Unit k p n }) o) × FitsTaken s (option_map (λ u. record { unit = u; answer = result.Unit k p n }) o)) (output_at (opening_at s k) (at k w.codecs) n) (tt, tt)
+    (λ u found. (output_own laws (opening_at s k) (at k w.codecs) (λ q e there. h.own k q e there) n u found, take_fits s media made w h calls c j k p n is))
+taken_known laws s media made w h calls c j o is = (tt, tt)
 
 -- what is known of a script's steps on media
 steps_within : CodesAreBytes → (s : ScriptData) (media : List (List Chunk)) (made : List CoderId) (w : Recorded) → is_sound s ≡ true → AreWithin s media made → IsKnown s media made w → CallsAreIn s w → AreSteps s (steps_of s) (brought_to s media w)
 steps_within laws s media made w sound within h calls = record {
   contents = λ c j x is. contents_within s media made c j x within is;
   copied = λ c j x. by_option (λ o. IsChunkThere (option_and_then (chunk_at media (steps_of s c)) o)) (chunk_in x) tt (λ i is. chunk_made s media made within c i);
-  outputs = λ c j x. taken_within laws s media made w h (result_in w c j);
-  told = λ c j x. taken_fits s media made w h calls c j (result_in w c j) refl;
+  outputs = λ c j x. (taken_known laws s media made w h calls c j (result_in w c j) refl).0;
+  told = λ c j x. (taken_known laws s media made w h calls c j (result_in w c j) refl).1;
   sizes = λ c j x is. (let caller = caller_of_step s.callers c j (step.Media x) is in size_small_of s.codecs (take j caller.0.steps) x (step_at s c j caller.0 (step.Media x) sound caller.1 caller.2));
 }
 
@@ -277,14 +272,16 @@ each_lines P lines n (x ∷ xs) h =
     let at = λ (m : ℕ) (y : _). AllByRecursion P (lines m y) in
     all_append P (lines n x) (lines_from lines (n + 1) xs) (subst (λ (m : ℕ). at m x) (omega arith) (h 0 x refl)) (each_lines P lines (n + 1) xs (λ i y is. subst (λ (m : ℕ). at m y) (omega arith) (h (suc i) y is)))
 
-caller_lines_fit : (s : ScriptData) (k : ℕ) (cs : List CallerTrace) → k + length cs ≤ length s.callers → length s.callers ≤ most_callers → ((c : ℕ) → length (at c (map (λ c. c.results) cs)) ≤ most_order)
-    → ((c j : ℕ) (r : StepResult) → slice_get (at c (map (λ c. c.results) cs)) j ≡ Some r → FitsResult s r) → AllByRecursion (FitsLine s) (lines_from caller_lines k cs)
-caller_lines_fit s k [] le few long h = tt
-caller_lines_fit s k (c ∷ cs) le few long h = (
-  (omega (arith, le), omega (arith, le, few)),
-  all_append (FitsLine s) (lines_from result_lines 0 c.results) (lines_from caller_lines (k + 1) cs)
-      (each_lines (FitsLine s) result_lines 0 c.results (λ j r is. ((omega (arith, long 0, slice_get_within c.results j r is), h 0 j r is), tt))) (caller_lines_fit s (k + 1) cs (omega (arith, le)) few (λ i. long (suc i)) (λ i j r is. h (suc i) j r is)),
-)
+at_item : {X Y : Type 0} (f : X → List Y) (xs : List X) (i : ℕ) (x : X) → slice_get xs i ≡ Some x → at i (map f xs) ≡ f x
+at_item f [] i x is = absurd cc
+at_item f (y ∷ ys) zero x is = ap f (some_same y x is)
+at_item f (y ∷ ys) (suc i) x is = at_item f ys i x is
+
+legal_at : (cs : List CodecItem) (ts : List CodecTrace) → AreLegalTraces cs ts → (k : ℕ) (t : CodecTrace) → slice_get ts k ≡ Some t → (c : CodecItem) × (slice_get cs k ≡ Some c) × IsLegalTrace c t
+legal_at cs [] legal k u is = absurd cc
+legal_at [] (t ∷ ts) legal k u is = absurd legal
+legal_at (c ∷ cs) (t ∷ ts) legal zero u is = (c, refl, subst (IsLegalTrace c) (some_same t u is) legal.0)
+legal_at (c ∷ cs) (t ∷ ts) legal (suc k) u is = legal_at cs ts legal.1 k u is
 
 trace_lines_fit : (laws : CodesAreBytes) (s : ScriptData) (c : CodecItem) (t : CodecTrace) → Always IsNeverStuck → IsLegalTrace c t → (1 ≤ c.saturation) × (c.saturation ≤ 64) → length t.entries ≤ most_order
     → ((p : ℕ) (e : Entry) → slice_get t.entries p ≡ Some e → IsEntryWithin s e × HoldsOwn (judge laws) e) → AllByRecursion (FitsLine s) (lines_from entry_lines 0 (zip t.entries t.shown))
@@ -294,18 +291,6 @@ trace_lines_fit laws s c t always legal some long h =
     let open_for : 1 ≤ t.opening.saturation = subst (λ (o : Opening). 1 ≤ o.saturation) (sym legal.opening) some.0 in
     subst (λ (xs : List Shown). AllByRecursion (FitsLine s) (lines_from entry_lines 0 (zip t.entries xs))) (sym legal.shown)
     (lines_within laws s t.opening always open_for [] t.entries (opening_state t.opening) 0 refl legal.legal (opening_up t.opening) (opening_own (judge laws) t.opening) (omega (arith, long)) (all_from (IsEntryWithin s) t.entries (λ p e is. (h p e is).0)) own units)
-
-codec_lines_fit : (laws : CodesAreBytes) (s : ScriptData) (k : ℕ) (cs : List CodecItem) (ts : List CodecTrace) → Always IsNeverStuck → AreLegalTraces cs ts → k + length ts ≤ length s.codecs → length s.codecs ≤ most_codecs
-    → ((i : ℕ) (c : CodecItem) → slice_get cs i ≡ Some c → (1 ≤ c.saturation) × (c.saturation ≤ 64)) → ((i : ℕ) → length (at i (map (λ t. t.entries) ts)) ≤ most_order)
-    → ((i p : ℕ) (e : Entry) → slice_get (at i (map (λ t. t.entries) ts)) p ≡ Some e → IsEntryWithin s e × HoldsOwn (judge laws) e) → AllByRecursion (FitsLine s) (lines_from codec_lines k ts)
-codec_lines_fit laws s k [] (t ∷ ts) always legal le few some long h = absurd legal
-codec_lines_fit laws s k (c ∷ cs) (t ∷ ts) always legal le few some long h = (
-  ((omega (arith, le), omega (arith, le, few)), subst (λ (o : Opening). o.saturation < 2 ^ 32) (sym legal.0.opening) (omega (arith, (some 0 c refl).1))),
-  all_append (FitsLine s) (lines_from entry_lines 0 (zip t.entries t.shown)) (lines_from codec_lines (k + 1) ts)
-      (trace_lines_fit laws s c t always legal.0 (some 0 c refl) (long 0) (λ p e is. h 0 p e is))
-      (codec_lines_fit laws s (k + 1) cs ts always legal.1 (omega (arith, le)) few (λ i d is. some (suc i) d is) (λ i. long (suc i)) (λ i p e is. h (suc i) p e is)),
-)
-codec_lines_fit laws s k _ _ always legal le few some long h = tt
 
 saturations : (s : ScriptData) → is_sound s ≡ true → (i : ℕ) (c : CodecItem) → slice_get s.codecs i ≡ Some c → (1 ≤ c.saturation) × (c.saturation ≤ 64)
 saturations s sound i c is =
@@ -320,17 +305,25 @@ lines_fit laws stays always numbered s media made run sound within legal fits =
     let w = recorded_of run in
     let h = known laws stays s media made run sound within legal fits in
     let count = traces_count s.codecs run.codecs legal.codecs in
-    let callers = caller_lines_fit s 0 run.callers (omega (arith, legal.callers)) h.few.callers h.results (λ c j r is. results_fit laws s media made w sound within h fits.calls fits.looks fits.locals c j r is) in
-    let codecs = codec_lines_fit laws s 0 s.codecs run.codecs always legal.codecs (omega (arith, count)) h.few.codecs (saturations s sound) h.entries
-    (λ k p e is. (entry_within s media made w h fits.calls fits.boxes k p e is, holds_own laws e (h.own k p e is))) in
+    let callers = each_lines (FitsLine s) caller_lines 0 run.callers (λ c t is. (
+    let there = slice_get_within run.callers c t is in
+    let rs = at_item (λ (x : CallerTrace). x.results) run.callers c t is in (
+      (omega (arith, there, legal.callers), omega (arith, there, legal.callers, h.few.callers)),
+      each_lines (FitsLine s) result_lines 0 t.results
+          (λ j r got. ((omega (arith, slice_get_within t.results j r got, h.results c, ap length rs), results_fit laws s media made w sound within h fits.calls fits.looks fits.locals c j r (rw rs got)), tt)),
+    ))) in
+    let codecs = each_lines (FitsLine s) codec_lines 0 run.codecs (λ k t is. (
+    let there = slice_get_within run.codecs k t is in
+    let own = legal_at s.codecs run.codecs legal.codecs k t is in
+    let some = saturations s sound k own.0 own.1 in
+    let es = at_item (λ (x : CodecTrace). x.entries) run.codecs k t is in (
+      ((omega (arith, there, count), omega (arith, there, count, h.few.codecs)), rw own.2.opening (omega (arith, some.1))),
+      trace_lines_fit laws s own.0 t always own.2 some (omega (arith, h.entries k, ap length es))
+          (λ p e got. (let here : entry_in w k p ≡ Some e = rw es got in (entry_within s media made w h fits.calls fits.boxes k p e here, holds_own laws e (h.own k p e here)))),
+    ))) in
     let pool = each_lines (FitsLine s) pool_lines 0 run.pool (λ n e is. (
-      (
-        omega (arith, h.pool, slice_get_within run.pool n e is),
-        pool_by_fits s media made w e.by h (entry_made (steps_of s) (brought_to s media w) (lends_in s w) (made_steps w) w.pool fits.accounted n e is),
-        pool_ops_fit numbered run.pool (omega (arith, h.pool)) fits.accounted.legal n e is,
-      ),
-      tt,
-    )) in
+    let own = entry_made (steps_of s) (brought_to s media w) (lends_in s w) (made_steps w) w.pool fits.accounted n e is in
+    ((omega (arith, h.pool, slice_get_within run.pool n e is), pool_by_fits s media made w e.by h own, pool_ops_fit numbered run.pool (omega (arith, h.pool)) fits.accounted.legal n e is), tt))) in
     let slots = each_lines (FitsLine s) slot_lines 0 run.slots (λ i e is. (let op = h.ops i e is in
     ((omega (arith, h.slots, slice_get_within run.slots i e is), by_fits s media made w e.by h (cause_there made (opening_at s) w.codecs w.slots i e fits.boxes is) op.0, op_fits (length made) e.op within.boxes op.1), tt))) in (
       tt,

@@ -11,7 +11,6 @@ use Rattle.codec_model.specs.declared.entry.Call.{Call}
 use Rattle.codec_model.specs.declared.entry.Call.TheVariants as call
 use Rattle.codec_model.specs.declared.entry.Entry.{Entry}
 use Rattle.codec_model.specs.declared.entry.Entry.TheVariants as entry
-use Rattle.codec_model.specs.declared.entry.Work.{Work}
 use Rattle.codec_model.specs.declared.entry.Work.TheVariants as work
 use Rattle.codec_model.specs.declared.entry.Message.{Message}
 use Rattle.codec_model.specs.declared.entry.Running.{Running}
@@ -29,13 +28,12 @@ use Rattle.trace_text.specs.Fits.{AreLegalTraces}
 
 -- ---- what leaves the number of takes as it is
 
-message_same : (w : Work) (place : ℕ) (c : Control) → (after_message (record { place = place; work = w }) c).taken ≡ c.taken
-message_same (work.Configure config) place c = refl
-message_same _ place c = refl
+message_same : (m : Message) (c : Control) → (after_message m c).taken ≡ c.taken
+message_same m c = elim m.work as (λ w. (after_message (record m { work = w }) c).taken ≡ c.taken) [ work.Flush ↦ refl | _ ↦ refl ]
 
 processed_same : (ms : List Message) (c : Control) → (process_queue ms c).taken ≡ c.taken
 processed_same [] c = refl
-processed_same (m ∷ ms) c = cond_both (is_taken m c) _ _ (λ (d : Control). d.taken ≡ c.taken) (λ is. processed_same ms _ ∙ message_same m.work m.place c) (λ is. refl)
+processed_same (m ∷ ms) c = cond_both (is_taken m c) _ _ (λ (d : Control). d.taken ≡ c.taken) (λ is. processed_same ms _ ∙ message_same m c) (λ is. refl)
 
 called_same : (o : Option DomError) (x : Call) (c : Control) → (after_call o x c).taken ≡ c.taken
 called_same None call.Flush c = processed_same (c.messages ++ _ ∷ []) _
