@@ -1,9 +1,9 @@
 -- Lists that hold bytes alone.
-use Rattle.std.proofs.Common.{ℕ, ℤ, zero, suc, ◌≡◌, ◌<◌, ◌+◌, ◌*◌, ◌/◌, ◌%◌, List, [], ◌∷◌, ◌++◌, length, length-append, take, drop, refl, ap, arith, lit<}
+use Rattle.std.proofs.Common.{ℕ, zero, suc, ◌≡◌, ◌<◌, ◌+◌, ◌*◌, ◌/◌, ◌%◌, List, [], ◌∷◌, ◌++◌, length, length-append, take, drop, refl, ap, arith, lit<}
 use Rattle.std.specs.Prelude.{map, replicate}
 use Rattle.std.specs.List.{flat_map, range_with_len}
 use Rattle.hex.specs.Hex.{IsBytes}
-use Rattle.codec_definitions.specs.Pcm.{bytes_of, spelled}
+use Rattle.codec_definitions.specs.Pcm.{bytes_of}
 
 pub nothing_small : IsBytes []
 nothing_small zero = lit< tt
@@ -34,9 +34,6 @@ zeros_small (suc n) = one_small 0 (replicate n 0) (lit< tt) (zeros_small n)
 pub bytes_small : (size n : ℕ) → IsBytes (bytes_of size n)
 bytes_small zero n = nothing_small
 bytes_small (suc size) n = one_small (n % 256) (bytes_of size (n / 256)) (omega arith) (bytes_small size (n / 256))
-
-pub spelled_small : (size : ℕ) (v : ℤ) → IsBytes (spelled size v)
-spelled_small size v = bytes_small size _
 
 pub flat_small : (f : ℕ → List ℕ) → ((i : ℕ) → IsBytes (f i)) → (a n : ℕ) → IsBytes (flat_map f (range_with_len a n))
 flat_small f h a zero = nothing_small

@@ -30,7 +30,7 @@ use Rattle.report_lines.specs.Fits.{is_no_feed}
 use Rattle.history_laws.specs.Outputs.{IsLabel}
 use Rattle.history_laws.specs.StreamLaws.{stream_description_fits, described_where}
 use Rattle.run_ranges.specs.Ranges.{IsConfigWithin}
-use Rattle.run_ranges.proofs.ByteRanges.{nothing_small, one_small, drop_small, spelled_small, flat_small}
+use Rattle.run_ranges.proofs.ByteRanges.{nothing_small, one_small, drop_small, bytes_small, flat_small}
 
 -- the laws of G.711 that are needed: each value of 16 bits has a code, which is a byte
 pub record CodesAreBytes : Type 0 where
@@ -89,7 +89,7 @@ CodesBytes None = Unit {0}
 CodesBytes (Some s) = (shape : SoundShape) (bytes : List ℕ) (frame channel : ℕ) → IsBytes bytes → IsBytes (coded_at s shape bytes frame channel)
 
 pcm_bytes : (size : ℕ) (out : SampleFormat) → CodesBytes (Some (pcm size out))
-pcm_bytes size out shape bytes frame channel h = spelled_small size (converted (8 * format_size shape.format) (8 * size) (sample_at (format_size shape.format) bytes (place_of shape frame channel)))
+pcm_bytes size out shape bytes frame channel h = bytes_small size _
 
 pub codes_bytes : CodesAreBytes → (id : CodecId) → CodesBytes (sample_codec id)
 codes_bytes laws codec.PcmU8 = pcm_bytes 1 format.U8
@@ -136,5 +136,6 @@ label_within d label = by label.config label.passed label.has_coder label.decode
     by : (c : Config) → IsConfigWithin c → is_some (coder_id_of c) ≡ true → decoder_config c ≡ Some d → IsLabelWithin d
     by (config.AudioEncoder c) own coder is =
         let described = described_where (λ (o : Option (List ℕ)). IsBytes (unwrap_or o [])) c nothing_small (stream_description_fits c) in
-        subst IsLabelWithin (some_same _ d is) (record { word = codec_word c.codec (elim (audio_codec c.codec) as (λ o. is_some (id_with role.Encode o) ≡ true → is_some o ≡ true) [ None ↦ λ h. absurd cc | Some i ↦ λ h. refl ] coder); rate = own.0; channels = own.1; description = described })
+        let known = elim (audio_codec c.codec) as (λ o. is_some (id_with role.Encode o) ≡ true → is_some o ≡ true) [ None ↦ λ h. absurd cc | Some i ↦ λ h. refl ] coder in
+        subst IsLabelWithin (some_same _ d is) (record { word = codec_word c.codec known; rate = own.0; channels = own.1; description = described })
     by _ own coder is = absurd cc

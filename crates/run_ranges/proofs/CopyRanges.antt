@@ -12,7 +12,7 @@ use Rattle.wc_base.specs.declared.media.PictureFormat.{PictureFormat}
 use Rattle.wc_base.specs.declared.media.PictureFormat.TheVariants as picture
 use Rattle.wc_base.specs.declared.media.PictureShape.{PictureShape}
 use Rattle.wc_base.specs.declared.media.SoundShape.{SoundShape}
-use Rattle.codec_definitions.specs.Pcm.{format_size, is_planar, place_of, frame_of, converted, sample_at, resized_at}
+use Rattle.codec_definitions.specs.Pcm.{format_size, is_planar, place_of, frame_of, resized_at}
 use Rattle.sample_conversion.specs.Layouts.{channel_of, frames_of}
 use Rattle.picture_planes.specs.declared.plane.Plane.{Plane}
 use Rattle.picture_planes.specs.declared.plane.Plane.TheVariants as plane
@@ -30,7 +30,7 @@ use Rattle.script_types.specs.declared.script.ScriptData.{ScriptData}
 use Rattle.media_variables.specs.Variables.{zeros, audio_copied, frame_copied, planes_copied, chunk_copied, size_found}
 use Rattle.report_lines.specs.Fits.{FitsLayout, FitsLayouts, FitsResult, no_layout}
 use Rattle.run_ranges.proofs.Cases.{by_test}
-use Rattle.run_ranges.proofs.ByteRanges.{both_small, drop_small, zeros_small, spelled_small, flat_small, range_small, bytes_length, flat_length}
+use Rattle.run_ranges.proofs.ByteRanges.{both_small, drop_small, zeros_small, bytes_small, flat_small, range_small, bytes_length, flat_length}
 
 -- ---- sound
 
@@ -55,7 +55,7 @@ sound_small shape bytes p =
     (λ is. flat_small (frame_of (format_size p.format) shape bytes) (λ frame. flat_small (λ channel. resized_at (format_size shape.format) (format_size p.format) bytes (place_of shape frame channel)) (λ channel. each channel frame) 0 shape.channels) p.offset p.count)
   where
     each : (channel frame : ℕ) → IsBytes (resized_at (format_size shape.format) (format_size p.format) bytes (place_of shape frame channel))
-    each channel frame = spelled_small (format_size p.format) (converted (8 * format_size shape.format) (8 * format_size p.format) (sample_at (format_size shape.format) bytes (place_of shape frame channel)))
+    each channel frame = bytes_small (format_size p.format) _
 
 pub sound_copy_fits : (s : ScriptData) (size : ℕ) (shape : SoundShape) (bytes : List ℕ) (r : Result Plan DomError) → size < 2 ^ 64 → FitsResult s (audio_copied size (sound.copy_into shape bytes size r))
 sound_copy_fits s size shape bytes (Err e) few = tt

@@ -174,7 +174,9 @@ adds_few e = omega arith
 
 replay_few : HeldStays → (h : List Entry) (s t : State) → replay_from h s ≡ Some t → length (held_in t) ≤ length (held_in s) + length h
 replay_few stays [] s t is = omega (arith, ap (λ (x : State). length (held_in x)) (some_same s t is))
-replay_few stays (e ∷ es) s t is = option_and_then_some (replay_from es) (legal_step e s) t is (λ u made rest. omega (arith, replay_few stays es u t rest, ap length (stays e s u made), length-append (leaves_held e s) (adds_held e), either_few (is_done e) (is_removal e s) _ _ (held_in s) (length (held_in s)) (parts_few s).1 (parts_few s).0 (omega arith), adds_few e))
+replay_few stays (e ∷ es) s t is = option_and_then_some (replay_from es) (legal_step e s) t is (λ u made rest.
+    let leaves = either_few (is_done e) (is_removal e s) _ _ (held_in s) (length (held_in s)) (parts_few s).1 (parts_few s).0 (omega arith) in
+    omega (arith, replay_few stays es u t rest, ap length (stays e s u made), length-append (leaves_held e s) (adds_held e), leaves, adds_few e))
 
 -- a codec holds at most one reference for each of its entries
 held_few : HeldStays → (o : Opening) (h : List Entry) → length (held_in (state_after o h)) ≤ length h
@@ -189,7 +191,8 @@ pool_few : HeldStays → (cause : By) (e : Entry) (d : CodecValue) (pool : List 
 pool_few stays cause e d pool n few =
     let clones = clones_of cause (adds_held e) in
     let ends = ends_behind cause pool (lets_go e (state_of d)) in
-    omega (arith, few, length-append pool (clones ++ ends), length-append clones ends, length-map (adds_held e) (λ p. let x : PoolEntry = record { by = cause; op = pool_op.Clone p.resource p.reference } in x), adds_few e, ends_count cause (lets_go e (state_of d)) pool, either_few (is_done e) (is_removal e (state_of d)) _ _ [] (length (held_in (state_of d))) (parts_few (state_of d)).0 (parts_few (state_of d)).1 (omega arith), held_few stays d.opening d.history)
+    let goes = either_few (is_done e) (is_removal e (state_of d)) _ _ [] (length (held_in (state_of d))) (parts_few (state_of d)).0 (parts_few (state_of d)).1 (omega arith) in
+    omega (arith, few, length-append pool (clones ++ ends), length-append clones ends, length-map (adds_held e) (λ p. let x : PoolEntry = record { by = cause; op = pool_op.Clone p.resource p.reference } in x), adds_few e, ends_count cause (lets_go e (state_of d)) pool, goes, held_few stays d.opening d.history)
 
 -- ---- the registry
 

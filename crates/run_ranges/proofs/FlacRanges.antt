@@ -74,7 +74,8 @@ header_small info p h is =
     let rate = bind_ok (sample_rate_at info.rate codes.0.0.rate block.0.1) _ h block.2 in
     let sum = bind_ok (header_sum_at p.at rate.0.1) _ h rate.2 in
     let made : FrameHeader × Place = (record { block = block.0.0; rate = rate.0.0; assignment = codes.0.0.assignment; depth = depth_of info.depth codes.0.0.depth; number = number.0.0 }, sum.0.1) in
-    subst (λ (z : FrameHeader × Place). z.0.block < 2 ^ 32) {x = made} (third (not (made.0.rate == info.rate)) (not (channels_of made.0.assignment == info.channels)) (not (made.0.depth == info.depth)) (fault.Differs field.Rate) (fault.Differs field.Channels) (fault.Differs field.Depth) made h sum.2) (block_small codes.0.0.block number.0.1 block.0 block.1)
+    let same = third (not (made.0.rate == info.rate)) (not (channels_of made.0.assignment == info.channels)) (not (made.0.depth == info.depth)) (fault.Differs field.Rate) (fault.Differs field.Channels) (fault.Differs field.Depth) made h sum.2 in
+    subst (λ (z : FrameHeader × Place). z.0.block < 2 ^ 32) {x = made} same (block_small codes.0.0.block number.0.1 block.0 block.1)
 
 frame_small : (info : StreamInfo) (p : Place) (g : (FrameHeader × List ℤ) × Place) → frame_at info p ≡ Some g → g.0.0.block < 2 ^ 32
 unfolding frame_at

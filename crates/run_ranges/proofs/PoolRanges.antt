@@ -66,7 +66,8 @@ legal_more before (d ∷ ds) e legal next =
     and_from (is_legal_next before d) (is_legal_from (before ++ d ∷ []) (ds ++ e ∷ [])) parts.0
     (legal_more (before ++ d ∷ []) ds e parts.1 (ap (λ (h : List PoolEntry). is_legal_next h e) (append_assoc before (d ∷ []) ds) ∙ next))
 
-ops_fit : LiveAreNumbered → (before rest : List PoolEntry) → length before + length rest < 2 ^ 64 → is_legal_pool before ≡ true → is_legal_from before rest ≡ true
+-- the numbers of a legal history's entries, where it has fewer than 2 ^ 64
+pub ops_fit : LiveAreNumbered → (before rest : List PoolEntry) → length before + length rest < 2 ^ 64 → is_legal_pool before ≡ true → is_legal_from before rest ≡ true
     → (n : ℕ) (e : PoolEntry) → slice_get rest n ≡ Some e → FitsPoolOp e.op
 ops_fit numbered before [] few legal more n e is = absurd cc
 ops_fit numbered before (d ∷ ds) few legal more zero e is =
@@ -76,10 +77,6 @@ ops_fit numbered before (d ∷ ds) few legal more zero e is =
 ops_fit numbered before (d ∷ ds) few legal more (suc n) e is =
     let parts = and_parts (is_legal_next before d) (is_legal_from (before ++ d ∷ []) ds) more in
     ops_fit numbered (before ++ d ∷ []) ds (omega (arith, few, length-append before (d ∷ []))) (legal_more [] before d legal parts.0) parts.1 n e is
-
--- the numbers of a legal history's entries, where it has fewer than 2 ^ 64
-pub pool_ops_fit : LiveAreNumbered → (pool : List PoolEntry) → length pool < 2 ^ 64 → is_legal_pool pool ≡ true → (n : ℕ) (e : PoolEntry) → slice_get pool n ≡ Some e → FitsPoolOp e.op
-pool_ops_fit numbered pool few legal n e is = ops_fit numbered [] pool (omega (arith, few)) refl legal n e is
 
 pub held_up_to : (pool : List PoolEntry) → held_in pool ≤ length pool
 held_up_to pool = omega (arith, count_small (λ r. is_held r pool) (resources_made pool), count_by-le-length makes pool)

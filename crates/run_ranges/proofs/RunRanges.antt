@@ -64,7 +64,7 @@ use Rattle.run_ranges.proofs.Cases.{by_option, by_default}
 use Rattle.run_ranges.proofs.CodeRanges.{CodesAreBytes}
 use Rattle.run_ranges.proofs.UnitRanges.{judge}
 use Rattle.run_ranges.proofs.TakenRanges.{takes_small}
-use Rattle.run_ranges.proofs.PoolRanges.{held_up_to, pool_ops_fit, IsMadeBy, entry_made}
+use Rattle.run_ranges.proofs.PoolRanges.{held_up_to, ops_fit, IsMadeBy, entry_made}
 use Rattle.run_ranges.proofs.MediaRanges.{IsChunkThere, IsOutputWithin, IsAnswerWithin, FitsTaken, size_small_of, AreSteps, came_answers, media_fits}
 use Rattle.run_ranges.proofs.EntryRanges.{IsOutcomeWithin, IsEntryWithin, lines_within}
 use Rattle.run_ranges.proofs.CourseRanges.{IsOwnEntry, IsByUpTo, IsOpUpTo, by_up, chunk_made, contents_within, holds_own, output_own, course_up}
@@ -323,7 +323,7 @@ lines_fit laws stays always numbered s media made run sound within legal fits =
     ))) in
     let pool = each_lines (FitsLine s) pool_lines 0 run.pool (λ n e is. (
     let own = entry_made (steps_of s) (brought_to s media w) (lends_in s w) (made_steps w) w.pool fits.accounted n e is in
-    ((omega (arith, h.pool, slice_get_within run.pool n e is), pool_by_fits s media made w e.by h own, pool_ops_fit numbered run.pool (omega (arith, h.pool)) fits.accounted.legal n e is), tt))) in
+    ((omega (arith, h.pool, slice_get_within run.pool n e is), pool_by_fits s media made w e.by h own, ops_fit numbered [] run.pool (omega (arith, h.pool)) refl fits.accounted.legal n e is), tt))) in
     let slots = each_lines (FitsLine s) slot_lines 0 run.slots (λ i e is. (let op = h.ops i e is in
     ((omega (arith, h.slots, slice_get_within run.slots i e is), by_fits s media made w e.by h (cause_there made (opening_at s) w.codecs w.slots i e fits.boxes is) op.0, op_fits (length made) e.op within.boxes op.1), tt))) in (
       tt,

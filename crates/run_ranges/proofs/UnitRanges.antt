@@ -1,6 +1,6 @@
 -- The outputs that a codec's definition gives are within their types.
-use Rattle.std.proofs.Common.{ℕ, ℤ, ◌≡◌, ◌<◌, ◌≤◌, ◌+◌, ◌-◌, ◌*◌, ◌/◌, ◌%◌, ◌^◌, ◌&&◌, List, [], ◌∷◌, ◌++◌, length, take, drop, bytes_eq, codes, Option, Some, None, IfSome, subst, arith, lit<}
-use Rattle.std.specs.Prelude.{slice_index_or as get_or, nat_le, ◌==◌, pos, ◌+ℤ◌, ◌*ℤ◌}
+use Rattle.std.proofs.Common.{ℕ, ℤ, ◌≡◌, ◌<◌, ◌≤◌, ◌-◌, ◌*◌, ◌/◌, ◌%◌, ◌^◌, ◌&&◌, List, [], ◌∷◌, ◌++◌, length, take, drop, bytes_eq, codes, Option, Some, None, IfSome, subst, arith, lit<}
+use Rattle.std.specs.Prelude.{nat_le, ◌==◌, pos, ◌+ℤ◌}
 use Rattle.std.specs.List.{AllByRecursion, list_any}
 use Rattle.std.proofs.Math.Nat.{div-le_self}
 use Rattle.std.proofs.lemmas.Bool.{and_parts, ltb-true}
@@ -18,8 +18,8 @@ use Rattle.codec_definitions.specs.declared.unit.Unit as media
 use Rattle.codec_definitions.specs.declared.unit.Unit.TheVariants as unit
 use Rattle.codec_definitions.specs.declared.command.Command.{Command}
 use Rattle.codec_definitions.specs.declared.command.Command.TheVariants as command
-use Rattle.codec_definitions.specs.Pcm.{converted, format_size}
-use Rattle.codec_definitions.specs.SampleCodecs.{SampleCodec, decoded_at, decoded}
+use Rattle.codec_definitions.specs.Pcm.{format_size}
+use Rattle.codec_definitions.specs.SampleCodecs.{decoded_at}
 use Rattle.codec_definitions.specs.Flac.{sample_size, sample_bytes, interchannel_bytes, bytes_of_frame, described, flac_sound}
 use Rattle.wc_base.specs.declared.media.PictureFormat.{PictureFormat}
 use Rattle.wc_base.specs.declared.media.PictureShape.{PictureShape}
@@ -39,14 +39,11 @@ use Rattle.history_laws.specs.StreamLaws.{code_fits}
 use Rattle.run_ranges.specs.Ranges.{IsSizeWithin, IsConfigWithin, IsChunkWithin, IsShapeWithin}
 use Rattle.run_ranges.proofs.Cases.{by_option}
 use Rattle.run_ranges.proofs.CodeRanges.{CodesAreBytes, CodesBytes, codes_bytes, coded_small, IsLabelWithin, label_within}
-use Rattle.run_ranges.proofs.ByteRanges.{spelled_small, flat_small, range_small}
+use Rattle.run_ranges.proofs.ByteRanges.{bytes_small, flat_small, range_small}
 use Rattle.run_ranges.proofs.FlacRanges.{frame_within}
 use Rattle.run_ranges.proofs.BlockRanges.{blocks_few, saturated_within, lasts, block_small}
 
 -- ---- bytes
-
-decoded_small : (s : SampleCodec) (bytes : List ℕ) → IsBytes (decoded s bytes)
-decoded_small s bytes = flat_small (decoded_at s bytes) (λ i. spelled_small (format_size s.format) (converted s.bits (8 * format_size s.format) (s.value (take s.size (drop (s.size * i) bytes))))) 0 (length bytes / s.size)
 
 frame_bytes_small : (h : FrameHeader) (samples : List ℤ) → IsBytes (bytes_of_frame h samples)
 unfolding bytes_of_frame
@@ -54,7 +51,7 @@ frame_bytes_small h samples =
     let size = sample_size h.depth in
     let up = 8 * size - h.depth in
     flat_small (interchannel_bytes size up (channels_of h.assignment) h.block samples)
-    (λ i. flat_small (sample_bytes size up h.block samples i) (λ c. spelled_small size (get_or samples (c * h.block + i) (pos 0) *ℤ pos (2 ^ up))) 0 (channels_of h.assignment)) 0 h.block
+    (λ i. flat_small (sample_bytes size up h.block samples i) (λ c. bytes_small size _) 0 (channels_of h.assignment)) 0 h.block
 
 picture_small : (size : ℕ) (chunks : List (List ℕ)) (bytes : List ℕ) → last_picture size chunks ≡ Some bytes → IsBytes bytes
 picture_small size chunks bytes is =
@@ -133,7 +130,7 @@ each_given : EachAnswer (λ c before x us. AreGiven c x us)
 each_given = record {
   nothing = λ c before x. record { few = λ own. lit< tt; within = λ laws config own. tt };
   samples = λ id s c before chunk is fine. one_given (config.AudioDecoder c) (command.Chunk chunk) (unit.Sound (decoded_sound s c chunk))
-      (λ laws config own. record { rate = config.0; channels = config.1; frames = ltb-true (length chunk.bytes / (s.size * c.channels)) (2 ^ 32) (and_parts _ _ fine).1; timestamp = own.0; are_bytes = decoded_small s chunk.bytes });
+      (λ laws config own. record { rate = config.0; channels = config.1; frames = ltb-true (length chunk.bytes / (s.size * c.channels)) (2 ^ 32) (and_parts _ _ fine).1; timestamp = own.0; are_bytes = flat_small (decoded_at s chunk.bytes) (λ i. bytes_small (format_size s.format) _) 0 (length chunk.bytes / s.size) });
   frame = λ info c before chunk f said is. one_given (config.AudioDecoder c) (command.Chunk chunk) (flac_sound info chunk f.0 f.1)
       (λ laws config own. (let stream = described_within c.description info said in record { rate = stream.0; channels = stream.1; frames = frame_within info chunk.bytes f is; timestamp = own.0; are_bytes = frame_bytes_small f.0 f.1 }));
   chunk = λ id s c before samples is. one_given (config.AudioEncoder c) (command.Sound samples) (unit.Coded (coded_chunk s samples) None)
