@@ -30,7 +30,7 @@ use Rattle.script_types.specs.Sound.{is_variable, are_options_of, is_sound_media
 use Rattle.report_text.specs.declared.result.StepResult.{StepResult}
 use Rattle.media_variables.specs.CameLaws.{EachCame, by_came}
 use Rattle.media_variables.specs.Variables.{Reference, Shape, SoundOf, PictureOf, ChunkOf, Medium, Came, Taken, Brought, medium_at, with_medium, detached, zeros, media_ref, sound_of, frame_of, copy_options, rect_of, layouts_in, copy_chunk, copy_medium, size_of_medium, chunk_in_medium, chunk_of_variable, chunk_medium, sound_in, sound_at, unit_came, media_came}
-use Rattle.media_accounts.specs.Accounts.{step_by, before_step, media_of, variables_by, came_on, variables_in, came_in}
+use Rattle.media_accounts.specs.Accounts.{step_by, before_step, media_of, variables_by, variables_in, came_in}
 use Rattle.trace_text.specs.Fits.{IsMediaAnswer}
 use Rattle.report_lines.specs.Fits.{FitsResult}
 use Rattle.run_ranges.specs.Ranges.{IsChunkWithin, IsShapeWithin}
@@ -209,18 +209,15 @@ media_of_is x m is = absurd cc
 media_is : (o : Option Step) (m : MediaStep) → option_and_then media_of o ≡ Some m → o ≡ Some (step.Media m)
 media_is o m is = option_and_then_some media_of o m is (λ x there made. there ∙ ap (λ (y : Step). Some y) (media_of_is x m made))
 
-came_on_within : (s : ScriptData) (steps : ℕ → List Step) (brought : ℕ → ℕ → MediaStep → Brought) (pool : List PoolEntry) (c j : ℕ) (vs : List (Option Medium)) → AreSteps s steps brought → AreVariables vs → IsCameWithin (came_on steps brought pool c j vs)
-came_on_within s steps brought pool c j vs given h =
-    by_option (λ o. IsCameWithin (option_and_then (λ x. media_came (before_step c j pool) (step_by c j) (brought c j x) x vs) o)) (option_and_then media_of (slice_get (steps c) j)) tt
-    (λ x is. came_within (before_step c j pool) (step_by c j) (brought c j x) x vs (given.contents c j x (media_is (slice_get (steps c) j) x is)) (given.outputs c j x) h)
-
 -- what a caller's variables hold after so many of its steps
 pub variables_within : (s : ScriptData) (steps : ℕ → List Step) (brought : ℕ → ℕ → MediaStep → Brought) (pool : List PoolEntry) (c j : ℕ) → AreSteps s steps brought → AreVariables (variables_in steps brought pool c j)
 variables_within s steps brought pool c zero given = tt
 variables_within s steps brought pool c (suc j) given =
     let h = variables_within s steps brought pool c j given in
     let vs = variables_in steps brought pool c j in
-    by_option (λ o. IsCameWithin o → AreVariables (variables_by o vs)) (came_on steps brought pool c j vs) (λ none. h) (λ y is own. own) (came_on_within s steps brought pool c j vs given h)
+    by_option (λ o. AreVariables (variables_by (option_and_then (λ x. media_came (before_step c j pool) (step_by c j) (brought c j x) x vs) o) vs)) (option_and_then media_of (slice_get (steps c) j)) h
+    (λ x is. by_option (λ o. IsCameWithin o → AreVariables (variables_by o vs)) (media_came (before_step c j pool) (step_by c j) (brought c j x) x vs) (λ none. h) (λ y was own. own)
+    (came_within (before_step c j pool) (step_by c j) (brought c j x) x vs (given.contents c j x (media_is (slice_get (steps c) j) x is)) (given.outputs c j x) h))
 
 pub came_answers : (s : ScriptData) (steps : ℕ → List Step) (brought : ℕ → ℕ → MediaStep → Brought) (pool : List PoolEntry) (c j : ℕ) → AreSteps s steps brought → IsAnswerWithin s (came_in steps brought pool c j)
 came_answers s steps brought pool c j given =

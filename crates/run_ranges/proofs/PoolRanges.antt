@@ -24,14 +24,10 @@ count_small p zero = omega arith
 count_small p (suc n) = omega (arith, count_small p n, cond_both (p n) 1 0 (λ k. k ≤ 1) (λ is. omega arith) (λ is. omega arith))
 
 -- a number that passes a test
-record Passes (p : ℕ → Bool) : Type 0 where
-  number : ℕ
-  passes : p number ≡ true
-
-count_exists : (p : ℕ → Bool) (n : ℕ) → (count_below p n ≡ 0 → ⊥) → Passes p
+count_exists : (p : ℕ → Bool) (n : ℕ) → (count_below p n ≡ 0 → ⊥) → (k : ℕ) × (p k ≡ true)
 count_exists p zero some = absurd (some refl)
 count_exists p (suc n) some =
-    by_test (λ b. (count_below p n + cond b 1 0 ≡ 0 → ⊥) → p n ≡ b → Passes p) (p n) (λ is any same. record { number = n; passes = is }) (λ is any same. count_exists p n (λ none. any (omega (arith, none)))) some refl
+    by_test (λ b. (count_below p n + cond b 1 0 ≡ 0 → ⊥) → p n ≡ b → (k : ℕ) × (p k ≡ true)) (p n) (λ is any same. (n, same)) (λ is any same. count_exists p n (λ none. any (omega (arith, none)))) some refl
 
 -- ---- what an entry does
 
@@ -43,7 +39,7 @@ held_small : LiveAreNumbered → (r : ℕ) (h : List PoolEntry) → is_legal_poo
 held_small numbered r h legal held =
     let some : references_of r h ≡ 0 → ⊥ = λ none. (let bad : false ≡ true = sym (ap not (eq-eqb (references_of r h) 0 none)) ∙ held in cc) in
     let one = count_exists (λ f. is_live r f h) (references_made h) some in
-    (numbered h one.number r legal (live_is r one.number h one.passes)).1
+    (numbered h one.0 r legal (live_is r one.0 h one.1)).1
 
 op_fits : LiveAreNumbered → (h : List PoolEntry) (cause : By) (o : PoolOp) → length h < 2 ^ 64 → is_legal_pool h ≡ true → is_legal_next h (record { by = cause; op = o }) ≡ true → FitsPoolOp o
 op_fits numbered h cause (op.Make r f) few legal next =
@@ -63,8 +59,7 @@ legal_more : (before l : List PoolEntry) (e : PoolEntry) → is_legal_from befor
 legal_more before [] e legal next = and_from (is_legal_next before e) true (ap (λ (h : List PoolEntry). is_legal_next h e) (sym (append-nil before)) ∙ next) refl
 legal_more before (d ∷ ds) e legal next =
     let parts = and_parts (is_legal_next before d) (is_legal_from (before ++ d ∷ []) ds) legal in
-    and_from (is_legal_next before d) (is_legal_from (before ++ d ∷ []) (ds ++ e ∷ [])) parts.0
-    (legal_more (before ++ d ∷ []) ds e parts.1 (ap (λ (h : List PoolEntry). is_legal_next h e) (append_assoc before (d ∷ []) ds) ∙ next))
+    rw (parts.0, legal_more (before ++ d ∷ []) ds e parts.1 (rw (append_assoc before (d ∷ []) ds) next)) refl
 
 -- the numbers of a legal history's entries, where it has fewer than 2 ^ 64
 pub ops_fit : LiveAreNumbered → (before rest : List PoolEntry) → length before + length rest < 2 ^ 64 → is_legal_pool before ≡ true → is_legal_from before rest ≡ true
@@ -86,11 +81,7 @@ held_up_to pool = omega (arith, count_small (λ r. is_held r pool) (resources_ma
 -- causes that pass a test and have an entry did something
 ops_some : (test : By → Bool) (n : ℕ) (pool : List PoolEntry) (e : PoolEntry) → slice_get pool n ≡ Some e → test e.by ≡ true → ops_where test pool ≡ [] → ⊥
 ops_some test n [] e is own none = absurd cc
-ops_some test zero (d ∷ ds) e is own none =
-    let same : d ≡ e = cc in
-    let its : test d.by ≡ true = ap (λ (x : PoolEntry). test x.by) same ∙ own in
-    let bad : d.op ∷ ops_where test ds ≡ [] = sym (ap (λ (b : Bool). cond b (d.op ∷ ops_where test ds) (ops_where test ds)) its) ∙ none in
-    absurd cc
+ops_some test zero (d ∷ ds) e is own none = cond_both (test d.by) _ _ (λ l. l ≡ [] → ⊥) (λ its some. absurd cc) (λ its rest. absurd cc) none
 ops_some test (suc n) (d ∷ ds) e is own none = cond_both (test d.by) _ _ (λ l. l ≡ [] → ⊥) (λ its some. absurd cc) (λ its rest. ops_some test n ds e is own rest) none
 
 -- a caller's step that was made, or an entry of a codec that calls for something

@@ -130,32 +130,31 @@ at_some k j [] lt = absurd (omega (arith, lt))
 at_some zero j (l ∷ ls) lt = omega arith
 at_some (suc k) j (l ∷ ls) lt = omega (arith, at_some k j ls lt)
 
-at_there : {X : Type 0} (k p : ℕ) (ls : List (List X)) (x : X) → slice_get (at k ls) p ≡ Some x → k < length ls
-at_there k p ls x is = at_some k p ls (slice_get_within (at k ls) p x is)
-
 codec_known : (s : ScriptData) (media : List (List Chunk)) (made : List CoderId) (w : Recorded) (k : ℕ) → IsKnown s media made w → k < length w.codecs → IsCodec s k
 codec_known s media made w k h lt = (omega (arith, lt, h.codecs), omega (arith, lt, h.codecs, h.few.codecs))
 
--- the caller's step of a result
-who_known : (s : ScriptData) (media : List (List Chunk)) (made : List CoderId) (w : Recorded) (who : Who) (r : StepResult) → IsKnown s media made w → result_in w who.caller who.step ≡ Some r → FitsWho s who
-who_known s media made w who r h is =
-    let caller = at_there who.caller who.step w.callers r is in
-    let step = slice_get_within (at who.caller w.callers) who.step r is in
-    ((omega (arith, caller, h.callers), omega (arith, caller, h.callers, h.few.callers)), omega (arith, step, h.results who.caller))
+-- the codec and the place of an entry
+entry_known : (s : ScriptData) (media : List (List Chunk)) (made : List CoderId) (w : Recorded) (k p : ℕ) (e : Entry) → IsKnown s media made w → entry_in w k p ≡ Some e → IsCodec s k × (p < 2 ^ 64)
+entry_known s media made w k p e h is =
+    let lt = slice_get_within (at k w.codecs) p e is in
+    (codec_known s media made w k h (at_some k p w.codecs lt), omega (arith, lt, h.entries k))
+
+-- a caller's step that was made
+step_known : (s : ScriptData) (media : List (List Chunk)) (made : List CoderId) (w : Recorded) (who : Who) → IsKnown s media made w → who.step < length (at who.caller w.callers) → FitsWho s who
+step_known s media made w who h lt =
+    let caller = at_some who.caller who.step w.callers lt in
+    ((omega (arith, caller, h.callers), omega (arith, caller, h.callers, h.few.callers)), omega (arith, lt, h.results who.caller))
 
 -- ---- results
 
 call_fits : (s : ScriptData) (media : List (List Chunk)) (made : List CoderId) (w : Recorded) → IsKnown s media made w → CallsAreIn s w → (c j k p : ℕ) (error : Option DomError) → result_in w c j ≡ Some (result.Call k p error) → IsCodec s k × (p < 2 ^ 64)
-call_fits s media made w h calls c j k p error is =
-    let kept = (calls_by_places s w calls).kept c j k p error is in
-    (codec_known s media made w k h (at_there k p w.codecs kept.entry kept.stands), omega (arith, slice_get_within (at k w.codecs) p kept.entry kept.stands, h.entries k))
+call_fits s media made w h calls c j k p error is = let kept = (calls_by_places s w calls).kept c j k p error is in entry_known s media made w k p kept.entry h kept.stands
 
 take_fits : (s : ScriptData) (media : List (List Chunk)) (made : List CoderId) (w : Recorded) → IsKnown s media made w → CallsAreIn s w → (c j k p unit : ℕ) → result_in w c j ≡ Some (result.Unit k p unit) → FitsResult s (result.Unit k p unit)
 take_fits s media made w h calls c j k p unit is =
-    let who : Who = record { caller = c; step = j } in
     let stands = (calls_by_places s w calls).taken c j k p unit is in
-    let place : p < 2 ^ 64 = omega (arith, slice_get_within (at k w.codecs) p (entry.Take who unit) stands, h.entries k) in
-    (codec_known s media made w k h (at_there k p w.codecs (entry.Take who unit) stands), place, omega (arith, place, h.takes k p who unit stands))
+    let known = entry_known s media made w k p _ h stands in
+    (known.0, known.1, omega (arith, known.1, h.takes k p _ unit stands))
 
 -- the size after a history is at most its length
 replay_up : (h : List Entry) (s t : State) (n : ℕ) → replay_from h s ≡ Some t → IsUpTo n s.control → IsUpTo (n + length h) t.control
@@ -228,10 +227,11 @@ outcome_within s media made w cause (outcome.NoSlot n) h says = omega (arith, sl
 outcome_within s media made w cause _ h says = tt
 
 named_within : (s : ScriptData) (media : List (List Chunk)) (made : List CoderId) (w : Recorded) → IsKnown s media made w → CallsAreIn s w → (k p : ℕ) (e : Entry) (who : Who) → entry_in w k p ≡ Some e → who_of e ≡ Some who → FitsWho s who
-named_within s media made w h calls k p e who is names = let kept = (calls_by_places s w calls).only k p e who is names in who_known s media made w who kept.0 h kept.1
+named_within s media made w h calls k p e who is names =
+    let kept = (calls_by_places s w calls).only k p e who is names in step_known s media made w who h (slice_get_within (at who.caller w.callers) who.step kept.0 kept.1)
 
 entry_within : (s : ScriptData) (media : List (List Chunk)) (made : List CoderId) (w : Recorded) → IsKnown s media made w → CallsAreIn s w → BoxesAccounted made (opening_at s) w.codecs w.slots → (k p : ℕ) (e : Entry) → entry_in w k p ≡ Some e → IsEntryWithin s e
-entry_within s media made w h calls boxes k p (entry.Take who unit) is = (named_within s media made w h calls k p (entry.Take who unit) who is refl, omega (arith, h.takes k p who unit is, slice_get_within (at k w.codecs) p (entry.Take who unit) is, h.entries k))
+entry_within s media made w h calls boxes k p (entry.Take who unit) is = (named_within s media made w h calls k p (entry.Take who unit) who is refl, omega (arith, h.takes k p who unit is, (entry_known s media made w k p _ h is).1))
 entry_within s media made w h calls boxes k p (entry.Done epoch item moment o) is = (h.own k p (entry.Done epoch item moment o) is, outcome_within s media made w _ o h (boxes.ends k p epoch item moment o is).says)
 entry_within s media made w h calls boxes k p (entry.Reclaim moment) is = h.own k p (entry.Reclaim moment) is
 entry_within s media made w h calls boxes k p (entry.Start epoch item) is = tt
@@ -245,9 +245,8 @@ by_fits s media made w (by.Caller who) h there up = absurd there
 by_fits s media made w (by.Codec k p) h there up = (codec_known s media made w k h there, omega (arith, up))
 
 op_fits : (most : ℕ) (op : SlotOp) → most < 2 ^ 64 → IsOpUpTo most op → FitsOp op
-op_fits most (slot.Acquire id number) few up = omega (arith, few, up)
 op_fits most (slot.Refused id out all) few up = (omega (arith, few, up.0), omega (arith, few, up.1))
-op_fits most (slot.Give id number) few up = omega (arith, few, up)
+op_fits most _ few up = omega (arith, few, up)
 
 -- ---- the pool
 
@@ -256,12 +255,8 @@ lent_there : (o : Opening) (h : List Entry) (place : ℕ) → (lent_at o h place
 lent_there o h place some = by_option (λ x. (called_at o h place x ≡ [] → ⊥) → (e : Entry) × (x ≡ Some e)) (slice_get h place) (λ lent. absurd (lent refl)) (λ e is lent. (e, refl)) some
 
 pool_by_fits : (s : ScriptData) (media : List (List Chunk)) (made : List CoderId) (w : Recorded) (b : By) → IsKnown s media made w → IsMadeBy (lends_in s w) (made_steps w) b → FitsBy s b
-pool_by_fits s media made w (by.Codec k place) h some =
-    let there = lent_there (opening_at s k) (at k w.codecs) place some in
-    (codec_known s media made w k h (at_there k place w.codecs there.0 there.1), omega (arith, slice_get_within (at k w.codecs) place there.0 there.1, h.entries k))
-pool_by_fits s media made w (by.Caller who) h step =
-    let caller = at_some who.caller who.step w.callers step in
-    ((omega (arith, caller, h.callers), omega (arith, caller, h.callers, h.few.callers)), omega (arith, step, h.results who.caller))
+pool_by_fits s media made w (by.Codec k place) h some = let there = lent_there (opening_at s k) (at k w.codecs) place some in entry_known s media made w k place there.0 h there.1
+pool_by_fits s media made w (by.Caller who) h step = step_known s media made w who h step
 
 -- ---- the lines of a run
 
