@@ -7,13 +7,10 @@ use Rattle.std.proofs.Math.Nat.{div-le_self, div-le_of_le-mul, mul-le-mul_left, 
 use Rattle.std.proofs.lemmas.Bool.{ne_eqb, cond_both}
 use Rattle.std.proofs.lemmas.List.Concat.{flat_map-append}
 use Rattle.std.proofs.lemmas.List.FromFn.{length-map-range_with_len}
-use Rattle.wc_base.specs.Options.{cond_is, some_same}
-use Rattle.wc_base.specs.declared.media.Samples.{Samples}
+use Rattle.wc_base.specs.{Options.cond_is, Options.some_same, declared.media.Samples.Samples}
 use Rattle.wc_config.specs.declared.config.AudioEncoderConfig.{AudioEncoderConfig}
 use Rattle.codec_definitions.specs.declared.unit.Unit as media
-use Rattle.codec_definitions.specs.declared.command.Command.{Command}
-use Rattle.codec_definitions.specs.declared.command.Command.TheVariants as command
-use Rattle.codec_definitions.specs.FlacCode.{block_frames, block_samples}
+use Rattle.codec_definitions.specs.{declared.command.Command.Command, FlacCode.block_frames, FlacCode.block_samples}
 use Rattle.codec_definitions.specs.FlacEncoder.{inputs_since, value_at, frame_values, values_in, values_of, whole_blocks, unit_at, units_with, rest_of, unit_of_rest, is_taken, blocks_answer}
 use Rattle.run_ranges.proofs.ByteRanges.{flat_length}
 
@@ -50,11 +47,11 @@ completed c inputs s =
     omega (arith, count, more, whole_more (length (values_of c inputs)) s.shape.frames c.channels (block_frames c) (block_pos c))
 
 -- a command gives as many blocks as its samples have frames, or one
-pub blocks_few : (c : AudioEncoderConfig) (before : List Command) (x : Command) (us : List media.Unit) → ((s : Samples) → x ≡ command.Sound s → s.shape.frames < 2 ^ 32) → blocks_answer c before x ≡ Some us → length us < 2 ^ 64
-blocks_few c before (command.Sound s) us small h =
+pub blocks_few : (c : AudioEncoderConfig) (before : List Command) (x : Command) (us : List media.Unit) → ((s : Samples) → x ≡ Command.Sound s → s.shape.frames < 2 ^ 32) → blocks_answer c before x ≡ Some us → length us < 2 ^ 64
+blocks_few c before (Command.Sound s) us small h =
     let given = (cond_is (is_taken c s) (Some (units_with c (inputs_since before) s)) us h).1 in
     subst (λ (vs : List media.Unit). length vs < 2 ^ 64) (some_same _ us given) (omega (arith, completed c (inputs_since before) s, small s refl))
-blocks_few c before command.Drain us small h =
+blocks_few c before Command.Drain us small h =
     let inputs = inputs_since before in
     let last = unit_at c inputs (whole_blocks c inputs) in
     subst (λ (vs : List media.Unit). length vs < 2 ^ 64) (some_same (unit_of_rest (rest_of c inputs) last) us h) (elim (rest_of c inputs) as (λ l. length (unit_of_rest l last) < 2 ^ 64) [ [] ↦ lit< tt | x ∷ xs ↦ lit< tt ])

@@ -9,26 +9,16 @@ use Rattle.std.proofs.lemmas.Bool.{cases_lt, lt-ltb, le-ltb, cond_both}
 use Rattle.std.proofs.lemmas.List.Folds.{list_all_at}
 use Rattle.std.proofs.lemmas.Slice.Eq.{bytes_eq-Decides}
 use Rattle.hex.specs.Hex.{IsBytes}
-use Rattle.wc_base.specs.Options.{some_same}
-use Rattle.wc_base.specs.declared.media.SampleFormat.{SampleFormat}
-use Rattle.wc_base.specs.declared.media.SampleFormat.TheVariants as format
-use Rattle.wc_base.specs.declared.media.SoundShape.{SoundShape}
-use Rattle.wc_config.specs.declared.codec.CodecId.{CodecId}
-use Rattle.wc_config.specs.declared.codec.CodecId.TheVariants as codec
-use Rattle.wc_config.specs.declared.codec.Role.TheVariants as role
-use Rattle.wc_config.specs.declared.config.AudioDecoderConfig.{AudioDecoderConfig}
-use Rattle.wc_config.specs.declared.config.Config.{Config}
-use Rattle.wc_config.specs.declared.config.Config.TheVariants as config
+use Rattle.wc_base.specs.{Options.some_same, declared.media.SampleFormat.SampleFormat, declared.media.SoundShape.SoundShape}
+use Rattle.wc_config.specs.declared.{codec.CodecId.CodecId, codec.Role.Role, config.AudioDecoderConfig.AudioDecoderConfig, config.Config.Config}
 use Rattle.wc_config.specs.Configs.{audio_codec, id_with, coder_id_of}
 use Rattle.codec_definitions.specs.G711.{alaw_magnitude}
 use Rattle.codec_definitions.specs.Pcm.{little_endian, signed, sample_at, converted, format_size, place_of}
 use Rattle.codec_definitions.specs.SampleCodecs.{SampleCodec, pcm, sample_codec, coded_at, coded_frame, coded}
 use Rattle.codec_model.specs.Replay.{decoder_config}
 use Rattle.g711.specs.Laws.{UlawEncodes, AlawEncodes}
-use Rattle.report_lines.specs.FieldLaws.{Lacks}
-use Rattle.report_lines.specs.Fits.{is_no_feed}
-use Rattle.history_laws.specs.Outputs.{IsLabel}
-use Rattle.history_laws.specs.StreamLaws.{stream_description_fits, described_where}
+use Rattle.report_lines.specs.{FieldLaws.Lacks, Fits.is_no_feed}
+use Rattle.history_laws.specs.{Outputs.IsLabel, StreamLaws.stream_description_fits, StreamLaws.described_where}
 use Rattle.run_ranges.specs.Ranges.{IsConfigWithin}
 use Rattle.run_ranges.proofs.ByteRanges.{nothing_small, one_small, drop_small, bytes_small, flat_small}
 
@@ -74,12 +64,12 @@ lowered_16 n small = elim (cases_lt n 2147483648) [
 
 -- a sample in 16 bits
 sample_16 : (f : SampleFormat) (bytes : List ℕ) (i : ℕ) → IsBytes bytes → Is16 (converted (8 * format_size f) 16 (sample_at (format_size f) bytes i))
-sample_16 format.U8 bytes i h = raised_16 (sample_at 1 bytes i) (middle_8 _ (little_small 1 (drop (1 * i) bytes) (drop_small (1 * i) bytes h)))
-sample_16 format.S16 bytes i h = kept_16 _ (little_small 2 (drop (2 * i) bytes) (drop_small (2 * i) bytes h))
-sample_16 format.S32 bytes i h = lowered_16 _ (little_small 4 (drop (4 * i) bytes) (drop_small (4 * i) bytes h))
-sample_16 format.U8Planar bytes i h = raised_16 (sample_at 1 bytes i) (middle_8 _ (little_small 1 (drop (1 * i) bytes) (drop_small (1 * i) bytes h)))
-sample_16 format.S16Planar bytes i h = kept_16 _ (little_small 2 (drop (2 * i) bytes) (drop_small (2 * i) bytes h))
-sample_16 format.S32Planar bytes i h = lowered_16 _ (little_small 4 (drop (4 * i) bytes) (drop_small (4 * i) bytes h))
+sample_16 SampleFormat.U8 bytes i h = raised_16 (sample_at 1 bytes i) (middle_8 _ (little_small 1 (drop (1 * i) bytes) (drop_small (1 * i) bytes h)))
+sample_16 SampleFormat.S16 bytes i h = kept_16 _ (little_small 2 (drop (2 * i) bytes) (drop_small (2 * i) bytes h))
+sample_16 SampleFormat.S32 bytes i h = lowered_16 _ (little_small 4 (drop (4 * i) bytes) (drop_small (4 * i) bytes h))
+sample_16 SampleFormat.U8Planar bytes i h = raised_16 (sample_at 1 bytes i) (middle_8 _ (little_small 1 (drop (1 * i) bytes) (drop_small (1 * i) bytes h)))
+sample_16 SampleFormat.S16Planar bytes i h = kept_16 _ (little_small 2 (drop (2 * i) bytes) (drop_small (2 * i) bytes h))
+sample_16 SampleFormat.S32Planar bytes i h = lowered_16 _ (little_small 4 (drop (4 * i) bytes) (drop_small (4 * i) bytes h))
 
 -- ---- coded samples
 
@@ -92,12 +82,12 @@ pcm_bytes : (size : ℕ) (out : SampleFormat) → CodesBytes (Some (pcm size out
 pcm_bytes size out shape bytes frame channel h = bytes_small size _
 
 pub codes_bytes : CodesAreBytes → (id : CodecId) → CodesBytes (sample_codec id)
-codes_bytes laws codec.PcmU8 = pcm_bytes 1 format.U8
-codes_bytes laws codec.PcmS16 = pcm_bytes 2 format.S16
-codes_bytes laws codec.PcmS24 = pcm_bytes 3 format.S32
-codes_bytes laws codec.PcmS32 = pcm_bytes 4 format.S32
-codes_bytes laws codec.Alaw = λ shape bytes frame channel h. one_small _ [] (laws.alaw _ (sample_16 shape.format bytes (place_of shape frame channel) h)).byte nothing_small
-codes_bytes laws codec.Ulaw = λ shape bytes frame channel h. one_small _ [] (laws.ulaw _).byte nothing_small
+codes_bytes laws CodecId.PcmU8 = pcm_bytes 1 SampleFormat.U8
+codes_bytes laws CodecId.PcmS16 = pcm_bytes 2 SampleFormat.S16
+codes_bytes laws CodecId.PcmS24 = pcm_bytes 3 SampleFormat.S32
+codes_bytes laws CodecId.PcmS32 = pcm_bytes 4 SampleFormat.S32
+codes_bytes laws CodecId.Alaw = λ shape bytes frame channel h. one_small _ [] (laws.alaw _ (sample_16 shape.format bytes (place_of shape frame channel) h)).byte nothing_small
+codes_bytes laws CodecId.Ulaw = λ shape bytes frame channel h. one_small _ [] (laws.ulaw _).byte nothing_small
 codes_bytes laws _ = tt
 
 pub coded_small : (s : SampleCodec) (shape : SoundShape) (bytes : List ℕ) → CodesBytes (Some s) → IsBytes bytes → IsBytes (coded s shape bytes)
@@ -134,8 +124,8 @@ pub label_within : (d : AudioDecoderConfig) → IsLabel IsConfigWithin d → IsL
 label_within d label = by label.config label.passed label.has_coder label.decodes
   where
     by : (c : Config) → IsConfigWithin c → is_some (coder_id_of c) ≡ true → decoder_config c ≡ Some d → IsLabelWithin d
-    by (config.AudioEncoder c) own coder is =
+    by (Config.AudioEncoder c) own coder is =
         let described = described_where (λ (o : Option (List ℕ)). IsBytes (unwrap_or o [])) c nothing_small (stream_description_fits c) in
-        let known = elim (audio_codec c.codec) as (λ o. is_some (id_with role.Encode o) ≡ true → is_some o ≡ true) [ None ↦ λ h. absurd cc | Some i ↦ λ h. refl ] coder in
+        let known = elim (audio_codec c.codec) as (λ o. is_some (id_with Role.Encode o) ≡ true → is_some o ≡ true) [ None ↦ λ h. absurd cc | Some i ↦ λ h. refl ] coder in
         subst IsLabelWithin (some_same _ d is) (record { word = codec_word c.codec known; rate = own.0; channels = own.1; description = described })
     by _ own coder is = absurd cc

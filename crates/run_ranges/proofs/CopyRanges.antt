@@ -6,24 +6,16 @@ use Rattle.std.proofs.Math.Nat.{mul-le-mul_left}
 use Rattle.std.proofs.lemmas.Bool.{and_parts, cond_both, ltb-true, ltb-false, eqb-true}
 use Rattle.std.proofs.lemmas.List.{length-replicate}
 use Rattle.hex.specs.Hex.{IsBytes}
-use Rattle.wc_base.specs.declared.error.DomError.{DomError}
-use Rattle.wc_base.specs.declared.error.DomError.TheVariants as dom
-use Rattle.wc_base.specs.declared.media.PictureFormat.{PictureFormat}
-use Rattle.wc_base.specs.declared.media.PictureFormat.TheVariants as picture
-use Rattle.wc_base.specs.declared.media.PictureShape.{PictureShape}
+use Rattle.wc_base.specs.declared.{error.DomError.DomError, media.PictureFormat.PictureFormat, media.PictureShape.PictureShape}
 use Rattle.wc_base.specs.declared.media.SoundShape.{SoundShape}
 use Rattle.codec_definitions.specs.Pcm.{format_size, is_planar, place_of, frame_of, resized_at}
 use Rattle.sample_conversion.specs.Layouts.{channel_of, frames_of}
 use Rattle.picture_planes.specs.declared.plane.Plane.{Plane}
-use Rattle.picture_planes.specs.declared.plane.Plane.TheVariants as plane
 use Rattle.picture_planes.specs.Planes.{rows_of, planes_of, plane_size}
 use Rattle.wc_chunk.specs.Copied.{copied_count, copied_to}
 use Rattle.wc_audio.specs.declared.options.Plan.{Plan}
 use Rattle.wc_audio.specs.Copies as sound
-use Rattle.wc_video.specs.declared.layout.Rect.{Rect}
-use Rattle.wc_video.specs.declared.layout.PlaneLayout.{PlaneLayout}
-use Rattle.wc_video.specs.declared.layout.PlaneCopy.{PlaneCopy}
-use Rattle.wc_video.specs.Frames.{Frame}
+use Rattle.wc_video.specs.{declared.layout.Rect.Rect, declared.layout.PlaneLayout.PlaneLayout, declared.layout.PlaneCopy.PlaneCopy, Frames.Frame}
 use Rattle.wc_video.specs.Layouts.{rect_in, layouts_in, is_rect_of, plane_copy, copies_from, end_of, is_fit, are_apart, are_taken, plan_in, plan_of, size_of, layout_at, layouts_of}
 use Rattle.wc_video.specs.Copies as video
 use Rattle.script_types.specs.declared.script.ScriptData.{ScriptData}
@@ -61,18 +53,18 @@ pub sound_copy_fits : (s : ScriptData) (size : ℕ) (shape : SoundShape) (bytes 
 sound_copy_fits s size shape bytes (Err e) few = tt
 sound_copy_fits s size shape bytes (Ok p) few =
     let copy = sound.copy_of shape bytes p in
-    cond_both (nat_lt size (sound.copy_size shape p)) (Err dom.RangeErr) (Ok copy) (λ r. FitsResult s (audio_copied size r)) (λ is. tt)
+    cond_both (nat_lt size (sound.copy_size shape p)) (Err DomError.RangeErr) (Ok copy) (λ r. FitsResult s (audio_copied size r)) (λ is. tt)
     (λ is. (omega (arith, few, sound_length shape bytes p, ltb-false size (sound.copy_size shape p) is), both_small copy (drop (length copy) (zeros size)) (sound_small shape bytes p) (drop_small (length copy) (zeros size) (zeros_small size))))
 
 pub sound_size_fits : (s : ScriptData) (shape : SoundShape) (r : Result Plan DomError) → FitsResult s (size_found (sound.size_in shape r))
 sound_size_fits s shape (Err e) = tt
-sound_size_fits s shape (Ok p) = cond_both (nat_lt (sound.copy_size shape p) (2 ^ 64)) (Ok (sound.copy_size shape p)) (Err dom.RangeErr) (λ r. FitsResult s (size_found r)) (λ is. ltb-true (sound.copy_size shape p) (2 ^ 64) is) (λ is. tt)
+sound_size_fits s shape (Ok p) = cond_both (nat_lt (sound.copy_size shape p) (2 ^ 64)) (Ok (sound.copy_size shape p)) (Err DomError.RangeErr) (λ r. FitsResult s (size_found r)) (λ is. ltb-true (sound.copy_size shape p) (2 ^ 64) is) (λ is. tt)
 
 -- ---- chunks
 
 pub chunk_copy_fits : (s : ScriptData) (size : ℕ) (bytes : List ℕ) → size < 2 ^ 64 → IsBytes bytes → FitsResult s (chunk_copied (copied_to bytes (zeros size)) (copied_count bytes (zeros size)))
 chunk_copy_fits s size bytes few small =
-    by_test (λ b. FitsResult s (chunk_copied (cond b (zeros size) (bytes ++ drop (length bytes) (zeros size))) (cond b (Err dom.TypeErr) (Ok (length bytes))))) (nat_lt (length (zeros size)) (length bytes)) (λ is. tt)
+    by_test (λ b. FitsResult s (chunk_copied (cond b (zeros size) (bytes ++ drop (length bytes) (zeros size))) (cond b (Err DomError.TypeErr) (Ok (length bytes))))) (nat_lt (length (zeros size)) (length bytes)) (λ is. tt)
     (λ is. (omega (arith, few, length-replicate {A = ℕ} size 0, ltb-false (length (zeros size)) (length bytes) is), both_small bytes (drop (length bytes) (zeros size)) small (drop_small (length bytes) (zeros size) (zeros_small size))))
 
 -- ---- planes
@@ -82,7 +74,7 @@ abbrev IsPlaneWithin : PlaneCopy → Type 0
 IsPlaneWithin c = FitsLayout c.layout × (end_of c < 2 ^ 32)
 
 rows_some : (p : Plane) (height : ℕ) → 1 ≤ height → 1 ≤ rows_of p height
-rows_some plane.Whole height h = omega arith
+rows_some Plane.Whole height h = omega arith
 rows_some p height h = omega arith
 
 plane_within : (at : ℕ) (shape : PictureShape) (r : Rect) (p : Plane) (l : PlaneLayout) → 1 ≤ r.height → is_fit (plane_copy at shape r p l) ≡ true → IsPlaneWithin (plane_copy at shape r p l)
@@ -117,7 +109,7 @@ no_third (a ∷ b ∷ []) two = refl
 no_third _ two = absurd (omega (arith, two))
 
 two_or_three : (f : PictureFormat) → (length (planes_of f) ≡ 2) ⊎ (length (planes_of f) ≡ 3)
-two_or_three picture.Nv12 = inl refl
+two_or_three PictureFormat.Nv12 = inl refl
 two_or_three _ = inr refl
 
 -- ---- plans of copies of pictures
@@ -155,12 +147,12 @@ plan_in_within : (shape : PictureShape) (r : Rect) (ls : List PlaneLayout) → I
 plan_in_within shape r ls = one (is_rect_of shape r) (length ls == length (planes_of shape.format)) (are_taken (planes_in shape r ls)) refl refl refl
   where
     one : (a b c : Bool) → is_rect_of shape r ≡ a → (length ls == length (planes_of shape.format)) ≡ b → are_taken (planes_in shape r ls) ≡ c
-        → IsPlanWithin (cond (not a) (Err dom.TypeErr) (cond (not b) (Err dom.TypeErr) (cond (not c) (Err dom.TypeErr) (Ok (planes_in shape r ls)))))
+        → IsPlanWithin (cond (not a) (Err DomError.TypeErr) (cond (not b) (Err DomError.TypeErr) (cond (not c) (Err DomError.TypeErr) (Ok (planes_in shape r ls)))))
     one true true true rect count taken = taken_within shape r ls rect count taken
     one _ _ _ rect count taken = tt
 
 pub plan_within : (f : Frame) (rect : Option Rect) (layout : Option (List PlaneLayout)) → IsPlanWithin (video.plan_for f rect layout)
-plan_within f rect layout = cond_both (is_none f.held) (Err dom.InvalidState) (plan_of f.shape rect layout) IsPlanWithin (λ is. tt) (λ is. plan_in_within f.shape (rect_in f.shape rect) (layouts_in f.shape (rect_in f.shape rect) layout))
+plan_within f rect layout = cond_both (is_none f.held) (Err DomError.InvalidState) (plan_of f.shape rect layout) IsPlanWithin (λ is. tt) (λ is. plan_in_within f.shape (rect_in f.shape rect) (layouts_in f.shape (rect_in f.shape rect) layout))
 
 -- a byte of a copy is one of the picture's, or one that stood there
 byte_small : (cs : List PlaneCopy) (bytes old : List ℕ) → IsBytes bytes → IsBytes old → (j : ℕ) → video.byte_after cs bytes old j < 256
@@ -170,7 +162,7 @@ byte_small (c ∷ cs) bytes old small zeros j = cond_both (video.is_written c j)
 pub frame_copy_fits : (s : ScriptData) (bytes old : List ℕ) (r : Result (List PlaneCopy) DomError) → IsBytes bytes → IsBytes old → IsPlanWithin r → FitsResult s (planes_copied bytes old r)
 frame_copy_fits s bytes old (Err e) small zeros h = tt
 frame_copy_fits s bytes old (Ok cs) small zeros h =
-    cond_both (nat_lt (length old) (size_of cs)) (Err dom.TypeErr) (Ok (video.copy_of cs bytes old)) (λ r. FitsResult s (frame_copied (size_of cs) (layouts_of cs) r)) (λ is. tt)
+    cond_both (nat_lt (length old) (size_of cs)) (Err DomError.TypeErr) (Ok (video.copy_of cs bytes old)) (λ r. FitsResult s (frame_copied (size_of cs) (layouts_of cs) r)) (λ is. tt)
     (λ is. (omega (arith, h.1), h.0, range_small (video.byte_after cs bytes old) (byte_small cs bytes old small zeros) 0 (length old)))
 
 pub frame_size_fits : (s : ScriptData) (r : Result (List PlaneCopy) DomError) → IsPlanWithin r → FitsResult s (size_found (video.size_in r))

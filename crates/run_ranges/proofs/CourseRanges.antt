@@ -9,61 +9,32 @@ use Rattle.std.proofs.lemmas.List.{append-nil, length-map}
 use Rattle.std.proofs.lemmas.Option.{option_and_then_some}
 use Rattle.std.proofs.lemmas.List.FromFn.{length-range_with_len}
 use Rattle.std.proofs.lemmas.List.Sums.{count_by-le-length}
-use Rattle.wc_base.specs.declared.media.SoundShape.{SoundShape}
-use Rattle.wc_base.specs.Options.{some_same}
-use Rattle.wc_base.specs.declared.who.Who.{Who}
-use Rattle.wc_base.specs.declared.who.By.{By}
-use Rattle.wc_base.specs.declared.who.By.TheVariants as by
-use Rattle.wc_config.specs.Configs.{is_valid}
-use Rattle.wc_config.specs.declared.codec.CoderId.{CoderId}
+use Rattle.wc_base.specs.{declared.media.SoundShape.SoundShape, Options.some_same, declared.who.Who.Who, declared.who.By.By}
+use Rattle.wc_config.specs.{Configs.is_valid, declared.codec.CoderId.CoderId}
 use Rattle.wc_chunk.specs.declared.chunk.Chunk.{Chunk}
-use Rattle.wc_pool.specs.declared.entry.PoolEntry.{PoolEntry}
-use Rattle.wc_pool.specs.declared.entry.PoolOp.TheVariants as pool_op
-use Rattle.wc_pool.specs.declared.reference.MediaRef.{MediaRef}
-use Rattle.wc_pool.specs.Bag.{references_made}
-use Rattle.coder_api.specs.Meaning.{is_id}
-use Rattle.coder_api.specs.declared.slot.SlotEntry.{SlotEntry}
-use Rattle.coder_api.specs.declared.slot.SlotOp.{SlotOp}
-use Rattle.coder_api.specs.declared.slot.SlotOp.TheVariants as slot
+use Rattle.wc_pool.specs.{declared.entry.PoolEntry.PoolEntry, declared.entry.PoolOp.PoolOp, declared.reference.MediaRef.MediaRef, Bag.references_made}
+use Rattle.coder_api.specs.{Meaning.is_id, declared.slot.SlotEntry.SlotEntry, declared.slot.SlotOp.SlotOp}
 use Rattle.slot_registry.specs.Boxes.{is_out, made_of, out_of, least_free}
 use Rattle.slot_registry.specs.Slots.{SlotsValue, acquire_op, acquire_entry}
 use Rattle.codec_definitions.specs.declared.unit.Unit as output
-use Rattle.codec_model.specs.declared.entry.Opening.{Opening}
-use Rattle.codec_model.specs.declared.entry.Pair.{Pair}
-use Rattle.codec_model.specs.declared.entry.Handed.TheVariants as handed
-use Rattle.codec_model.specs.declared.entry.Entry.{Entry}
-use Rattle.codec_model.specs.declared.entry.Entry.TheVariants as entry
-use Rattle.codec_model.specs.Control.{start_item, may_reclaim}
+use Rattle.codec_model.specs.declared.entry.{Opening.Opening, Pair.Pair, Handed.Handed, Entry.Entry}
+use Rattle.codec_model.specs.{Control.start_item, Control.may_reclaim, Shown.shown, Shown.outputs_of}
 use Rattle.codec_model.specs.Replay.{State, opening_state, step as legal_step, replay, replay_from, is_configured}
 use Rattle.codec_model.specs.Held.{running_pairs, waiting_held, held_in, is_removal, is_done, lets_go, leaves_held, adds_held, HeldStays}
-use Rattle.codec_model.specs.Shown.{shown, outputs_of}
-use Rattle.codec_accounts.specs.Owed.{at, append_at}
+use Rattle.codec_accounts.specs.{Owed.at, Owed.append_at, Registry.BoxOut, AccountLaws.history_at, AccountLaws.histories_more}
 use Rattle.codec_accounts.specs.ListLaws.{Same, Longer, growth, get_more, at_empty}
-use Rattle.codec_accounts.specs.Registry.{BoxOut}
 use Rattle.codec_accounts.specs.Codec.{CodecValue, Holding, new_codec, BoxStep, Keep, Give, Renew, after_give, holding_by, slots_after, holding_after, step_by, next_by, state_after, state_of, after_entry, codec_at, histories}
-use Rattle.codec_accounts.specs.AccountLaws.{history_at, histories_more}
-use Rattle.script_types.specs.declared.script.CallerItem.{CallerItem}
-use Rattle.script_types.specs.declared.script.CodecItem.{CodecItem}
-use Rattle.script_types.specs.declared.script.OrderItem.{OrderItem}
-use Rattle.script_types.specs.declared.script.OrderItem.TheVariants as item
-use Rattle.script_types.specs.declared.script.ScriptData.{ScriptData}
-use Rattle.script_types.specs.declared.steps.MediaStep.{MediaStep}
-use Rattle.script_types.specs.declared.steps.MediaStep.TheVariants as on_media
-use Rattle.script_types.specs.declared.steps.Step.{Step}
-use Rattle.script_types.specs.declared.steps.Step.TheVariants as step
+use Rattle.script_types.specs.declared.script.{CallerItem.CallerItem, CodecItem.CodecItem, OrderItem.OrderItem, ScriptData.ScriptData}
+use Rattle.script_types.specs.declared.steps.{MediaStep.MediaStep, Step.Step}
 use Rattle.report_text.specs.declared.result.StepResult.{StepResult}
-use Rattle.report_text.specs.declared.result.StepResult.TheVariants as result
 use Rattle.media_variables.specs.Variables.{Medium, Came, Brought, sound_at, handed_by, entries_of, media_came, variables_of}
 use Rattle.media_variables.specs.Held.{ends_behind, clones_of}
 use Rattle.media_accounts.specs.Accounts.{pool_by}
 use Rattle.trace_text.specs.Follow.{Course, opening_of, steps_of, output_at, chunk_by, chunk_at, chunk_for, Move, Idle, Answer, Advance, Ask, Handle, Receive, with_result, with_entry, with_media, after_move, turn_on, advance, decode_move, encode_move, found_at, handle_move, take_move, media_move, copied_chunk, step_move, next_move, item_move, follow_item, Follows, nothing_yet, order_items}
-use Rattle.history_laws.specs.Outputs.{HoldsOwn}
-use Rattle.history_laws.specs.OutputLaws.{outputs_are}
-use Rattle.history_laws.specs.CountLaws.{outputs_each}
+use Rattle.history_laws.specs.{Outputs.HoldsOwn, OutputLaws.outputs_are, CountLaws.outputs_each}
 use Rattle.run_ranges.specs.Counts.{all_from, all_at}
 use Rattle.run_ranges.specs.Ranges.{IsMoment, IsConfigWithin, IsChunkWithin, IsShapeWithin, AreWithin}
-use Rattle.run_ranges.proofs.Cases.{by_option, by_default}
-use Rattle.run_ranges.proofs.CodeRanges.{CodesAreBytes}
+use Rattle.run_ranges.proofs.{Cases.by_option, Cases.by_default, CodeRanges.CodesAreBytes}
 use Rattle.run_ranges.proofs.UnitRanges.{AreSamplesWithin, IsUnitWithin, judge}
 use Rattle.run_ranges.proofs.MediaRanges.{AreVariables, IsChunkThere, chunk_found, IsRefWithin, IsSoundThere, sound_found, IsCameWithin, IsContentWithin, IsOutputWithin, came_within}
 
@@ -71,21 +42,21 @@ use Rattle.run_ranges.proofs.MediaRanges.{AreVariables, IsChunkThere, chunk_foun
 
 -- what an entry was given, and its moment, are within their types; a config that is not valid is not looked at
 abbrev pub IsOwnEntry : Entry → Type 0
-IsOwnEntry (entry.Configure who config) = is_valid config ≡ true → IsConfigWithin config
-IsOwnEntry (entry.Decode who chunk) = IsChunkWithin chunk
-IsOwnEntry (entry.Encode who (handed.Cloned sound)) = AreSamplesWithin sound.samples
-IsOwnEntry (entry.Done epoch number moment o) = moment < 2 ^ 64
-IsOwnEntry (entry.Reclaim moment) = moment < 2 ^ 64
+IsOwnEntry (Entry.Configure who config) = is_valid config ≡ true → IsConfigWithin config
+IsOwnEntry (Entry.Decode who chunk) = IsChunkWithin chunk
+IsOwnEntry (Entry.Encode who (Handed.Cloned sound)) = AreSamplesWithin sound.samples
+IsOwnEntry (Entry.Done epoch number moment o) = moment < 2 ^ 64
+IsOwnEntry (Entry.Reclaim moment) = moment < 2 ^ 64
 IsOwnEntry e = Unit {0}
 
 abbrev pub IsByUpTo : ℕ → By → Type 0
-IsByUpTo n (by.Caller who) = Unit {0}
-IsByUpTo n (by.Codec k place) = place ≤ n
+IsByUpTo n (By.Caller who) = Unit {0}
+IsByUpTo n (By.Codec k place) = place ≤ n
 
 abbrev pub IsOpUpTo : ℕ → SlotOp → Type 0
-IsOpUpTo most (slot.Acquire id number) = number ≤ most
-IsOpUpTo most (slot.Refused id out made) = (out ≤ most) × (made ≤ most)
-IsOpUpTo most (slot.Give id number) = number ≤ most
+IsOpUpTo most (SlotOp.Acquire id number) = number ≤ most
+IsOpUpTo most (SlotOp.Refused id out made) = (out ≤ most) × (made ≤ most)
+IsOpUpTo most (SlotOp.Give id number) = number ≤ most
 
 abbrev IsBoxUpTo : ℕ → Option BoxOut → Type 0
 IsBoxUpTo most o = IfSome o (λ b. b.number ≤ most)
@@ -120,8 +91,8 @@ abbrev pub IsCourseAfter : ℕ → ℕ → Course → Type 0
 IsCourseAfter n most v = IsCourseUpTo n n (n * n + 2 * n) most v
 
 pub by_up : (n m : ℕ) (b : By) → n ≤ m → IsByUpTo n b → IsByUpTo m b
-by_up n m (by.Caller who) le h = tt
-by_up n m (by.Codec k place) le h = omega (arith, le, h)
+by_up n m (By.Caller who) le h = tt
+by_up n m (By.Codec k place) le h = omega (arith, le, h)
 
 slots_raised : (n m most long more : ℕ) (s : SlotsValue) → n ≤ m → long ≤ more → AreSlotsUpTo n most long s → AreSlotsUpTo m most more s
 slots_raised n m most long more s le longer h = record { long_at_most = omega (arith, h.long_at_most, longer); made = h.made; ops = λ i e is. (by_up n m e.by le (h.ops i e is).0, (h.ops i e is).1) }
@@ -169,7 +140,7 @@ either_few : (a b : Bool) (xs ys zs : List Pair) (n : ℕ) → length xs ≤ n �
 either_few a b xs ys zs n x y z = cond_both a xs (cond b ys zs) (λ ps. length ps ≤ n) (λ is. x) (λ is. cond_both b ys zs (λ ps. length ps ≤ n) (λ is. y) (λ is. z))
 
 adds_few : (e : Entry) → length (adds_held e) ≤ 1
-adds_few (entry.Encode who (handed.Cloned sound)) = omega arith
+adds_few (Entry.Encode who (Handed.Cloned sound)) = omega arith
 adds_few e = omega arith
 
 replay_few : HeldStays → (h : List Entry) (s t : State) → replay_from h s ≡ Some t → length (held_in t) ≤ length (held_in s) + length h
@@ -192,7 +163,7 @@ pool_few stays cause e d pool n few =
     let clones = clones_of cause (adds_held e) in
     let ends = ends_behind cause pool (lets_go e (state_of d)) in
     let goes = either_few (is_done e) (is_removal e (state_of d)) _ _ [] (length (held_in (state_of d))) (parts_few (state_of d)).0 (parts_few (state_of d)).1 (omega arith) in
-    omega (arith, few, length-append pool (clones ++ ends), length-append clones ends, length-map (adds_held e) (λ p. let x : PoolEntry = record { by = cause; op = pool_op.Clone p.resource p.reference } in x), adds_few e, ends_count cause (lets_go e (state_of d)) pool, goes, held_few stays d.opening d.history)
+    omega (arith, few, length-append pool (clones ++ ends), length-append clones ends, length-map (adds_held e) (λ p. let x : PoolEntry = record { by = cause; op = PoolOp.Clone p.resource p.reference } in x), adds_few e, ends_count cause (lets_go e (state_of d)) pool, goes, held_few stays d.opening d.history)
 
 -- ---- the registry
 
@@ -222,7 +193,7 @@ slot_more n most long x s own h = record {
 
 given_up : (n most long : ℕ) (cause : By) (box : Option BoxOut) (s : SlotsValue) → IsByUpTo n cause → IsBoxUpTo most box → AreSlotsUpTo n most long s → AreSlotsUpTo n most (long + 1) (after_give cause box s)
 given_up n most long cause None s own few h = rw (append-nil s.history) (slots_raised n n most long (long + 1) s (omega arith) (omega arith) h)
-given_up n most long cause (Some b) s own few h = slot_more n most long (record { by = cause; op = slot.Give b.id b.number }) s (own, few) h
+given_up n most long cause (Some b) s own few h = slot_more n most long (record { by = cause; op = SlotOp.Give b.id b.number }) s (own, few) h
 
 slots_up : (n most long : ℕ) (cause : By) (change : BoxStep) (box : Option BoxOut) (s : SlotsValue) → IsByUpTo n cause → IsBoxUpTo most box → AreSlotsUpTo n most long s → AreSlotsUpTo n most (long + 1 + 1) (slots_after cause change box s)
 slots_up n most long cause Keep box s own few h = slots_raised n n most long (long + 1 + 1) s (omega arith) (omega arith) h
@@ -268,7 +239,7 @@ entry_up stays a n p most k e v own h =
           | inr new ↦ subst (λ (x : CodecValue). IsBoxUpTo most x.holding.box) (sym new) (held_up most (next_by k d) (step_by e d) d.holding v.slots slots.made (h.codecs.boxes k))
         ];
       };
-      media = omega (arith, pool_few stays (by.Codec k (length d.history)) e d v.media.pool n few, h.media);
+      media = omega (arith, pool_few stays (By.Codec k (length d.history)) e d v.media.pool n few, h.media);
       own = record { entries = rw (histories_more k e v.slots v.codecs) (own_more k e (histories v.codecs) h.own.entries own); variables = h.own.variables };
     }
 
@@ -301,13 +272,13 @@ pub chunk_made : (s : ScriptData) (media : List (List Chunk)) (made : List Coder
 chunk_made s media made within c j = by_option IsChunkThere (chunk_at media (steps_of s c) j) tt (λ chunk is.
     option_and_then_some (chunk_by media) (slice_get (steps_of s c) j) chunk is (λ x there made. within.chunks c j x chunk there made))
 
-pub contents_within : (s : ScriptData) (media : List (List Chunk)) (made : List CoderId) (c j : ℕ) (x : MediaStep) → AreWithin s media made → slice_get (steps_of s c) j ≡ Some (step.Media x) → IsContentWithin x
-contents_within s media made c j (on_media.Audio bind (Some init)) within is = within.sounds c j bind init is
-contents_within s media made c j (on_media.Frame bind (Some init)) within is = within.frames c j bind init is
+pub contents_within : (s : ScriptData) (media : List (List Chunk)) (made : List CoderId) (c j : ℕ) (x : MediaStep) → AreWithin s media made → slice_get (steps_of s c) j ≡ Some (Step.Media x) → IsContentWithin x
+contents_within s media made c j (MediaStep.Audio bind (Some init)) within is = within.sounds c j bind init is
+contents_within s media made c j (MediaStep.Frame bind (Some init)) within is = within.frames c j bind init is
 contents_within s media made c j x within is = tt
 
 -- what an encode hands over
-handed_own : (who : Who) (number : ℕ) (accepts : Bool) (shape : SoundShape) (held : Option MediaRef) → IsShapeWithin shape → IsRefWithin held → IsOwnEntry (entry.Encode who (handed_by number accepts shape held))
+handed_own : (who : Who) (number : ℕ) (accepts : Bool) (shape : SoundShape) (held : Option MediaRef) → IsShapeWithin shape → IsRefWithin held → IsOwnEntry (Entry.Encode who (handed_by number accepts shape held))
 handed_own who number true shape (Some r) own small = (own, small)
 handed_own who number false shape (Some r) own small = tt
 handed_own who number accepts shape None own small = tt
@@ -316,9 +287,9 @@ handed_own who number accepts shape None own small = tt
 
 -- so an entry passes with the judge of outputs
 pub holds_own : (laws : CodesAreBytes) (e : Entry) → IsOwnEntry e → HoldsOwn (judge laws) e
-holds_own laws (entry.Configure who config) own = own
-holds_own laws (entry.Decode who chunk) own = own
-holds_own laws (entry.Encode who (handed.Cloned sound)) own = own
+holds_own laws (Entry.Configure who config) own = own
+holds_own laws (Entry.Decode who chunk) own = own
+holds_own laws (Entry.Encode who (Handed.Cloned sound)) own = own
 holds_own laws _ own = tt
 
 -- each output of a history
@@ -331,18 +302,18 @@ found_own : CodesAreBytes → (k : ℕ) (v : Course) → IsCourseOwn v → IsOut
 found_own laws k v h =
     let d = codec_at k v.codecs in
     let n = (state_of d).control.taken in
-    by_option (λ o. IsOutputWithin (option_map (λ u. record { unit = u; answer = result.Unit k (length d.history) n }) o)) (output_at d.opening d.history n) tt
+    by_option (λ o. IsOutputWithin (option_map (λ u. record { unit = u; answer = StepResult.Unit k (length d.history) n }) o)) (output_at d.opening d.history n) tt
     (λ u is. output_own laws d.opening d.history (λ p e there. h.entries k p e (rw (← history_at k v.codecs) at there)) n u is)
 
 -- ---- steps
 
 media_holds : CodesAreBytes → (s : ScriptData) (media : List (List Chunk)) (who : Who) (x : MediaStep) (v : Course) → IsContentWithin x → IsCourseOwn v → MoveHolds (media_move s media who x v)
-media_holds laws s media who (on_media.Take on bind kind) v content h =
+media_holds laws s media who (MediaStep.Take on bind kind) v content h =
     let b : Brought = record { chunk = None; taken = found_at on (codec_at on v.codecs) } in
     let vs = variables_of who.caller v.media.variables in
-    by_option (λ o. IsCameWithin o → MoveHolds (take_move who on (codec_at on v.codecs) o)) (media_came v.media.pool who b (on_media.Take on bind kind) vs) (λ none. tt) (λ y is fine. (tt, fine))
-    (came_within v.media.pool who b (on_media.Take on bind kind) vs content (found_own laws on v h) (h.variables who.caller))
-media_holds laws s media who (on_media.Encode on sound) v content h =
+    by_option (λ o. IsCameWithin o → MoveHolds (take_move who on (codec_at on v.codecs) o)) (media_came v.media.pool who b (MediaStep.Take on bind kind) vs) (λ none. tt) (λ y is fine. (tt, fine))
+    (came_within v.media.pool who b (MediaStep.Take on bind kind) vs content (found_own laws on v h) (h.variables who.caller))
+media_holds laws s media who (MediaStep.Encode on sound) v content h =
     let vs = variables_of who.caller v.media.variables in
     by_option (λ o. IsSoundThere o → MoveHolds (encode_move who on v.media.pool o (codec_at on v.codecs))) (sound_at vs sound.step) (λ none. tt)
     (λ x is fine. handed_own who (references_made v.media.pool) (is_configured (state_of (codec_at on v.codecs)).control) x.shape x.held fine.0 fine.1) (sound_found vs sound.step (h.variables who.caller))
@@ -352,12 +323,12 @@ media_holds laws s media who x v content h =
     by_option (λ o. IsCameWithin o → MoveHolds (handle_move who o)) (media_came v.media.pool who b x vs) (λ none. tt) (λ y is fine. fine) (came_within v.media.pool who b x vs content tt (h.variables who.caller))
 
 step_holds : CodesAreBytes → (s : ScriptData) (media : List (List Chunk)) (made : List CoderId) (who : Who) (x : Step) (v : Course) → AreWithin s media made → slice_get (steps_of s who.caller) who.step ≡ Some x → IsCourseOwn v → MoveHolds (step_move s media who x v)
-step_holds laws s media made who (step.Configure on config) v within is h = λ valid. within.configs who.caller who.step on config is
-step_holds laws s media made who (step.Decode on chunk) v within is h =
+step_holds laws s media made who (Step.Configure on config) v within is h = λ valid. within.configs who.caller who.step on config is
+step_holds laws s media made who (Step.Decode on chunk) v within is h =
     let vs = variables_of who.caller v.media.variables in
     let steps = steps_of s who.caller in
     by_option (λ o. IsChunkThere o → MoveHolds (decode_move who on o (codec_at on v.codecs))) (chunk_for media steps vs chunk.step) (λ none. tt) (λ x is fine. fine) (chunk_found (chunk_at media steps chunk.step) vs chunk.step (chunk_made s media made within who.caller chunk.step) (h.variables who.caller))
-step_holds laws s media made who (step.Media x) v within is h = media_holds laws s media who x v (contents_within s media made who.caller who.step x within is) h
+step_holds laws s media made who (Step.Media x) v within is h = media_holds laws s media who x v (contents_within s media made who.caller who.step x within is) h
 step_holds laws s media made who _ v within is h = tt
 
 -- ---- items
@@ -367,13 +338,13 @@ advance_holds k f None h = tt
 advance_holds k f (Some x) h = h x
 
 item_holds : CodesAreBytes → (s : ScriptData) (media : List (List Chunk)) (made : List CoderId) (wants : Bool) (x : OrderItem) (v : Course) → AreWithin s media made → IsMoment x → IsCourseOwn v → MoveHolds (item_move s media wants x v)
-item_holds laws s media made wants (item.Caller c) v within own h =
+item_holds laws s media made wants (OrderItem.Caller c) v within own h =
     let who : Who = record { caller = c; step = length (at c v.callers) } in
     by_option (λ o. MoveHolds (next_move s media who o v)) (slice_get (steps_of s c) who.step) tt (λ x is. step_holds laws s media made who x v within is h)
-item_holds laws s media made wants (item.Start k) v within own h = advance_holds k _ (start_item (state_of (codec_at k v.codecs)).control) (λ i. tt)
-item_holds laws s media made wants (item.Done k moment) v within own h = advance_holds k _ (state_of (codec_at k v.codecs)).control.running (λ r. own)
-item_holds laws s media made wants (item.Turn k) v within own h = elim (state_of (codec_at k v.codecs)).control.tasks as (λ ts. MoveHolds (advance k (turn_on ts))) [ [] ↦ tt | t ∷ ts ↦ tt ]
-item_holds laws s media made wants (item.Reclaim k moment) v within own h = cond_both (may_reclaim moment (state_of (codec_at k v.codecs)).control) _ _ (λ o. MoveHolds (advance k o)) (λ is. own) (λ is. tt)
+item_holds laws s media made wants (OrderItem.Start k) v within own h = advance_holds k _ (start_item (state_of (codec_at k v.codecs)).control) (λ i. tt)
+item_holds laws s media made wants (OrderItem.Done k moment) v within own h = advance_holds k _ (state_of (codec_at k v.codecs)).control.running (λ r. own)
+item_holds laws s media made wants (OrderItem.Turn k) v within own h = elim (state_of (codec_at k v.codecs)).control.tasks as (λ ts. MoveHolds (advance k (turn_on ts))) [ [] ↦ tt | t ∷ ts ↦ tt ]
+item_holds laws s media made wants (OrderItem.Reclaim k moment) v within own h = cond_both (may_reclaim moment (state_of (codec_at k v.codecs)).control) _ _ (λ o. MoveHolds (advance k o)) (λ is. own) (λ is. tt)
 
 -- ---- the order
 

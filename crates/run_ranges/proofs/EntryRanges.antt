@@ -3,57 +3,37 @@ use Rattle.std.proofs.Common.{ℕ, ◌≡◌, ◌<◌, ◌≤◌, ◌+◌, ◌^�
 use Rattle.std.specs.Prelude.{flat_map}
 use Rattle.std.specs.List.{AllByRecursion, zip}
 use Rattle.std.proofs.lemmas.Bool.{and_parts, eqb-true}
-use Rattle.wc_base.specs.Options.{cond_is}
-use Rattle.wc_base.specs.declared.error.DomError.{DomError}
-use Rattle.wc_base.specs.declared.error.DomError.TheVariants as dom
+use Rattle.wc_base.specs.{Options.cond_is, declared.error.DomError.DomError}
 use Rattle.codec_definitions.specs.declared.unit.Unit as media
 use Rattle.codec_definitions.specs.declared.unit.Unit.TheVariants as unit
 use Rattle.wc_config.specs.declared.config.AudioDecoderConfig.{AudioDecoderConfig}
-use Rattle.codec_model.specs.declared.entry.Opening.{Opening}
-use Rattle.codec_model.specs.declared.entry.Entry.{Entry}
-use Rattle.codec_model.specs.declared.entry.Entry.TheVariants as entry
-use Rattle.codec_model.specs.declared.entry.Event.{Event}
-use Rattle.codec_model.specs.declared.entry.Event.TheVariants as event
-use Rattle.codec_model.specs.declared.entry.Shown.{Shown}
-use Rattle.codec_model.specs.declared.entry.WorkKind.{WorkKind}
-use Rattle.codec_model.specs.declared.entry.Item.{Item}
-use Rattle.codec_model.specs.declared.entry.Running.{Running}
-use Rattle.codec_model.specs.declared.entry.Task.{Task}
-use Rattle.codec_model.specs.declared.entry.Task.TheVariants as task
-use Rattle.codec_model.specs.declared.entry.Ended.{Ended}
-use Rattle.codec_model.specs.declared.entry.Ended.TheVariants as ended
-use Rattle.codec_model.specs.declared.entry.Outcome.{Outcome}
-use Rattle.codec_model.specs.declared.entry.Outcome.TheVariants as outcome
+use Rattle.codec_model.specs.declared.entry.{Opening.Opening, Entry.Entry, Event.Event, Shown.Shown, WorkKind.WorkKind, Item.Item, Running.Running}
+use Rattle.codec_model.specs.{declared.entry.Task.Task, declared.entry.Ended.Ended, declared.entry.Outcome.Outcome, ShownLaws.replay_append}
 use Rattle.codec_model.specs.Control.{Control, may_start, carried}
 use Rattle.codec_model.specs.Replay.{State, Given, step, replay, replay_from, start_step, done_step, done_ended, ended_of, ended_run, answer_to, decoder_config, labelled}
 use Rattle.codec_model.specs.Shown.{refusal, rejection, rejections, outputs_from, turn_shows, removal_shows, shows, units_in, shown_at, each_shown_from}
-use Rattle.codec_model.specs.ShownLaws.{replay_append}
 use Rattle.codec_model.specs.Facts.{NamesEarlier, IsNeverStuck, Always}
 use Rattle.codec_model.specs.Earlier.{pending_below, resolved_below}
 use Rattle.script_types.specs.declared.script.ScriptData.{ScriptData}
 use Rattle.trace_text.specs.Report.{entry_line_of, output_lines, event_lines, lines_from, entry_lines}
 use Rattle.report_lines.specs.Fits.{FitsWho, FitsOutcome, FitsEntryLine, FitsLine}
-use Rattle.history_laws.specs.Answers.{answer_where}
-use Rattle.history_laws.specs.Numbers.{AreItemsUpTo, IsUpTo}
-use Rattle.history_laws.specs.NumberLaws.{step_up}
-use Rattle.history_laws.specs.Outputs.{HoldsOwn}
+use Rattle.history_laws.specs.{Answers.answer_where, Numbers.AreItemsUpTo, Numbers.IsUpTo, NumberLaws.step_up, Outputs.HoldsOwn}
 use Rattle.history_laws.specs.OutputLaws.{all_append, IsOwn, IsOwnGiven, Own, step_own}
 use Rattle.codec_accounts.specs.Calls.{who_of}
-use Rattle.run_ranges.proofs.Cases.{by_option, comes_after}
-use Rattle.run_ranges.proofs.CodeRanges.{CodesAreBytes}
+use Rattle.run_ranges.proofs.{Cases.by_option, Cases.comes_after, CodeRanges.CodesAreBytes}
 use Rattle.run_ranges.proofs.UnitRanges.{IsUnitWithin, are_given, judge}
 
 -- ---- what a history does not tell
 
 abbrev pub IsOutcomeWithin : Outcome → Type 0
-IsOutcomeWithin (outcome.NoSlot n) = n < 2 ^ 64
+IsOutcomeWithin (Outcome.NoSlot n) = n < 2 ^ 64
 IsOutcomeWithin o = Unit {0}
 
 -- the caller, unit, moment and refusal of an entry are within their types, where it has one
 abbrev pub IsEntryWithin : ScriptData → Entry → Type 0
-IsEntryWithin s (entry.Take who unit) = FitsWho s who × (unit < 2 ^ 64)
-IsEntryWithin s (entry.Done epoch item moment o) = (moment < 2 ^ 64) × IsOutcomeWithin o
-IsEntryWithin s (entry.Reclaim moment) = moment < 2 ^ 64
+IsEntryWithin s (Entry.Take who unit) = FitsWho s who × (unit < 2 ^ 64)
+IsEntryWithin s (Entry.Done epoch item moment o) = (moment < 2 ^ 64) × IsOutcomeWithin o
+IsEntryWithin s (Entry.Reclaim moment) = moment < 2 ^ 64
 IsEntryWithin s e = elim (who_of e) [ None ↦ Unit {0} | Some who ↦ FitsWho s who ]
 
 -- ---- starts and ends
@@ -74,10 +54,10 @@ labelled_few _ _ few = few
 
 -- an item that ran gave fewer units than 2^64, by what its coder was given
 outcome_small : (laws : CodesAreBytes) (k : WorkKind) (g : Given) (x : Outcome) (e : Ended) → ended_of k g x ≡ Some e → IsOwnGiven (judge laws) g → IsOutcomeWithin x → FitsOutcome x
-outcome_small laws k g (outcome.Ran units) e is given own = by_option (λ a. ended_run units a ≡ Some e → units < 2 ^ 64) (answer_to k g) (λ made. absurd cc) (λ us same made.
+outcome_small laws k g (Outcome.Ran units) e is given own = by_option (λ a. ended_run units a ≡ Some e → units < 2 ^ 64) (answer_to k g) (λ made. absurd cc) (λ us same made.
     let few : length us < 2 ^ 64 = answer_where (IsOwn (judge laws)) (λ vs. length vs < 2 ^ 64) k g us (lit< tt) (λ id before x vs fine h. (are_given id g.config before x vs h).few fine) (λ vs some few. labelled_few (decoder_config g.config) vs few) given.1 same in
-    omega (arith, eqb-true units (length us) (cond_is (eqb units (length us)) (Some (ended.Ran us)) e made).0, few)) is
-outcome_small laws k g (outcome.NoSlot n) e is given own = own
+    omega (arith, eqb-true units (length us) (cond_is (eqb units (length us)) (Some (Ended.Ran us)) e made).0, few)) is
+outcome_small laws k g (Outcome.NoSlot n) e is given own = own
 outcome_small laws k g _ e is given own = tt
 
 ended_small : (laws : CodesAreBytes) (n : ℕ) (o : Option Running) (epoch number moment : ℕ) (x : Outcome) (s t : State) → s.control.running ≡ o → done_step o epoch number moment x s ≡ Some t → IsUpTo n s.control → IsOwnGiven (judge laws) s.running_given → IsOutcomeWithin x → (epoch ≤ n) × (number ≤ n) × FitsOutcome x
@@ -92,18 +72,18 @@ ended_small laws n (Some r) epoch number moment x s t busy made h given own =
     )
 
 entry_fits : (laws : CodesAreBytes) (script : ScriptData) (n : ℕ) (e : Entry) (s t : State) → step e s ≡ Some t → IsUpTo n s.control → IsOwnGiven (judge laws) s.running_given → n < 2 ^ 64 → IsEntryWithin script e → FitsEntryLine script (entry_line_of e (shown_at e s))
-entry_fits laws script n (entry.Start epoch number) s t is h given few own =
+entry_fits laws script n (Entry.Start epoch number) s t is h given few own =
     let small = started_small n s.control.work epoch number s t refl is h in (omega (arith, small.0, few), omega (arith, small.1, few))
-entry_fits laws script n (entry.Done epoch number moment x) s t is h given few own =
+entry_fits laws script n (Entry.Done epoch number moment x) s t is h given few own =
     let small = ended_small laws n s.control.running epoch number moment x s t refl is h given own.1 in (omega (arith, small.0, few), omega (arith, small.1, few), own.0, small.2)
-entry_fits laws script n entry.Turn s t is h given few own = tt
+entry_fits laws script n Entry.Turn s t is h given few own = tt
 entry_fits laws script n _ s t is h given few own = own
 
 -- ---- events
 
 abbrev IsPromiseWithin : Event → Type 0
-IsPromiseWithin (event.Resolve promise) = promise < 2 ^ 64
-IsPromiseWithin (event.Reject promise error) = promise < 2 ^ 64
+IsPromiseWithin (Event.Resolve promise) = promise < 2 ^ 64
+IsPromiseWithin (Event.Reject promise error) = promise < 2 ^ 64
 IsPromiseWithin x = Unit {0}
 
 abbrev ArePromises : List Event → Type 0
@@ -113,8 +93,8 @@ rejected_within : (n : ℕ) (error : DomError) (ps : List ℕ) → n < 2 ^ 64 �
 rejected_within n error [] few h = tt
 rejected_within n error (p ∷ ps) few h = (omega (arith, h.0, few), rejected_within n error ps few h.1)
 
-closed_within : (n : ℕ) (x y : DomError) (ps : List ℕ) → n < 2 ^ 64 → AllByRecursion (λ p. p < n) ps → ArePromises (rejections x ps ++ event.ErrorCall y ∷ [])
-closed_within n x y ps few h = all_append IsPromiseWithin (rejections x ps) (event.ErrorCall y ∷ []) (rejected_within n x ps few h) (tt, tt)
+closed_within : (n : ℕ) (x y : DomError) (ps : List ℕ) → n < 2 ^ 64 → AllByRecursion (λ p. p < n) ps → ArePromises (rejections x ps ++ Event.ErrorCall y ∷ [])
+closed_within n x y ps few h = all_append IsPromiseWithin (rejections x ps) (Event.ErrorCall y ∷ []) (rejected_within n x ps few h) (tt, tt)
 
 outputs_within : (n : ℕ) (us : List media.Unit) → ArePromises (outputs_from n us)
 outputs_within n [] = tt
@@ -129,19 +109,19 @@ rejection_within place None few = tt
 rejection_within place (Some error) few = (few, tt)
 
 removal_within : (n : ℕ) (o : Option DomError) (ps : List ℕ) → n < 2 ^ 64 → AllByRecursion (λ p. p < n) ps → ArePromises (removal_shows o ps)
-removal_within n None ps few h = rejected_within n dom.Abort ps few h
+removal_within n None ps few h = rejected_within n DomError.Abort ps few h
 removal_within n (Some error) ps few h = (tt, tt)
 
 turned_within : (ts : List Task) (c : Control) → c.tasks ≡ ts → c.place < 2 ^ 64 → NamesEarlier c → ArePromises (turn_shows ts c)
-turned_within (task.Output units ∷ ts) c is few h = outputs_within c.shown (carried c.active units)
-turned_within (task.Flushed promise units ∷ ts) c is few h =
-    all_append IsPromiseWithin (outputs_from c.shown (carried c.active units)) (event.Resolve promise ∷ []) (outputs_within c.shown (carried c.active units)) (omega (arith, resolved_below c promise units ts h is, few), tt)
-turned_within (task.Dequeue ∷ ts) c is few h = (tt, tt)
-turned_within (task.Close error ∷ ts) c is few h = closed_within c.place error error c.pending few (pending_below c h)
+turned_within (Task.Output units ∷ ts) c is few h = outputs_within c.shown (carried c.active units)
+turned_within (Task.Flushed promise units ∷ ts) c is few h =
+    all_append IsPromiseWithin (outputs_from c.shown (carried c.active units)) (Event.Resolve promise ∷ []) (outputs_within c.shown (carried c.active units)) (omega (arith, resolved_below c promise units ts h is, few), tt)
+turned_within (Task.Dequeue ∷ ts) c is few h = (tt, tt)
+turned_within (Task.Close error ∷ ts) c is few h = closed_within c.place error error c.pending few (pending_below c h)
 turned_within _ c is few h = tt
 
 shown_promises : (e : Entry) (s : State) → s.control.place < 2 ^ 64 → NamesEarlier s.control → AllByRecursion (λ p. p < s.control.place) s.control.pending → ArePromises (shows e s)
-shown_promises entry.Turn s few names below = turned_within s.control.tasks s.control refl few names
+shown_promises Entry.Turn s few names below = turned_within s.control.tasks s.control refl few names
 shown_promises e s few names below = search (refused_within, rejection_within, removal_within, closed_within)
 
 -- a unit, and the config that stands behind a chunk
@@ -153,8 +133,8 @@ output_fits script (unit.Coded chunk (Some d)) own = (own.0, ((own.1.word.0, own
 
 events_fit : (script : ScriptData) (xs : List Event) → ArePromises xs → AllByRecursion IsUnitWithin (units_in xs) → AllByRecursion (FitsLine script) (flat_map event_lines xs)
 events_fit script [] promises units = tt
-events_fit script (event.Refusal error ∷ xs) promises units = events_fit script xs promises.1 units
-events_fit script (event.Output number u ∷ xs) promises units = all_append (FitsLine script) (output_lines u) (flat_map event_lines xs) (output_fits script u units.0) (events_fit script xs promises.1 units.1)
+events_fit script (Event.Refusal error ∷ xs) promises units = events_fit script xs promises.1 units
+events_fit script (Event.Output number u ∷ xs) promises units = all_append (FitsLine script) (output_lines u) (flat_map event_lines xs) (output_fits script u units.0) (events_fit script xs promises.1 units.1)
 events_fit script (x ∷ xs) promises units = (promises.0, events_fit script xs promises.1 units)
 
 -- ---- a history

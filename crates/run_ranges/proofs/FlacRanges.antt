@@ -4,16 +4,11 @@ use Rattle.std.specs.Prelude.{◌==◌}
 use Rattle.std.proofs.lemmas.Bool.{cond_both}
 use Rattle.wc_base.specs.Options.{cond_is, some_same}
 use Rattle.wc_config.specs.declared.stream_info.StreamInfo.{StreamInfo}
-use Rattle.flac_definitions.specs.declared.fault.HeaderFault.{HeaderFault}
-use Rattle.flac_definitions.specs.declared.fault.HeaderFault.TheVariants as fault
-use Rattle.flac_definitions.specs.declared.fault.HeaderField.TheVariants as field
-use Rattle.flac_definitions.specs.declared.header.FrameHeader.{FrameHeader}
+use Rattle.flac_definitions.specs.declared.{fault.HeaderFault.HeaderFault, fault.HeaderField.HeaderField, header.FrameHeader.FrameHeader}
 use Rattle.flac_definitions.specs.Bits.{Place, number_at, start_of}
-use Rattle.flac_definitions.specs.Results.{or_fault, without_fault}
+use Rattle.flac_definitions.specs.{Results.or_fault, Results.without_fault, GrammarLaws.number, Subframe.channels_at}
 use Rattle.flac_definitions.specs.Results as result
-use Rattle.flac_definitions.specs.GrammarLaws.{number}
 use Rattle.flac_definitions.specs.Header.{field_at, tested_at, is_long_block_size, common_block_size, block_size_at, codes_at, coded_number_at, sample_rate_at, header_sum_at, channels_of, depth_of, header_at}
-use Rattle.flac_definitions.specs.Subframe.{channels_at}
 use Rattle.flac_definitions.specs.Frame.{footer_at, frame_at, if_all_bytes, frame_of}
 use Rattle.history_laws.specs.WholeLaws.{bind_some, bind_ok, fault_none, given_header}
 
@@ -54,9 +49,9 @@ block_small code p x h = by (code == 6) (code == 7) h
         let found = bind_ok r (λ y. Ok (y.0 + 1, y.1)) x e in
         subst (λ (z : ℕ × Place). z.0 < 2 ^ 32) (ok_same (found.0.0 + 1, found.0.1) x found.2) (omega (arith, small found.0 found.1, few))
 
-    by : (a b : Bool) → cond a (result.◌>>=◌ (field_at 8 p) (λ y. Ok (y.0 + 1, y.1))) (cond b (result.◌>>=◌ (tested_at is_long_block_size fault.Reserved 16 p) (λ y. Ok (y.0 + 1, y.1))) (Ok (common_block_size code, p))) ≡ Ok x → x.0 < 2 ^ 32
+    by : (a b : Bool) → cond a (result.◌>>=◌ (field_at 8 p) (λ y. Ok (y.0 + 1, y.1))) (cond b (result.◌>>=◌ (tested_at is_long_block_size HeaderFault.Reserved 16 p) (λ y. Ok (y.0 + 1, y.1))) (Ok (common_block_size code, p))) ≡ Ok x → x.0 < 2 ^ 32
     by true b e = one_more (2 ^ 8) (field_at 8 p) (lit< tt) (λ y is. field_small 8 p y is) e
-    by false true e = one_more (2 ^ 16) (tested_at is_long_block_size fault.Reserved 16 p) (lit< tt) (λ y is. tested_small is_long_block_size fault.Reserved 16 p y is) e
+    by false true e = one_more (2 ^ 16) (tested_at is_long_block_size HeaderFault.Reserved 16 p) (lit< tt) (λ y is. tested_small is_long_block_size HeaderFault.Reserved 16 p y is) e
     by false false e = subst (λ (z : ℕ × Place). z.0 < 2 ^ 32) (ok_same (common_block_size code, p) x e) (common_small code)
 
 -- ---- headers and frames
@@ -74,7 +69,7 @@ header_small info p h is =
     let rate = bind_ok (sample_rate_at info.rate codes.0.0.rate block.0.1) _ h block.2 in
     let sum = bind_ok (header_sum_at p.at rate.0.1) _ h rate.2 in
     let made : FrameHeader × Place = (record { block = block.0.0; rate = rate.0.0; assignment = codes.0.0.assignment; depth = depth_of info.depth codes.0.0.depth; number = number.0.0 }, sum.0.1) in
-    let same = third (not (made.0.rate == info.rate)) (not (channels_of made.0.assignment == info.channels)) (not (made.0.depth == info.depth)) (fault.Differs field.Rate) (fault.Differs field.Channels) (fault.Differs field.Depth) made h sum.2 in
+    let same = third (not (made.0.rate == info.rate)) (not (channels_of made.0.assignment == info.channels)) (not (made.0.depth == info.depth)) (HeaderFault.Differs HeaderField.Rate) (HeaderFault.Differs HeaderField.Channels) (HeaderFault.Differs HeaderField.Depth) made h sum.2 in
     subst (λ (z : FrameHeader × Place). z.0.block < 2 ^ 32) {x = made} same (block_small codes.0.0.block number.0.1 block.0 block.1)
 
 frame_small : (info : StreamInfo) (p : Place) (g : (FrameHeader × List ℤ) × Place) → frame_at info p ≡ Some g → g.0.0.block < 2 ^ 32

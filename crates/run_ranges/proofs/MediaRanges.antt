@@ -5,27 +5,18 @@ use Rattle.std.specs.List.{AllByRecursion}
 use Rattle.std.proofs.lemmas.Bool.{and_parts, leb-true}
 use Rattle.std.proofs.lemmas.Option.{option_and_then_some}
 use Rattle.hex.specs.Hex.{IsBytes}
-use Rattle.wc_base.specs.declared.media.PictureShape.{PictureShape}
-use Rattle.wc_base.specs.declared.who.Who.{Who}
+use Rattle.wc_base.specs.declared.{media.PictureShape.PictureShape, who.Who.Who}
 use Rattle.wc_chunk.specs.declared.chunk.Chunk.{Chunk}
 use Rattle.codec_definitions.specs.declared.unit.Unit as output
 use Rattle.codec_definitions.specs.declared.unit.Unit.TheVariants as unit
 use Rattle.picture_planes.specs.Planes.{picture_size}
-use Rattle.wc_pool.specs.declared.entry.PoolEntry.{PoolEntry}
-use Rattle.wc_pool.specs.declared.reference.MediaRef.{MediaRef}
+use Rattle.wc_pool.specs.declared.{entry.PoolEntry.PoolEntry, reference.MediaRef.MediaRef}
 use Rattle.wc_audio.specs.Sound as audio
 use Rattle.wc_audio.specs.Copies as sound
 use Rattle.wc_video.specs.Frames as frames
 use Rattle.wc_video.specs.Copies as video
-use Rattle.script_types.specs.declared.script.CodecItem.{CodecItem}
-use Rattle.script_types.specs.declared.script.ScriptData.{ScriptData}
-use Rattle.script_types.specs.declared.options.Options.{Options}
-use Rattle.script_types.specs.declared.options.Options.TheVariants as options
-use Rattle.script_types.specs.declared.steps.MediaStep.{MediaStep}
-use Rattle.script_types.specs.declared.steps.MediaStep.TheVariants as media
-use Rattle.script_types.specs.declared.steps.Step.{Step}
-use Rattle.script_types.specs.declared.steps.Step.TheVariants as step
-use Rattle.script_types.specs.Names.{is_copied}
+use Rattle.script_types.specs.declared.{script.CodecItem.CodecItem, script.ScriptData.ScriptData, options.Options.Options, steps.MediaStep.MediaStep}
+use Rattle.script_types.specs.{declared.steps.Step.Step, Names.is_copied}
 use Rattle.script_types.specs.Sound.{is_variable, are_options_of, is_sound_media, most_chunk}
 use Rattle.report_text.specs.declared.result.StepResult.{StepResult}
 use Rattle.media_variables.specs.CameLaws.{EachCame, by_came}
@@ -34,9 +25,8 @@ use Rattle.media_accounts.specs.Accounts.{step_by, before_step, media_of, variab
 use Rattle.trace_text.specs.Fits.{IsMediaAnswer}
 use Rattle.report_lines.specs.Fits.{FitsResult}
 use Rattle.run_ranges.specs.Ranges.{IsChunkWithin, IsShapeWithin}
-use Rattle.run_ranges.proofs.Cases.{by_option}
+use Rattle.run_ranges.proofs.{Cases.by_option, UnitRanges.IsUnitWithin}
 use Rattle.run_ranges.proofs.ByteRanges.{nothing_small, take_small, zeros_small}
-use Rattle.run_ranges.proofs.UnitRanges.{IsUnitWithin}
 use Rattle.run_ranges.proofs.CopyRanges.{sound_copy_fits, sound_size_fits, chunk_copy_fits, plan_within, frame_copy_fits, frame_size_fits}
 
 -- ---- what a variable holds
@@ -101,8 +91,8 @@ IsCameWithin o = IfSome o (λ y. AreVariables y.variables)
 
 -- the content of an init is bytes, and the shape of audio data is within its types
 abbrev pub IsContentWithin : MediaStep → Type 0
-IsContentWithin (media.Audio bind (Some init)) = IsShapeWithin init.shape × IsBytes init.content
-IsContentWithin (media.Frame bind (Some init)) = IsBytes init.content
+IsContentWithin (MediaStep.Audio bind (Some init)) = IsShapeWithin init.shape × IsBytes init.content
+IsContentWithin (MediaStep.Frame bind (Some init)) = IsBytes init.content
 IsContentWithin x = Unit {0}
 
 -- an output that is taken is within its type
@@ -143,11 +133,11 @@ IsAnswerWithin s o = IfSome o (λ y. FitsResult s y.answer)
 
 -- a destination's size is at most what a script may ask for
 abbrev pub IsSizeSmall : MediaStep → Type 0
-IsSizeSmall (media.Copy of o size) = size ≤ most_chunk
+IsSizeSmall (MediaStep.Copy of o size) = size ≤ most_chunk
 IsSizeSmall x = Unit {0}
 
 pub size_small_of : (codecs : List CodecItem) (before : List Step) (x : MediaStep) → is_sound_media codecs before x ≡ true → IsSizeSmall x
-size_small_of codecs before (media.Copy of o size) sound =
+size_small_of codecs before (MediaStep.Copy of o size) sound =
     let named = and_parts (is_variable before is_copied of) _ sound in
     leb-true size most_chunk (and_parts (are_options_of o of.kind) (nat_le size most_chunk) named.1).1
 size_small_of codecs before x sound = tt
@@ -158,15 +148,15 @@ frame_small shape None h = nothing_small
 frame_small shape (Some r) h = take_small (picture_size shape) r.bytes h
 
 copies_fit : (s : ScriptData) (shape : Shape) (held : Option Reference) (o : Options) (size : ℕ) → size ≤ most_chunk → IsHeldWithin held → FitsResult s (copy_medium (record { shape = shape; held = held }) o size)
-copies_fit s (SoundOf shape) held (options.Audio (Some o)) size few own = sound_copy_fits s size shape (unwrap_or (audio.content_of (sound_of shape held)) []) (sound.plan_of (sound_of shape held) (copy_options o)) (omega (arith, few))
-copies_fit s (PictureOf shape) held (options.Frame (Some o)) size few own =
+copies_fit s (SoundOf shape) held (Options.Audio (Some o)) size few own = sound_copy_fits s size shape (unwrap_or (audio.content_of (sound_of shape held)) []) (sound.plan_of (sound_of shape held) (copy_options o)) (omega (arith, few))
+copies_fit s (PictureOf shape) held (Options.Frame (Some o)) size few own =
     let f = frame_of shape held in
     frame_copy_fits s (unwrap_or (frames.content_of f) []) (zeros size) (video.plan_for f (option_map rect_of o.rect) (layouts_in o)) (frame_small shape held own) (zeros_small size) (plan_within f (option_map rect_of o.rect) (layouts_in o))
 copies_fit s _ held _ size few own = tt
 
 sizes_fit : (s : ScriptData) (shape : Shape) (held : Option Reference) (o : Options) → FitsResult s (size_of_medium (record { shape = shape; held = held }) o)
-sizes_fit s (SoundOf shape) held (options.Audio (Some o)) = sound_size_fits s shape (sound.plan_of (sound_of shape held) (copy_options o))
-sizes_fit s (PictureOf shape) held (options.Frame (Some o)) = frame_size_fits s (video.plan_for (frame_of shape held) (option_map rect_of o.rect) (layouts_in o)) (plan_within (frame_of shape held) (option_map rect_of o.rect) (layouts_in o))
+sizes_fit s (SoundOf shape) held (Options.Audio (Some o)) = sound_size_fits s shape (sound.plan_of (sound_of shape held) (copy_options o))
+sizes_fit s (PictureOf shape) held (Options.Frame (Some o)) = frame_size_fits s (video.plan_for (frame_of shape held) (option_map rect_of o.rect) (layouts_in o)) (plan_within (frame_of shape held) (option_map rect_of o.rect) (layouts_in o))
 sizes_fit s _ held _ = tt
 
 -- what a take that found an output answers
@@ -196,17 +186,17 @@ media_answers s pool who b x vs small told few h = by_option (IsAnswerWithin s) 
 
 -- what has to be known of the steps on media: their inits, the chunks that they copy, the outputs that they take, and their sizes
 pub record AreSteps (s : ScriptData) (steps : ℕ → List Step) (brought : ℕ → ℕ → MediaStep → Brought) : Type 0 where
-  pub contents : (c j : ℕ) (x : MediaStep) → slice_get (steps c) j ≡ Some (step.Media x) → IsContentWithin x
+  pub contents : (c j : ℕ) (x : MediaStep) → slice_get (steps c) j ≡ Some (Step.Media x) → IsContentWithin x
   pub copied : (c j : ℕ) (x : MediaStep) → IsChunkThere (brought c j x).chunk
   pub outputs : (c j : ℕ) (x : MediaStep) → IsOutputWithin (brought c j x).taken
   pub told : (c j : ℕ) (x : MediaStep) → FitsTaken s (brought c j x).taken
-  pub sizes : (c j : ℕ) (x : MediaStep) → slice_get (steps c) j ≡ Some (step.Media x) → IsSizeSmall x
+  pub sizes : (c j : ℕ) (x : MediaStep) → slice_get (steps c) j ≡ Some (Step.Media x) → IsSizeSmall x
 
-media_of_is : (x : Step) (m : MediaStep) → media_of x ≡ Some m → x ≡ step.Media m
-media_of_is (step.Media x) m is = cc
+media_of_is : (x : Step) (m : MediaStep) → media_of x ≡ Some m → x ≡ Step.Media m
+media_of_is (Step.Media x) m is = cc
 media_of_is x m is = absurd cc
 
-media_is : (o : Option Step) (m : MediaStep) → option_and_then media_of o ≡ Some m → o ≡ Some (step.Media m)
+media_is : (o : Option Step) (m : MediaStep) → option_and_then media_of o ≡ Some m → o ≡ Some (Step.Media m)
 media_is o m is = option_and_then_some media_of o m is (λ x there made. there ∙ ap (λ (y : Step). Some y) (media_of_is x m made))
 
 -- what a caller's variables hold after so many of its steps

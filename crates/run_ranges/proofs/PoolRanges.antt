@@ -5,14 +5,9 @@ use Rattle.std.proofs.lemmas.Bool.{and_parts, and_from, cond_both, eqb-true, ltb
 use Rattle.std.proofs.lemmas.List.Sums.{count_by-le-length}
 use Rattle.run_ranges.proofs.Cases.{by_option, by_test}
 use Rattle.wc_base.specs.declared.who.By.{By}
-use Rattle.wc_base.specs.declared.who.By.TheVariants as by
-use Rattle.wc_pool.specs.declared.entry.PoolEntry.{PoolEntry}
-use Rattle.wc_pool.specs.declared.entry.PoolOp.{PoolOp}
-use Rattle.wc_pool.specs.declared.entry.PoolOp.TheVariants as op
+use Rattle.wc_pool.specs.{declared.entry.PoolEntry.PoolEntry, declared.entry.PoolOp.PoolOp, Laws.LiveAreNumbered}
 use Rattle.wc_pool.specs.Bag.{makes, mints, resource_of, is_number, is_live, resources_made, references_made, references_of, is_held, held_in, count_below, is_legal_next, is_legal_from, is_legal_pool}
-use Rattle.wc_pool.specs.Laws.{LiveAreNumbered}
-use Rattle.script_types.specs.declared.steps.MediaStep.{MediaStep}
-use Rattle.script_types.specs.declared.steps.Step.{Step}
+use Rattle.script_types.specs.declared.steps.{MediaStep.MediaStep, Step.Step}
 use Rattle.media_variables.specs.Variables.{Brought}
 use Rattle.media_accounts.specs.Accounts.{is_by_step, is_by_entry, ops_where, without_last, owes, MediaAreIn, came_in}
 use Rattle.report_lines.specs.Fits.{FitsPoolOp}
@@ -42,13 +37,13 @@ held_small numbered r h legal held =
     (numbered h one.0 r legal (live_is r one.0 h one.1)).1
 
 op_fits : LiveAreNumbered → (h : List PoolEntry) (cause : By) (o : PoolOp) → length h < 2 ^ 64 → is_legal_pool h ≡ true → is_legal_next h (record { by = cause; op = o }) ≡ true → FitsPoolOp o
-op_fits numbered h cause (op.Make r f) few legal next =
+op_fits numbered h cause (PoolOp.Make r f) few legal next =
     let parts = and_parts (r == resources_made h) (f == references_made h) next in
     (omega (arith, few, count_by-le-length makes h, eqb-true r (resources_made h) parts.0), omega (arith, few, count_by-le-length mints h, eqb-true f (references_made h) parts.1))
-op_fits numbered h cause (op.Clone r f) few legal next =
+op_fits numbered h cause (PoolOp.Clone r f) few legal next =
     let parts = and_parts (is_held r h) (f == references_made h) next in
     (omega (arith, few, count_by-le-length makes h, held_small numbered r h legal parts.0), omega (arith, few, count_by-le-length mints h, eqb-true f (references_made h) parts.1))
-op_fits numbered h cause (op.End r f last) few legal next =
+op_fits numbered h cause (PoolOp.End r f last) few legal next =
     let parts = and_parts (is_live r f h) _ next in
     let below = numbered h f r legal (live_is r f h parts.0) in
     (omega (arith, few, count_by-le-length makes h, below.1), omega (arith, few, count_by-le-length mints h, below.0))
@@ -86,8 +81,8 @@ ops_some test (suc n) (d ∷ ds) e is own none = cond_both (test d.by) _ _ (λ l
 
 -- a caller's step that was made, or an entry of a codec that calls for something
 abbrev pub IsMadeBy : (ℕ → ℕ → List PoolOp) → (ℕ → ℕ) → By → Type 0
-IsMadeBy lends made (by.Caller who) = who.step < made who.caller
-IsMadeBy lends made (by.Codec k place) = lends k place ≡ [] → ⊥
+IsMadeBy lends made (By.Caller who) = who.step < made who.caller
+IsMadeBy lends made (By.Codec k place) = lends k place ≡ [] → ⊥
 
 pub entry_made : (steps : ℕ → List Step) (brought : ℕ → ℕ → MediaStep → Brought) (lends : ℕ → ℕ → List PoolOp) (made : ℕ → ℕ) (pool : List PoolEntry) → MediaAreIn steps brought lends made pool → (n : ℕ) (e : PoolEntry) → slice_get pool n ≡ Some e → IsMadeBy lends made e.by
 entry_made steps brought lends made pool h n e is = of (e.by) refl
@@ -96,10 +91,10 @@ entry_made steps brought lends made pool h n e is = of (e.by) refl
     same a b = and_from (a == a) (b == b) (eq-eqb a a refl) (eq-eqb b b refl)
 
     of : (b : By) → e.by ≡ b → IsMadeBy lends made b
-    of (by.Caller who) its =
+    of (By.Caller who) its =
         let own : is_by_step who.caller who.step e.by ≡ true = ap (is_by_step who.caller who.step) its ∙ same who.caller who.step in
         ltb-true who.step (made who.caller)
         (by_test (λ b. (owes b (came_in steps brought pool who.caller who.step) ≡ [] → ⊥) → b ≡ true) (nat_lt who.step (made who.caller)) (λ is some. refl) (λ is some. absurd (some refl)) (λ none. ops_some (is_by_step who.caller who.step) n pool e is own (h.owed who.caller who.step ∙ none)))
-    of (by.Codec k place) its =
+    of (By.Codec k place) its =
         let own : is_by_entry k place e.by ≡ true = ap (is_by_entry k place) its ∙ same k place in
         λ none. ops_some (is_by_entry k place) n pool e is own (elim (ops_where (is_by_entry k place) pool) as (λ os. map without_last os ≡ [] → os ≡ []) [ [] ↦ λ same. refl | o ∷ os ↦ λ same. absurd cc ] (h.codecs k place ∙ none))

@@ -6,64 +6,35 @@ use Rattle.std.proofs.Math.Nat.{mul-le-mul}
 use Rattle.std.proofs.lemmas.Bool.{and_parts, leb-true}
 use Rattle.std.proofs.lemmas.List.{length-map, length-take}
 use Rattle.std.proofs.lemmas.Option.{option_and_then_some, slice_get_within}
-use Rattle.wc_base.specs.Options.{some_same}
-use Rattle.wc_base.specs.declared.error.DomError.{DomError}
-use Rattle.wc_base.specs.declared.who.Who.{Who}
-use Rattle.wc_base.specs.declared.who.By.{By}
-use Rattle.wc_base.specs.declared.who.By.TheVariants as by
-use Rattle.wc_config.specs.declared.kind.Kind.{Kind}
-use Rattle.wc_config.specs.declared.codec.CoderId.{CoderId}
+use Rattle.wc_base.specs.{Options.some_same, declared.error.DomError.DomError, declared.who.Who.Who, declared.who.By.By}
+use Rattle.wc_config.specs.declared.{kind.Kind.Kind, codec.CoderId.CoderId}
 use Rattle.wc_chunk.specs.declared.chunk.Chunk.{Chunk}
 use Rattle.wc_pool.specs.Laws.{LiveAreNumbered}
-use Rattle.coder_api.specs.declared.slot.SlotEntry.{SlotEntry}
-use Rattle.coder_api.specs.declared.slot.SlotOp.{SlotOp}
-use Rattle.coder_api.specs.declared.slot.SlotOp.TheVariants as slot
-use Rattle.codec_model.specs.declared.entry.Opening.{Opening}
-use Rattle.codec_model.specs.declared.entry.Entry.{Entry}
-use Rattle.codec_model.specs.declared.entry.Entry.TheVariants as entry
-use Rattle.codec_model.specs.declared.entry.Outcome.{Outcome}
-use Rattle.codec_model.specs.declared.entry.Outcome.TheVariants as outcome
-use Rattle.codec_model.specs.declared.entry.Shown.{Shown}
+use Rattle.coder_api.specs.declared.slot.{SlotEntry.SlotEntry, SlotOp.SlotOp}
+use Rattle.codec_model.specs.declared.entry.{Opening.Opening, Entry.Entry, Outcome.Outcome, Shown.Shown}
 use Rattle.codec_model.specs.Replay.{State, opening_state, step as legal_step, replay, replay_from}
-use Rattle.codec_model.specs.Held.{HeldStays}
-use Rattle.codec_model.specs.Facts.{IsNeverStuck, Always}
-use Rattle.script_types.specs.declared.script.ScriptData.{ScriptData}
-use Rattle.script_types.specs.declared.script.CodecItem.{CodecItem}
-use Rattle.script_types.specs.declared.steps.MediaStep.TheVariants as media_step
-use Rattle.script_types.specs.declared.steps.Step.{Step}
-use Rattle.script_types.specs.declared.steps.Step.TheVariants as step
+use Rattle.codec_model.specs.{Held.HeldStays, Facts.IsNeverStuck, Facts.Always}
+use Rattle.script_types.specs.declared.{script.ScriptData.ScriptData, script.CodecItem.CodecItem, steps.MediaStep.MediaStep, steps.Step.Step}
 use Rattle.script_types.specs.Names.{is_name}
 use Rattle.script_types.specs.Sound.{is_sound, any_kind, gives, is_free, is_codec, is_sound_order, most_order, most_codecs, most_callers, most_steps}
 use Rattle.script_types.specs.SoundLaws.{parts_of, codec_at, step_at, codec_within}
-use Rattle.report_text.specs.declared.result.StepResult.{StepResult}
-use Rattle.report_text.specs.declared.result.StepResult.TheVariants as result
-use Rattle.trace_text.specs.declared.run.CallerTrace.{CallerTrace}
-use Rattle.trace_text.specs.declared.run.CodecTrace.{CodecTrace}
-use Rattle.trace_text.specs.declared.run.Run.{Run}
+use Rattle.report_text.specs.declared.{result.StepResult.StepResult, line.Line.Line}
+use Rattle.trace_text.specs.declared.run.{CallerTrace.CallerTrace, CodecTrace.CodecTrace, Run.Run}
 use Rattle.trace_text.specs.Report.{lines_from, result_lines, caller_lines, entry_lines, codec_lines, pool_lines, slot_lines, lines_of}
 use Rattle.media_variables.specs.Variables.{Medium, Came, chunk_in}
 use Rattle.media_accounts.specs.Accounts.{called_at, lent_at}
 use Rattle.trace_text.specs.Follow.{Recorded, opening_at, output_at, steps_of, chunk_at, order_items}
 use Rattle.trace_text.specs.FitsLaws.{look_of, calls_by_places, order_by_places}
 use Rattle.trace_text.specs.Fits.{recorded_of, mark_of, result_in, entry_in, step_in, CallsAreIn, LookShows, LooksAreIn, IsLocalAnswer, LocalsAreIn, IsResultOf, taken_by, variables_at, came_at, brought_to, made_steps, lends_in, Fits, IsLegalTrace, AreLegalTraces, IsLegalRun}
-use Rattle.codec_accounts.specs.Owed.{at}
-use Rattle.report_text.specs.declared.line.Line.{Line}
-use Rattle.codec_accounts.specs.Calls.{who_of}
+use Rattle.codec_accounts.specs.{Owed.at, Calls.who_of, Codec.state_after, Registry.BoxesAccounted, Registry.EndSays}
 use Rattle.codec_accounts.specs.Calls as mark
-use Rattle.codec_accounts.specs.Codec.{state_after}
-use Rattle.codec_accounts.specs.Registry.{BoxesAccounted, EndSays}
 use Rattle.codec_accounts.specs.SlotPlaces.{IsOfCodec, cause_there}
 use Rattle.report_lines.specs.Fits.{IsCodec, FitsWho, FitsResult, FitsBy, FitsOp, FitsLine}
-use Rattle.history_laws.specs.Outputs.{HoldsOwn}
-use Rattle.history_laws.specs.Numbers.{IsUpTo}
-use Rattle.history_laws.specs.NumberLaws.{step_up, opening_up}
+use Rattle.history_laws.specs.{Outputs.HoldsOwn, Numbers.IsUpTo, NumberLaws.step_up, NumberLaws.opening_up}
 use Rattle.history_laws.specs.OutputLaws.{all_append, opening_own, outputs_are}
 use Rattle.run_ranges.specs.Counts.{traces_count, caller_of_step, all_from}
 use Rattle.run_ranges.specs.Ranges.{AreWithin}
-use Rattle.run_ranges.proofs.Cases.{by_option, by_default}
-use Rattle.run_ranges.proofs.CodeRanges.{CodesAreBytes}
-use Rattle.run_ranges.proofs.UnitRanges.{judge}
-use Rattle.run_ranges.proofs.TakenRanges.{takes_small}
+use Rattle.run_ranges.proofs.{Cases.by_option, Cases.by_default, CodeRanges.CodesAreBytes, UnitRanges.judge, TakenRanges.takes_small}
 use Rattle.run_ranges.proofs.PoolRanges.{held_up_to, ops_fit, IsMadeBy, entry_made}
 use Rattle.run_ranges.proofs.MediaRanges.{IsChunkThere, IsOutputWithin, IsAnswerWithin, FitsTaken, size_small_of, AreSteps, came_answers, media_fits}
 use Rattle.run_ranges.proofs.EntryRanges.{IsOutcomeWithin, IsEntryWithin, lines_within}
@@ -102,7 +73,7 @@ pub record IsKnown (s : ScriptData) (media : List (List Chunk)) (made : List Cod
   callers : length w.callers ≡ length s.callers
   codecs : length w.codecs ≡ length s.codecs
   few : AreFew s
-  takes : (k p : ℕ) (who : Who) (unit : ℕ) → entry_in w k p ≡ Some (entry.Take who unit) → unit ≤ p
+  takes : (k p : ℕ) (who : Who) (unit : ℕ) → entry_in w k p ≡ Some (Entry.Take who unit) → unit ≤ p
   recorded : IsRecordedUpTo (length made) w
   open recorded use *
 
@@ -147,10 +118,10 @@ step_known s media made w who h lt =
 
 -- ---- results
 
-call_fits : (s : ScriptData) (media : List (List Chunk)) (made : List CoderId) (w : Recorded) → IsKnown s media made w → CallsAreIn s w → (c j k p : ℕ) (error : Option DomError) → result_in w c j ≡ Some (result.Call k p error) → IsCodec s k × (p < 2 ^ 64)
+call_fits : (s : ScriptData) (media : List (List Chunk)) (made : List CoderId) (w : Recorded) → IsKnown s media made w → CallsAreIn s w → (c j k p : ℕ) (error : Option DomError) → result_in w c j ≡ Some (StepResult.Call k p error) → IsCodec s k × (p < 2 ^ 64)
 call_fits s media made w h calls c j k p error is = let kept = (calls_by_places s w calls).kept c j k p error is in entry_known s media made w k p kept.entry h kept.stands
 
-take_fits : (s : ScriptData) (media : List (List Chunk)) (made : List CoderId) (w : Recorded) → IsKnown s media made w → CallsAreIn s w → (c j k p unit : ℕ) → result_in w c j ≡ Some (result.Unit k p unit) → FitsResult s (result.Unit k p unit)
+take_fits : (s : ScriptData) (media : List (List Chunk)) (made : List CoderId) (w : Recorded) → IsKnown s media made w → CallsAreIn s w → (c j k p unit : ℕ) → result_in w c j ≡ Some (StepResult.Unit k p unit) → FitsResult s (StepResult.Unit k p unit)
 take_fits s media made w h calls c j k p unit is =
     let stands = (calls_by_places s w calls).taken c j k p unit is in
     let known = entry_known s media made w k p _ h stands in
@@ -171,13 +142,13 @@ codec_named s media made w kind on k h fine same = let there = codec_within s.co
 -- a look, by the step that looks
 look_fits : (s : ScriptData) (media : List (List Chunk)) (made : List CoderId) (w : Recorded) (c j l m : ℕ) (x : Step) (r : StepResult) → is_sound s ≡ true → IsKnown s media made w → CallsAreIn s w → step_in s c j ≡ Some x
     → mark_of r ≡ mark.Look l m → ((k n : ℕ) → look_of r ≡ Some (k, n) → n ≤ length (at k w.codecs)) → LookShows s w c x r → FitsResult s r
-look_fits s media made w c j l m (step.Await promise) (result.Look k n end) sound h calls is looks seen shows = ((call_fits s media made w h calls c promise.step k shows.0 shows.1 shows.2).0, omega (arith, seen k n refl, h.entries k))
-look_fits s media made w c j l m (step.Poll promise) (result.Look k n end) sound h calls is looks seen shows = ((call_fits s media made w h calls c promise.step k shows.0 shows.1 shows.2).0, omega (arith, seen k n refl, h.entries k))
-look_fits s media made w c j l m (step.State on) (result.State k n state size) sound h calls is looks seen shows =
-    let caller = caller_of_step s.callers c j (step.State on) is in
-    (codec_named s media made w any_kind on k h (step_at s c j caller.0 (step.State on) sound caller.1 caller.2) shows.0, omega (arith, seen k n refl, h.entries k), omega (arith, shows.2, size_small (opening_at s k) (take n (at k w.codecs)), length-take n (at k w.codecs), h.entries k))
-look_fits s media made w c j l m (step.Media (media_step.Take on bind kind)) (result.NoUnit k n) sound h calls is looks seen shows =
-    let x = step.Media (media_step.Take on bind kind) in
+look_fits s media made w c j l m (Step.Await promise) (StepResult.Look k n end) sound h calls is looks seen shows = ((call_fits s media made w h calls c promise.step k shows.0 shows.1 shows.2).0, omega (arith, seen k n refl, h.entries k))
+look_fits s media made w c j l m (Step.Poll promise) (StepResult.Look k n end) sound h calls is looks seen shows = ((call_fits s media made w h calls c promise.step k shows.0 shows.1 shows.2).0, omega (arith, seen k n refl, h.entries k))
+look_fits s media made w c j l m (Step.State on) (StepResult.State k n state size) sound h calls is looks seen shows =
+    let caller = caller_of_step s.callers c j (Step.State on) is in
+    (codec_named s media made w any_kind on k h (step_at s c j caller.0 (Step.State on) sound caller.1 caller.2) shows.0, omega (arith, seen k n refl, h.entries k), omega (arith, shows.2, size_small (opening_at s k) (take n (at k w.codecs)), length-take n (at k w.codecs), h.entries k))
+look_fits s media made w c j l m (Step.Media (MediaStep.Take on bind kind)) (StepResult.NoUnit k n) sound h calls is looks seen shows =
+    let x = Step.Media (MediaStep.Take on bind kind) in
     let caller = caller_of_step s.callers c j x is in
     let fine = step_at s c j caller.0 x sound caller.1 caller.2 in
     (codec_named s media made w (gives kind) on k h (and_parts (is_codec s.codecs (gives kind) on) (is_free (take j caller.0.steps) bind) fine).0 shows.0, omega (arith, seen k n refl, h.entries k))
@@ -185,8 +156,8 @@ look_fits s media made w c j l m x r sound h calls is looks seen shows = grind a
 
 -- what a caller's step took
 taken_known : CodesAreBytes → (s : ScriptData) (media : List (List Chunk)) (made : List CoderId) (w : Recorded) → IsKnown s media made w → CallsAreIn s w → (c j : ℕ) (o : Option StepResult) → result_in w c j ≡ o → IsOutputWithin (taken_by s w o) × FitsTaken s (taken_by s w o)
-taken_known laws s media made w h calls c j (Some (result.Unit k p n)) is =
-    by_option (λ o. IsOutputWithin (option_map (λ u. record { unit = u; answer = result.Unit k p n }) o) × FitsTaken s (option_map (λ u. record { unit = u; answer = result.Unit k p n }) o)) (output_at (opening_at s k) (at k w.codecs) n) (tt, tt)
+taken_known laws s media made w h calls c j (Some (StepResult.Unit k p n)) is =
+    by_option (λ o. IsOutputWithin (option_map (λ u. record { unit = u; answer = StepResult.Unit k p n }) o) × FitsTaken s (option_map (λ u. record { unit = u; answer = StepResult.Unit k p n }) o)) (output_at (opening_at s k) (at k w.codecs) n) (tt, tt)
     (λ u found. (output_own laws (opening_at s k) (at k w.codecs) (λ q e there. h.own k q e there) n u found, take_fits s media made w h calls c j k p n is))
 taken_known laws s media made w h calls c j o is = (tt, tt)
 
@@ -197,21 +168,21 @@ steps_within laws s media made w sound within h calls = record {
   copied = λ c j x. by_option (λ o. IsChunkThere (option_and_then (chunk_at media (steps_of s c)) o)) (chunk_in x) tt (λ i is. chunk_made s media made within c i);
   outputs = λ c j x. (taken_known laws s media made w h calls c j (result_in w c j) refl).0;
   told = λ c j x. (taken_known laws s media made w h calls c j (result_in w c j) refl).1;
-  sizes = λ c j x is. (let caller = caller_of_step s.callers c j (step.Media x) is in size_small_of s.codecs (take j caller.0.steps) x (step_at s c j caller.0 (step.Media x) sound caller.1 caller.2));
+  sizes = λ c j x is. (let caller = caller_of_step s.callers c j (Step.Media x) is in size_small_of s.codecs (take j caller.0.steps) x (step_at s c j caller.0 (Step.Media x) sound caller.1 caller.2));
 }
 
 -- copies and sizes are answers of steps on media alone
 local_fits : (s : ScriptData) (media : List (List Chunk)) (w : Recorded) (vs : List (Option Medium)) (came : Option Came) (who : Who) (x : Step) (r : StepResult) → mark_of r ≡ mark.Local → IsAnswerWithin s came → IsResultOf s w who x r → IsLocalAnswer s media vs came who.caller x r → FitsResult s r
-local_fits s media w vs came who x (result.Local error) local within of h = tt
-local_fits s media w vs came who x result.Absent local within of h = tt
-local_fits s media w vs came who (step.Media (media_step.Take on bind kind)) r local within of h = grind arith
-local_fits s media w vs came who (step.Media (media_step.Encode on content)) r local within of h = grind arith
-local_fits s media w vs came who (step.Media m) r local within of h = media_fits s came r within h
+local_fits s media w vs came who x (StepResult.Local error) local within of h = tt
+local_fits s media w vs came who x StepResult.Absent local within of h = tt
+local_fits s media w vs came who (Step.Media (MediaStep.Take on bind kind)) r local within of h = grind arith
+local_fits s media w vs came who (Step.Media (MediaStep.Encode on content)) r local within of h = grind arith
+local_fits s media w vs came who (Step.Media m) r local within of h = media_fits s came r within h
 local_fits s media w vs came who x r local within of h = grind arith
 
 results_fit : CodesAreBytes → (s : ScriptData) (media : List (List Chunk)) (made : List CoderId) (w : Recorded) → is_sound s ≡ true → AreWithin s media made → IsKnown s media made w → CallsAreIn s w → LooksAreIn s w → LocalsAreIn s media w → (c j : ℕ) (r : StepResult) → result_in w c j ≡ Some r → FitsResult s r
-results_fit laws s media made w sound within h calls looks locals c j (result.Call k p error) is = call_fits s media made w h calls c j k p error is
-results_fit laws s media made w sound within h calls looks locals c j (result.Unit k p n) is = take_fits s media made w h calls c j k p n is
+results_fit laws s media made w sound within h calls looks locals c j (StepResult.Call k p error) is = call_fits s media made w h calls c j k p error is
+results_fit laws s media made w sound within h calls looks locals c j (StepResult.Unit k p n) is = take_fits s media made w h calls c j k p n is
 results_fit laws s media made w sound within h calls looks locals c j r is =
     let step = calls.made c j r is in
     elim (mark_of r) as (λ m. mark_of r ≡ m → FitsResult s r) [
@@ -223,7 +194,7 @@ results_fit laws s media made w sound within h calls looks locals c j r is =
 -- ---- entries
 
 outcome_within : (s : ScriptData) (media : List (List Chunk)) (made : List CoderId) (w : Recorded) (cause : By) (o : Outcome) → IsKnown s media made w → EndSays w.slots cause o → IsOutcomeWithin o
-outcome_within s media made w cause (outcome.NoSlot n) h says = omega (arith, slice_get_within w.slots n _ says.stands, h.slots)
+outcome_within s media made w cause (Outcome.NoSlot n) h says = omega (arith, slice_get_within w.slots n _ says.stands, h.slots)
 outcome_within s media made w cause _ h says = tt
 
 named_within : (s : ScriptData) (media : List (List Chunk)) (made : List CoderId) (w : Recorded) → IsKnown s media made w → CallsAreIn s w → (k p : ℕ) (e : Entry) (who : Who) → entry_in w k p ≡ Some e → who_of e ≡ Some who → FitsWho s who
@@ -231,21 +202,21 @@ named_within s media made w h calls k p e who is names =
     let kept = (calls_by_places s w calls).only k p e who is names in step_known s media made w who h (slice_get_within (at who.caller w.callers) who.step kept.0 kept.1)
 
 entry_within : (s : ScriptData) (media : List (List Chunk)) (made : List CoderId) (w : Recorded) → IsKnown s media made w → CallsAreIn s w → BoxesAccounted made (opening_at s) w.codecs w.slots → (k p : ℕ) (e : Entry) → entry_in w k p ≡ Some e → IsEntryWithin s e
-entry_within s media made w h calls boxes k p (entry.Take who unit) is = (named_within s media made w h calls k p (entry.Take who unit) who is refl, omega (arith, h.takes k p who unit is, (entry_known s media made w k p _ h is).1))
-entry_within s media made w h calls boxes k p (entry.Done epoch item moment o) is = (h.own k p (entry.Done epoch item moment o) is, outcome_within s media made w _ o h (boxes.ends k p epoch item moment o is).says)
-entry_within s media made w h calls boxes k p (entry.Reclaim moment) is = h.own k p (entry.Reclaim moment) is
-entry_within s media made w h calls boxes k p (entry.Start epoch item) is = tt
-entry_within s media made w h calls boxes k p entry.Turn is = tt
+entry_within s media made w h calls boxes k p (Entry.Take who unit) is = (named_within s media made w h calls k p (Entry.Take who unit) who is refl, omega (arith, h.takes k p who unit is, (entry_known s media made w k p _ h is).1))
+entry_within s media made w h calls boxes k p (Entry.Done epoch item moment o) is = (h.own k p (Entry.Done epoch item moment o) is, outcome_within s media made w _ o h (boxes.ends k p epoch item moment o is).says)
+entry_within s media made w h calls boxes k p (Entry.Reclaim moment) is = h.own k p (Entry.Reclaim moment) is
+entry_within s media made w h calls boxes k p (Entry.Start epoch item) is = tt
+entry_within s media made w h calls boxes k p Entry.Turn is = tt
 entry_within s media made w h calls boxes k p e is = named_within s media made w h calls k p e _ is refl
 
 -- ---- the registry
 
 by_fits : (s : ScriptData) (media : List (List Chunk)) (made : List CoderId) (w : Recorded) (b : By) → IsKnown s media made w → IsOfCodec (length w.codecs) b → IsByUpTo most_order b → FitsBy s b
-by_fits s media made w (by.Caller who) h there up = absurd there
-by_fits s media made w (by.Codec k p) h there up = (codec_known s media made w k h there, omega (arith, up))
+by_fits s media made w (By.Caller who) h there up = absurd there
+by_fits s media made w (By.Codec k p) h there up = (codec_known s media made w k h there, omega (arith, up))
 
 op_fits : (most : ℕ) (op : SlotOp) → most < 2 ^ 64 → IsOpUpTo most op → FitsOp op
-op_fits most (slot.Refused id out all) few up = (omega (arith, few, up.0), omega (arith, few, up.1))
+op_fits most (SlotOp.Refused id out all) few up = (omega (arith, few, up.0), omega (arith, few, up.1))
 op_fits most _ few up = omega (arith, few, up)
 
 -- ---- the pool
@@ -255,8 +226,8 @@ lent_there : (o : Opening) (h : List Entry) (place : ℕ) → (lent_at o h place
 lent_there o h place some = by_option (λ x. (called_at o h place x ≡ [] → ⊥) → (e : Entry) × (x ≡ Some e)) (slice_get h place) (λ lent. absurd (lent refl)) (λ e is lent. (e, refl)) some
 
 pool_by_fits : (s : ScriptData) (media : List (List Chunk)) (made : List CoderId) (w : Recorded) (b : By) → IsKnown s media made w → IsMadeBy (lends_in s w) (made_steps w) b → FitsBy s b
-pool_by_fits s media made w (by.Codec k place) h some = let there = lent_there (opening_at s k) (at k w.codecs) place some in entry_known s media made w k place there.0 h there.1
-pool_by_fits s media made w (by.Caller who) h step = step_known s media made w who h step
+pool_by_fits s media made w (By.Codec k place) h some = let there = lent_there (opening_at s k) (at k w.codecs) place some in entry_known s media made w k place there.0 h there.1
+pool_by_fits s media made w (By.Caller who) h step = step_known s media made w who h step
 
 -- ---- the lines of a run
 

@@ -5,42 +5,28 @@ use Rattle.std.specs.List.{AllByRecursion, list_any}
 use Rattle.std.proofs.Math.Nat.{div-le_self}
 use Rattle.std.proofs.lemmas.Bool.{and_parts, ltb-true}
 use Rattle.hex.specs.Hex.{IsBytes}
-use Rattle.wc_base.specs.Options.{cond_is, some_same}
-use Rattle.wc_base.specs.declared.media.Samples.{Samples}
-use Rattle.wc_config.specs.declared.codec.CoderId.{CoderId}
-use Rattle.wc_config.specs.declared.config.AudioDecoderConfig.{AudioDecoderConfig}
-use Rattle.wc_config.specs.declared.config.AudioEncoderConfig.{AudioEncoderConfig}
-use Rattle.wc_config.specs.declared.config.Config.{Config}
-use Rattle.wc_config.specs.declared.config.Config.TheVariants as config
-use Rattle.wc_config.specs.declared.stream_info.StreamInfo.{StreamInfo}
+use Rattle.wc_base.specs.{Options.cond_is, Options.some_same, declared.media.Samples.Samples, declared.media.PictureFormat.PictureFormat}
+use Rattle.wc_config.specs.declared.{codec.CoderId.CoderId, config.AudioDecoderConfig.AudioDecoderConfig}
+use Rattle.wc_config.specs.declared.{config.AudioEncoderConfig.AudioEncoderConfig, config.Config.Config, stream_info.StreamInfo.StreamInfo}
 use Rattle.wc_config.specs.Streams.{big_endian, stream_info_of, is_usable}
 use Rattle.codec_definitions.specs.declared.unit.Unit as media
 use Rattle.codec_definitions.specs.declared.unit.Unit.TheVariants as unit
-use Rattle.codec_definitions.specs.declared.command.Command.{Command}
-use Rattle.codec_definitions.specs.declared.command.Command.TheVariants as command
-use Rattle.codec_definitions.specs.Pcm.{format_size}
-use Rattle.codec_definitions.specs.SampleCodecs.{decoded_at}
+use Rattle.codec_definitions.specs.{declared.command.Command.Command, Pcm.format_size, SampleCodecs.decoded_at}
 use Rattle.codec_definitions.specs.Flac.{sample_size, sample_bytes, interchannel_bytes, bytes_of_frame, described, flac_sound}
-use Rattle.wc_base.specs.declared.media.PictureFormat.{PictureFormat}
 use Rattle.wc_base.specs.declared.media.PictureShape.{PictureShape}
 use Rattle.picture_planes.specs.Planes.{picture_size}
 use Rattle.codec_definitions.specs.RawVideo.{picture_format, shape_in, chunks_since_drain, is_key, from_last_key, picture_byte, picture_of, last_picture}
-use Rattle.codec_definitions.specs.FlacCode.{block_frames, block_samples}
-use Rattle.codec_definitions.specs.FlacEncoder.{block_unit, blocks_answer}
+use Rattle.codec_definitions.specs.{FlacCode.block_frames, FlacCode.block_samples, FlacEncoder.block_unit, FlacEncoder.blocks_answer}
 use Rattle.codec_definitions.specs.Answers.{answer_after}
-use Rattle.flac_definitions.specs.Header.{channels_of}
-use Rattle.flac_definitions.specs.declared.header.FrameHeader.{FrameHeader}
-use Rattle.report_lines.specs.FieldLaws.{FitsOrAbsent}
-use Rattle.report_lines.specs.Fits.{FitsSound, FitsImage}
+use Rattle.flac_definitions.specs.{Header.channels_of, declared.header.FrameHeader.FrameHeader}
+use Rattle.report_lines.specs.{FieldLaws.FitsOrAbsent, Fits.FitsSound, Fits.FitsImage}
 use Rattle.history_laws.specs.Outputs.{IsOwnCommand, MayCarry, Judge}
 use Rattle.history_laws.specs.UnitLaws.{decoded_sound, coded_chunk, picture_given, EachAnswer, by_answers}
-use Rattle.history_laws.specs.BlockLaws.{answers_blocks, blocks_where}
-use Rattle.history_laws.specs.StreamLaws.{code_fits}
+use Rattle.history_laws.specs.{BlockLaws.answers_blocks, BlockLaws.blocks_where, StreamLaws.code_fits}
 use Rattle.run_ranges.specs.Ranges.{IsSizeWithin, IsConfigWithin, IsChunkWithin, IsShapeWithin}
-use Rattle.run_ranges.proofs.Cases.{by_option}
+use Rattle.run_ranges.proofs.{Cases.by_option, FlacRanges.frame_within}
 use Rattle.run_ranges.proofs.CodeRanges.{CodesAreBytes, CodesBytes, codes_bytes, coded_small, IsLabelWithin, label_within}
 use Rattle.run_ranges.proofs.ByteRanges.{bytes_small, flat_small, range_small}
-use Rattle.run_ranges.proofs.FlacRanges.{frame_within}
 use Rattle.run_ranges.proofs.BlockRanges.{blocks_few, saturated_within, lasts, block_small}
 
 -- ---- bytes
@@ -103,17 +89,17 @@ described_within (Some d) info h =
     subst IsStreamWithin (some_same said info read.1) (omega arith, omega arith)
 
 -- a command's samples have as many frames as 32 bits count
-frames_within : (x : Command) → IsOwnCommand IsChunkWithin AreSamplesWithin x → (s : Samples) → x ≡ command.Sound s → s.shape.frames < 2 ^ 32
-frames_within (command.Sound t) own s is = let same : t ≡ s = cc in subst (λ (r : Samples). r.shape.frames < 2 ^ 32) same (own.0.0)
+frames_within : (x : Command) → IsOwnCommand IsChunkWithin AreSamplesWithin x → (s : Samples) → x ≡ Command.Sound s → s.shape.frames < 2 ^ 32
+frames_within (Command.Sound t) own s is = let same : t ≡ s = cc in subst (λ (r : Samples). r.shape.frames < 2 ^ 32) same (own.0.0)
 frames_within _ own s is = absurd cc
 
-block_within : (c : AudioEncoderConfig) → IsConfigWithin (config.AudioEncoder c) → (number : ℕ) (values : List ℤ) (place : ℤ × ℕ) → length values ≤ block_samples c → IsUnitWithin (block_unit c number values place)
+block_within : (c : AudioEncoderConfig) → IsConfigWithin (Config.AudioEncoder c) → (number : ℕ) (values : List ℤ) (place : ℤ × ℕ) → length values ≤ block_samples c → IsUnitWithin (block_unit c number values place)
 block_within c own number values place few = (
   (saturated_within (place.0 +ℤ pos (place.1 * 1000000 / c.rate)), duration_within _ (lasts (length values) c.channels (block_frames c) c.rate few (block_small c own.2)), code_fits c number values),
   tt,
 )
 
-blocks_given : (c : AudioEncoderConfig) (before : List Command) (x : Command) (us : List media.Unit) → blocks_answer c before x ≡ Some us → AreGiven (config.AudioEncoder c) x us
+blocks_given : (c : AudioEncoderConfig) (before : List Command) (x : Command) (us : List media.Unit) → blocks_answer c before x ≡ Some us → AreGiven (Config.AudioEncoder c) x us
 blocks_given c before x us h = record {
   few = λ own. blocks_few c before x us (frames_within x own) h;
   within = λ laws config own. blocks_where IsUnitWithin c (block_within c config) us (answers_blocks c before x us h);
@@ -129,14 +115,14 @@ shape_within _ _ _ shape w h is = absurd cc
 each_given : EachAnswer (λ c before x us. AreGiven c x us)
 each_given = record {
   nothing = λ c before x. record { few = λ own. lit< tt; within = λ laws config own. tt };
-  samples = λ id s c before chunk is fine. one_given (config.AudioDecoder c) (command.Chunk chunk) (unit.Sound (decoded_sound s c chunk))
+  samples = λ id s c before chunk is fine. one_given (Config.AudioDecoder c) (Command.Chunk chunk) (unit.Sound (decoded_sound s c chunk))
       (λ laws config own. record { rate = config.0; channels = config.1; frames = ltb-true (length chunk.bytes / (s.size * c.channels)) (2 ^ 32) (and_parts _ _ fine).1; timestamp = own.0; are_bytes = flat_small (decoded_at s chunk.bytes) (λ i. bytes_small (format_size s.format) _) 0 (length chunk.bytes / s.size) });
-  frame = λ info c before chunk f said is. one_given (config.AudioDecoder c) (command.Chunk chunk) (flac_sound info chunk f.0 f.1)
+  frame = λ info c before chunk f said is. one_given (Config.AudioDecoder c) (Command.Chunk chunk) (flac_sound info chunk f.0 f.1)
       (λ laws config own. (let stream = described_within c.description info said in record { rate = stream.0; channels = stream.1; frames = frame_within info chunk.bytes f is; timestamp = own.0; are_bytes = frame_bytes_small f.0 f.1 }));
-  chunk = λ id s c before samples is. one_given (config.AudioEncoder c) (command.Sound samples) (unit.Coded (coded_chunk s samples) None)
+  chunk = λ id s c before samples is. one_given (Config.AudioEncoder c) (Command.Sound samples) (unit.Coded (coded_chunk s samples) None)
       (λ laws config own. ((own.0.1, duration_within _ (omega (arith, own.0.0, div-le_self (samples.shape.frames * 1000000) samples.shape.rate)), coded_small s samples.shape samples.bytes (subst CodesBytes is (codes_bytes laws id)) own.1), tt));
   blocks = blocks_given;
-  picture = λ id c shape before chunk bytes is made. one_given (config.VideoDecoder c) (command.Chunk chunk) (unit.Image (picture_given shape chunk bytes))
+  picture = λ id c shape before chunk bytes is made. one_given (Config.VideoDecoder c) (Command.Chunk chunk) (unit.Image (picture_given shape chunk bytes))
       (λ laws config own. (let size = shape_within (picture_format id) c.width c.height shape config.0 config.1 is in record { width = size.0; height = size.1; timestamp = own.0; duration = own.1; are_bytes = picture_small (picture_size shape) (chunks_since_drain before ++ chunk.bytes ∷ []) bytes made }));
 }
 

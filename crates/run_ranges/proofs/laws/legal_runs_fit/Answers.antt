@@ -1,5 +1,4 @@
-use Rattle.run_ranges.proofs.CodeRanges.{CodesAreBytes}
-use Rattle.run_ranges.proofs.RunRanges.{lines_fit}
+use Rattle.run_ranges.proofs.{CodeRanges.CodesAreBytes, RunRanges.lines_fit}
 use Rattle.run_ranges.proofs.laws.legal_runs_fit.Goals as goal
 
 pub returns : goal.returns
