@@ -25,123 +25,101 @@ use Rattle.codec_model.specs.Held.{in_order, held_by, running_pairs, items_held,
 use Rattle.wc_base.specs.Options.{cond_is}
 use Rattle.codec_model.specs.StepLaws.{begins, begins_free, EachStep, by_queue, by_steps}
 
-pub items_more : (is : List Item) (i : Item) → items_held (is ++ i ∷ []) ≡ items_held is ++ in_order (held_of i.work)
+items_more : (is : List Item) (i : Item) → items_held (is ++ i ∷ []) ≡ items_held is ++ in_order (held_of i.work)
 items_more [] i = append-nil (in_order (held_of i.work))
 items_more (x ∷ xs) i = ap (λ l. in_order (held_of x.work) ++ l) (items_more xs i) ∙ sym (append_assoc (in_order (held_of x.work)) (items_held xs) (in_order (held_of i.work)))
 
-pub messages_more : (ms : List Message) (m : Message) → messages_held (ms ++ m ∷ []) ≡ messages_held ms ++ in_order (held_of m.work)
+messages_more : (ms : List Message) (m : Message) → messages_held (ms ++ m ∷ []) ≡ messages_held ms ++ in_order (held_of m.work)
 messages_more [] m = append-nil (in_order (held_of m.work))
 messages_more (x ∷ xs) m = ap (λ l. in_order (held_of x.work) ++ l) (messages_more xs m) ∙ sym (append_assoc (in_order (held_of x.work)) (messages_held xs) (in_order (held_of m.work)))
 
--- what a message adds to the work queue
-pub message_work : (w : Work) (at : ℕ) (c : Control) → (after_message (record { place = at; work = w }) c).work ≡ c.work ++ record { number = c.next_item; place = at; work = w } ∷ []
-message_work (work.Configure config) at c = refl
-message_work (work.Coded x) at c = refl
-message_work work.Flush at c = refl
-
-pub message_running : (w : Work) (at : ℕ) (c : Control) → (after_message (record { place = at; work = w }) c).running ≡ c.running
-message_running (work.Configure config) at c = refl
-message_running (work.Coded x) at c = refl
-message_running work.Flush at c = refl
+-- a message that is processed becomes an item
+becomes_item : (m : Message) (c : Control) → ((after_message m c).work ≡ c.work ++ record { number = c.next_item; place = m.place; work = m.work } ∷ []) × ((after_message m c).running ≡ c.running)
+becomes_item m c = by m.place m.work
+  where
+    by : (at : ℕ) (w : Work) → ((after_message (record { place = at; work = w }) c).work ≡ c.work ++ record { number = c.next_item; place = at; work = w } ∷ []) × ((after_message (record { place = at; work = w }) c).running ≡ c.running)
+    by at (work.Coded x) = (refl, refl)
+    by at w = (refl, refl)
 
 -- what waits, and what runs, stay where messages are processed
-pub taken_held : (m : Message) (ms : List Message) (c : Control) → waiting_held (record (after_message m c) { messages = ms }) ≡ items_held c.work ++ messages_held (m ∷ ms)
-taken_held m ms c =
-    ap (λ l. items_held l ++ messages_held ms) (message_work m.work m.place c) ∙ (ap (λ l. l ++ messages_held ms) (items_more c.work (record { number = c.next_item; place = m.place; work = m.work })) ∙ append_assoc (items_held c.work) (in_order (held_of m.work)) (messages_held ms))
+process_held : (c : Control) → (waiting_held (process_queue c.messages c) ≡ waiting_held c) × ((process_queue c.messages c).running ≡ c.running)
+process_held c = by_queue (λ (d : Control). (waiting_held d ≡ waiting_held c) × (d.running ≡ c.running)) (λ m ms d e h.
+    let item : Item = record { number = d.next_item; place = m.place; work = m.work } in
+    let moved = becomes_item m d in
+    let taken = append_assoc (items_held d.work) (in_order (held_of m.work)) (messages_held ms) ∙ ap (λ l. items_held d.work ++ messages_held l) (sym e) in
+    (ap (λ l. items_held l ++ messages_held ms) moved.0 ∙ (ap (λ l. l ++ messages_held ms) (items_more d.work item) ∙ (taken ∙ h.0)), moved.1 ∙ h.1)) c.messages c refl (refl, refl)
 
-pub process_held : (c : Control) → waiting_held (process_queue c.messages c) ≡ waiting_held c
-process_held c = by_queue (λ (d : Control). waiting_held d ≡ waiting_held c) (λ m ms d e h. taken_held m ms d ∙ (ap (λ l. items_held d.work ++ messages_held l) (sym e) ∙ h)) c.messages c refl refl
+-- a step leaves what runs, and adds this to what waits
+abbrev Adds : List Pair → Control → Control → Type 0
+Adds more c d = (waiting_held d ≡ waiting_held c ++ more) × (d.running ≡ c.running)
 
-pub process_running : (c : Control) → (process_queue c.messages c).running ≡ c.running
-process_running c = by_queue (λ (d : Control). d.running ≡ c.running) (λ m ms d e h. message_running m.work m.place d ∙ h) c.messages c refl refl
+adds_nothing : (c : Control) → waiting_held c ≡ waiting_held c ++ []
+adds_nothing c = sym (append-nil (waiting_held c))
 
 -- a message that is queued
-pub queued_held : (at : ℕ) (w : Work) (c : Control) → waiting_held (with_message at w c) ≡ waiting_held c ++ in_order (held_of w)
+queued_held : (at : ℕ) (w : Work) (c : Control) → Adds (in_order (held_of w)) c (with_message at w c)
 queued_held at w c =
     let m : Message = record { place = at; work = w } in
-    let s : Control = record c { messages = c.messages ++ m ∷ [] } in
-    process_held s ∙ (ap (λ l. items_held c.work ++ l) (messages_more c.messages m) ∙ sym (append_assoc (items_held c.work) (messages_held c.messages) (in_order (held_of w))))
+    let kept = process_held (record c { messages = c.messages ++ m ∷ [] }) in
+    (kept.0 ∙ (ap (λ l. items_held c.work ++ l) (messages_more c.messages m) ∙ sym (append_assoc (items_held c.work) (messages_held c.messages) (in_order (held_of w)))), kept.1)
 
-pub queued_running : (at : ℕ) (w : Work) (c : Control) → (with_message at w c).running ≡ c.running
-queued_running at w c = process_running (record c { messages = c.messages ++ record { place = at; work = w } ∷ [] })
-
-call_waits : (o : Option DomError) (x : Call) (c : Control) → waiting_held (after_call o x c) ≡ waiting_held c ++ []
-call_waits None (call.Configure config) c = queued_held c.place (work.Configure config) (record (at_next_place c) { phase = Configured; key_required = is_decoder c.opening.kind || c.key_required })
-call_waits None (call.Decode chunk) c = queued_held c.place (work.Coded (coded.Chunk chunk)) (record (at_next_place c) { key_required = false; size = c.size + 1 })
-call_waits None call.Flush c = queued_held c.place work.Flush (record (at_next_place c) { key_required = is_decoder c.opening.kind || c.key_required; pending = c.pending ++ c.place ∷ [] })
-call_waits (Some e) x c = sym (append-nil (waiting_held c))
-
-call_runs : (o : Option DomError) (x : Call) (c : Control) → (after_call o x c).running ≡ c.running
-call_runs None (call.Configure config) c = queued_running c.place (work.Configure config) (record (at_next_place c) { phase = Configured; key_required = is_decoder c.opening.kind || c.key_required })
-call_runs None (call.Decode chunk) c = queued_running c.place (work.Coded (coded.Chunk chunk)) (record (at_next_place c) { key_required = false; size = c.size + 1 })
-call_runs None call.Flush c = queued_running c.place work.Flush (record (at_next_place c) { key_required = is_decoder c.opening.kind || c.key_required; pending = c.pending ++ c.place ∷ [] })
-call_runs (Some e) x c = refl
-
-waits_more : (c : Control) → waiting_held c ≡ waiting_held c ++ []
-waits_more c = sym (append-nil (waiting_held c))
+call_held : (o : Option DomError) (x : Call) (c : Control) → Adds [] c (after_call o x c)
+call_held None (call.Configure config) c = queued_held c.place (work.Configure config) (record (at_next_place c) { phase = Configured; key_required = is_decoder c.opening.kind || c.key_required })
+call_held None (call.Decode chunk) c = queued_held c.place (work.Coded (coded.Chunk chunk)) (record (at_next_place c) { key_required = false; size = c.size + 1 })
+call_held None call.Flush c = queued_held c.place work.Flush (record (at_next_place c) { key_required = is_decoder c.opening.kind || c.key_required; pending = c.pending ++ c.place ∷ [] })
+call_held (Some e) x c = (adds_nothing c, refl)
 
 call_apart : (who : Who) (x : Call) (s : State) → HeldApart (entry_of who x) s (call_step x s)
-call_apart who x s = by x
+call_apart who x s = by x (call_held (call_error x s.control) x s.control)
   where
-    waits : (y : Call) → waiting_held (call_step y s).control ≡ waiting_held s.control ++ []
-    waits y = call_waits (call_error y s.control) y s.control
+    by : (y : Call) → Adds [] s.control (call_step y s).control → HeldApart (entry_of who y) s (call_step y s)
+    by (call.Decode chunk) k = record { waits = k.0; runs = ap (λ (r : Option Running). held_by r s.running_held) k.1 }
+    by y k = record { waits = k.0; runs = ap (λ (r : Option Running). held_by r s.running_held) k.1 }
 
-    runs : (y : Call) → running_pairs (call_step y s) ≡ running_pairs s
-    runs y = ap (λ (r : Option Running). held_by r s.running_held) (call_runs (call_error y s.control) y s.control)
-
-    by : (y : Call) → HeldApart (entry_of who y) s (call_step y s)
-    by (call.Configure config) = record { waits = waits (call.Configure config); runs = runs (call.Configure config) }
-    by (call.Decode chunk) = record { waits = waits (call.Decode chunk); runs = runs (call.Decode chunk) }
-    by call.Flush = record { waits = waits call.Flush; runs = runs call.Flush }
-
-removal_apart : (e : Entry) (o : Option DomError) (r : Removal) (s : State) → waiting_after e s ≡ cond (is_none o) [] (waiting_held s.control) ++ [] → running_after e s ≡ running_pairs s → HeldApart e s (remove_or_refuse o r s)
-removal_apart e None removal.Reset s waits runs = record { waits = sym waits; runs = sym runs }
-removal_apart e None removal.Close s waits runs = record { waits = sym waits; runs = sym runs }
-removal_apart e (Some x) r s waits runs = record { waits = waits_more s.control ∙ sym waits; runs = sym runs }
+remove_held : (o : Option DomError) (r : Removal) (s : State) → (waiting_held (remove_or_refuse o r s).control ≡ cond (is_none o) [] (waiting_held s.control) ++ []) × (running_pairs (remove_or_refuse o r s) ≡ running_pairs s)
+remove_held None removal.Reset s = (refl, refl)
+remove_held None r s = (refl, refl)
+remove_held (Some x) r s = (adds_nothing s.control, refl)
 
 remove_apart : (who : Who) (r : Removal) (s : State) → HeldApart (removal_entry who r) s (removal_step r s)
-remove_apart who removal.Reset s = removal_apart (entry.Reset who) (removal_error s.control) removal.Reset s refl refl
-remove_apart who removal.Close s = removal_apart (entry.Close who) (removal_error s.control) removal.Close s refl refl
+remove_apart who removal.Reset s = let k = remove_held (removal_error s.control) removal.Reset s in record { waits = k.0; runs = k.1 }
+remove_apart who r s = let k = remove_held (removal_error s.control) r s in record { waits = k.0; runs = k.1 }
 
-done_apart : (r : Running) (e : Ended) (moment : ℕ) (held : Option Pair) (c : Control) → (waiting_held (done_running r e moment (at_next_place c)) ≡ waiting_held c) × (held_by (done_running r e moment (at_next_place c)).running held ≡ [])
-done_apart r e moment held c = by (r.epoch == c.epoch) _
+done_held : (r : Running) (e : Ended) (moment : ℕ) (held : Option Pair) (c : Control) → (waiting_held (done_running r e moment (at_next_place c)) ≡ waiting_held c) × (held_by (done_running r e moment (at_next_place c)).running held ≡ [])
+done_held r e moment held c = by (r.epoch == c.epoch) _
   where
     by : (b : Bool) (p : Option ℕ) → (waiting_held (cond b (after_end r e (record (at_next_place c) { running = None; progress = p })) (record (at_next_place c) { running = None })) ≡ waiting_held c) × (held_by (cond b (after_end r e (record (at_next_place c) { running = None; progress = p })) (record (at_next_place c) { running = None })).running held ≡ [])
     by true p = (refl, refl)
     by false p = (refl, refl)
 
-task_waits : (x : Task) (ts : List Task) (c : Control) → waiting_held (run_task x (record (at_next_place c) { tasks = ts })) ≡ cond (is_close x) [] (waiting_held c) ++ []
-task_waits task.Process ts c = process_held (record (at_next_place c) { tasks = ts }) ∙ waits_more c
-task_waits task.Desaturate ts c = process_held (record (at_next_place c) { tasks = ts; saturated = false }) ∙ waits_more c
-task_waits (task.Close x) ts c = refl
-task_waits x ts c = waits_more c
-
-task_runs : (x : Task) (ts : List Task) (c : Control) → (run_task x (record (at_next_place c) { tasks = ts })).running ≡ c.running
-task_runs task.Process ts c = process_running (record (at_next_place c) { tasks = ts })
-task_runs task.Desaturate ts c = process_running (record (at_next_place c) { tasks = ts; saturated = false })
-task_runs x ts c = refl
+task_held : (x : Task) (ts : List Task) (c : Control) → (waiting_held (run_task x (record (at_next_place c) { tasks = ts })) ≡ cond (is_close x) [] (waiting_held c) ++ []) × ((run_task x (record (at_next_place c) { tasks = ts })).running ≡ c.running)
+task_held task.Process ts c = let k = process_held (record (at_next_place c) { tasks = ts }) in (k.0 ∙ adds_nothing c, k.1)
+task_held task.Desaturate ts c = let k = process_held (record (at_next_place c) { tasks = ts; saturated = false }) in (k.0 ∙ adds_nothing c, k.1)
+task_held (task.Close x) ts c = (refl, refl)
+task_held x ts c = (adds_nothing c, refl)
 
 each_apart : EachStep HeldApart
 each_apart = record {
-  call = λ who x s. call_apart who x s;
-  gone = λ who s. record { waits = waits_more s.control; runs = refl };
-  kept = λ who s off. record { waits = waits_more s.control; runs = refl };
-  cloned = λ who x s on. record {
-    waits = queued_held s.control.place (work.Coded (coded.Sound x)) (record (at_next_place s.control) { size = s.control.size + 1 });
-    runs = ap (λ (r : Option Running). held_by r s.running_held) (queued_running s.control.place (work.Coded (coded.Sound x)) (record (at_next_place s.control) { size = s.control.size + 1 }));
-  };
-  remove = λ who r s. remove_apart who r s;
-  take = λ who unit s may. record { waits = waits_more s.control; runs = refl };
+  call = call_apart;
+  gone = λ who s. record { waits = adds_nothing s.control; runs = refl };
+  kept = λ who s off. record { waits = adds_nothing s.control; runs = refl };
+  cloned = λ who x s on.
+      let k = queued_held s.control.place (work.Coded (coded.Sound x)) (record (at_next_place s.control) { size = s.control.size + 1 }) in
+      record { waits = k.0; runs = ap (λ (r : Option Running). held_by r s.running_held) k.1 };
+  remove = remove_apart;
+  take = λ who unit s may. record { waits = adds_nothing s.control; runs = refl };
   start = λ i is epoch item s first may. record {
     waits = ap (λ (l : List Item). behind_held l ++ messages_held s.control.messages) (sym first);
     runs = ap front_held (sym first);
   };
   done = λ r e epoch item moment x s running own is.
-      let parts = done_apart r e moment s.running_held s.control in record { waits = parts.0 ∙ waits_more s.control; runs = parts.1 };
-  turn = λ x ts s first. record {
-    waits = task_waits x ts s.control ∙ ap (λ (l : List Task). cond (closes_codec l) [] (waiting_held s.control) ++ []) (sym first);
-    runs = ap (λ (r : Option Running). held_by r s.running_held) (task_runs x ts s.control);
-  };
+      let k = done_held r e moment s.running_held s.control in record { waits = k.0 ∙ adds_nothing s.control; runs = k.1 };
+  turn = λ x ts s first.
+      let k = task_held x ts s.control in
+      record {
+        waits = k.0 ∙ ap (λ (l : List Task). cond (closes_codec l) [] (waiting_held s.control) ++ []) (sym first);
+        runs = ap (λ (r : Option Running). held_by r s.running_held) k.1;
+      };
   reclaim = λ moment s may. record { waits = refl; runs = refl };
 }
 
