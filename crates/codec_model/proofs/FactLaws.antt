@@ -4,29 +4,11 @@ use Rattle.std.specs.Prelude.{option_and_then, unwrap_or, max, IfSome}
 use Rattle.std.proofs.lemmas.Bool.{not-true, and_parts, ne_eqb}
 use Rattle.std.proofs.lemmas.Bool.Decides.{nat_tests}
 use Rattle.std.proofs.lemmas.List.Sums.{sum_by-cons, sum_by_push}
-use Rattle.wc_base.specs.Options.{some_same}
-use Rattle.wc_base.specs.declared.error.DomError.{DomError}
-use Rattle.codec_model.specs.declared.entry.CodecState.TheVariants.{Unconfigured, Closed}
-use Rattle.codec_model.specs.declared.entry.Opening.{Opening}
-use Rattle.codec_model.specs.declared.entry.CodecState.{CodecState}
+use Rattle.wc_base.specs.{Options.some_same, declared.error.DomError.DomError}
+use Rattle.codec_model.specs.declared.entry.{CodecState.TheVariants.Unconfigured, CodecState.TheVariants.Closed, Opening.Opening}
+use Rattle.codec_model.specs.declared.entry.{CodecState.CodecState, Removal.Removal, Call.Call, Entry.Entry, Coded.Coded, Work.Work}
 use Rattle.std.proofs.lemmas.List.Filters.{sum_by-filter_both}
-use Rattle.codec_model.specs.declared.entry.Removal.{Removal}
-use Rattle.codec_model.specs.declared.entry.Removal.TheVariants as removal
-use Rattle.codec_model.specs.declared.entry.Call.{Call}
-use Rattle.codec_model.specs.declared.entry.Call.TheVariants as call
-use Rattle.codec_model.specs.declared.entry.Entry.{Entry}
-use Rattle.codec_model.specs.declared.entry.Coded.TheVariants as coded
-use Rattle.codec_model.specs.declared.entry.Work.{Work}
-use Rattle.codec_model.specs.declared.entry.Work.TheVariants as work
-use Rattle.codec_model.specs.declared.entry.WorkKind.{WorkKind}
-use Rattle.codec_model.specs.declared.entry.WorkKind.TheVariants as kind
-use Rattle.codec_model.specs.declared.entry.Message.{Message}
-use Rattle.codec_model.specs.declared.entry.Item.{Item}
-use Rattle.codec_model.specs.declared.entry.Running.{Running}
-use Rattle.codec_model.specs.declared.entry.Task.{Task}
-use Rattle.codec_model.specs.declared.entry.Task.TheVariants as task
-use Rattle.codec_model.specs.declared.entry.Ended.{Ended}
-use Rattle.codec_model.specs.declared.entry.Ended.TheVariants as ended
+use Rattle.codec_model.specs.declared.entry.{WorkKind.WorkKind, Message.Message, Item.Item, Running.Running, Task.Task, Ended.Ended}
 use Rattle.codec_model.specs.Control.{Control, is_coded, is_close, is_dequeue, is_desaturate, coded_running, coded_out, is_taken, after_message, takes_front, process_queue, at_next_place, run_task, done_running, after_end, after_reset, start_first}
 use Rattle.codec_model.specs.Replay.{State, opening_state, step, replay, replay_from, removal_error, after_call, call_error, remove_or_refuse}
 use Rattle.codec_model.specs.Facts.{bit, Always, configures_out, flush_parts, is_unblock, is_process, flushes, configures_now, flushes_now, IsNumbered, IsBefore, IsNeverStuck, EndsQuiet}
@@ -60,9 +42,9 @@ queued_unless f t false ts = queued_if f t true ts
 pub ruleset counting = (arith, at_most_one, sum_by_push, sum_by-cons, queued_if, queued_unless)
 
 -- what a removal leaves of the tasks
-kept_tasks : (f : Task → ℕ) (ts : List Task) → sum_by f (filter is_dequeue ts) ≡ f task.Dequeue * count_by is_dequeue ts
+kept_tasks : (f : Task → ℕ) (ts : List Task) → sum_by f (filter is_dequeue ts) ≡ f Task.Dequeue * count_by is_dequeue ts
 kept_tasks f [] = omega arith
-kept_tasks f (task.Dequeue ∷ ts) = omega (counting, kept_tasks f ts, sum_by-cons f task.Dequeue (filter is_dequeue ts), ap (λ n. f task.Dequeue * n) (sum_by-cons (λ t. bit (is_dequeue t)) task.Dequeue ts))
+kept_tasks f (Task.Dequeue ∷ ts) = omega (counting, kept_tasks f ts, sum_by-cons f Task.Dequeue (filter is_dequeue ts), ap (λ n. f Task.Dequeue * n) (sum_by-cons (λ t. bit (is_dequeue t)) Task.Dequeue ts))
 kept_tasks f (t ∷ ts) = omega (counting, kept_tasks f ts)
 
 -- a Desaturate is queued once, where the codec is saturated
@@ -126,7 +108,7 @@ module _ (p : ℕ) where
 
   -- a message is processed
   taken_sound : (at : ℕ) (w : Work) (ms : List Message) (c : Control) → bit (c.saturated && is_coded w) ≡ 0 → Sound 0 (record c { messages = record { place = at; work = w } ∷ ms }) → Sound 0 (record (after_message (record { place = at; work = w }) c) { messages = ms })
-  taken_sound at (work.Coded x) ms c free h = (omega (counting, h.0, front_flush at (work.Coded x) ms, unsaturated c.saturated free, same_or_apart (coded_out c + 1) c.opening.saturation, either true c.scheduled), more_numbers _ _ at _ _ _ h.1)
+  taken_sound at (Work.Coded x) ms c free h = (omega (counting, h.0, front_flush at (Work.Coded x) ms, unsaturated c.saturated free, same_or_apart (coded_out c + 1) c.opening.saturation, either true c.scheduled), more_numbers _ _ at _ _ _ h.1)
     where
       unsaturated : (b : Bool) → bit (b && true) ≡ 0 → bit b ≡ 0
       unsaturated true e = e
@@ -147,18 +129,18 @@ module _ (p : ℕ) where
   start_sound waits number at w is c fine h = (by w h.0, record { first = h.1.first + 1; queued = h.1.queued.1; before = record { epochs = omega arith; numbers = λ _. omega (arith, h.1.queued.0) } })
     where
       by : (w : Work) → Tallies waits (record c { work = record { number = number; place = at; work = w } ∷ is; running = None }) → Tallies waits (start_first (record { number = number; place = at; work = w } ∷ is) (at_next_place c))
-      by (work.Coded x) k = omega (counting, ap bit fine, same_epoch c.epoch (eqb at p))
+      by (Work.Coded x) k = omega (counting, ap bit fine, same_epoch c.epoch (eqb at p))
       by w k = omega (counting, ap bit fine, same_epoch c.epoch (eqb at p))
 
   -- an item of another epoch counts for nothing
   other_item : (epoch number at : ℕ) (k : WorkKind) (e : ℕ) → eqb epoch e ≡ false → (configures_now e (Some (record { epoch = epoch; number = number; place = at; kind = k })) ≡ 0) × (coded_running e (Some (record { epoch = epoch; number = number; place = at; kind = k })) ≡ 0) × (flushes_now p e (Some (record { epoch = epoch; number = number; place = at; kind = k })) ≡ 0)
-  other_item epoch number at kind.Configure e h = (ap bit h, refl, refl)
+  other_item epoch number at WorkKind.Configure e h = (ap bit h, refl, refl)
   other_item epoch number at k e h = omega (arith, ap bit h, ap (λ (x : Bool). bit (x && eqb at p)) h)
 
   -- the item at work ends
   settled_tallies : (waits epoch number at : ℕ) (e : Ended) (k : WorkKind) (progress : Option ℕ) (c : Control) → eqb epoch c.epoch ≡ true → Tallies waits (record c { running = Some (record { epoch = epoch; number = number; place = at; kind = k }) }) → Tallies waits (after_end (record { epoch = epoch; number = number; place = at; kind = k }) e (record (at_next_place c) { running = None; progress = progress }))
-  settled_tallies waits epoch number at (ended.Ran units) kind.Coded progress c same h = omega (counting, ap bit same, freed c.saturated (count_by is_desaturate c.tasks) h.desaturates)
-  settled_tallies waits epoch number at (ended.Ran units) kind.Flush progress c same h = omega (counting, ap (λ (x : Bool). bit (x && eqb at p)) same)
+  settled_tallies waits epoch number at (Ended.Ran units) WorkKind.Coded progress c same h = omega (counting, ap bit same, freed c.saturated (count_by is_desaturate c.tasks) h.desaturates)
+  settled_tallies waits epoch number at (Ended.Ran units) WorkKind.Flush progress c same h = omega (counting, ap (λ (x : Bool). bit (x && eqb at p)) same)
   settled_tallies waits epoch number at e k progress c same h = omega counting
 
   done_sound : (r : Running) (e : Ended) (moment : ℕ) (c : Control) → IsSound (record c { running = Some r }) → IsSound (done_running r e moment (at_next_place c))
@@ -194,10 +176,10 @@ module _ (p : ℕ) where
 
   -- a task runs
   task_sound : (t : Task) (ts : List Task) (c : Control) → IsSound (record c { tasks = t ∷ ts }) → IsSound (run_task t (record (at_next_place c) { tasks = ts }))
-  task_sound task.Process ts c h = process_sound c.messages _ refl (omega (counting, h.0), h.1)
-  task_sound task.Desaturate ts c h = process_sound c.messages _ refl (omega (counting, h.0), h.1)
-  task_sound (task.Flushed at units) ts c h = (omega (counting, h.0, resolved at c.pending, sum_by-filter_both (λ q. not (eqb q at)) (λ q. not (not (eqb q at))) (λ _. refl) (λ q. bit (eqb q p)) c.pending), h.1)
-  task_sound (task.Close x) ts c h = reset_sound Closed (record (at_next_place c) { tasks = ts }) h.0.positive (omega (counting, h.0.dequeues)) h.1
+  task_sound Task.Process ts c h = process_sound c.messages _ refl (omega (counting, h.0), h.1)
+  task_sound Task.Desaturate ts c h = process_sound c.messages _ refl (omega (counting, h.0), h.1)
+  task_sound (Task.Flushed at units) ts c h = (omega (counting, h.0, resolved at c.pending, sum_by-filter_both (λ q. not (eqb q at)) (λ q. not (not (eqb q at))) (λ _. refl) (λ q. bit (eqb q p)) c.pending), h.1)
+  task_sound (Task.Close x) ts c h = reset_sound Closed (record (at_next_place c) { tasks = ts }) h.0.positive (omega (counting, h.0.dequeues)) h.1
   task_sound t ts c h = (omega (counting, h.0), h.1)
 
   -- calls
@@ -208,14 +190,14 @@ module _ (p : ℕ) where
   queued w c = c.messages ++ record { place = c.place; work = w } ∷ []
 
   call_sound : (o : Option DomError) (x : Call) (c : Control) → IsSound c → IsSound (after_call o x c)
-  call_sound None (call.Configure config) c h = process_sound (queued (work.Configure config) c) _ refl (omega (counting, h.0), h.1)
-  call_sound None (call.Decode chunk) c h = process_sound (queued (work.Coded (coded.Chunk chunk)) c) _ refl (omega (counting, h.0), h.1)
-  call_sound None call.Flush c h = process_sound (queued work.Flush c) _ refl (elim (same_or_apart c.place p) [ inl here ↦ omega (counting, h.0, here) | inr apart ↦ omega (counting, h.0, apart) ], h.1)
+  call_sound None (Call.Configure config) c h = process_sound (queued (Work.Configure config) c) _ refl (omega (counting, h.0), h.1)
+  call_sound None (Call.Decode chunk) c h = process_sound (queued (Work.Coded (Coded.Chunk chunk)) c) _ refl (omega (counting, h.0), h.1)
+  call_sound None Call.Flush c h = process_sound (queued Work.Flush c) _ refl (elim (same_or_apart c.place p) [ inl here ↦ omega (counting, h.0, here) | inr apart ↦ omega (counting, h.0, apart) ], h.1)
   call_sound (Some error) x c h = entered_sound c h
 
   remove_sound : (o : Option DomError) (r : Removal) (s : State) → IsSound s.control → IsSound (remove_or_refuse o r s).control
-  remove_sound None removal.Reset s h = reset_sound Unconfigured (at_next_place s.control) h.0.positive h.0.dequeues h.1
-  remove_sound None removal.Close s h = reset_sound Closed (at_next_place s.control) h.0.positive h.0.dequeues h.1
+  remove_sound None Removal.Reset s h = reset_sound Unconfigured (at_next_place s.control) h.0.positive h.0.dequeues h.1
+  remove_sound None Removal.Close s h = reset_sound Closed (at_next_place s.control) h.0.positive h.0.dequeues h.1
   remove_sound (Some x) r s h = entered_sound s.control h
 
   each_sound : EachStep (λ e s t. IsSound s.control → IsSound t.control)
@@ -223,7 +205,7 @@ module _ (p : ℕ) where
     call = λ who x s h. call_sound (call_error x s.control) x s.control h;
     gone = λ who s h. entered_sound s.control h;
     kept = λ who s off h. entered_sound s.control h;
-    cloned = λ who x s on h. process_sound (queued (work.Coded (coded.Sound x)) s.control) _ refl (omega (counting, h.0), h.1);
+    cloned = λ who x s on h. process_sound (queued (Work.Coded (Coded.Sound x)) s.control) _ refl (omega (counting, h.0), h.1);
     remove = λ who r s h. remove_sound (removal_error s.control) r s h;
     take = λ who unit s may h. (omega (counting, h.0), h.1);
     start = λ i is epoch item s first may h.

@@ -1,28 +1,11 @@
 -- What a codec holds after one more entry.
 use Rattle.std.proofs.Common.{ℕ, ◌+◌, ◌≡◌, ◌==◌, ◌&&◌, ◌||◌, Bool, true, false, cond, not, List, [], ◌∷◌, ◌++◌, Option, Some, None, is_none, refl, ap, sym, ◌∙◌, append_assoc, append-nil}
-use Rattle.wc_base.specs.declared.who.Who.{Who}
-use Rattle.wc_base.specs.declared.error.DomError.{DomError}
-use Rattle.codec_model.specs.declared.entry.CodecState.TheVariants.{Configured}
-use Rattle.codec_model.specs.declared.entry.Pair.{Pair}
-use Rattle.codec_model.specs.declared.entry.Coded.TheVariants as coded
-use Rattle.codec_model.specs.declared.entry.Removal.{Removal}
-use Rattle.codec_model.specs.declared.entry.Removal.TheVariants as removal
-use Rattle.codec_model.specs.declared.entry.Call.{Call}
-use Rattle.codec_model.specs.declared.entry.Call.TheVariants as call
-use Rattle.codec_model.specs.declared.entry.Work.{Work}
-use Rattle.codec_model.specs.declared.entry.Work.TheVariants as work
-use Rattle.codec_model.specs.declared.entry.Message.{Message}
-use Rattle.codec_model.specs.declared.entry.Item.{Item}
-use Rattle.codec_model.specs.declared.entry.Running.{Running}
-use Rattle.codec_model.specs.declared.entry.Task.{Task}
-use Rattle.codec_model.specs.declared.entry.Task.TheVariants as task
-use Rattle.codec_model.specs.declared.entry.Ended.{Ended}
-use Rattle.codec_model.specs.declared.entry.Entry.{Entry}
-use Rattle.codec_model.specs.declared.entry.Entry.TheVariants as entry
+use Rattle.wc_base.specs.{declared.who.Who.Who, declared.error.DomError.DomError, Options.cond_is}
+use Rattle.codec_model.specs.declared.entry.{CodecState.TheVariants.Configured, Pair.Pair, Coded.Coded, Removal.Removal, Call.Call, Work.Work}
+use Rattle.codec_model.specs.declared.entry.{Message.Message, Item.Item, Running.Running, Task.Task, Ended.Ended, Entry.Entry}
 use Rattle.codec_model.specs.Control.{Control, held_of, is_decoder, is_close, after_message, process_queue, with_message, at_next_place, run_task, after_end, done_running}
 use Rattle.codec_model.specs.Replay.{State, step, removal_error, removal_step, remove_or_refuse, start_step, call_step, call_error, after_call, entry_of, removal_entry}
 use Rattle.codec_model.specs.Held.{in_order, held_by, running_pairs, items_held, messages_held, waiting_held, held_in, closes_codec, is_removal, leaves_held, adds_held, HeldStays, behind_held, front_held, waiting_after, running_after, HeldApart, HeldMoves}
-use Rattle.wc_base.specs.Options.{cond_is}
 use Rattle.codec_model.specs.StepLaws.{begins, begins_free, EachStep, by_queue, by_steps}
 
 items_more : (is : List Item) (i : Item) → items_held (is ++ i ∷ []) ≡ items_held is ++ in_order (held_of i.work)
@@ -38,7 +21,7 @@ becomes_item : (m : Message) (c : Control) → ((after_message m c).work ≡ c.w
 becomes_item m c = by m.place m.work
   where
     by : (at : ℕ) (w : Work) → ((after_message (record { place = at; work = w }) c).work ≡ c.work ++ record { number = c.next_item; place = at; work = w } ∷ []) × ((after_message (record { place = at; work = w }) c).running ≡ c.running)
-    by at (work.Coded x) = (refl, refl)
+    by at (Work.Coded x) = (refl, refl)
     by at w = (refl, refl)
 
 -- what waits, and what runs, stay where messages are processed
@@ -64,25 +47,25 @@ queued_held at w c =
     (kept.0 ∙ (ap (λ l. items_held c.work ++ l) (messages_more c.messages m) ∙ sym (append_assoc (items_held c.work) (messages_held c.messages) (in_order (held_of w)))), kept.1)
 
 call_held : (o : Option DomError) (x : Call) (c : Control) → Adds [] c (after_call o x c)
-call_held None (call.Configure config) c = queued_held c.place (work.Configure config) (record (at_next_place c) { phase = Configured; key_required = is_decoder c.opening.kind || c.key_required })
-call_held None (call.Decode chunk) c = queued_held c.place (work.Coded (coded.Chunk chunk)) (record (at_next_place c) { key_required = false; size = c.size + 1 })
-call_held None call.Flush c = queued_held c.place work.Flush (record (at_next_place c) { key_required = is_decoder c.opening.kind || c.key_required; pending = c.pending ++ c.place ∷ [] })
+call_held None (Call.Configure config) c = queued_held c.place (Work.Configure config) (record (at_next_place c) { phase = Configured; key_required = is_decoder c.opening.kind || c.key_required })
+call_held None (Call.Decode chunk) c = queued_held c.place (Work.Coded (Coded.Chunk chunk)) (record (at_next_place c) { key_required = false; size = c.size + 1 })
+call_held None Call.Flush c = queued_held c.place Work.Flush (record (at_next_place c) { key_required = is_decoder c.opening.kind || c.key_required; pending = c.pending ++ c.place ∷ [] })
 call_held (Some e) x c = (adds_nothing c, refl)
 
 call_apart : (who : Who) (x : Call) (s : State) → HeldApart (entry_of who x) s (call_step x s)
 call_apart who x s = by x (call_held (call_error x s.control) x s.control)
   where
     by : (y : Call) → Adds [] s.control (call_step y s).control → HeldApart (entry_of who y) s (call_step y s)
-    by (call.Decode chunk) k = record { waits = k.0; runs = ap (λ (r : Option Running). held_by r s.running_held) k.1 }
+    by (Call.Decode chunk) k = record { waits = k.0; runs = ap (λ (r : Option Running). held_by r s.running_held) k.1 }
     by y k = record { waits = k.0; runs = ap (λ (r : Option Running). held_by r s.running_held) k.1 }
 
 remove_held : (o : Option DomError) (r : Removal) (s : State) → (waiting_held (remove_or_refuse o r s).control ≡ cond (is_none o) [] (waiting_held s.control) ++ []) × (running_pairs (remove_or_refuse o r s) ≡ running_pairs s)
-remove_held None removal.Reset s = (refl, refl)
+remove_held None Removal.Reset s = (refl, refl)
 remove_held None r s = (refl, refl)
 remove_held (Some x) r s = (adds_nothing s.control, refl)
 
 remove_apart : (who : Who) (r : Removal) (s : State) → HeldApart (removal_entry who r) s (removal_step r s)
-remove_apart who removal.Reset s = let k = remove_held (removal_error s.control) removal.Reset s in record { waits = k.0; runs = k.1 }
+remove_apart who Removal.Reset s = let k = remove_held (removal_error s.control) Removal.Reset s in record { waits = k.0; runs = k.1 }
 remove_apart who r s = let k = remove_held (removal_error s.control) r s in record { waits = k.0; runs = k.1 }
 
 done_held : (r : Running) (e : Ended) (moment : ℕ) (held : Option Pair) (c : Control) → (waiting_held (done_running r e moment (at_next_place c)) ≡ waiting_held c) × (held_by (done_running r e moment (at_next_place c)).running held ≡ [])
@@ -93,9 +76,9 @@ done_held r e moment held c = by (r.epoch == c.epoch) _
     by false p = (refl, refl)
 
 task_held : (x : Task) (ts : List Task) (c : Control) → (waiting_held (run_task x (record (at_next_place c) { tasks = ts })) ≡ cond (is_close x) [] (waiting_held c) ++ []) × ((run_task x (record (at_next_place c) { tasks = ts })).running ≡ c.running)
-task_held task.Process ts c = let k = process_held (record (at_next_place c) { tasks = ts }) in (k.0 ∙ adds_nothing c, k.1)
-task_held task.Desaturate ts c = let k = process_held (record (at_next_place c) { tasks = ts; saturated = false }) in (k.0 ∙ adds_nothing c, k.1)
-task_held (task.Close x) ts c = (refl, refl)
+task_held Task.Process ts c = let k = process_held (record (at_next_place c) { tasks = ts }) in (k.0 ∙ adds_nothing c, k.1)
+task_held Task.Desaturate ts c = let k = process_held (record (at_next_place c) { tasks = ts; saturated = false }) in (k.0 ∙ adds_nothing c, k.1)
+task_held (Task.Close x) ts c = (refl, refl)
 task_held x ts c = (adds_nothing c, refl)
 
 each_apart : EachStep HeldApart
@@ -104,7 +87,7 @@ each_apart = record {
   gone = λ who s. record { waits = adds_nothing s.control; runs = refl };
   kept = λ who s off. record { waits = adds_nothing s.control; runs = refl };
   cloned = λ who x s on.
-      let k = queued_held s.control.place (work.Coded (coded.Sound x)) (record (at_next_place s.control) { size = s.control.size + 1 }) in
+      let k = queued_held s.control.place (Work.Coded (Coded.Sound x)) (record (at_next_place s.control) { size = s.control.size + 1 }) in
       record { waits = k.0; runs = ap (λ (r : Option Running). held_by r s.running_held) k.1 };
   remove = remove_apart;
   take = λ who unit s may. record { waits = adds_nothing s.control; runs = refl };
@@ -145,10 +128,10 @@ kept_or true running waiting more = refl
 kept_or false running waiting more = sym (append_assoc running waiting more)
 
 joined : (e : Entry) (s t : State) → step e s ≡ Some t → running_after e s ++ waiting_after e s ≡ leaves_held e s ++ adds_held e
-joined (entry.Start epoch item) s t h =
+joined (Entry.Start epoch item) s t h =
     front_behind s.control.work s.control.messages
     ∙ (ap (λ l. l ++ waiting_held s.control) (sym (no_running s.control.work epoch item s t h)) ∙ sym (append-nil (held_in s)))
-joined (entry.Done epoch item moment x) s t h = refl
+joined (Entry.Done epoch item moment x) s t h = refl
 joined e s t h = kept_or (is_removal e s) (running_pairs s) (waiting_held s.control) (adds_held e)
 
 pub held_stays : HeldStays

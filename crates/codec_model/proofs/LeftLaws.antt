@@ -3,28 +3,16 @@ use Rattle.std.proofs.Common.{ℕ, zero, suc, ◌≡◌, ◌+◌, ◌≤◌, ◌
 use Rattle.std.specs.Prelude.{max, unwrap_or}
 use Rattle.std.proofs.lemmas.List.Sums.{count_by-le-length}
 use Rattle.std.proofs.lemmas.List.Filters.{sum_by-filter_both}
-use Rattle.codec_model.specs.declared.entry.Work.{Work}
-use Rattle.codec_model.specs.declared.entry.Work.TheVariants as work
-use Rattle.codec_model.specs.declared.entry.WorkKind.{WorkKind}
-use Rattle.codec_model.specs.declared.entry.WorkKind.TheVariants as kind
-use Rattle.codec_model.specs.declared.entry.Message.{Message}
-use Rattle.codec_model.specs.declared.entry.Item.{Item}
-use Rattle.codec_model.specs.declared.entry.Running.{Running}
-use Rattle.codec_model.specs.declared.entry.Task.{Task}
-use Rattle.codec_model.specs.declared.entry.Task.TheVariants as task
-use Rattle.codec_model.specs.declared.entry.Ended.{Ended}
-use Rattle.codec_model.specs.declared.entry.Ended.TheVariants as ended
+use Rattle.codec_model.specs.declared.entry.{Work.Work, WorkKind.WorkKind, Message.Message, Item.Item, Running.Running, Task.Task, Ended.Ended}
 use Rattle.codec_model.specs.Control.{Control, is_coded, is_dequeue, after_message, process_queue, at_next_place, run_task, done_running, after_end, after_close, task_weight, left}
-use Rattle.codec_model.specs.Replay.{entry_of, removal_entry}
+use Rattle.codec_model.specs.{Replay.entry_of, Replay.removal_entry, declared.entry.Call.Call, declared.entry.Removal.Removal}
 use Rattle.codec_model.specs.Facts.{bit, is_step, CountsMessages, LeavesFewer}
 use Rattle.codec_model.specs.StepLaws.{EachStep, by_queue, by_steps}
-use Rattle.codec_model.specs.declared.entry.Call.TheVariants as call
-use Rattle.codec_model.specs.declared.entry.Removal.TheVariants as removal
 use Rattle.codec_model.proofs.FactLaws.{counting, at_most_one, all_facts}
 
 -- messages are processed
 taken_left : (at : ℕ) (w : Work) (ms : List Message) (c : Control) → left (record (after_message (record { place = at; work = w }) c) { messages = ms }) ≤ left (record c { messages = record { place = at; work = w } ∷ ms })
-taken_left at (work.Coded input) ms c = omega (counting, length-append {A = Item})
+taken_left at (Work.Coded input) ms c = omega (counting, length-append {A = Item})
 taken_left at w ms c = omega (counting, length-append {A = Item})
 
 process_left : (c : Control) → left (process_queue c.messages c) ≤ left c
@@ -39,14 +27,14 @@ close_left : (c : Control) → c.size ≡ count_by (λ m. is_coded m.work) c.mes
 close_left c h = omega (counting, h, event_if c.size (not c.scheduled), count_by-le-length (λ m. is_coded m.work) c.messages, sum_by-filter_both is_dequeue (λ t. not (is_dequeue t)) (λ _. refl) task_weight c.tasks)
 
 task_left : (t : Task) (ts : List Task) (c : Control) → c.size ≡ count_by (λ m. is_coded m.work) c.messages → left (run_task t (record (at_next_place c) { tasks = ts })) + 1 ≤ left (record c { tasks = t ∷ ts })
-task_left task.Process ts c h = omega (counting, process_left (record (at_next_place c) { tasks = ts }))
-task_left task.Desaturate ts c h = omega (counting, process_left (record (at_next_place c) { tasks = ts; saturated = false }))
-task_left (task.Close x) ts c h = omega (counting, close_left (record (at_next_place c) { tasks = ts }) h)
+task_left Task.Process ts c h = omega (counting, process_left (record (at_next_place c) { tasks = ts }))
+task_left Task.Desaturate ts c h = omega (counting, process_left (record (at_next_place c) { tasks = ts; saturated = false }))
+task_left (Task.Close x) ts c h = omega (counting, close_left (record (at_next_place c) { tasks = ts }) h)
 task_left t ts c h = omega counting
 
 -- the item at work ends
 settled_left : (epoch number at : ℕ) (e : Ended) (k : WorkKind) (c : Control) → left (after_end (record { epoch = epoch; number = number; place = at; kind = k }) e c) ≤ left c + 2
-settled_left epoch number at (ended.Ran units) kind.Coded c = omega counting
+settled_left epoch number at (Ended.Ran units) WorkKind.Coded c = omega counting
 settled_left epoch number at e k c = omega counting
 
 done_left : (r : Running) (e : Ended) (moment : ℕ) (c : Control) → left (done_running r e moment (at_next_place c)) + 1 ≤ left (record c { running = Some r })
@@ -59,12 +47,12 @@ done_left r e moment c = by (eqb r.epoch c.epoch)
 each_left : EachStep (λ e s t. is_step e ≡ true → CountsMessages s.control → left t.control + 1 ≤ left s.control)
 each_left = record {
   call = λ who x s is h.
-      let none : is_step (entry_of who x) ≡ false = elim x as (λ y. is_step (entry_of who y) ≡ false) [ call.Configure config ↦ refl | call.Decode chunk ↦ refl | call.Flush ↦ refl ] in absurd cc;
+      let none : is_step (entry_of who x) ≡ false = elim x as (λ y. is_step (entry_of who y) ≡ false) [ Call.Configure config ↦ refl | Call.Decode chunk ↦ refl | Call.Flush ↦ refl ] in absurd cc;
   gone = λ who s is h. absurd cc;
   kept = λ who s off is h. absurd cc;
   cloned = λ who x s on is h. absurd cc;
   remove = λ who r s is h.
-      let none : is_step (removal_entry who r) ≡ false = elim r as (λ y. is_step (removal_entry who y) ≡ false) [ removal.Reset ↦ refl | removal.Close ↦ refl ] in absurd cc;
+      let none : is_step (removal_entry who r) ≡ false = elim r as (λ y. is_step (removal_entry who y) ≡ false) [ Removal.Reset ↦ refl | Removal.Close ↦ refl ] in absurd cc;
   take = λ who unit s may is h. absurd cc;
   start = λ i is epoch item s first may _ h. rw first (omega arith);
   done = λ r e epoch item moment x s running own is _ h. subst (λ (o : Option Running). left (done_running r e moment (at_next_place s.control)) + 1 ≤ left (record s.control { running = o })) (sym running) (done_left r e moment s.control);
