@@ -27,23 +27,15 @@ image_without (x ∷ us) u p is = rw is refl
 
 -- outputs that carry no config are shown as they are
 pub carried_none : (active : Option AudioDecoderConfig) (us : List media.Unit) → first_config us ≡ None → carried active us ≡ us
-carried_none active [] h = refl
-carried_none active (unit_of.Coded chunk None ∷ us) h = refl
 carried_none active (unit_of.Coded chunk (Some c) ∷ us) h = absurd cc
-carried_none active (unit_of.Sound samples ∷ us) h = refl
-carried_none active (unit_of.Image picture ∷ us) h = refl
+carried_none active us h = refl
 
 pub active_none : (active : Option AudioDecoderConfig) (us : List media.Unit) → first_config us ≡ None → active_after active us ≡ active
-active_none active [] h = refl
-active_none active (unit_of.Coded chunk None ∷ us) h = refl
 active_none active (unit_of.Coded chunk (Some c) ∷ us) h = absurd cc
-active_none active (unit_of.Sound samples ∷ us) h = refl
-active_none active (unit_of.Image picture ∷ us) h = refl
+active_none active us h = refl
 
 -- the config goes where it is the active one, and else stays and is active
 pub carried_some : (active : Option AudioDecoderConfig) (us : List media.Unit) (c : AudioDecoderConfig) (b : Bool) → first_config us ≡ Some c → is_active active c ≡ b → carried active us ≡ cond b (without_config us) us
-carried_some active [] c b h is = absurd cc
-carried_some active (unit_of.Coded chunk None ∷ us) c b h is = absurd cc
 carried_some active (unit_of.Coded chunk (Some d) ∷ us) c b h is =
     let same : d ≡ c = cc in
     rw (same, is) (by b)
@@ -51,14 +43,10 @@ carried_some active (unit_of.Coded chunk (Some d) ∷ us) c b h is =
     by : (b : Bool) → unit_of.Coded chunk (cond b None (Some c)) ∷ us ≡ cond b (unit_of.Coded chunk None ∷ us) (unit_of.Coded chunk (Some c) ∷ us)
     by true = refl
     by false = refl
-carried_some active (unit_of.Sound samples ∷ us) c b h is = absurd cc
-carried_some active (unit_of.Image picture ∷ us) c b h is = absurd cc
+carried_some active us c b h is = absurd cc
 
 pub active_some : (active : Option AudioDecoderConfig) (us : List media.Unit) (c : AudioDecoderConfig) (b : Bool) → first_config us ≡ Some c → is_active active c ≡ b → active_after active us ≡ cond b active (Some c)
-active_some active [] c b h is = absurd cc
-active_some active (unit_of.Coded chunk None ∷ us) c b h is = absurd cc
 active_some active (unit_of.Coded chunk (Some d) ∷ us) c b h is =
     let same : d ≡ c = cc in
     rw (same, is) refl
-active_some active (unit_of.Sound samples ∷ us) c b h is = absurd cc
-active_some active (unit_of.Image picture ∷ us) c b h is = absurd cc
+active_some active us c b h is = absurd cc
