@@ -4,7 +4,6 @@ use Rattle.std.proofs.lemmas.List.Sums.{sum_by-cons, sum_by_push, count_by-le-le
 use Rattle.std.proofs.lemmas.List.Filters.{sum_by-filter_both}
 use Rattle.std.proofs.lemmas.Bool.{ne_eqb}
 use Rattle.std.specs.Prelude.{Option, Some, None, IfSome, true, false, Bool, not, ◌==◌, ◌&&◌, if◌then◌else◌, cond}
-use Rattle.codec_model.specs.declared.entry.Work.{Work}
 use Rattle.codec_model.specs.declared.entry.Message.{Message}
 use Rattle.codec_model.specs.declared.entry.Item.{Item}
 use Rattle.codec_model.specs.declared.entry.Running.{Running}
@@ -78,10 +77,6 @@ coded_runs e (Some r) = omega (arith, coded_ran e r, at_most_one (r.epoch == e))
 pub coded_fits : (s : Control) → coded_out s ≤ length s.work + 1
 coded_fits s = omega (arith, count_by-le-length (λ i. is_coded i.work) s.work, coded_runs s.epoch s.running)
 
--- a message more keeps the count of steps
-pub room_left : (ms : List Message) (m : Message) (is : List Item) (r : Option Running) (ts : List Task) (room : ℕ) → 7 * length ms + 4 * length is + 2 * length ts + 10 ≤ room → 7 * length (ms ++ m ∷ []) + 4 * length is + running_weight r + sum_by task_weight ts ≤ room
-room_left ms m is r ts room h = omega (arith, h, tasks_weigh ts, running_weighs r, length-append ms (m ∷ []))
-
 -- what a removal leaves of the tasks
 pub cleared_left : (size : ℕ) (scheduled : Bool) (ms : List Message) (is : List Item) (r : Option Running) (ts : List Task) → size ≡ count_by (λ x. is_coded x.work) ms → 7 * 0 + 4 * 0 + running_weight r + sum_by task_weight (if not (size == 0) && not scheduled then filter is_dequeue ts ++ task.Dequeue ∷ [] else filter is_dequeue ts) ≤ 7 * length ms + 4 * length is + running_weight r + sum_by task_weight ts
 cleared_left size scheduled ms is r ts h = omega (arith, by (size == 0) refl)
@@ -91,10 +86,6 @@ cleared_left size scheduled ms is r ts h = omega (arith, by (size == 0) refl)
     by false some =
         let big : 1 ≤ size = grind (arith, some) in
         omega (arith, dequeues_fit ts, big, h, count_by-le-length (λ x. is_coded x.work) ms, heavier_if task.Dequeue (not scheduled) (filter is_dequeue ts))
-
--- the count of coded messages where one is queued
-pub sizes_more : (place : ℕ) (w : Work) (ms : List Message) → count_by (λ x. is_coded x.work) (ms ++ record { place = place; work = w } ∷ []) ≡ count_by (λ x. is_coded x.work) ms + cond (is_coded w) 1 0
-sizes_more place w ms = omega (arith, sum_by_push)
 
 -- the end of an item queues two tasks of weight 1 at most, or one of weight 2
 pub end_weighs : (r : Running) (e : Ended) (saturated : Bool) (ts : List Task) → sum_by task_weight (with_end r e saturated ts) ≤ sum_by task_weight ts + 2

@@ -1,13 +1,33 @@
 -- What a machine has room for as its queues change.
-use Rattle.std.proofs.Common.{◌≡◌, ◌+◌, ◌-◌, ◌*◌, ◌^◌, ◌≤◌, ◌<◌, cond, [], ◌∷◌, ◌++◌, length, length-append, sum_by, ap, subst, sym, arith}
+use Rattle.std.proofs.Common.{◌≡◌, ◌+◌, ◌-◌, ◌*◌, ◌^◌, ◌≤◌, ◌<◌, cond, [], ◌∷◌, ◌++◌, length, length-append, List, sum_by, count_by, ◌∙◌, ap, subst, sym, arith}
 use Rattle.std.specs.VecDeque.{deque_capacity}
 use Rattle.codec_model.specs.declared.entry.Message.{Message}
 use Rattle.codec_model.specs.declared.entry.Work.{Work}
-use Rattle.codec_model.specs.Control.{is_coded, task_weight}
-use Rattle.codec_queues.specs.Kept.{IsRoomy}
+use Rattle.std.specs.Prelude.{IfSome}
+use Rattle.std.proofs.lemmas.List.Sums.{sum_by_push}
+use Rattle.codec_model.specs.declared.entry.Item.{Item}
+use Rattle.codec_model.specs.declared.entry.Task.{Task}
+use Rattle.codec_model.specs.Control.{is_coded, coded_out, left, task_weight}
+use Rattle.codec_queues.specs.Kept.{IsRoomy, control_of}
 use Rattle.codec_queues.specs.Rising.{IsRising}
-use Rattle.codec_queues.proofs.Room.{room_left, taken_left, sizes_more, sizes_down, coded_more}
+use Rattle.codec_queues.proofs.Room.{taken_left, sizes_down, coded_more, tasks_weigh, running_weighs}
 use Rattle.codec_queues.specs.declared.machine.Machine.TheInside.{Inside}
+
+-- the numbers of a machine that has its places
+pub record Fits (m : Inside) : Type 0 where
+  pub counted : left (control_of m) ≤ m.room
+  pub small : m.room + 1 < 2 ^ 62
+  pub for_work : m.room ≤ deque_capacity m.work
+  pub for_tasks : m.room + 1 ≤ deque_capacity m.tasks
+  pub epochs : m.epoch ≤ m.place
+  pub items : m.next_item + length m.messages.items ≤ m.place
+  pub sizes : m.size ≡ count_by (λ x. is_coded x.work) m.messages.items
+  pub coded : m.coded ≡ coded_out (control_of m)
+  pub outputs : m.shown ≤ 2 ^ 64 * m.place
+  pub takes : m.taken ≤ m.place
+
+pub roomy : (m : Inside) → Fits m → IfSome m.running (λ r. r.epoch ≤ m.epoch) → IsRising m.pending.items m.place → IsRoomy m
+roomy m fits ran promises = assumption
 
 -- the next entry's machine, with the messages and the places of another
 abbrev queued : Inside → Inside → Inside
@@ -16,20 +36,12 @@ queued m n = record m { place = m.place + 1; phase = n.phase; key_required = n.k
 -- where one message more has places for all that may come of it, all has its place
 pub roomy_queued : (m n : Inside) (w : Work) → IsRoomy m → n ≡ queued m n → n.messages.items ≡ m.messages.items ++ record { place = m.place; work = w } ∷ [] → n.work.items ≡ m.work.items → n.tasks.items ≡ m.tasks.items → n.size ≡ m.size + cond (is_coded w) 1 0 → IsRising n.pending.items (m.place + 1) →
     7 * length m.messages.items + 4 * length m.work.items + 2 * length m.tasks.items + 10 ≤ n.room → n.room + 1 < 2 ^ 62 → n.room ≤ deque_capacity n.work → n.room + 1 ≤ deque_capacity n.tasks → IsRoomy n
-roomy_queued m n w h is back same_work same_tasks size rises enough small fits_work fits_tasks = subst IsRoomy (sym is) (record {
-  counted = rw (back, same_work, same_tasks) (room_left m.messages.items _ m.work.items m.running m.tasks.items n.room enough);
-  small = small;
-  for_work = fits_work;
-  for_tasks = fits_tasks;
-  epochs = omega (arith, h.epochs);
-  ran = h.ran;
-  items = rw back (omega (arith, h.items, length-append m.messages.items (record { place = m.place; work = w } ∷ [])));
-  sizes = rw back (omega (arith, h.sizes, size, sizes_more m.place w m.messages.items));
-  coded = rw same_work h.coded;
-  promises = rises;
-  outputs = omega (arith, h.outputs);
-  takes = omega (arith, h.takes);
-})
+roomy_queued m n w h is back same_work same_tasks size rises enough small fits_work fits_tasks =
+    let messages = ap (λ (l : List Message). count_by (λ x. is_coded x.work) l) back in
+    let items = ap (λ (l : List Item). count_by (λ x. is_coded x.work) l) same_work in
+    let tasks = ap (λ (l : List Task). sum_by task_weight l) same_tasks in
+    let longer = ap length back ∙ length-append m.messages.items (record { place = m.place; work = w } ∷ []) in
+    subst IsRoomy (sym is) (roomy (queued m n) (omega (arith, h, messages, sum_by_push, items, tasks, longer, ap length same_work, size, tasks_weigh m.tasks.items, running_weighs m.running)) h.ran rises)
 
 -- the next entry's machine, with the tasks, the promises and what is shown of another
 abbrev turned : Inside → Inside → Inside
@@ -37,20 +49,7 @@ turned m n = record m { place = m.place + 1; pending = n.pending; blocked = n.bl
 
 -- where the tasks weigh no more, all has its place there
 pub roomy_turned : (m n : Inside) → IsRoomy m → n ≡ turned m n → sum_by task_weight n.tasks.items ≤ sum_by task_weight m.tasks.items → m.room + 1 ≤ deque_capacity n.tasks → IsRising n.pending.items (m.place + 1) → n.shown ≤ 2 ^ 64 * (m.place + 1) → IsRoomy n
-roomy_turned m n h is less fits rises shown = subst IsRoomy (sym is) (record {
-  counted = omega (arith, less, h.counted);
-  small = h.small;
-  for_work = h.for_work;
-  for_tasks = fits;
-  epochs = omega (arith, h.epochs);
-  ran = h.ran;
-  items = omega (arith, h.items);
-  sizes = h.sizes;
-  coded = h.coded;
-  promises = rises;
-  outputs = shown;
-  takes = omega (arith, h.takes);
-})
+roomy_turned m n h is less fits rises shown = subst IsRoomy (sym is) (roomy (turned m n) (omega (arith, h, less, fits, shown)) h.ran rises)
 
 -- the machine where a message has become an item, with the queues and counts of another
 abbrev processed : Inside → Inside → Inside
@@ -59,17 +58,7 @@ processed m n = record m { messages = n.messages; work = n.work; tasks = n.tasks
 -- where the item stands behind the others, all has its place
 pub roomy_processed : (m n : Inside) (x : Message) → IsRoomy m → n ≡ processed m n → m.messages.items ≡ x ∷ n.messages.items → n.work.items ≡ m.work.items ++ record { number = m.next_item; place = x.place; work = x.work } ∷ [] → sum_by task_weight n.tasks.items ≤ sum_by task_weight m.tasks.items + 1 →
     m.room ≤ deque_capacity n.work → m.room + 1 ≤ deque_capacity n.tasks → n.size ≡ m.size - cond (is_coded x.work) 1 0 → n.coded ≡ m.coded + cond (is_coded x.work) 1 0 → IsRoomy n
-roomy_processed m n x h is front back few fits_work fits_tasks size coded = subst IsRoomy (sym is) (record {
-  counted = omega (arith, taken_left m.messages.items n.messages.items x m.work.items n.work.items _ m.running m.tasks.items n.tasks.items front back few, h.counted);
-  small = h.small;
-  for_work = fits_work;
-  for_tasks = fits_tasks;
-  epochs = h.epochs;
-  ran = h.ran;
-  items = omega (arith, h.items, ap length front);
-  sizes = omega (arith, size, sizes_down m.size m.messages.items n.messages.items x front h.sizes);
-  coded = omega (arith, coded, coded_more m.work.items n.work.items _ back, h.coded);
-  promises = h.promises;
-  outputs = h.outputs;
-  takes = h.takes;
-})
+roomy_processed m n x h is front back few fits_work fits_tasks size coded =
+    let left = taken_left m.messages.items n.messages.items x m.work.items n.work.items _ m.running m.tasks.items n.tasks.items front back few in
+    let messages = sizes_down m.size m.messages.items n.messages.items x front h.sizes in
+    subst IsRoomy (sym is) (roomy (processed m n) (omega (arith, h, left, messages, coded_more m.work.items n.work.items _ back, ap length front, size, coded)) h.ran h.promises)
