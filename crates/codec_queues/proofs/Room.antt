@@ -101,10 +101,3 @@ taken_left ms rest m is more i r ts later front back few = rw (front, back) (ome
 
 pub dequeue_weighs : (scheduled : Bool) (ts later : List Task) → later ≡ (if true && not scheduled then ts ++ task.Dequeue ∷ [] else ts) → sum_by task_weight later ≤ sum_by task_weight ts + 1
 dequeue_weighs scheduled ts later is = rw is (omega (arith, heavier_if task.Dequeue (not scheduled) ts))
-
--- the counts of coded messages and items as one is processed
-pub sizes_down : (size : ℕ) (ms rest : List Message) (m : Message) → ms ≡ m ∷ rest → size ≡ count_by (λ x. is_coded x.work) ms → size ≡ count_by (λ x. is_coded x.work) rest + cond (is_coded m.work) 1 0
-sizes_down size ms rest m front h = omega (arith, h, ap (λ (l : List Message). count_by (λ x. is_coded x.work) l) front, sum_by-cons)
-
-pub coded_more : (is more : List Item) (i : Item) → more ≡ is ++ i ∷ [] → count_by (λ x. is_coded x.work) more ≡ count_by (λ x. is_coded x.work) is + cond (is_coded i.work) 1 0
-coded_more is more i back = omega (arith, ap (λ (l : List Item). count_by (λ x. is_coded x.work) l) back, sum_by_push)

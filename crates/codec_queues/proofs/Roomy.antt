@@ -4,13 +4,13 @@ use Rattle.std.specs.VecDeque.{deque_capacity}
 use Rattle.codec_model.specs.declared.entry.Message.{Message}
 use Rattle.codec_model.specs.declared.entry.Work.{Work}
 use Rattle.std.specs.Prelude.{IfSome}
-use Rattle.std.proofs.lemmas.List.Sums.{sum_by_push}
+use Rattle.std.proofs.lemmas.List.Sums.{sum_by-cons, sum_by_push}
 use Rattle.codec_model.specs.declared.entry.Item.{Item}
 use Rattle.codec_model.specs.declared.entry.Task.{Task}
 use Rattle.codec_model.specs.Control.{is_coded, coded_out, left, task_weight}
 use Rattle.codec_queues.specs.Kept.{IsRoomy, control_of}
 use Rattle.codec_queues.specs.Rising.{IsRising}
-use Rattle.codec_queues.proofs.Room.{taken_left, sizes_down, coded_more, tasks_weigh, running_weighs}
+use Rattle.codec_queues.proofs.Room.{taken_left, tasks_weigh, running_weighs}
 use Rattle.codec_queues.specs.declared.machine.Machine.TheInside.{Inside}
 
 -- the numbers of a machine that has its places
@@ -60,5 +60,6 @@ pub roomy_processed : (m n : Inside) (x : Message) → IsRoomy m → n ≡ proce
     m.room ≤ deque_capacity n.work → m.room + 1 ≤ deque_capacity n.tasks → n.size ≡ m.size - cond (is_coded x.work) 1 0 → n.coded ≡ m.coded + cond (is_coded x.work) 1 0 → IsRoomy n
 roomy_processed m n x h is front back few fits_work fits_tasks size coded =
     let left = taken_left m.messages.items n.messages.items x m.work.items n.work.items _ m.running m.tasks.items n.tasks.items front back few in
-    let messages = sizes_down m.size m.messages.items n.messages.items x front h.sizes in
-    subst IsRoomy (sym is) (roomy (processed m n) (omega (arith, h, left, messages, coded_more m.work.items n.work.items _ back, ap length front, size, coded)) h.ran h.promises)
+    let messages = ap (λ (l : List Message). count_by (λ y. is_coded y.work) l) front in
+    let items = ap (λ (l : List Item). count_by (λ y. is_coded y.work) l) back in
+    subst IsRoomy (sym is) (roomy (processed m n) (omega (arith, h, left, messages, sum_by-cons, items, sum_by_push, ap length front, size, coded)) h.ran h.promises)
