@@ -1,7 +1,6 @@
 -- Outputs as they are shown, by the config that the first of them carries.
 use Rattle.std.proofs.Common.{◌<◌, ◌≡◌, Bool, true, false, cond, List, [], ◌∷◌, length, set, get_or, Option, Some, None, refl, arith}
-use Rattle.wc_base.specs.declared.media.Picture.{Picture}
-use Rattle.wc_base.specs.declared.media.Samples.{Samples}
+use Rattle.wc_base.specs.declared.media.{Picture.Picture, Samples.Samples}
 use Rattle.wc_chunk.specs.declared.chunk.Chunk.{Chunk}
 use Rattle.codec_definitions.specs.declared.unit.Unit as media
 use Rattle.codec_definitions.specs.declared.unit.Unit.TheVariants as unit_of

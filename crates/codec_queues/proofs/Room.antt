@@ -4,20 +4,12 @@ use Rattle.std.proofs.lemmas.List.Sums.{sum_by-cons, sum_by_push, count_by-le-le
 use Rattle.std.proofs.lemmas.List.Filters.{sum_by-filter_both}
 use Rattle.std.proofs.lemmas.Bool.{ne_eqb}
 use Rattle.std.specs.Prelude.{Option, Some, None, IfSome, true, false, Bool, not, ◌==◌, ◌&&◌, if◌then◌else◌, cond}
-use Rattle.codec_model.specs.declared.entry.Message.{Message}
-use Rattle.codec_model.specs.declared.entry.Item.{Item}
-use Rattle.codec_model.specs.declared.entry.Running.{Running}
-use Rattle.codec_model.specs.declared.entry.WorkKind.{WorkKind}
-use Rattle.codec_model.specs.declared.entry.WorkKind.TheVariants as kind
-use Rattle.codec_model.specs.declared.entry.Task.{Task}
-use Rattle.codec_model.specs.declared.entry.Task.TheVariants as task
-use Rattle.codec_model.specs.declared.entry.Ended.{Ended}
-use Rattle.codec_model.specs.declared.entry.Ended.TheVariants as ended
+use Rattle.codec_model.specs.declared.entry.{Message.Message, Item.Item, Running.Running, WorkKind.WorkKind, Task.Task, Ended.Ended}
 use Rattle.codec_model.specs.Facts.{bit}
 use Rattle.codec_model.specs.Control.{Control, is_coded, coded_out, task_weight, running_weight, coded_running, is_dequeue, with_end}
 
 weighs : (t : Task) → (1 ≤ task_weight t) × (task_weight t ≤ 2)
-weighs task.Unblock = omega arith
+weighs Task.Unblock = omega arith
 weighs t = omega arith
 
 pub tasks_fit : (ts : List Task) → length ts ≤ sum_by task_weight ts
@@ -54,7 +46,7 @@ coded_ran : (e : ℕ) (r : Running) → coded_running e (Some r) ≤ bit (r.epoc
 coded_ran e r = by r.kind
   where
     by : (k : WorkKind) → coded_running e (Some (record r { kind = k })) ≤ bit (r.epoch == e)
-    by kind.Coded = omega arith
+    by WorkKind.Coded = omega arith
     by k = omega arith
 
 pub none_coded : (e : ℕ) (r : Option Running) → IfSome r (λ x. x.epoch ≤ e) → coded_running (e + 1) r ≡ 0
@@ -78,26 +70,26 @@ pub coded_fits : (s : Control) → coded_out s ≤ length s.work + 1
 coded_fits s = omega (arith, count_by-le-length (λ i. is_coded i.work) s.work, coded_runs s.epoch s.running)
 
 -- what a removal leaves of the tasks
-pub cleared_left : (size : ℕ) (scheduled : Bool) (ms : List Message) (is : List Item) (r : Option Running) (ts : List Task) → size ≡ count_by (λ x. is_coded x.work) ms → 7 * 0 + 4 * 0 + running_weight r + sum_by task_weight (if not (size == 0) && not scheduled then filter is_dequeue ts ++ task.Dequeue ∷ [] else filter is_dequeue ts) ≤ 7 * length ms + 4 * length is + running_weight r + sum_by task_weight ts
+pub cleared_left : (size : ℕ) (scheduled : Bool) (ms : List Message) (is : List Item) (r : Option Running) (ts : List Task) → size ≡ count_by (λ x. is_coded x.work) ms → 7 * 0 + 4 * 0 + running_weight r + sum_by task_weight (if not (size == 0) && not scheduled then filter is_dequeue ts ++ Task.Dequeue ∷ [] else filter is_dequeue ts) ≤ 7 * length ms + 4 * length is + running_weight r + sum_by task_weight ts
 cleared_left size scheduled ms is r ts h = omega (arith, by (size == 0) refl)
   where
-    by : (b : Bool) → (size == 0) ≡ b → sum_by task_weight (if not b && not scheduled then filter is_dequeue ts ++ task.Dequeue ∷ [] else filter is_dequeue ts) ≤ 7 * length ms + sum_by task_weight ts
+    by : (b : Bool) → (size == 0) ≡ b → sum_by task_weight (if not b && not scheduled then filter is_dequeue ts ++ Task.Dequeue ∷ [] else filter is_dequeue ts) ≤ 7 * length ms + sum_by task_weight ts
     by true none = omega (arith, dequeues_fit ts)
     by false some =
         let big : 1 ≤ size = grind (arith, some) in
-        omega (arith, dequeues_fit ts, big, h, count_by-le-length (λ x. is_coded x.work) ms, heavier_if task.Dequeue (not scheduled) (filter is_dequeue ts))
+        omega (arith, dequeues_fit ts, big, h, count_by-le-length (λ x. is_coded x.work) ms, heavier_if Task.Dequeue (not scheduled) (filter is_dequeue ts))
 
 -- the end of an item queues two tasks of weight 1 at most, or one of weight 2
 pub end_weighs : (r : Running) (e : Ended) (saturated : Bool) (ts : List Task) → sum_by task_weight (with_end r e saturated ts) ≤ sum_by task_weight ts + 2
 end_weighs r e saturated ts = by e r.kind
   where
     by : (e : Ended) (k : WorkKind) → sum_by task_weight (with_end (record r { kind = k }) e saturated ts) ≤ sum_by task_weight ts + 2
-    by (ended.Ran units) kind.Coded = omega (arith, heavier_if, heavier_unless)
+    by (Ended.Ran units) WorkKind.Coded = omega (arith, heavier_if, heavier_unless)
     by e k = omega (arith, sum_by_push)
 
 -- a message that is processed becomes an item, and queues a task of weight 1 at most
 pub taken_left : (ms rest : List Message) (m : Message) (is more : List Item) (i : Item) (r : Option Running) (ts later : List Task) → ms ≡ m ∷ rest → more ≡ is ++ i ∷ [] → sum_by task_weight later ≤ sum_by task_weight ts + 1 → 7 * length rest + 4 * length more + running_weight r + sum_by task_weight later ≤ 7 * length ms + 4 * length is + running_weight r + sum_by task_weight ts
 taken_left ms rest m is more i r ts later front back few = rw (front, back) (omega (arith, few, length-append is (i ∷ [])))
 
-pub dequeue_weighs : (scheduled : Bool) (ts later : List Task) → later ≡ (if true && not scheduled then ts ++ task.Dequeue ∷ [] else ts) → sum_by task_weight later ≤ sum_by task_weight ts + 1
-dequeue_weighs scheduled ts later is = rw is (omega (arith, heavier_if task.Dequeue (not scheduled) ts))
+pub dequeue_weighs : (scheduled : Bool) (ts later : List Task) → later ≡ (if true && not scheduled then ts ++ Task.Dequeue ∷ [] else ts) → sum_by task_weight later ≤ sum_by task_weight ts + 1
+dequeue_weighs scheduled ts later is = rw is (omega (arith, heavier_if Task.Dequeue (not scheduled) ts))

@@ -1,17 +1,12 @@
 -- What a machine has room for as its queues change.
 use Rattle.std.proofs.Common.{◌≡◌, ◌+◌, ◌-◌, ◌*◌, ◌^◌, ◌≤◌, ◌<◌, cond, [], ◌∷◌, ◌++◌, length, length-append, List, sum_by, count_by, ◌∙◌, ap, subst, sym, arith}
 use Rattle.std.specs.VecDeque.{deque_capacity}
-use Rattle.codec_model.specs.declared.entry.Message.{Message}
-use Rattle.codec_model.specs.declared.entry.Work.{Work}
+use Rattle.codec_model.specs.declared.entry.{Message.Message, Work.Work, Item.Item, Task.Task}
 use Rattle.std.specs.Prelude.{IfSome}
 use Rattle.std.proofs.lemmas.List.Sums.{sum_by-cons, sum_by_push}
-use Rattle.codec_model.specs.declared.entry.Item.{Item}
-use Rattle.codec_model.specs.declared.entry.Task.{Task}
 use Rattle.codec_model.specs.Control.{is_coded, coded_out, left, task_weight}
-use Rattle.codec_queues.specs.Kept.{IsRoomy, control_of}
-use Rattle.codec_queues.specs.Rising.{IsRising}
+use Rattle.codec_queues.specs.{Kept.IsRoomy, Kept.control_of, Rising.IsRising, declared.machine.Machine.TheInside.Inside}
 use Rattle.codec_queues.proofs.Room.{taken_left, tasks_weigh, running_weighs}
-use Rattle.codec_queues.specs.declared.machine.Machine.TheInside.{Inside}
 
 -- the numbers of a machine that has its places
 pub record Fits (m : Inside) : Type 0 where

@@ -1,13 +1,11 @@
 use Rattle.std.proofs.Common.{rules, arith, refl}
-use Rattle.codec_queues.proofs.Rising.{rising_next}
-use Rattle.codec_queues.proofs.Roomy.{roomy_queued}
-use Rattle.codec_model.specs.declared.entry.Coded.TheVariants as coded
-use Rattle.codec_model.specs.declared.entry.Work.TheVariants as work
+use Rattle.codec_queues.proofs.{Rising.rising_next, Roomy.roomy_queued}
+use Rattle.codec_model.specs.declared.entry.{Coded.Coded, Work.Work}
 use Rattle.codec_queues.proofs.machine.Machine.decode.Goals as goal
 
 pub invariant_of-self-2 : goal.invariant_of-self-2
 invariant_of-self-2 c =
-    roomy_queued c.self.inside _ (work.Coded (coded.Chunk c.args.chunk)) c.self.invariant refl
+    roomy_queued c.self.inside _ (Work.Coded (Coded.Chunk c.args.chunk)) c.self.invariant refl
     (rw (c.push_back_reserved.ensures.items, c.reserve_places.ensures.messages) refl) c.reserve_places.ensures.work c.reserve_places.ensures.tasks (omega arith)
     (rw c.reserve_places.ensures.pending (rising_next c.self.inside.pending.items c.self.inside.place c.self.invariant.promises))
     (search rules) c.in_ok-room.ensures.small (search rules) (search rules)

@@ -1,7 +1,5 @@
 use Rattle.std.proofs.Common.{rules, arith}
-use Rattle.codec_queues.proofs.Room.{late_runs}
-use Rattle.codec_queues.proofs.Roomy.{roomy}
-use Rattle.codec_queues.proofs.Rising.{rising_next}
+use Rattle.codec_queues.proofs.{Room.late_runs, Roomy.roomy, Rising.rising_next}
 use Rattle.codec_queues.proofs.machine.Machine.done.Goals as goal
 
 pub invariant_of-self-else-r-self : goal.invariant_of-self-else-r-self

@@ -1,7 +1,6 @@
 use Rattle.std.proofs.Common.{rules, arith, refl}
 use Rattle.std.proofs.lemmas.Grind.{common_steps}
-use Rattle.codec_queues.proofs.Rising.{rising_next, rising_filter}
-use Rattle.codec_queues.proofs.Roomy.{roomy_turned}
+use Rattle.codec_queues.proofs.{Rising.rising_next, Rising.rising_filter, Roomy.roomy_turned}
 use Rattle.codec_queues.proofs.machine.Machine.turn.Goals as goal
 
 pub invariant_of-self-in-Unblock : goal.invariant_of-self-in-Unblock
