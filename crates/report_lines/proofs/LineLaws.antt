@@ -1,21 +1,19 @@
 -- What is written as a line is read again.
-use Rattle.std.proofs.Common.{◌≡◌, ℕ, inl, inr, ◌*◌, ◌/◌, ◌<◌, ◌≤◌, ◌^◌, Bool, true, false, cond, List, [], ◌∷◌, ◌++◌, length, get_or, Option, Some, None, refl, sym, ap, subst, ◌∙◌, arith, decimal, codes, append_assoc, position, ℤ}
-use Rattle.std.specs.List.{list_all, position_or_len}
+use Rattle.std.proofs.Common.{◌≡◌, ℕ, inl, inr, ◌*◌, ◌/◌, ◌<◌, ◌≤◌, ◌^◌, true, false, cond, List, [], ◌∷◌, ◌++◌, length, get_or, Option, Some, None, refl, sym, ap, subst, ◌∙◌, arith, decimal, codes, append_assoc, position, ltb}
+use Rattle.std.specs.List.{list_all, slice_get}
+use Rattle.std.specs.Prelude.{unwrap_or, option_map}
 use Rattle.std.specs.Str.{bytes_eq}
 use Rattle.std.specs.Char.{is_ascii_digit}
 use Rattle.std.specs.Fmt.{signed_decimal}
-use Rattle.std.specs.Int.Signed.{mag}
 use Rattle.std.proofs.lemmas.Bool.{lt-ltb, le-ltb}
 use Rattle.std.proofs.lemmas.List.Sums.{position_or_len_is}
 use Rattle.std.proofs.lemmas.Option.{slice_get-get_or}
 use Rattle.hex.specs.Hex.{IsBytes}
 use Rattle.wc_base.specs.declared.error.DomError.{DomError}
 use Rattle.wc_base.specs.declared.error.DomError.TheVariants as dom
-use Rattle.wc_base.specs.declared.who.Who.{Who}
 use Rattle.wc_base.specs.declared.who.By.{By}
 use Rattle.wc_base.specs.declared.who.By.TheVariants as by
 use Rattle.wc_base.specs.declared.media.SoundShape.{SoundShape}
-use Rattle.wc_base.specs.declared.media.PictureShape.{PictureShape}
 use Rattle.wc_config.specs.declared.codec.CoderId.{CoderId}
 use Rattle.wc_video.specs.declared.layout.PlaneLayout.{PlaneLayout}
 use Rattle.wc_video.specs.declared.layout.Layouts.{Layouts}
@@ -32,17 +30,16 @@ use Rattle.codec_model.specs.declared.entry.Outcome.TheVariants as outcome
 use Rattle.codec_model.specs.declared.entry.TurnWord.{TurnWord}
 use Rattle.codec_model.specs.declared.entry.TurnWord.TheVariants as turn
 use Rattle.script_types.specs.declared.script.ScriptData.{ScriptData}
-use Rattle.wc_config.specs.declared.kind.Kind.TheVariants as word
 use Rattle.script_types.specs.declared.script.CodecItem.{CodecItem}
 use Rattle.script_types.specs.declared.script.CallerItem.{CallerItem}
 use Rattle.report_text.specs.declared.result.StepResult.{StepResult}
 use Rattle.report_text.specs.declared.result.StepResult.TheVariants as result
-use Rattle.report_text.specs.Words.{error_name, answer_text, kind_text, state_text, sample_format_text, picture_format_text, codec_text, role_text, chunk_type_text}
+use Rattle.report_text.specs.Words.{error_name, answer_text, state_text, codec_text, role_text, chunk_type_text}
 use Rattle.report_text.specs.Names.{caller_name, codec_name}
-use Rattle.report_text.specs.Text.{promise_text, layout_text, third_text, layouts_text, last_text, outcome_text, turn_text, pool_text, slot_text, numbered_line, number_or_dash, hex_or_dash, sound_duration}
+use Rattle.report_text.specs.Text.{promise_text, layout_text, third_text, layouts_text, outcome_text, turn_text, numbered_line, number_or_dash, hex_or_dash, sound_duration}
 use Rattle.report_lines.specs.Words.{◌>>=◌, after, is_word_byte, word_at}
-use Rattle.report_lines.specs.Fields.{short, number_or_dash_upto, bytes_upto}
-use Rattle.report_lines.specs.FieldLaws.{Lacks, FitsOrAbsent}
+use Rattle.report_lines.specs.Fields.{short, bytes_upto}
+use Rattle.report_lines.specs.FieldLaws.{FitsOrAbsent}
 use Rattle.report_lines.proofs.WordLaws.{upto_again, after_again, after_only, word_again, same_bytes, not_same}
 use Rattle.report_lines.proofs.FieldLaws.{number_again, short_again, signed_again, number_or_dash_again, bytes_again, decimal_digits, decimal_word, decimal_not_nil, hex_word}
 use Rattle.report_text.specs.declared.line.CallWord.{CallWord}
@@ -56,71 +53,61 @@ use Rattle.report_text.specs.declared.line.Line.TheVariants as line
 use Rattle.report_text.specs.Words.{call_word}
 use Rattle.report_text.specs.Text.{entry_text}
 use Rattle.report_text.specs.Text.{event_text, line_text}
-use Rattle.report_lines.specs.Reading.{caller_of, codec_of, error_at, answer_at, promise_at, look_at, look_line_at, call_result_at, unit_at, layout_at, two_layouts_at, three_layouts_at, layouts_at, copied_bytes_at, copied_frame_at, copied_at, copied_line_at, outcome_at, turn_at, start_at, done_at, call_at, take_at, by_of, coder_at, refused_at, acquired_at, given_at, op_at, slot_at, made_at, cloned_at, ended_at, pool_op_at, reference_at, is_slot_word, is_pool_word, dotted_line_at, worded_result_at, worded_line_at, numbered_line_at, sound_at, image_at, chunk_at, output_at, config_at, reject_at, event_at, event_line_at, codec_at, caller_at, headed_line_at, only_line_at, line_at}
-use Rattle.report_lines.specs.Fits.{is_no_feed, AreNames, IsCaller, IsCodec, FitsWho, FitsLayout, no_layout, FitsLayouts, FitsResult, FitsOutcome, FitsEntryLine, FitsSound, FitsImage, FitsEventLine, FitsBy, FitsPoolOp, FitsOp, FitsLine}
+use Rattle.report_lines.specs.Reading.{caller_of, codec_of, error_at, answer_at, promise_at, look_at, look_line_at, call_result_at, unit_at, layout_at, two_layouts_at, three_layouts_at, layouts_at, copied_bytes_at, copied_frame_at, copied_at, copied_line_at, outcome_at, turn_at, start_at, done_at, call_at, take_at, coder_at, refused_at, acquired_at, given_at, op_at, slot_at, made_at, cloned_at, ended_at, pool_op_at, reference_at, is_slot_word, is_pool_word, dotted_line_at, worded_result_at, worded_line_at, numbered_line_at, sound_at, image_at, chunk_at, output_at, config_at, reject_at, event_at, event_line_at, codec_at, caller_at, headed_line_at, only_line_at, line_at}
+use Rattle.report_lines.specs.Fits.{AreNames, IsCaller, IsCodec, FitsLayout, no_layout, FitsLayouts, FitsResult, FitsOutcome, FitsEntryLine, FitsEventLine, FitsBy, FitsPoolOp, FitsOp, FitsLine}
 use Rattle.report_lines.proofs.WordTables.{error_is_word, error_again, answer_is_word, answer_again, kind_is_word, kind_again, state_is_word, state_again, call_is_word, call_again, sample_format_is_word, sample_format_again, picture_format_is_word, picture_format_again, codec_id_is_word, codec_id_again, role_is_word, role_again, key_is_word, key_again, last_is_word, last_again}
 
 -- ---- names
 
-place_again : {X : Type 0} (name : X → List ℕ) (xs : List X) (i : ℕ) (d : X) (w : List ℕ) → i < length xs → name (get_or xs i d) ≡ w
-    → ((k : ℕ) → k < i → name (get_or xs k d) ≡ w → ⊥) → position (λ x. bytes_eq (name x) w) xs ≡ Some i
-place_again name xs i d w lt here before =
-    let at : position_or_len (λ x. bytes_eq (name x) w) xs ≡ i =
-    position_or_len_is (λ x. bytes_eq (name x) w) xs i d (omega arith)
-    (λ k below. not_same (name (get_or xs k d)) w (before k below))
-    (λ below. rw here (same_bytes w)) in
-    rw (at, lt-ltb _ _ lt) refl
+-- the name of the item with a number
+abbrev name_at : {X : Type 0} → (X → List ℕ) → List X → ℕ → List ℕ
+name_at name xs i = unwrap_or (option_map name (slice_get xs i)) []
 
-place_none : {X : Type 0} (name : X → List ℕ) (xs : List X) (d : X) (w : List ℕ)
-    → ((k : ℕ) → k < length xs → name (get_or xs k d) ≡ w → ⊥) → position (λ x. bytes_eq (name x) w) xs ≡ None
-place_none name xs d w before =
-    let at : position_or_len (λ x. bytes_eq (name x) w) xs ≡ length xs =
-    position_or_len_is (λ x. bytes_eq (name x) w) xs (length xs) d (omega arith)
-    (λ k below. not_same (name (get_or xs k d)) w (before k below))
-    (λ below. absurd (omega arith)) in
-    rw (at, le-ltb (length xs) (length xs) (omega arith)) refl
+-- a word that is no name of the first i items, and is that of the next one if there is one
+place_is : {X : Type 0} (name : X → List ℕ) (xs : List X) (i : ℕ) (w : List ℕ) → i ≤ length xs → ((k : ℕ) → k < i → name_at name xs k ≡ w → ⊥) → (i < length xs → name_at name xs i ≡ w)
+    → position (λ x. bytes_eq (name x) w) xs ≡ cond (ltb i (length xs)) (Some i) None
+place_is name [] i w le before here = rw (le-ltb i 0 (omega arith)) refl
+place_is name (x ∷ xs) i w le before here =
+    let at = position_or_len_is (λ y. bytes_eq (name y) w) (x ∷ xs) i x le
+    (λ k below. not_same (name (get_or (x ∷ xs) k x)) w (λ e. before k below (rw (slice_get-get_or (x ∷ xs) k x (omega (arith, below, le))) e)))
+    (λ below. rw (rw (slice_get-get_or (x ∷ xs) i x below) at here below) (same_bytes w)) in
+    rw at refl
 
 short_is : (n : ℕ) → n < 2 ^ 32 → short n ≡ Some n
 short_is n lt = rw (lt-ltb _ _ lt) refl
 
-no_caller : CallerItem
-no_caller = record { name = []; steps = [] }
-
-no_codec : CodecItem
-no_codec = record { name = []; kind = word.AudioDecoder; saturation = 0 }
-
-caller_name_is : (callers : List CallerItem) (i : ℕ) → i < length callers → caller_name callers i ≡ (get_or callers i no_caller).name
-caller_name_is callers i lt = rw (slice_get-get_or callers i no_caller lt) refl
-
-codec_name_is : (codecs : List CodecItem) (i : ℕ) → i < length codecs → codec_name codecs i ≡ (get_or codecs i no_codec).name
-codec_name_is codecs i lt = rw (slice_get-get_or codecs i no_codec lt) refl
-
 caller_again : (script : ScriptData) (n : ℕ) → AreNames script → IsCaller script n → caller_of script.callers (caller_name script.callers n) ≡ Some n
 caller_again script n names fits =
-    let place : position (λ c. bytes_eq c.name (caller_name script.callers n)) script.callers ≡ Some n =
-    place_again (λ (c : CallerItem). c.name) script.callers n no_caller (caller_name script.callers n) fits.0 (sym (caller_name_is script.callers n fits.0))
-    (λ k below same. absurd (omega (arith, names.callers_differ k n (omega (arith, fits.0)) fits.0 (caller_name_is script.callers k (omega (arith, fits.0)) ∙ same)))) in
-    rw place (short_is n fits.1)
+    rw (place_is (λ (c : CallerItem). c.name) script.callers n _ (omega (arith, fits.0)) (λ k below same. absurd (omega (arith, names.callers_differ k n (omega (arith, fits.0)) fits.0 same))) (λ _. refl), lt-ltb _ _ fits.0) (short_is n fits.1)
 
 codec_again : (script : ScriptData) (n : ℕ) → AreNames script → IsCodec script n → codec_of script.codecs (codec_name script.codecs n) ≡ Some n
 codec_again script n names fits =
-    let place : position (λ c. bytes_eq c.name (codec_name script.codecs n)) script.codecs ≡ Some n =
-    place_again (λ (c : CodecItem). c.name) script.codecs n no_codec (codec_name script.codecs n) fits.0 (sym (codec_name_is script.codecs n fits.0))
-    (λ k below same. absurd (omega (arith, names.codecs_differ k n (omega (arith, fits.0)) fits.0 (codec_name_is script.codecs k (omega (arith, fits.0)) ∙ same)))) in
-    rw place (short_is n fits.1)
+    rw (place_is (λ (c : CodecItem). c.name) script.codecs n _ (omega (arith, fits.0)) (λ k below same. absurd (omega (arith, names.codecs_differ k n (omega (arith, fits.0)) fits.0 same))) (λ _. refl), lt-ltb _ _ fits.0) (short_is n fits.1)
 
 no_caller_of : (script : ScriptData) (n : ℕ) → AreNames script → IsCodec script n → caller_of script.callers (codec_name script.codecs n) ≡ None
 no_caller_of script n names fits =
-    let place : position (λ c. bytes_eq c.name (codec_name script.codecs n)) script.callers ≡ None =
-    place_none (λ (c : CallerItem). c.name) script.callers no_caller (codec_name script.codecs n)
-    (λ k below same. names.apart k n below fits.0 (caller_name_is script.callers k below ∙ same)) in
-    rw place refl
+    rw (place_is (λ (c : CallerItem). c.name) script.callers (length script.callers) _ (omega arith) (λ k below. names.apart k n below fits.0) (λ below. absurd (omega arith)), le-ltb (length script.callers) (length script.callers) (omega arith)) refl
 
-by_again : (script : ScriptData) (who : Who) → AreNames script → FitsWho script who → by_of script (caller_name script.callers who.caller) who.step ≡ Some (by.Caller who)
-by_again script who names fits = rw (caller_again script who.caller names fits.0, short_is who.step fits.1) refl
+-- ---- fields and words
 
-by_codec_again : (script : ScriptData) (n place : ℕ) → AreNames script → IsCodec script n → by_of script (codec_name script.codecs n) place ≡ Some (by.Codec n place)
-by_codec_again script n place names fits = rw (no_caller_of script n names fits, codec_again script n names fits) refl
+dash_10 : ◌≡◌ {A = ℕ} 45 10 → ⊥
+dash_10 h = omega arith
+
+dash_32 : ◌≡◌ {A = ℕ} 45 32 → ⊥
+dash_32 h = omega arith
+
+wide : (n : ℕ) → n < 2 ^ 32 → n < 2 ^ 64
+wide n lt = omega (arith, lt)
+
+quotient_is_less : (a b : ℕ) → a / b ≤ a
+quotient_is_less a b = grind arith
+
+pub duration_fits : (shape : SoundShape) → shape.frames < 2 ^ 32 → FitsOrAbsent (Some (sound_duration shape))
+duration_fits shape lt k same = grind (arith, quotient_is_less (shape.frames * 1000000) shape.rate)
+
+ruleset fields = (append_assoc, word_again, number_again, decimal_word, decimal_not_nil, decimal_digits)
+
+ruleset contents = (append_assoc, word_again, short_again, signed_again, number_or_dash_again, bytes_again, dash_10, dash_32)
 
 -- ---- words at the end of a line
 
@@ -132,35 +119,20 @@ answer_at_again : (a : Option DomError) (rest : List ℕ) → answer_at (answer_
 unfolding answer_at
 answer_at_again a rest = rw (word_again 10 (answer_text a) rest (answer_is_word a) refl, answer_again a) refl
 
-promise_at_again : (p : PromiseState) (rest : List ℕ) → promise_at (promise_text p ++ 10 ∷ rest) ≡ Some p
-unfolding promise_at
-promise_at_again (promise.Rejected e) rest = rw (error_at_again e rest) refl
-promise_at_again _ rest = refl
-
 look_again : (n len : ℕ) (p : PromiseState) (rest : List ℕ) → look_at n len (promise_text p ++ 10 ∷ rest) ≡ Some (result.Look n len p)
 unfolding look_at promise_at
 look_again n len (promise.Rejected e) rest = rw (error_at_again e rest) refl
 look_again n len _ rest = refl
-
-no_unit_again : (n len : ℕ) (rest : List ℕ) → look_at n len (codes "none" ++ 10 ∷ rest) ≡ Some (result.NoUnit n len)
-unfolding look_at
-no_unit_again n len rest = refl
 
 -- a state's word is not that of a take without an output
 state_alone : (s : CodecState) (x y : Option StepResult) → cond (bytes_eq (state_text s) (codes "none")) x y ≡ y
 state_alone state.Unconfigured x y = refl
 state_alone _ x y = refl
 
-state_look_again : (n len size : ℕ) (s : CodecState) (rest : List ℕ) → size < 2 ^ 64 → look_at n len (state_text s ++ 32 ∷ (decimal size ++ 10 ∷ rest)) ≡ Some (result.State n len s size)
-unfolding look_at
-state_look_again n len size s rest lt = rw (word_again 32 (state_text s) (decimal size ++ 10 ∷ rest) (state_is_word s) refl) (state_alone s _ _ ∙ rw (state_again s, number_again 10 size rest lt refl) refl)
-
 outcome_again : (o : Outcome) (rest : List ℕ) → FitsOutcome o → outcome_at (outcome_text o ++ 10 ∷ rest) ≡ Some o
 unfolding outcome_at
-outcome_again (outcome.Ran n) rest fits = rw (number_again 10 n rest fits refl) refl
 outcome_again outcome.Refused rest fits = refl
-outcome_again (outcome.NoSlot n) rest fits = rw (number_again 10 n rest fits refl) refl
-outcome_again outcome.NoMemory rest fits = refl
+outcome_again _ rest fits = search fields depth 12
 
 turn_again : (t : Option TurnWord) (rest : List ℕ) → turn_at (turn_text t ++ 10 ∷ rest) ≡ Some t
 unfolding turn_at
@@ -168,9 +140,6 @@ turn_again (Some (turn.Close e)) rest = rw (error_at_again e rest) refl
 turn_again _ rest = refl
 
 -- ---- copies
-
-dash_10 : ◌≡◌ {A = ℕ} 45 10 → ⊥
-dash_10 h = omega arith
 
 hex_read : (bytes rest : List ℕ) → IsBytes bytes → bytes_upto 10 (hex_or_dash bytes ++ 10 ∷ rest) ≡ Some (bytes, rest)
 hex_read bytes rest fits = bytes_again 10 bytes rest fits dash_10 refl
@@ -295,35 +264,16 @@ unfolding numbered_line_at copied_line_at
 copied_next script n r text lt found = numbered_first script n (codes "copied " ++ text) lt ∙ rw (number_again 32 n (codes "copied " ++ text) lt refl, found) refl
 
 result_again : (script : ScriptData) (step : ℕ) (r : StepResult) (rest : List ℕ) → AreNames script → step < 2 ^ 64 → FitsResult script r → only_line_at script (line_text script (line.Result step r) ++ rest) ≡ Some (line.Result step r)
-unfolding dotted_line_at look_line_at numbered_line_at call_result_at unit_at worded_line_at worded_result_at
-result_again script step (result.Call n place error) rest names lt fits = simp append_assoc (
-    dotted_next script step (codec_name script.codecs n) (decimal place ++ 32 ∷ (answer_text error ++ 10 ∷ rest)) lt (names.codecs_are_words n fits.0.0)
-    ∙ rw (number_again 32 place _ fits.1 refl, word_again 10 (answer_text error) rest (answer_is_word error) refl, codec_again script n names fits.0, answer_again error) refl)
+unfolding only_line_at dotted_line_at look_line_at numbered_line_at call_result_at unit_at worded_line_at worded_result_at copied_line_at look_at
 result_again script step (result.Local error) rest names lt fits = simp append_assoc (
     numbered_first script step (answer_text error ++ 10 ∷ rest) lt
     ∙ rw (number_again 32 step _ lt refl, word_again 10 (answer_text error) rest (answer_is_word error) refl) (answer_no_copy error _ _ ∙ worded_answer step error rest))
-result_again script step (result.Look n len end) rest names lt fits = simp append_assoc (
-    looked_next script step (codec_name script.codecs n) (decimal len ++ 32 ∷ (promise_text end ++ 10 ∷ rest)) lt (names.codecs_are_words n fits.0.0)
-    ∙ rw (codec_again script n names fits.0, number_again 32 len _ fits.1 refl, look_again n len end rest) refl)
-result_again script step (result.State n len state size) rest names lt fits = simp append_assoc (
-    looked_next script step (codec_name script.codecs n) (decimal len ++ 32 ∷ (state_text state ++ 32 ∷ (decimal size ++ 10 ∷ rest))) lt (names.codecs_are_words n fits.0.0)
-    ∙ rw (codec_again script n names fits.0, number_again 32 len _ fits.1 refl, state_look_again n len size state rest fits.2) refl)
-result_again script step (result.Unit n place m) rest names lt fits = simp append_assoc (
-    dotted_next script step (codec_name script.codecs n) (decimal place ++ 32 ∷ (codes "unit " ++ (decimal m ++ 10 ∷ rest))) lt (names.codecs_are_words n fits.0.0)
-    ∙ rw (number_again 32 place _ fits.1 refl, codec_again script n names fits.0, number_again 10 m rest fits.2 refl) refl)
-result_again script step (result.NoUnit n len) rest names lt fits = simp append_assoc (
-    looked_next script step (codec_name script.codecs n) (decimal len ++ 32 ∷ (codes "none" ++ 10 ∷ rest)) lt (names.codecs_are_words n fits.0.0)
-    ∙ rw (codec_again script n names fits.0, number_again 32 len _ fits.1 refl, no_unit_again n len rest) refl)
-result_again script step (result.Copied n bytes) rest names lt fits =
-    let regrouped : line_text script (line.Result step (result.Copied n bytes)) ++ rest ≡ decimal step ++ 32 ∷ (codes "copied " ++ (decimal n ++ 32 ∷ (hex_or_dash bytes ++ 10 ∷ rest))) = simp append_assoc in
-    ap (only_line_at script) regrouped ∙ copied_next script step (result.Copied n bytes) _ lt (copied_again n bytes rest fits.0 fits.1)
 result_again script step (result.CopiedFrame n layouts bytes) rest names lt fits =
     let regrouped : line_text script (line.Result step (result.CopiedFrame n layouts bytes)) ++ rest ≡ decimal step ++ 32 ∷ (codes "copied " ++ (decimal n ++ 32 ∷ (layouts_text layouts ++ 32 ∷ (hex_or_dash bytes ++ 10 ∷ rest)))) = simp append_assoc in
     ap (only_line_at script) regrouped ∙ copied_next script step (result.CopiedFrame n layouts bytes) _ lt (frame_again n layouts bytes rest fits.0 fits.1 fits.2)
-result_again script step (result.Size size) rest names lt fits = simp append_assoc (
-    numbered_first script step _ lt ∙ rw (number_again 32 step _ lt refl, number_again 10 size rest fits refl) refl)
-result_again script step result.Absent rest names lt fits = simp append_assoc (
-    numbered_first script step (codes "absent" ++ 10 ∷ rest) lt ∙ rw (number_again 32 step _ lt refl) refl)
+result_again script step _ rest names lt fits = search (fields, answer_is_word, answer_again, state_is_word, state_again, look_again, state_alone, copied_again, codec_again script, names.codecs_are_words) depth 20
+
+-- ---- entries of codecs
 
 -- a call's word is none of the registry's, none of the pool's and none of a take's
 call_alone : (c : CallWord) (v w x y z : Option Line)
@@ -331,197 +281,54 @@ call_alone : (c : CallWord) (v w x y z : Option Line)
 call_alone call.Configure v w x y z = refl
 call_alone _ v w x y z = refl
 
-called_again : (script : ScriptData) (place : ℕ) (who : Who) (c : CallWord) (error : Option DomError) (rest : List ℕ) → AreNames script → FitsWho script who
-    → dotted_line_at script place (caller_name script.callers who.caller) (decimal who.step ++ 32 ∷ (call_word c ++ 32 ∷ 61 ∷ 32 ∷ (answer_text error ++ 10 ∷ rest))) ≡ Some (line.Entry place (entry_line.Call who c error))
-unfolding dotted_line_at call_at
-called_again script place who c error rest names fits =
-    rw (number_again 32 who.step _ (omega (arith, fits.1)) refl, word_again 32 (call_word c) _ (call_is_word c) refl)
-    (call_alone c _ _ _ _ _ ∙ rw (caller_again script who.caller names fits.0, short_is who.step fits.1, call_again c, answer_at_again error rest) refl)
-
-taken_again : (script : ScriptData) (place : ℕ) (who : Who) (unit : ℕ) (rest : List ℕ) → AreNames script → FitsWho script who → unit < 2 ^ 64
-    → dotted_line_at script place (caller_name script.callers who.caller) (decimal who.step ++ 32 ∷ (codes "take = " ++ (decimal unit ++ 10 ∷ rest))) ≡ Some (line.Entry place (entry_line.Take who unit))
-unfolding dotted_line_at take_at
-taken_again script place who unit rest names fits small =
-    rw (number_again 32 who.step _ (omega (arith, fits.1)) refl, caller_again script who.caller names fits.0, short_is who.step fits.1, number_again 10 unit rest small refl) refl
-
 entry_again : (script : ScriptData) (place : ℕ) (e : EntryLine) (rest : List ℕ) → AreNames script → place < 2 ^ 64 → FitsEntryLine script e → only_line_at script (numbered_line place (entry_text script.callers e) ++ rest) ≡ Some (line.Entry place e)
-unfolding worded_line_at numbered_line_at start_at done_at
-entry_again script place (entry_line.Call who call error) rest names lt fits = simp append_assoc (
-    dotted_next script place (caller_name script.callers who.caller) (decimal who.step ++ 32 ∷ (call_word call ++ 32 ∷ 61 ∷ 32 ∷ (answer_text error ++ 10 ∷ rest))) lt (names.callers_are_words who.caller fits.0.0)
-    ∙ called_again script place who call error rest names fits)
-entry_again script place (entry_line.Take who unit) rest names lt fits = simp append_assoc (
-    dotted_next script place (caller_name script.callers who.caller) (decimal who.step ++ 32 ∷ (codes "take = " ++ (decimal unit ++ 10 ∷ rest))) lt (names.callers_are_words who.caller fits.0.0.0)
-    ∙ taken_again script place who unit rest names fits.0 fits.1)
-entry_again script place (entry_line.Start epoch item) rest names lt fits = simp append_assoc (
-    numbered_first script place _ lt ∙ rw (number_again 32 place _ lt refl, number_again 46 epoch _ fits.0 refl, number_again 10 item _ fits.1 refl) refl)
-entry_again script place (entry_line.Done epoch item moment outcome) rest names lt fits = simp append_assoc (
-    numbered_first script place _ lt ∙ rw (number_again 32 place _ lt refl, number_again 46 epoch _ fits.0 refl, number_again 32 item _ fits.1 refl, number_again 32 moment _ fits.2 refl, outcome_again outcome rest fits.3) refl)
-entry_again script place (entry_line.Turn word) rest names lt fits = simp append_assoc (
-    numbered_first script place _ lt ∙ rw (number_again 32 place _ lt refl, turn_again word rest) refl)
-entry_again script place (entry_line.Reclaim moment) rest names lt fits = simp append_assoc (
-    numbered_first script place _ lt ∙ rw (number_again 32 place _ lt refl, number_again 10 moment _ fits refl) refl)
+unfolding only_line_at numbered_line_at dotted_line_at call_at take_at worded_line_at start_at done_at
+entry_again script place (entry_line.Reclaim moment) rest names lt fits = search fields depth 20
+entry_again script place _ rest names lt fits = search (fields, call_is_word, call_again, call_alone, answer_at_again, outcome_again, turn_again, caller_again script, short_is, wide, names.callers_are_words) depth 20
 
--- ---- entries of the registry
+-- ---- entries of the registry and of the pool of media
 
 coder_again : (id : CoderId) (rest : List ℕ) → coder_at (role_text id.role ++ 58 ∷ (codec_text id.codec ++ 32 ∷ rest)) ≡ Some (id, rest)
 unfolding coder_at
-coder_again id rest = rw (word_again 58 (role_text id.role) _ (role_is_word id.role) refl, role_again id.role, word_again 32 (codec_text id.codec) rest (codec_id_is_word id.codec) refl, codec_id_again id.codec) refl
-
--- behind the name and the number of who caused it
-op_found : (script : ScriptData) (place : ℕ) (name : List ℕ) (m : ℕ) (op : SlotOp) (rest : List ℕ) (who : By) → m < 2 ^ 64 → FitsOp op → by_of script name m ≡ Some who
-    → dotted_line_at script place name (decimal m ++ 32 ∷ (slot_text op ++ 10 ∷ rest)) ≡ Some (line.Slot place (record { by = who; op = op }))
-unfolding dotted_line_at slot_at op_at acquired_at given_at refused_at
-op_found script place name m (slot.Acquire id number) rest who lt fits found = simp append_assoc (
-    rw (number_again 32 m _ lt refl, found, coder_again id _, word_again 10 (decimal number) rest (decimal_word number fits) refl, decimal_digits number fits, number_again 10 number rest fits refl) refl)
-op_found script place name m (slot.Refused id out made) rest who lt fits found = simp append_assoc (
-    rw (number_again 32 m _ lt refl, found, coder_again id _, number_again 32 out _ fits.0 refl, number_again 10 made rest fits.1 refl) refl)
-op_found script place name m (slot.Give id number) rest who lt fits found = simp append_assoc (
-    rw (number_again 32 m _ lt refl, found, coder_again id _, number_again 10 number rest fits refl) refl)
+coder_again id rest = search (word_again, role_is_word, role_again, codec_id_is_word, codec_id_again) depth 12
 
 slot_again : (script : ScriptData) (place : ℕ) (who : By) (op : SlotOp) (rest : List ℕ) → AreNames script → place < 2 ^ 64 → FitsBy script who → FitsOp op
     → only_line_at script (line_text script (line.Slot place (record { by = who; op = op })) ++ rest) ≡ Some (line.Slot place (record { by = who; op = op }))
-slot_again script place (by.Caller who) op rest names lt fits fits_op =
-    let regrouped : line_text script (line.Slot place (record { by = by.Caller who; op = op })) ++ rest ≡ decimal place ++ 32 ∷ (caller_name script.callers who.caller ++ 46 ∷ (decimal who.step ++ 32 ∷ (slot_text op ++ 10 ∷ rest))) = simp append_assoc in
-    ap (only_line_at script) regrouped
-    ∙ dotted_next script place (caller_name script.callers who.caller) (decimal who.step ++ 32 ∷ (slot_text op ++ 10 ∷ rest)) lt (names.callers_are_words who.caller fits.0.0)
-    ∙ op_found script place (caller_name script.callers who.caller) who.step op rest (by.Caller who) (omega (arith, fits.1)) fits_op (by_again script who names fits)
-slot_again script place (by.Codec n m) op rest names lt fits fits_op =
-    let regrouped : line_text script (line.Slot place (record { by = by.Codec n m; op = op })) ++ rest ≡ decimal place ++ 32 ∷ (codec_name script.codecs n ++ 46 ∷ (decimal m ++ 32 ∷ (slot_text op ++ 10 ∷ rest))) = simp append_assoc in
-    ap (only_line_at script) regrouped
-    ∙ dotted_next script place (codec_name script.codecs n) (decimal m ++ 32 ∷ (slot_text op ++ 10 ∷ rest)) lt (names.codecs_are_words n fits.0.0)
-    ∙ op_found script place (codec_name script.codecs n) m op rest (by.Codec n m) fits.1 fits_op (by_codec_again script n m names fits.0)
-
--- ---- entries of the pool of media
-
-pool_op_found : (script : ScriptData) (place : ℕ) (name : List ℕ) (m : ℕ) (op : PoolOp) (rest : List ℕ) (who : By) → m < 2 ^ 64 → FitsPoolOp op → by_of script name m ≡ Some who
-    → dotted_line_at script place name (decimal m ++ 32 ∷ (pool_text op ++ 10 ∷ rest)) ≡ Some (line.Reference place (record { by = who; op = op }))
-unfolding dotted_line_at reference_at pool_op_at made_at cloned_at ended_at
-pool_op_found script place name m (pool.Make resource reference) rest who lt fits found = simp append_assoc (
-    rw (number_again 32 m _ lt refl, found, number_again 32 resource _ fits.0 refl, number_again 10 reference rest fits.1 refl) refl)
-pool_op_found script place name m (pool.Clone resource reference) rest who lt fits found = simp append_assoc (
-    rw (number_again 32 m _ lt refl, found, number_again 32 resource _ fits.0 refl, number_again 10 reference rest fits.1 refl) refl)
-pool_op_found script place name m (pool.End resource reference last) rest who lt fits found = simp append_assoc (
-    rw (number_again 32 m _ lt refl, found, number_again 32 resource _ fits.0 refl, number_again 32 reference _ fits.1 refl, word_again 10 (last_text last) rest (last_is_word last) refl, last_again last) refl)
+unfolding only_line_at numbered_line_at dotted_line_at slot_at op_at acquired_at given_at refused_at
+slot_again script place (by.Caller who) (slot.Give id number) rest names lt fits fits_op = search (fields, coder_again, caller_again script, short_is, wide, names.callers_are_words) depth 20
+slot_again script place (by.Codec n m) (slot.Give id number) rest names lt fits fits_op = search (fields, coder_again, codec_again script, no_caller_of script, names.codecs_are_words) depth 20
+slot_again script place _ _ rest names lt fits fits_op = search (fields, coder_again, caller_again script, codec_again script, no_caller_of script, short_is, wide, names.callers_are_words, names.codecs_are_words) depth 20
 
 reference_again : (script : ScriptData) (place : ℕ) (who : By) (op : PoolOp) (rest : List ℕ) → AreNames script → place < 2 ^ 64 → FitsBy script who → FitsPoolOp op
     → only_line_at script (line_text script (line.Reference place (record { by = who; op = op })) ++ rest) ≡ Some (line.Reference place (record { by = who; op = op }))
-reference_again script place (by.Caller who) op rest names lt fits fits_op =
-    let regrouped : line_text script (line.Reference place (record { by = by.Caller who; op = op })) ++ rest ≡ decimal place ++ 32 ∷ (caller_name script.callers who.caller ++ 46 ∷ (decimal who.step ++ 32 ∷ (pool_text op ++ 10 ∷ rest))) = simp append_assoc in
-    ap (only_line_at script) regrouped
-    ∙ dotted_next script place (caller_name script.callers who.caller) (decimal who.step ++ 32 ∷ (pool_text op ++ 10 ∷ rest)) lt (names.callers_are_words who.caller fits.0.0)
-    ∙ pool_op_found script place (caller_name script.callers who.caller) who.step op rest (by.Caller who) (omega (arith, fits.1)) fits_op (by_again script who names fits)
-reference_again script place (by.Codec n m) op rest names lt fits fits_op =
-    let regrouped : line_text script (line.Reference place (record { by = by.Codec n m; op = op })) ++ rest ≡ decimal place ++ 32 ∷ (codec_name script.codecs n ++ 46 ∷ (decimal m ++ 32 ∷ (pool_text op ++ 10 ∷ rest))) = simp append_assoc in
-    ap (only_line_at script) regrouped
-    ∙ dotted_next script place (codec_name script.codecs n) (decimal m ++ 32 ∷ (pool_text op ++ 10 ∷ rest)) lt (names.codecs_are_words n fits.0.0)
-    ∙ pool_op_found script place (codec_name script.codecs n) m op rest (by.Codec n m) fits.1 fits_op (by_codec_again script n m names fits.0)
+unfolding only_line_at numbered_line_at dotted_line_at reference_at pool_op_at made_at cloned_at ended_at
+reference_again script place (by.Caller who) (pool.End resource reference last) rest names lt fits fits_op = search (fields, last_is_word, last_again, caller_again script, short_is, wide, names.callers_are_words) depth 20
+reference_again script place (by.Codec n m) (pool.End resource reference last) rest names lt fits fits_op = search (fields, last_is_word, last_again, codec_again script, no_caller_of script, names.codecs_are_words) depth 20
+reference_again script place _ _ rest names lt fits fits_op = search (fields, caller_again script, codec_again script, no_caller_of script, short_is, wide, names.callers_are_words, names.codecs_are_words) depth 20
 
 -- ---- what an entry showed
 
-dash_32 : ◌≡◌ {A = ℕ} 45 32 → ⊥
-dash_32 h = omega arith
-
-number_read : (n : Option ℕ) (rest : List ℕ) → FitsOrAbsent n → number_or_dash_upto 32 (number_or_dash n ++ 32 ∷ rest) ≡ Some (n, rest)
-number_read n rest fits = number_or_dash_again 32 n rest fits dash_32 refl
-
--- timestamp, duration and bytes
-abbrev content : ℤ → Option ℕ → List ℕ → List ℕ → List ℕ
-content timestamp duration bytes rest = signed_decimal timestamp ++ 32 ∷ (number_or_dash duration ++ 32 ∷ (hex_or_dash bytes ++ 10 ∷ rest))
-
-quotient_is_less : (a b : ℕ) → a / b ≤ a
-quotient_is_less a b = grind arith
-
-pub duration_fits : (shape : SoundShape) → shape.frames < 2 ^ 32 → FitsOrAbsent (Some (sound_duration shape))
-duration_fits shape lt k same = grind (arith, quotient_is_less (shape.frames * 1000000) shape.rate)
-
-sound_read : (shape : SoundShape) (bytes rest : List ℕ) → FitsSound shape bytes
-    → sound_at (sample_format_text shape.format ++ 32 ∷ (decimal shape.rate ++ 32 ∷ (decimal shape.channels ++ 32 ∷ (decimal shape.frames ++ 32 ∷ content shape.timestamp (Some (sound_duration shape)) bytes rest)))) ≡ Some (event_line.Sound (record { shape = shape; bytes = bytes }))
-unfolding sound_at
-sound_read shape bytes rest fits =
-    rw (
-      word_again 32 (sample_format_text shape.format) _ (sample_format_is_word shape.format) refl,
-      sample_format_again shape.format,
-      short_again 32 shape.rate _ fits.rate refl,
-      short_again 32 shape.channels _ fits.channels refl,
-      short_again 32 shape.frames _ fits.frames refl,
-      signed_again 32 shape.timestamp _ fits.timestamp dash_32 refl,
-      number_read (Some (sound_duration shape)) _ (duration_fits shape fits.frames),
-      hex_read bytes rest fits.are_bytes,
-    ) refl
-
-image_read : (shape : PictureShape) (bytes rest : List ℕ) → FitsImage shape bytes
-    → image_at (picture_format_text shape.format ++ 32 ∷ (decimal shape.width ++ 32 ∷ (decimal shape.height ++ 32 ∷ content shape.timestamp shape.duration bytes rest))) ≡ Some (event_line.Image (record { shape = shape; bytes = bytes }))
-unfolding image_at
-image_read shape bytes rest fits =
-    rw (
-      word_again 32 (picture_format_text shape.format) _ (picture_format_is_word shape.format) refl,
-      picture_format_again shape.format,
-      short_again 32 shape.width _ fits.width refl,
-      short_again 32 shape.height _ fits.height refl,
-      signed_again 32 shape.timestamp _ fits.timestamp dash_32 refl,
-      number_read shape.duration _ fits.duration,
-      hex_read bytes rest fits.are_bytes,
-    ) refl
-
-chunk_read : (key : Bool) (timestamp : ℤ) (duration : Option ℕ) (bytes rest : List ℕ) → mag timestamp < 2 ^ 63 → FitsOrAbsent duration → IsBytes bytes
-    → chunk_at (chunk_type_text key ++ 32 ∷ content timestamp duration bytes rest) ≡ Some (event_line.Chunk (record { key = key; timestamp = timestamp; duration = duration; bytes = bytes }))
-unfolding chunk_at
-chunk_read key timestamp duration bytes rest lt fits are_bytes =
-    rw (
-      word_again 32 (chunk_type_text key) _ (key_is_word key) refl,
-      key_again key,
-      signed_again 32 timestamp _ lt dash_32 refl,
-      number_read duration _ fits,
-      hex_read bytes rest are_bytes,
-    ) refl
-
-config_read : (codec : List ℕ) (rate channels : ℕ) (description rest : List ℕ) → Lacks 32 codec → list_all is_no_feed codec ≡ true → rate < 2 ^ 32 → channels < 2 ^ 32 → IsBytes description
-    → config_at (codec ++ 32 ∷ (decimal rate ++ 32 ∷ (decimal channels ++ 32 ∷ (hex_or_dash description ++ 10 ∷ rest)))) ≡ Some (event_line.Config codec rate channels description)
-unfolding config_at
-config_read codec rate channels description rest lacks one rate_fits channels_fit are_bytes =
-    rw (
-      upto_again 32 codec _ lacks,
-      one,
-      short_again 32 rate _ rate_fits refl,
-      short_again 32 channels _ channels_fit refl,
-      hex_read description rest are_bytes,
-    ) refl
-
 event_again : (script : ScriptData) (s : EventLine) (rest : List ℕ) → FitsEventLine s → only_line_at script (event_text s ++ rest) ≡ Some (line.Event s)
-unfolding only_line_at event_line_at event_at output_at reject_at
-event_again script (event_line.Sound samples) rest fits =
-    let shape = samples.shape in
-    let regrouped : event_text (event_line.Sound samples) ++ rest ≡ codes "  output audio " ++ (sample_format_text shape.format ++ 32 ∷ (decimal shape.rate ++ 32 ∷ (decimal shape.channels ++ 32 ∷ (decimal shape.frames ++ 32 ∷ content shape.timestamp (Some (sound_duration shape)) samples.bytes rest)))) = simp append_assoc in
-    ap (only_line_at script) regrouped ∙ rw (sound_read shape samples.bytes rest fits) refl
-event_again script (event_line.Image picture) rest fits =
-    let shape = picture.shape in
-    let regrouped : event_text (event_line.Image picture) ++ rest ≡ codes "  output video " ++ (picture_format_text shape.format ++ 32 ∷ (decimal shape.width ++ 32 ∷ (decimal shape.height ++ 32 ∷ content shape.timestamp shape.duration picture.bytes rest))) = simp append_assoc in
-    ap (only_line_at script) regrouped ∙ rw (image_read shape picture.bytes rest fits) refl
+unfolding only_line_at event_line_at event_at output_at reject_at sound_at image_at chunk_at config_at
+event_again script (event_line.Sound samples) rest fits = search (contents, sample_format_is_word, sample_format_again, duration_fits samples.shape fits.frames, fits.are_bytes) depth 20
+event_again script (event_line.Image picture) rest fits = search (contents, picture_format_is_word, picture_format_again, fits.duration, fits.are_bytes) depth 20
 event_again script (event_line.Chunk chunk) rest fits =
-    let regrouped : event_text (event_line.Chunk chunk) ++ rest ≡ codes "  output chunk " ++ (chunk_type_text chunk.key ++ 32 ∷ content chunk.timestamp chunk.duration chunk.bytes rest) = simp append_assoc in
-    ap (only_line_at script) regrouped ∙ rw (chunk_read chunk.key chunk.timestamp chunk.duration chunk.bytes rest fits.0 fits.1 fits.2) refl
-event_again script (event_line.Config codec rate channels description) rest fits =
-    let regrouped : event_text (event_line.Config codec rate channels description) ++ rest ≡ codes "  config " ++ (codec ++ 32 ∷ (decimal rate ++ 32 ∷ (decimal channels ++ 32 ∷ (hex_or_dash description ++ 10 ∷ rest)))) = simp append_assoc in
-    ap (only_line_at script) regrouped ∙ rw (config_read codec rate channels description rest fits.0 fits.1 fits.2 fits.3 fits.4) refl
-event_again script (event_line.Resolve p) rest fits = simp append_assoc (rw (number_again 10 p rest fits refl) refl)
-event_again script (event_line.Reject p e) rest fits = simp append_assoc (rw (number_again 32 p _ fits refl, error_at_again e rest) refl)
+    let regrouped : event_text (event_line.Chunk chunk) ++ rest ≡ codes "  output chunk " ++ (chunk_type_text chunk.key ++ 32 ∷ (signed_decimal chunk.timestamp ++ 32 ∷ (number_or_dash chunk.duration ++ 32 ∷ (hex_or_dash chunk.bytes ++ 10 ∷ rest)))) = simp append_assoc in
+    ap (only_line_at script) regrouped ∙ search (contents, key_is_word, key_again, fits.1, fits.2) depth 20
+event_again script (event_line.Config codec rate channels description) rest fits = search (contents, upto_again, fits.0, fits.1, fits.4) depth 20
 event_again script event_line.Dequeue rest fits = refl
-event_again script (event_line.Error e) rest fits = simp append_assoc (rw (error_at_again e rest) refl)
+event_again script _ rest fits = search (append_assoc, number_again, error_at_again) depth 20
 
 -- ---- every line
 
 parsed_again : (script : ScriptData) (l : Line) (rest : List ℕ) → AreNames script → FitsLine script l → only_line_at script (line_text script l ++ rest) ≡ Some l
 unfolding only_line_at headed_line_at caller_at codec_at
-parsed_again script (line.Caller n) rest names fits = simp append_assoc (rw (word_again 10 (caller_name script.callers n) rest (names.callers_are_words n fits.0) refl, caller_again script n names fits) refl)
 parsed_again script (line.Result step found) rest names fits = result_again script step found rest names fits.0 fits.1
-parsed_again script (line.Codec n opening) rest names fits = simp append_assoc (
-    rw (word_again 32 (codec_name script.codecs n) _ (names.codecs_are_words n fits.0.0) refl, codec_again script n names fits.0, word_again 32 (kind_text opening.kind) _ (kind_is_word opening.kind) refl, kind_again opening.kind, short_again 10 opening.saturation rest fits.1 refl) refl)
 parsed_again script (line.Entry place entry) rest names fits = entry_again script place entry rest names fits.0 fits.1
 parsed_again script (line.Event s) rest names fits = event_again script s rest fits
 parsed_again script (line.Reference place entry) rest names fits = reference_again script place entry.by entry.op rest names fits.0 fits.1 fits.2
 parsed_again script (line.Slot place entry) rest names fits = slot_again script place entry.by entry.op rest names fits.0 fits.1 fits.2
-parsed_again script (line.Held n) rest names fits = simp append_assoc (rw (number_again 10 n rest fits refl) refl)
-parsed_again script _ rest names fits = refl
+parsed_again script _ rest names fits = search (fields, short_again, kind_is_word, kind_again, caller_again script, codec_again script, names.callers_are_words, names.codecs_are_words) depth 20
 
 pub line_again : (script : ScriptData) (l : Line) (rest : List ℕ) → AreNames script → FitsLine script l → line_at script (line_text script l ++ rest) ≡ Some (l, rest)
 unfolding line_at
