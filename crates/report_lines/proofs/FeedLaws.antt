@@ -8,42 +8,20 @@ use Rattle.std.proofs.lemmas.List.Folds.{list_all-append}
 use Rattle.std.proofs.lemmas.List.Sums.{AllPass-from_list_all, list_all-from_AllPass}
 use Rattle.hex.specs.Hex.{IsBytes, encode_lower, is_hex_digit}
 use Rattle.hex.proofs.HexLemmas.{decode_of-encode_lower, decode_of-ok}
-use Rattle.wc_base.specs.declared.who.By.{By}
-use Rattle.wc_base.specs.declared.who.By.TheVariants as by
-use Rattle.wc_base.specs.declared.media.SoundShape.{SoundShape}
+use Rattle.wc_base.specs.declared.{who.By.By, media.SoundShape.SoundShape}
 use Rattle.wc_video.specs.declared.layout.Layouts.{Layouts}
 use Rattle.wc_pool.specs.declared.entry.PoolOp.{PoolOp}
-use Rattle.wc_pool.specs.declared.entry.PoolOp.TheVariants as pool
 use Rattle.coder_api.specs.declared.slot.SlotOp.{SlotOp}
-use Rattle.coder_api.specs.declared.slot.SlotOp.TheVariants as slot
-use Rattle.codec_model.specs.declared.entry.PromiseState.{PromiseState}
-use Rattle.codec_model.specs.declared.entry.PromiseState.TheVariants as promise
-use Rattle.codec_model.specs.declared.entry.Outcome.{Outcome}
-use Rattle.codec_model.specs.declared.entry.Outcome.TheVariants as outcome
-use Rattle.codec_model.specs.declared.entry.TurnWord.{TurnWord}
-use Rattle.codec_model.specs.declared.entry.TurnWord.TheVariants as turn
+use Rattle.codec_model.specs.declared.entry.{PromiseState.PromiseState, Outcome.Outcome, TurnWord.TurnWord}
 use Rattle.script_types.specs.declared.script.ScriptData.{ScriptData}
-use Rattle.report_text.specs.declared.result.StepResult.{StepResult}
-use Rattle.report_text.specs.declared.result.StepResult.TheVariants as result
-use Rattle.report_text.specs.Names.{by_text}
+use Rattle.report_text.specs.{declared.result.StepResult.StepResult, Names.by_text, declared.line.EntryLine.EntryLine}
 use Rattle.report_text.specs.Text.{promise_text, layout_text, third_text, outcome_text, turn_text, result_text, pool_text, slot_text}
 use Rattle.report_text.specs.Text.{number_or_dash, hex_or_dash, sound_duration}
-use Rattle.report_lines.specs.Words.{is_word_byte}
-use Rattle.report_lines.specs.FieldLaws.{FitsOrAbsent}
-use Rattle.report_lines.proofs.WordLaws.{cases_bool}
-use Rattle.report_lines.proofs.FieldLaws.{decimal_word}
-use Rattle.report_text.specs.declared.line.EntryLine.{EntryLine}
-use Rattle.report_text.specs.declared.line.EntryLine.TheVariants as entry_line
-use Rattle.report_text.specs.declared.line.EventLine.{EventLine}
-use Rattle.report_text.specs.declared.line.EventLine.TheVariants as event_line
-use Rattle.report_text.specs.declared.line.Line.{Line}
-use Rattle.report_text.specs.declared.line.Line.TheVariants as line
-use Rattle.report_text.specs.Text.{entry_text}
-use Rattle.report_text.specs.Text.{event_text, line_text}
+use Rattle.report_lines.specs.{Words.is_word_byte, FieldLaws.FitsOrAbsent, Laws.IsOneLine}
+use Rattle.report_lines.proofs.{WordLaws.cases_bool, FieldLaws.decimal_word, LineLaws.duration_fits}
+use Rattle.report_text.specs.{declared.line.EventLine.EventLine, declared.line.Line.Line, Text.entry_text, Text.event_text, Text.line_text}
 use Rattle.report_lines.specs.Fits.{is_no_feed, AreNames, FitsLayout, FitsResult, FitsOutcome, FitsEntryLine, FitsEventLine, FitsBy, FitsPoolOp, FitsOp, FitsLine}
-use Rattle.report_lines.specs.Laws.{IsOneLine}
 use Rattle.report_lines.proofs.WordTables.{error_is_word, answer_is_word, kind_is_word, state_is_word, call_is_word, sample_format_is_word, picture_format_is_word, codec_id_is_word, role_is_word, key_is_word, last_is_word}
-use Rattle.report_lines.proofs.LineLaws.{duration_fits}
 
 record Plain (w : List ℕ) : Type 0 where
   all : list_all is_no_feed w ≡ true
@@ -98,7 +76,7 @@ ruleset words = (error_is_word, answer_is_word, kind_is_word, state_is_word, cal
 ruleset plain = (both, byte, none, number, short_number, signed, duration, absent_or_number, hex, word_plain, words)
 
 promise_plain : (p : PromiseState) → Plain (promise_text p)
-promise_plain (promise.Rejected e) = search plain depth 30
+promise_plain (PromiseState.Rejected e) = search plain depth 30
 promise_plain _ = search plain depth 30
 
 third_plain : (l : Layouts) → FitsLayout l.third → Plain (third_text l)
@@ -108,31 +86,31 @@ third_plain l fits = elim (eqb l.count 3) as (λ q. Plain (cond q (codes "," ++ 
 ]
 
 result_plain : (script : ScriptData) (r : StepResult) → AreNames script → FitsResult script r → Plain (result_text script.codecs r)
-result_plain script result.Absent names fits = search plain depth 30
+result_plain script StepResult.Absent names fits = search plain depth 30
 result_plain script _ names fits = search (promise_plain, third_plain, names.codecs_are_words, plain) depth 60
 
 outcome_plain : (o : Outcome) → FitsOutcome o → Plain (outcome_text o)
-outcome_plain outcome.Refused fits = search plain depth 30
+outcome_plain Outcome.Refused fits = search plain depth 30
 outcome_plain _ fits = search plain depth 30
 
 turn_plain : (t : Option TurnWord) → Plain (turn_text t)
-turn_plain (Some (turn.Close e)) = search plain depth 30
+turn_plain (Some (TurnWord.Close e)) = search plain depth 30
 turn_plain _ = search plain depth 30
 
 entry_line_plain : (script : ScriptData) (e : EntryLine) → AreNames script → FitsEntryLine script e → Plain (entry_text script.callers e)
-entry_line_plain script (entry_line.Turn word) names fits = search (turn_plain, plain) depth 30
+entry_line_plain script (EntryLine.Turn word) names fits = search (turn_plain, plain) depth 30
 entry_line_plain script _ names fits = search (outcome_plain, names.callers_are_words, plain) depth 60
 
 by_plain : (script : ScriptData) (who : By) → AreNames script → FitsBy script who → Plain (by_text script who)
-by_plain script (by.Caller who) names fits = search (names.callers_are_words, plain) depth 30
-by_plain script (by.Codec n place) names fits = search (names.codecs_are_words, plain) depth 30
+by_plain script (By.Caller who) names fits = search (names.callers_are_words, plain) depth 30
+by_plain script (By.Codec n place) names fits = search (names.codecs_are_words, plain) depth 30
 
 pool_plain : (op : PoolOp) → FitsPoolOp op → Plain (pool_text op)
-pool_plain (pool.Make resource reference) fits = search plain depth 40
+pool_plain (PoolOp.Make resource reference) fits = search plain depth 40
 pool_plain _ fits = search plain depth 40
 
 slot_plain : (op : SlotOp) → FitsOp op → Plain (slot_text op)
-slot_plain (slot.Give id n) fits = search plain depth 40
+slot_plain (SlotOp.Give id n) fits = search plain depth 40
 slot_plain _ fits = search plain depth 40
 
 -- ---- lines
@@ -154,9 +132,9 @@ config_plain : (codec : List ℕ) → list_all is_no_feed codec ≡ true → Pla
 config_plain codec all = record { all = all }
 
 event_one : (s : EventLine) → FitsEventLine s → IsOneLine (event_text s)
-event_one event_line.Dequeue fits = search (behind_byte, feed) depth 30
+event_one EventLine.Dequeue fits = search (behind_byte, feed) depth 30
 event_one _ fits = search (behind, behind_byte, feed, plain, config_plain) depth 60
 
 pub line_one : (script : ScriptData) (l : Line) → AreNames script → FitsLine script l → IsOneLine (line_text script l)
-line_one script (line.Event s) names fits = event_one s fits
+line_one script (Line.Event s) names fits = event_one s fits
 line_one script _ names fits = search (behind, behind_byte, feed, result_plain, entry_line_plain, by_plain, pool_plain, slot_plain, names.callers_are_words, names.codecs_are_words, plain) depth 60

@@ -7,14 +7,11 @@ use Rattle.std.specs.Str.{bytes_eq}
 use Rattle.std.specs.Str.Parse.{digits_value}
 use Rattle.std.specs.Int.Signed.{mag}
 use Rattle.std.proofs.lemmas.Bool.{false≢true, ltb-true, leb-true}
-use Rattle.hex.specs.Hex.{IsBytes, decode_of}
-use Rattle.hex.specs.declared.error.FromHexError.{FromHexError}
+use Rattle.hex.specs.{Hex.IsBytes, Hex.decode_of, declared.error.FromHexError.FromHexError}
 use Rattle.hex.proofs.HexLemmas.{decode_of-ok}
-use Rattle.report_lines.specs.Words.{◌>>=◌, upto}
+use Rattle.report_lines.specs.{Words.◌>>=◌, Words.upto, FieldLaws.Lacks, FieldLaws.FitsOrAbsent}
 use Rattle.report_lines.specs.Fields.{value_of, number_of, short, below_zero, from_zero, signed_of, number_or_dash_of, decoded, bytes_of, number_upto, short_upto, signed_upto, number_or_dash_upto, bytes_upto}
-use Rattle.report_lines.specs.FieldLaws.{Lacks, FitsOrAbsent}
-use Rattle.report_lines.proofs.WordLaws.{and_both}
-use Rattle.report_lines.proofs.FieldLaws.{lacks_cons}
+use Rattle.report_lines.proofs.{WordLaws.and_both, FieldLaws.lacks_cons}
 
 -- ---- one step, and then another
 

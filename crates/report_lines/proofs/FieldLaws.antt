@@ -15,10 +15,9 @@ use Rattle.std.proofs.lemmas.Fmt.{IsAscii-from_digits, digits_decimal, digits_va
 use Rattle.std.proofs.lemmas.Bool.{false≢true, ltb-true, lt-ltb, le-leb}
 use Rattle.hex.specs.Hex.{decode_of, IsBytes, encode_lower, is_hex_digit, lower_digits}
 use Rattle.hex.proofs.HexLemmas.{decode_of-encode_lower, decode_of-ok, length-encode_with}
-use Rattle.report_lines.specs.Words.{◌>>=◌, is_word_byte}
+use Rattle.report_lines.specs.{Words.◌>>=◌, Words.is_word_byte, FieldLaws.Lacks, FieldLaws.FitsOrAbsent}
 use Rattle.report_lines.specs.Fields.{value_of, number_of, from_zero, signed_of, number_upto, short_upto, signed_upto, number_or_dash_upto, bytes_of, bytes_upto, decoded}
 use Rattle.report_text.specs.Text.{number_or_dash, hex_or_dash}
-use Rattle.report_lines.specs.FieldLaws.{Lacks, FitsOrAbsent}
 use Rattle.report_lines.proofs.WordLaws.{not_equal, and_both, upto_again}
 
 -- ---- the number that digits write

@@ -9,50 +9,22 @@ use Rattle.std.proofs.lemmas.Bool.{lt-ltb, le-ltb}
 use Rattle.std.proofs.lemmas.List.Sums.{position_or_len_is}
 use Rattle.std.proofs.lemmas.Option.{slice_get-get_or}
 use Rattle.hex.specs.Hex.{IsBytes}
-use Rattle.wc_base.specs.declared.error.DomError.{DomError}
-use Rattle.wc_base.specs.declared.error.DomError.TheVariants as dom
-use Rattle.wc_base.specs.declared.who.By.{By}
-use Rattle.wc_base.specs.declared.who.By.TheVariants as by
-use Rattle.wc_base.specs.declared.media.SoundShape.{SoundShape}
+use Rattle.wc_base.specs.declared.{error.DomError.DomError, who.By.By, media.SoundShape.SoundShape}
 use Rattle.wc_config.specs.declared.codec.CoderId.{CoderId}
-use Rattle.wc_video.specs.declared.layout.PlaneLayout.{PlaneLayout}
-use Rattle.wc_video.specs.declared.layout.Layouts.{Layouts}
+use Rattle.wc_video.specs.declared.layout.{PlaneLayout.PlaneLayout, Layouts.Layouts}
 use Rattle.wc_pool.specs.declared.entry.PoolOp.{PoolOp}
-use Rattle.wc_pool.specs.declared.entry.PoolOp.TheVariants as pool
 use Rattle.coder_api.specs.declared.slot.SlotOp.{SlotOp}
-use Rattle.coder_api.specs.declared.slot.SlotOp.TheVariants as slot
-use Rattle.codec_model.specs.declared.entry.CodecState.{CodecState}
-use Rattle.codec_model.specs.declared.entry.CodecState.TheVariants as state
-use Rattle.codec_model.specs.declared.entry.PromiseState.{PromiseState}
-use Rattle.codec_model.specs.declared.entry.PromiseState.TheVariants as promise
-use Rattle.codec_model.specs.declared.entry.Outcome.{Outcome}
-use Rattle.codec_model.specs.declared.entry.Outcome.TheVariants as outcome
-use Rattle.codec_model.specs.declared.entry.TurnWord.{TurnWord}
-use Rattle.codec_model.specs.declared.entry.TurnWord.TheVariants as turn
-use Rattle.script_types.specs.declared.script.ScriptData.{ScriptData}
-use Rattle.script_types.specs.declared.script.CodecItem.{CodecItem}
-use Rattle.script_types.specs.declared.script.CallerItem.{CallerItem}
-use Rattle.report_text.specs.declared.result.StepResult.{StepResult}
-use Rattle.report_text.specs.declared.result.StepResult.TheVariants as result
+use Rattle.codec_model.specs.declared.entry.{CodecState.CodecState, PromiseState.PromiseState, Outcome.Outcome, TurnWord.TurnWord}
+use Rattle.script_types.specs.declared.script.{ScriptData.ScriptData, CodecItem.CodecItem, CallerItem.CallerItem}
+use Rattle.report_text.specs.{declared.result.StepResult.StepResult, Names.caller_name, Names.codec_name, declared.line.CallWord.CallWord}
 use Rattle.report_text.specs.Words.{error_name, answer_text, state_text, codec_text, role_text, chunk_type_text}
-use Rattle.report_text.specs.Names.{caller_name, codec_name}
 use Rattle.report_text.specs.Text.{promise_text, layout_text, third_text, layouts_text, outcome_text, turn_text, numbered_line, number_or_dash, hex_or_dash, sound_duration}
 use Rattle.report_lines.specs.Words.{◌>>=◌, after, is_word_byte, word_at}
-use Rattle.report_lines.specs.Fields.{short, bytes_upto}
-use Rattle.report_lines.specs.FieldLaws.{FitsOrAbsent}
+use Rattle.report_lines.specs.{Fields.short, Fields.bytes_upto, FieldLaws.FitsOrAbsent}
 use Rattle.report_lines.proofs.WordLaws.{upto_again, after_again, after_only, word_again, same_bytes, not_same}
 use Rattle.report_lines.proofs.FieldLaws.{number_again, short_again, signed_again, number_or_dash_again, bytes_again, decimal_digits, decimal_word, decimal_not_nil, hex_word}
-use Rattle.report_text.specs.declared.line.CallWord.{CallWord}
-use Rattle.report_text.specs.declared.line.CallWord.TheVariants as call
-use Rattle.report_text.specs.declared.line.EntryLine.{EntryLine}
-use Rattle.report_text.specs.declared.line.EntryLine.TheVariants as entry_line
-use Rattle.report_text.specs.declared.line.EventLine.{EventLine}
-use Rattle.report_text.specs.declared.line.EventLine.TheVariants as event_line
-use Rattle.report_text.specs.declared.line.Line.{Line}
-use Rattle.report_text.specs.declared.line.Line.TheVariants as line
-use Rattle.report_text.specs.Words.{call_word}
-use Rattle.report_text.specs.Text.{entry_text}
-use Rattle.report_text.specs.Text.{event_text, line_text}
+use Rattle.report_text.specs.{declared.line.EntryLine.EntryLine, declared.line.EventLine.EventLine, declared.line.Line.Line, Words.call_word}
+use Rattle.report_text.specs.{Text.entry_text, Text.event_text, Text.line_text}
 use Rattle.report_lines.specs.Reading.{caller_of, codec_of, error_at, answer_at, promise_at, look_at, look_line_at, call_result_at, unit_at, layout_at, two_layouts_at, three_layouts_at, layouts_at, copied_bytes_at, copied_frame_at, copied_at, copied_line_at, outcome_at, turn_at, start_at, done_at, call_at, take_at, coder_at, refused_at, acquired_at, given_at, op_at, slot_at, made_at, cloned_at, ended_at, pool_op_at, reference_at, is_slot_word, is_pool_word, dotted_line_at, worded_result_at, worded_line_at, numbered_line_at, sound_at, image_at, chunk_at, output_at, config_at, reject_at, event_at, event_line_at, codec_at, caller_at, headed_line_at, only_line_at, line_at}
 use Rattle.report_lines.specs.Fits.{AreNames, IsCaller, IsCodec, FitsLayout, no_layout, FitsLayouts, FitsResult, FitsOutcome, FitsEntryLine, FitsEventLine, FitsBy, FitsPoolOp, FitsOp, FitsLine}
 use Rattle.report_lines.proofs.WordTables.{error_is_word, error_again, answer_is_word, answer_again, kind_is_word, kind_again, state_is_word, state_again, call_is_word, call_again, sample_format_is_word, sample_format_again, picture_format_is_word, picture_format_again, codec_id_is_word, codec_id_again, role_is_word, role_again, key_is_word, key_again, last_is_word, last_again}
@@ -119,24 +91,24 @@ answer_at_again : (a : Option DomError) (rest : List ℕ) → answer_at (answer_
 unfolding answer_at
 answer_at_again a rest = rw (word_again 10 (answer_text a) rest (answer_is_word a) refl, answer_again a) refl
 
-look_again : (n len : ℕ) (p : PromiseState) (rest : List ℕ) → look_at n len (promise_text p ++ 10 ∷ rest) ≡ Some (result.Look n len p)
+look_again : (n len : ℕ) (p : PromiseState) (rest : List ℕ) → look_at n len (promise_text p ++ 10 ∷ rest) ≡ Some (StepResult.Look n len p)
 unfolding look_at promise_at
-look_again n len (promise.Rejected e) rest = rw (error_at_again e rest) refl
+look_again n len (PromiseState.Rejected e) rest = rw (error_at_again e rest) refl
 look_again n len _ rest = refl
 
 -- a state's word is not that of a take without an output
 state_alone : (s : CodecState) (x y : Option StepResult) → cond (bytes_eq (state_text s) (codes "none")) x y ≡ y
-state_alone state.Unconfigured x y = refl
+state_alone CodecState.Unconfigured x y = refl
 state_alone _ x y = refl
 
 outcome_again : (o : Outcome) (rest : List ℕ) → FitsOutcome o → outcome_at (outcome_text o ++ 10 ∷ rest) ≡ Some o
 unfolding outcome_at
-outcome_again outcome.Refused rest fits = refl
+outcome_again Outcome.Refused rest fits = refl
 outcome_again _ rest fits = search fields depth 12
 
 turn_again : (t : Option TurnWord) (rest : List ℕ) → turn_at (turn_text t ++ 10 ∷ rest) ≡ Some t
 unfolding turn_at
-turn_again (Some (turn.Close e)) rest = rw (error_at_again e rest) refl
+turn_again (Some (TurnWord.Close e)) rest = rw (error_at_again e rest) refl
 turn_again _ rest = refl
 
 -- ---- copies
@@ -211,7 +183,7 @@ layouts_begin l rest fits =
     ap word_at regrouped ∙ word_again 58 (decimal l.first.offset) (behind_offset l rest) (short_word l.first.offset fits.0) refl
 
 frame_again : (n : ℕ) (l : Layouts) (bytes rest : List ℕ) → n < 2 ^ 64 → FitsLayouts l → IsBytes bytes
-    → copied_at (decimal n ++ 32 ∷ (layouts_text l ++ 32 ∷ (hex_or_dash bytes ++ 10 ∷ rest))) ≡ Some (result.CopiedFrame n l bytes)
+    → copied_at (decimal n ++ 32 ∷ (layouts_text l ++ 32 ∷ (hex_or_dash bytes ++ 10 ∷ rest))) ≡ Some (StepResult.CopiedFrame n l bytes)
 unfolding copied_at copied_frame_at
 frame_again n l bytes rest lt fits are_bytes =
     rw (
@@ -221,7 +193,7 @@ frame_again n l bytes rest lt fits are_bytes =
       hex_read bytes rest are_bytes,
     ) refl
 
-copied_again : (n : ℕ) (bytes rest : List ℕ) → n < 2 ^ 64 → IsBytes bytes → copied_at (decimal n ++ 32 ∷ (hex_or_dash bytes ++ 10 ∷ rest)) ≡ Some (result.Copied n bytes)
+copied_again : (n : ℕ) (bytes rest : List ℕ) → n < 2 ^ 64 → IsBytes bytes → copied_at (decimal n ++ 32 ∷ (hex_or_dash bytes ++ 10 ∷ rest)) ≡ Some (StepResult.Copied n bytes)
 unfolding copied_at copied_bytes_at
 copied_again n bytes rest lt are_bytes =
     rw (
@@ -251,26 +223,26 @@ looked_next script n name rest lt word =
 
 -- an answer is not the word of a copy
 answer_no_copy : (a : Option DomError) (x y : Option Line) → cond (bytes_eq (answer_text a) (codes "copied")) x y ≡ y
-answer_no_copy (Some dom.QuotaExceeded) x y = refl
+answer_no_copy (Some DomError.QuotaExceeded) x y = refl
 answer_no_copy _ x y = refl
 
-worded_answer : (n : ℕ) (a : Option DomError) (rest : List ℕ) → worded_line_at n (answer_text a) rest ≡ Some (line.Result n (result.Local a))
+worded_answer : (n : ℕ) (a : Option DomError) (rest : List ℕ) → worded_line_at n (answer_text a) rest ≡ Some (Line.Result n (StepResult.Local a))
 unfolding worded_line_at worded_result_at
-worded_answer n (Some dom.QuotaExceeded) rest = refl
+worded_answer n (Some DomError.QuotaExceeded) rest = refl
 worded_answer n _ rest = refl
 
-copied_next : (script : ScriptData) (n : ℕ) (r : StepResult) (text : List ℕ) → n < 2 ^ 64 → copied_at text ≡ Some r → only_line_at script (decimal n ++ 32 ∷ (codes "copied " ++ text)) ≡ Some (line.Result n r)
+copied_next : (script : ScriptData) (n : ℕ) (r : StepResult) (text : List ℕ) → n < 2 ^ 64 → copied_at text ≡ Some r → only_line_at script (decimal n ++ 32 ∷ (codes "copied " ++ text)) ≡ Some (Line.Result n r)
 unfolding numbered_line_at copied_line_at
 copied_next script n r text lt found = numbered_first script n (codes "copied " ++ text) lt ∙ rw (number_again 32 n (codes "copied " ++ text) lt refl, found) refl
 
-result_again : (script : ScriptData) (step : ℕ) (r : StepResult) (rest : List ℕ) → AreNames script → step < 2 ^ 64 → FitsResult script r → only_line_at script (line_text script (line.Result step r) ++ rest) ≡ Some (line.Result step r)
+result_again : (script : ScriptData) (step : ℕ) (r : StepResult) (rest : List ℕ) → AreNames script → step < 2 ^ 64 → FitsResult script r → only_line_at script (line_text script (Line.Result step r) ++ rest) ≡ Some (Line.Result step r)
 unfolding only_line_at dotted_line_at look_line_at numbered_line_at call_result_at unit_at worded_line_at worded_result_at copied_line_at look_at
-result_again script step (result.Local error) rest names lt fits = simp append_assoc (
+result_again script step (StepResult.Local error) rest names lt fits = simp append_assoc (
     numbered_first script step (answer_text error ++ 10 ∷ rest) lt
     ∙ rw (number_again 32 step _ lt refl, word_again 10 (answer_text error) rest (answer_is_word error) refl) (answer_no_copy error _ _ ∙ worded_answer step error rest))
-result_again script step (result.CopiedFrame n layouts bytes) rest names lt fits =
-    let regrouped : line_text script (line.Result step (result.CopiedFrame n layouts bytes)) ++ rest ≡ decimal step ++ 32 ∷ (codes "copied " ++ (decimal n ++ 32 ∷ (layouts_text layouts ++ 32 ∷ (hex_or_dash bytes ++ 10 ∷ rest)))) = simp append_assoc in
-    ap (only_line_at script) regrouped ∙ copied_next script step (result.CopiedFrame n layouts bytes) _ lt (frame_again n layouts bytes rest fits.0 fits.1 fits.2)
+result_again script step (StepResult.CopiedFrame n layouts bytes) rest names lt fits =
+    let regrouped : line_text script (Line.Result step (StepResult.CopiedFrame n layouts bytes)) ++ rest ≡ decimal step ++ 32 ∷ (codes "copied " ++ (decimal n ++ 32 ∷ (layouts_text layouts ++ 32 ∷ (hex_or_dash bytes ++ 10 ∷ rest)))) = simp append_assoc in
+    ap (only_line_at script) regrouped ∙ copied_next script step (StepResult.CopiedFrame n layouts bytes) _ lt (frame_again n layouts bytes rest fits.0 fits.1 fits.2)
 result_again script step _ rest names lt fits = search (fields, answer_is_word, answer_again, state_is_word, state_again, look_again, state_alone, copied_again, codec_again script, names.codecs_are_words) depth 20
 
 -- ---- entries of codecs
@@ -278,12 +250,12 @@ result_again script step _ rest names lt fits = search (fields, answer_is_word, 
 -- a call's word is none of the registry's, none of the pool's and none of a take's
 call_alone : (c : CallWord) (v w x y z : Option Line)
     → cond (is_slot_word (call_word c)) v (cond (is_pool_word (call_word c)) w (cond (bytes_eq (call_word c) (codes "unit")) x (cond (bytes_eq (call_word c) (codes "take")) y z))) ≡ z
-call_alone call.Configure v w x y z = refl
+call_alone CallWord.Configure v w x y z = refl
 call_alone _ v w x y z = refl
 
-entry_again : (script : ScriptData) (place : ℕ) (e : EntryLine) (rest : List ℕ) → AreNames script → place < 2 ^ 64 → FitsEntryLine script e → only_line_at script (numbered_line place (entry_text script.callers e) ++ rest) ≡ Some (line.Entry place e)
+entry_again : (script : ScriptData) (place : ℕ) (e : EntryLine) (rest : List ℕ) → AreNames script → place < 2 ^ 64 → FitsEntryLine script e → only_line_at script (numbered_line place (entry_text script.callers e) ++ rest) ≡ Some (Line.Entry place e)
 unfolding only_line_at numbered_line_at dotted_line_at call_at take_at worded_line_at start_at done_at
-entry_again script place (entry_line.Reclaim moment) rest names lt fits = search fields depth 20
+entry_again script place (EntryLine.Reclaim moment) rest names lt fits = search fields depth 20
 entry_again script place _ rest names lt fits = search (fields, call_is_word, call_again, call_alone, answer_at_again, outcome_again, turn_again, caller_again script, short_is, wide, names.callers_are_words) depth 20
 
 -- ---- entries of the registry and of the pool of media
@@ -293,41 +265,41 @@ unfolding coder_at
 coder_again id rest = search (word_again, role_is_word, role_again, codec_id_is_word, codec_id_again) depth 12
 
 slot_again : (script : ScriptData) (place : ℕ) (who : By) (op : SlotOp) (rest : List ℕ) → AreNames script → place < 2 ^ 64 → FitsBy script who → FitsOp op
-    → only_line_at script (line_text script (line.Slot place (record { by = who; op = op })) ++ rest) ≡ Some (line.Slot place (record { by = who; op = op }))
+    → only_line_at script (line_text script (Line.Slot place (record { by = who; op = op })) ++ rest) ≡ Some (Line.Slot place (record { by = who; op = op }))
 unfolding only_line_at numbered_line_at dotted_line_at slot_at op_at acquired_at given_at refused_at
-slot_again script place (by.Caller who) (slot.Give id number) rest names lt fits fits_op = search (fields, coder_again, caller_again script, short_is, wide, names.callers_are_words) depth 20
-slot_again script place (by.Codec n m) (slot.Give id number) rest names lt fits fits_op = search (fields, coder_again, codec_again script, no_caller_of script, names.codecs_are_words) depth 20
+slot_again script place (By.Caller who) (SlotOp.Give id number) rest names lt fits fits_op = search (fields, coder_again, caller_again script, short_is, wide, names.callers_are_words) depth 20
+slot_again script place (By.Codec n m) (SlotOp.Give id number) rest names lt fits fits_op = search (fields, coder_again, codec_again script, no_caller_of script, names.codecs_are_words) depth 20
 slot_again script place _ _ rest names lt fits fits_op = search (fields, coder_again, caller_again script, codec_again script, no_caller_of script, short_is, wide, names.callers_are_words, names.codecs_are_words) depth 20
 
 reference_again : (script : ScriptData) (place : ℕ) (who : By) (op : PoolOp) (rest : List ℕ) → AreNames script → place < 2 ^ 64 → FitsBy script who → FitsPoolOp op
-    → only_line_at script (line_text script (line.Reference place (record { by = who; op = op })) ++ rest) ≡ Some (line.Reference place (record { by = who; op = op }))
+    → only_line_at script (line_text script (Line.Reference place (record { by = who; op = op })) ++ rest) ≡ Some (Line.Reference place (record { by = who; op = op }))
 unfolding only_line_at numbered_line_at dotted_line_at reference_at pool_op_at made_at cloned_at ended_at
-reference_again script place (by.Caller who) (pool.End resource reference last) rest names lt fits fits_op = search (fields, last_is_word, last_again, caller_again script, short_is, wide, names.callers_are_words) depth 20
-reference_again script place (by.Codec n m) (pool.End resource reference last) rest names lt fits fits_op = search (fields, last_is_word, last_again, codec_again script, no_caller_of script, names.codecs_are_words) depth 20
+reference_again script place (By.Caller who) (PoolOp.End resource reference last) rest names lt fits fits_op = search (fields, last_is_word, last_again, caller_again script, short_is, wide, names.callers_are_words) depth 20
+reference_again script place (By.Codec n m) (PoolOp.End resource reference last) rest names lt fits fits_op = search (fields, last_is_word, last_again, codec_again script, no_caller_of script, names.codecs_are_words) depth 20
 reference_again script place _ _ rest names lt fits fits_op = search (fields, caller_again script, codec_again script, no_caller_of script, short_is, wide, names.callers_are_words, names.codecs_are_words) depth 20
 
 -- ---- what an entry showed
 
-event_again : (script : ScriptData) (s : EventLine) (rest : List ℕ) → FitsEventLine s → only_line_at script (event_text s ++ rest) ≡ Some (line.Event s)
+event_again : (script : ScriptData) (s : EventLine) (rest : List ℕ) → FitsEventLine s → only_line_at script (event_text s ++ rest) ≡ Some (Line.Event s)
 unfolding only_line_at event_line_at event_at output_at reject_at sound_at image_at chunk_at config_at
-event_again script (event_line.Sound samples) rest fits = search (contents, sample_format_is_word, sample_format_again, duration_fits samples.shape fits.frames, fits.are_bytes) depth 20
-event_again script (event_line.Image picture) rest fits = search (contents, picture_format_is_word, picture_format_again, fits.duration, fits.are_bytes) depth 20
-event_again script (event_line.Chunk chunk) rest fits =
-    let regrouped : event_text (event_line.Chunk chunk) ++ rest ≡ codes "  output chunk " ++ (chunk_type_text chunk.key ++ 32 ∷ (signed_decimal chunk.timestamp ++ 32 ∷ (number_or_dash chunk.duration ++ 32 ∷ (hex_or_dash chunk.bytes ++ 10 ∷ rest)))) = simp append_assoc in
+event_again script (EventLine.Sound samples) rest fits = search (contents, sample_format_is_word, sample_format_again, duration_fits samples.shape fits.frames, fits.are_bytes) depth 20
+event_again script (EventLine.Image picture) rest fits = search (contents, picture_format_is_word, picture_format_again, fits.duration, fits.are_bytes) depth 20
+event_again script (EventLine.Chunk chunk) rest fits =
+    let regrouped : event_text (EventLine.Chunk chunk) ++ rest ≡ codes "  output chunk " ++ (chunk_type_text chunk.key ++ 32 ∷ (signed_decimal chunk.timestamp ++ 32 ∷ (number_or_dash chunk.duration ++ 32 ∷ (hex_or_dash chunk.bytes ++ 10 ∷ rest)))) = simp append_assoc in
     ap (only_line_at script) regrouped ∙ search (contents, key_is_word, key_again, fits.1, fits.2) depth 20
-event_again script (event_line.Config codec rate channels description) rest fits = search (contents, upto_again, fits.0, fits.1, fits.4) depth 20
-event_again script event_line.Dequeue rest fits = refl
+event_again script (EventLine.Config codec rate channels description) rest fits = search (contents, upto_again, fits.0, fits.1, fits.4) depth 20
+event_again script EventLine.Dequeue rest fits = refl
 event_again script _ rest fits = search (append_assoc, number_again, error_at_again) depth 20
 
 -- ---- every line
 
 parsed_again : (script : ScriptData) (l : Line) (rest : List ℕ) → AreNames script → FitsLine script l → only_line_at script (line_text script l ++ rest) ≡ Some l
 unfolding only_line_at headed_line_at caller_at codec_at
-parsed_again script (line.Result step found) rest names fits = result_again script step found rest names fits.0 fits.1
-parsed_again script (line.Entry place entry) rest names fits = entry_again script place entry rest names fits.0 fits.1
-parsed_again script (line.Event s) rest names fits = event_again script s rest fits
-parsed_again script (line.Reference place entry) rest names fits = reference_again script place entry.by entry.op rest names fits.0 fits.1 fits.2
-parsed_again script (line.Slot place entry) rest names fits = slot_again script place entry.by entry.op rest names fits.0 fits.1 fits.2
+parsed_again script (Line.Result step found) rest names fits = result_again script step found rest names fits.0 fits.1
+parsed_again script (Line.Entry place entry) rest names fits = entry_again script place entry rest names fits.0 fits.1
+parsed_again script (Line.Event s) rest names fits = event_again script s rest fits
+parsed_again script (Line.Reference place entry) rest names fits = reference_again script place entry.by entry.op rest names fits.0 fits.1 fits.2
+parsed_again script (Line.Slot place entry) rest names fits = slot_again script place entry.by entry.op rest names fits.0 fits.1 fits.2
 parsed_again script _ rest names fits = search (fields, short_again, kind_is_word, kind_again, caller_again script, codec_again script, names.callers_are_words, names.codecs_are_words) depth 20
 
 pub line_again : (script : ScriptData) (l : Line) (rest : List ℕ) → AreNames script → FitsLine script l → line_at script (line_text script l ++ rest) ≡ Some (l, rest)

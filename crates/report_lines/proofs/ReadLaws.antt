@@ -5,8 +5,7 @@ use Rattle.std.specs.List.{list_all, position_or_len}
 use Rattle.std.specs.Int.Signed.{mag}
 use Rattle.std.proofs.lemmas.Bool.{ltb-true}
 use Rattle.hex.specs.Hex.{IsBytes}
-use Rattle.wc_video.specs.declared.layout.PlaneLayout.{PlaneLayout}
-use Rattle.wc_video.specs.declared.layout.Layouts.{Layouts}
+use Rattle.wc_video.specs.declared.layout.{PlaneLayout.PlaneLayout, Layouts.Layouts}
 use Rattle.codec_model.specs.declared.entry.CodecState.{CodecState}
 use Rattle.script_types.specs.declared.script.ScriptData.{ScriptData}
 use Rattle.report_lines.specs.Words.{◌>>=◌, upto, after}

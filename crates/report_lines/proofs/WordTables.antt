@@ -1,26 +1,20 @@
 -- Each word of a report is a word, and tells what it was written for.
 use Rattle.std.proofs.Common.{◌≡◌, Bool, true, false, Option, Some, None, refl}
 use Rattle.std.specs.List.{list_all}
-use Rattle.wc_base.specs.declared.error.DomError.{DomError}
+use Rattle.wc_base.specs.declared.{error.DomError.DomError, media.SampleFormat.SampleFormat, media.PictureFormat.PictureFormat}
 use Rattle.wc_base.specs.declared.error.DomError.TheVariants as dom
-use Rattle.wc_base.specs.declared.media.SampleFormat.{SampleFormat}
 use Rattle.wc_base.specs.declared.media.SampleFormat.TheVariants as sample
-use Rattle.wc_base.specs.declared.media.PictureFormat.{PictureFormat}
 use Rattle.wc_base.specs.declared.media.PictureFormat.TheVariants as picture
-use Rattle.wc_config.specs.declared.codec.CodecId.{CodecId}
+use Rattle.wc_config.specs.declared.{codec.CodecId.CodecId, codec.Role.Role, kind.Kind.Kind}
 use Rattle.wc_config.specs.declared.codec.CodecId.TheVariants as codec
-use Rattle.wc_config.specs.declared.codec.Role.{Role}
 use Rattle.wc_config.specs.declared.codec.Role.TheVariants as role
-use Rattle.wc_config.specs.declared.kind.Kind.{Kind}
 use Rattle.wc_config.specs.declared.kind.Kind.TheVariants as kind
 use Rattle.codec_model.specs.declared.entry.CodecState.{CodecState}
 use Rattle.codec_model.specs.declared.entry.CodecState.TheVariants as state
 use Rattle.report_text.specs.Words.{error_name, answer_text, kind_text, state_text, sample_format_text, picture_format_text, codec_text, role_text, chunk_type_text}
 use Rattle.report_lines.specs.Words.{is_word_byte}
-use Rattle.report_text.specs.declared.line.CallWord.{CallWord}
+use Rattle.report_text.specs.{declared.line.CallWord.CallWord, Words.call_word, Text.last_text}
 use Rattle.report_text.specs.declared.line.CallWord.TheVariants as call
-use Rattle.report_text.specs.Words.{call_word}
-use Rattle.report_text.specs.Text.{last_text}
 use Rattle.report_lines.specs.Vocabulary.{error_of, answer_of, kind_of, state_of, call_of, sample_format_of, picture_format_of, codec_id_of, role_of, key_of, last_of}
 
 pub error_is_word : (x : DomError) → list_all is_word_byte (error_name x) ≡ true

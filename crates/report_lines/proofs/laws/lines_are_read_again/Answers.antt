@@ -1,5 +1,4 @@
-use Rattle.report_lines.proofs.LineLaws.{line_again, line_sound}
-use Rattle.report_lines.proofs.FeedLaws.{line_one}
+use Rattle.report_lines.proofs.{LineLaws.line_again, LineLaws.line_sound, FeedLaws.line_one}
 use Rattle.report_lines.proofs.laws.lines_are_read_again.Goals as goal
 
 pub returns : goal.returns
