@@ -1,9 +1,9 @@
 -- What one entry more makes of a course: of its codecs and their histories, and of what codecs call for in the pool's history
 -- and hold of it.
-use Rattle.std.proofs.Common.{ℕ, zero, suc, ◌≡◌, ◌≢◌, ◌≤◌, ◌<◌, ◌++◌, ◌⊎◌, inl, inr, Bool, true, false, if◌then◌else◌, List, [], ◌∷◌, take, length, length-append, Option, Some, None, refl, ap, sym, ◌∙◌, arith}
+use Rattle.std.proofs.Common.{ℕ, ◌≡◌, ◌≢◌, ◌≤◌, ◌<◌, ◌++◌, ◌⊎◌, inl, inr, Bool, true, false, if◌then◌else◌, List, [], ◌∷◌, take, length, length-append, Option, Some, None, refl, ap, sym, ◌∙◌, arith}
 use Rattle.std.specs.Prelude.{slice_get, unwrap_or}
 use Rattle.std.proofs.Math.Seq.{take-length}
-use Rattle.std.proofs.lemmas.Bool.{cases_eq}
+use Rattle.std.proofs.lemmas.Bool.{cases_eq, cases_lt}
 use Rattle.std.proofs.lemmas.List.{take-append-le}
 use Rattle.std.proofs.lemmas.Option.{slice_get_past}
 use Rattle.wc_base.specs.declared.who.Who.{Who}
@@ -18,10 +18,10 @@ use Rattle.codec_model.specs.ShownLaws.{replay_append}
 use Rattle.codec_accounts.specs.Owed.{at}
 use Rattle.codec_accounts.specs.ListLaws.{IsNew, at_same, at_other, at_grows, get_end, get_within, result_more}
 use Rattle.codec_accounts.specs.Calls.{who_of}
-use Rattle.codec_accounts.specs.Codec.{CodecValue, state_after, state_of, codec_at, histories, after_entry, slots_after, next_by, step_by, BoxStep, Keep, Give, Renew}
+use Rattle.codec_accounts.specs.Codec.{CodecValue, state_of, codec_at, histories, after_entry, slots_after, next_by, step_by, BoxStep, Keep, Give, Renew}
 use Rattle.codec_accounts.specs.AccountLaws.{EntryFits, histories_more, history_at, histories_count, set_here, set_other, set_count}
 use Rattle.script_types.specs.declared.script.ScriptData.{ScriptData}
-use Rattle.media_accounts.specs.Accounts.{called_for, called_at, lent_at, Lending, MayAdd, AreParts, EntryMore}
+use Rattle.media_accounts.specs.Accounts.{called_at, lent_at, Lending, MayAdd, AreParts, EntryMore}
 use Rattle.trace_text.specs.Follow.{Course, opening_at, with_entry}
 use Rattle.order_laws.specs.Course.{held_by_codecs}
 
@@ -30,21 +30,14 @@ use Rattle.order_laws.specs.Course.{held_by_codecs}
 pub codec_count : (v : Course) (k : ℕ) (e : Entry) → length (with_entry k e v).codecs ≡ length v.codecs
 codec_count v k e = set_count k (after_entry k e v.slots (codec_at k v.codecs)) v.codecs
 
-pub opened_still : (s : ScriptData) (v : Course) (k : ℕ) (e : Entry) → ((j : ℕ) → j < length v.codecs → (codec_at j v.codecs).opening ≡ opening_at s j) → (j : ℕ) → j < length v.codecs → (codec_at j (with_entry k e v).codecs).opening ≡ opening_at s j
-opened_still s v k e opened j lt = elim (cases_eq j k) [
-  | inl same ↦ (
-      ap (λ (n : ℕ). (codec_at n (with_entry k e v).codecs).opening) same
-      ∙ (ap (λ (d : CodecValue). d.opening) (set_here k (after_entry k e v.slots (codec_at k v.codecs)) v.codecs (let s = same in omega (arith, lt, s)))
-      ∙ (ap (λ (n : ℕ). (codec_at n v.codecs).opening) (sym same) ∙ opened j lt))
-      )
-  | inr other ↦ ap (λ (d : CodecValue). d.opening) (set_other j k (after_entry k e v.slots (codec_at k v.codecs)) v.codecs other) ∙ opened j lt
+pub opened_still : (s : ScriptData) (v : Course) (k : ℕ) (e : Entry) → k < length v.codecs → ((j : ℕ) → (codec_at j v.codecs).opening ≡ opening_at s j) → (j : ℕ) → (codec_at j (with_entry k e v).codecs).opening ≡ opening_at s j
+opened_still s v k e lt opened j = elim (cases_eq j k) [
+  | inl same ↦ rw same (ap (λ (d : CodecValue). d.opening) (set_here k (after_entry k e v.slots (codec_at k v.codecs)) v.codecs lt) ∙ opened k)
+  | inr other ↦ ap (λ (d : CodecValue). d.opening) (set_other j k (after_entry k e v.slots (codec_at k v.codecs)) v.codecs other) ∙ opened j
 ]
 
 pub call_fits : (e : Entry) (who : Who) (refusal : Option ℕ) → who_of e ≡ Some who → EntryFits e refusal
-call_fits (entry.Start epoch item) who refusal names = absurd cc
 call_fits (entry.Done epoch item moment o) who refusal names = absurd cc
-call_fits entry.Turn who refusal names = absurd cc
-call_fits (entry.Reclaim moment) who refusal names = absurd cc
 call_fits e who refusal names = tt
 
 -- the histories after an entry
@@ -75,11 +68,6 @@ this_history v k e lt = ap (at k) (histories_more k e v.slots v.codecs) ∙ at_s
 
 -- ---- what codecs call for in the pool's history, and hold
 
-pub below_or_past : (k n : ℕ) → (k < n) ⊎ (n ≤ k)
-below_or_past k zero = inr (omega arith)
-below_or_past zero (suc n) = inl (omega arith)
-below_or_past (suc k) (suc n) = elim (below_or_past k n) [ inl lt ↦ inl (omega (arith, lt)) | inr le ↦ inr (omega (arith, le)) ]
-
 -- of a script's codecs with these histories
 abbrev pub lending_of : ScriptData → List CodecValue → Lending
 lending_of s ds = record { lends = λ k place. lent_at (opening_at s k) (at k (histories ds)) place; holds = held_by_codecs ds }
@@ -88,22 +76,16 @@ lending_of s ds = record { lends = λ k place. lent_at (opening_at s k) (at k (h
 lent_past : (o : Opening) (h : List Entry) (n : ℕ) → length h ≤ n → lent_at o h n ≡ []
 lent_past o h n le = ap (called_at o h n) (slice_get_past h n le)
 
--- what the last entry calls for
-lent_new : (o : Opening) (h : List Entry) (e : Entry) → lent_at o (h ++ e ∷ []) (length h) ≡ called_for e (state_after o h)
-lent_new o h e =
-    ap (called_at o (h ++ e ∷ []) (length h)) (get_end h e)
-    ∙ ap (λ (l : List Entry). called_for e (state_after o l)) (take-append-le (length h) h (e ∷ []) (omega arith) ∙ take-length h)
-
--- and each entry before it what it did
+-- each entry before the last one calls for what it did
 lent_kept : (o : Opening) (h : List Entry) (e : Entry) (n : ℕ) → n ≢ length h → lent_at o (h ++ e ∷ []) n ≡ lent_at o h n
-lent_kept o h e n other = elim (below_or_past n (length h)) [
-  | inl lt ↦ ap (called_at o (h ++ e ∷ []) n) (get_within h (e ∷ []) n lt) ∙ same_front (slice_get h n) (take-append-le n h (e ∷ []) (omega (arith, lt)))
+lent_kept o h e n other = elim (cases_lt n (length h)) [
+  | inl lt ↦ rw (get_within h (e ∷ []) n lt) (same_front (slice_get h n) (take-append-le n h (e ∷ []) (omega (arith, lt))))
   | inr le ↦ lent_past o (h ++ e ∷ []) n (let l = length-append h (e ∷ []) in omega (arith, le, l, other)) ∙ sym (lent_past o h n le)
 ]
   where
     same_front : (x : Option Entry) → take n (h ++ e ∷ []) ≡ take n h → called_at o (h ++ e ∷ []) n x ≡ called_at o h n x
     same_front None front = refl
-    same_front (Some f) front = ap (λ (l : List Entry). called_for f (state_after o l)) front
+    same_front (Some f) front = rw front refl
 
 -- what a codec holds is what an entry lets go and what it leaves
 held_parts : (e : Entry) (s : State) → AreParts (held_in s) (lets_go e s) (leaves_held e s)
@@ -114,45 +96,31 @@ held_parts e s = by_kind (is_done e) (is_removal e s)
     by_kind false true = inr refl
     by_kind false false = inl refl
 
--- the codec with this number takes this entry, and is in this state after it
-pub record OneEntry (s : ScriptData) (v : Course) (k : ℕ) (e : Entry) (t : State) : Type 0 where
-  pub codec : k < length v.codecs
-  pub opened : (codec_at k v.codecs).opening ≡ opening_at s k
-  pub replays : replay (codec_at k v.codecs).opening (codec_at k v.codecs).history ≡ Some (state_of (codec_at k v.codecs))
-  pub steps : entry_step e (state_of (codec_at k v.codecs)) ≡ Some t
-
--- its state after it
-state_then : (s : ScriptData) (v : Course) (k : ℕ) (e : Entry) (t : State) → OneEntry s v k e t → state_of (codec_at k (with_entry k e v).codecs) ≡ t
-state_then s v k e t one =
-    let d = codec_at k v.codecs in
-    ap state_of (set_here k (after_entry k e v.slots d) v.codecs one.codec)
-    ∙ ap (λ (o : Option State). unwrap_or o (opening_state d.opening)) (replay_append d.opening d.history e (state_of d) one.replays ∙ one.steps)
-
 -- what the entry adds may be added
 abbrev pub MayAddAll : List PoolEntry → Entry → Type 0
 MayAddAll pool e = (i : ℕ) (p : Pair) → slice_get (adds_held e) i ≡ Some p → MayAdd pool p
 
-pub entry_more : HeldStays → (s : ScriptData) (v : Course) (k : ℕ) (e : Entry) (t : State) → OneEntry s v k e t → MayAddAll v.media.pool e
+-- the codec with this number takes this entry, and is in this state after it
+pub entry_more : HeldStays → (s : ScriptData) (v : Course) (k : ℕ) (e : Entry) (t : State) → k < length v.codecs → (codec_at k v.codecs).opening ≡ opening_at s k → replay (codec_at k v.codecs).opening (codec_at k v.codecs).history ≡ Some (state_of (codec_at k v.codecs))
+    → entry_step e (state_of (codec_at k v.codecs)) ≡ Some t → MayAddAll v.media.pool e
     → EntryMore (lending_of s v.codecs) (lending_of s (with_entry k e v).codecs) k (length (codec_at k v.codecs).history) e (state_of (codec_at k v.codecs)) v.media.pool
-entry_more stays s v k e t one may =
+entry_more stays s v k e t lt opened replays steps may =
     let d = codec_at k v.codecs in
     let o = opening_at s k in
     let now : at k (histories v.codecs) ≡ d.history = history_at k v.codecs in
-    let longer : at k (histories (with_entry k e v).codecs) ≡ d.history ++ e ∷ [] = this_history v k e one.codec ∙ ap (λ (l : List Entry). l ++ e ∷ []) now in
+    let longer : at k (histories (with_entry k e v).codecs) ≡ d.history ++ e ∷ [] = this_history v k e lt ∙ ap (λ (l : List Entry). l ++ e ∷ []) now in
+    let state : state_of (codec_at k (with_entry k e v).codecs) ≡ t =
+    ap state_of (set_here k (after_entry k e v.slots d) v.codecs lt)
+    ∙ ap (λ (x : Option State). unwrap_or x (opening_state d.opening)) (replay_append d.opening d.history e (state_of d) replays ∙ steps) in
     record {
       adds = may;
       parts = held_parts e (state_of d);
-      holds = ap held_in (state_then s v k e t one) ∙ stays e (state_of d) t one.steps;
-      fresh = ap (λ (l : List Entry). lent_at o l (length d.history)) now ∙ lent_past o d.history (length d.history) (omega arith);
-      lends = ap (λ (l : List Entry). lent_at o l (length d.history)) longer
-          ∙ (lent_new o d.history e ∙ ap (λ (p : Opening). called_for e (state_after p d.history)) (sym one.opened));
+      holds = ap held_in state ∙ stays e (state_of d) t steps;
+      fresh = rw now (lent_past o d.history (length d.history) (omega arith));
+      lends = rw (longer, get_end d.history e, take-append-le (length d.history) d.history (e ∷ []) (omega arith), take-length d.history, opened) refl;
       other_lends = λ l n other. elim (cases_eq l k) [
         | inr apart ↦ ap (λ (h : List Entry). lent_at (opening_at s l) h n) (same_history v k l e apart)
-        | inl same ↦ ap (λ (i : ℕ). lent_at (opening_at s i) (at i (histories (with_entry k e v).codecs)) n) same
-            ∙ (ap (λ (h : List Entry). lent_at o h n) longer
-            ∙ (lent_kept o d.history e n (λ place. other same place)
-            ∙ (ap (λ (h : List Entry). lent_at o h n) (sym now)
-            ∙ ap (λ (i : ℕ). lent_at (opening_at s i) (at i (histories v.codecs)) n) (sym same))))
+        | inl same ↦ rw (same, longer, now) (lent_kept o d.history e n (λ place. other same place))
       ];
       other_holds = λ l other. ap (λ (c : CodecValue). held_in (state_of c)) (set_other l k (after_entry k e v.slots d) v.codecs other);
     }

@@ -13,7 +13,6 @@ use Rattle.codec_model.specs.declared.entry.Shown.{Shown}
 use Rattle.codec_model.specs.Replay.{IsLegal}
 use Rattle.history_laws.specs.CountLaws.{outputs_stay}
 use Rattle.codec_accounts.specs.Owed.{at}
-use Rattle.codec_accounts.specs.Codec.{state_after}
 use Rattle.codec_accounts.specs.ListLaws.{get_some, get_kept}
 use Rattle.script_types.specs.declared.script.ScriptData.{ScriptData}
 use Rattle.script_types.specs.declared.steps.Step.{Step}
@@ -22,7 +21,7 @@ use Rattle.script_types.specs.declared.steps.MediaStep.TheVariants as on_media
 use Rattle.report_text.specs.declared.result.StepResult.{StepResult}
 use Rattle.report_text.specs.declared.result.StepResult.TheVariants as result
 use Rattle.trace_text.specs.Report.{refusal_in}
-use Rattle.trace_text.specs.Follow.{Recorded, opening_at, steps_of, copied_chunk, promise_after, output_at}
+use Rattle.trace_text.specs.Follow.{Recorded, opening_at, steps_of, copied_chunk, output_at}
 use Rattle.trace_text.specs.Fits.{result_in, entry_in, step_in, called, taken_from, exception_at, made_steps, taken_by, brought_to, came_at, variables_at, IsAnswerOf, IsResultBy, IsResultOf, LookShows, IsLocalAnswer, MarksClimb}
 use Rattle.media_variables.specs.Variables.{Came, Taken, Brought}
 use Rattle.media_accounts.specs.Accounts.{variables_by, IsBroughtToo}
@@ -72,10 +71,7 @@ answer_stays s w v legal g (Some k) (result.Call other p error) within h =
     let more = g.more k in
     let here : p < length (at k w.codecs) = (let lt = within other p error refl in let same = ap (λ n. length (at n w.codecs)) h.0 in omega (arith, lt, same)) in
     (h.0, h.1 ∙ sym (ap (λ (l : List Entry). exception_at (opening_at s k) l p) more.1 ∙ ap (λ (o : Option Shown). option_and_then (λ (x : Shown). refusal_in x.events) o) (shown_kept (opening_at s k) (at k w.codecs) more.0 p (legal k) here)))
-answer_stays s w v legal g (Some k) result.Absent within h = h
-answer_stays s w v legal g None (result.Call other p error) within h = absurd h
-answer_stays s w v legal g None (result.Unit other p n) within h = absurd h
-answer_stays s w v legal g None (result.NoUnit other n) within h = absurd h
+answer_stays s w v legal g o result.Absent within h = h
 answer_stays s w v legal g o r within h = h
 
 entry_stays : (w v : Recorded) → Grows w v → (k p : ℕ) (e : Entry) → entry_in w k p ≡ Some e → entry_in v k p ≡ Some e
@@ -84,8 +80,7 @@ entry_stays w v g k p e is = let m = g.more k in ap (λ (l : List Entry). slice_
 made_stays : (s : ScriptData) (w v : Recorded) → Legals s w → Grows w v → (who : Who) (t o : Option ℕ) (r : StepResult) → ((k p : ℕ) (e : Option DomError) → r ≡ result.Call k p e → p < length (at k w.codecs)) → IsResultBy s w who t o r → IsResultBy s v who t o r
 made_stays s w v legal g who None o r within h = answer_stays s w v legal g o r within h
 made_stays s w v legal g who (Some k) o (result.Unit other p n) within h = (h.0, entry_stays w v g k p (entry.Take who n) h.1)
-made_stays s w v legal g who (Some k) o (result.NoUnit other n) within h = h
-made_stays s w v legal g who (Some k) o r within h = absurd h
+made_stays s w v legal g who (Some k) o r within h = h
 
 -- ---- outputs
 
@@ -121,28 +116,17 @@ brought_stays s media w v g found c j x lt =
 
 -- ---- looks
 
-front_stays : (w v : Recorded) (k n : ℕ) → Grows w v → n ≤ length (at k w.codecs) → take n (at k w.codecs) ≡ take n (at k v.codecs)
-front_stays w v k n g within = let m = g.more k in sym (ap (take n) m.1 ∙ take-append-le n (at k w.codecs) m.0 within)
+front_stays : (w v : Recorded) (k n : ℕ) → Grows w v → n ≤ length (at k w.codecs) → take n (at k v.codecs) ≡ take n (at k w.codecs)
+front_stays w v k n g within = let m = g.more k in ap (take n) m.1 ∙ take-append-le n (at k w.codecs) m.0 within
 
 shows_stays : (s : ScriptData) (w v : Recorded) → Grows w v → (c : ℕ) (x : Step) (r : StepResult) → ((k n : ℕ) → look_of r ≡ Some (k, n) → n ≤ length (at k w.codecs)) → LookShows s w c x r → LookShows s v c x r
 shows_stays s w v g c (step.Await promise) (result.Look k n end) within h =
-    (h.0, h.1, g.stays c promise.step (result.Call k h.0 h.1) h.2, h.3 ∙ ap (λ (t : List Entry). promise_after (opening_at s k) t h.0) (front_stays w v k n g (within k n refl)))
+    (h.0, h.1, g.stays c promise.step (result.Call k h.0 h.1) h.2, rw (front_stays w v k n g (within k n refl)) h.3)
 shows_stays s w v g c (step.Poll promise) (result.Look k n end) within h =
-    (h.0, h.1, g.stays c promise.step (result.Call k h.0 h.1) h.2, h.3 ∙ ap (λ (t : List Entry). promise_after (opening_at s k) t h.0) (front_stays w v k n g (within k n refl)))
-shows_stays s w v g c (step.State on) (result.State k n state size) within h =
-    let t = front_stays w v k n g (within k n refl) in
-    (h.0, h.1 ∙ ap (λ (t : List Entry). (state_after (opening_at s k) t).control.phase) t, h.2 ∙ ap (λ (t : List Entry). (state_after (opening_at s k) t).control.size) t)
-shows_stays s w v g c (step.Media (on_media.Take on bind kind)) (result.NoUnit k n) within h =
-    let t = front_stays w v k n g (within k n refl) in
-    let o = opening_at s k in
-    (h.0, ap (λ (l : List Entry). output_at o l (state_after o l).control.taken) (sym t) ∙ h.1)
-shows_stays s w v g c (step.Configure on config) result.Absent within h = h
-shows_stays s w v g c (step.Chunk bind source) result.Absent within h = h
-shows_stays s w v g c (step.Decode on chunk) result.Absent within h = h
-shows_stays s w v g c (step.Flush on bind) result.Absent within h = h
-shows_stays s w v g c (step.Reset on) result.Absent within h = h
-shows_stays s w v g c (step.Close on) result.Absent within h = h
-shows_stays s w v g c (step.Media y) result.Absent within h = h
+    (h.0, h.1, g.stays c promise.step (result.Call k h.0 h.1) h.2, rw (front_stays w v k n g (within k n refl)) h.3)
+shows_stays s w v g c (step.State on) (result.State k n state size) within h = rw (front_stays w v k n g (within k n refl)) h
+shows_stays s w v g c (step.Media (on_media.Take on bind kind)) (result.NoUnit k n) within h = rw (front_stays w v k n g (within k n refl)) h
+shows_stays s w v g c x result.Absent within h = h
 shows_stays s w v g c x r within h = h
 
 -- a result that fits does so still

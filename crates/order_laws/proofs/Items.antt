@@ -1,9 +1,9 @@
 -- Each item of a sound script's order makes a move that fits.
-use Rattle.std.proofs.Common.{ℕ, zero, suc, ◌≡◌, ◌≤◌, ◌<◌, inl, inr, Bool, true, false, not, cond, if◌then◌else◌, eq-eqb, List, [], ◌∷◌, take, length, Option, Some, None, is_some, refl, ap, sym, subst, ◌∙◌, arith}
+use Rattle.std.proofs.Common.{ℕ, zero, suc, ◌≡◌, ◌≤◌, ◌<◌, inl, inr, Bool, true, false, not, cond, if◌then◌else◌, eq-eqb, List, [], ◌∷◌, take, length, Option, Some, None, refl, ap, sym, subst, ◌∙◌, arith}
 use Rattle.std.proofs.Math.Seq.{take-length}
-use Rattle.std.specs.Prelude.{slice_get, option_map, option_and_then, ◌==◌}
-use Rattle.std.proofs.lemmas.Bool.{cases_eq, ne_eqb, eqb-true}
-use Rattle.std.proofs.lemmas.Option.{slice_get_past, slice_get_within}
+use Rattle.std.specs.Prelude.{slice_get, unwrap_or, option_map, option_and_then, ◌==◌}
+use Rattle.std.proofs.lemmas.Bool.{cases_eq, cases_lt, ne_eqb, eqb-true}
+use Rattle.std.proofs.lemmas.Option.{slice_get_past, slice_get_within, cond_some}
 use Rattle.wc_base.specs.Options.{some_same}
 use Rattle.wc_base.specs.declared.error.DomError.{DomError}
 use Rattle.wc_base.specs.declared.error.DomError.TheVariants as dom
@@ -17,7 +17,6 @@ use Rattle.wc_audio.specs.Sound.{Sound}
 use Rattle.wc_config.specs.declared.codec.CoderId.{CoderId}
 use Rattle.wc_chunk.specs.declared.chunk.Chunk.{Chunk}
 use Rattle.codec_definitions.specs.declared.unit.Unit as output
-use Rattle.wc_config.specs.declared.kind.Kind.TheVariants as kind
 use Rattle.codec_model.specs.declared.entry.Opening.{Opening}
 use Rattle.codec_model.specs.declared.entry.Call.{Call}
 use Rattle.codec_model.specs.declared.entry.Call.TheVariants as call
@@ -34,15 +33,13 @@ use Rattle.codec_model.specs.declared.entry.Pair.{Pair}
 use Rattle.codec_model.specs.declared.entry.Handed.TheVariants as handed
 use Rattle.codec_model.specs.Shown.{refusal, rejection, rejections, removal_shows, shows, shown, outputs_of, exception_of}
 use Rattle.codec_accounts.specs.Owed.{at}
-use Rattle.codec_accounts.specs.ListLaws.{get_some, result_kept, result_new}
+use Rattle.codec_accounts.specs.ListLaws.{get_some, get_more, result_kept, result_new}
 use Rattle.codec_accounts.specs.Calls.{who_of, reach, call_in}
 use Rattle.codec_accounts.specs.Calls as mark
 use Rattle.codec_accounts.specs.CallsLaws.{MayClimb}
 use Rattle.codec_accounts.specs.Codec.{new_codec, state_after, state_of, codec_at, histories}
 use Rattle.codec_accounts.specs.StartLaws.{EndFits}
 use Rattle.codec_accounts.specs.AccountLaws.{EntryFits, history_at}
-use Rattle.script_types.specs.declared.script.CallerItem.{CallerItem}
-use Rattle.script_types.specs.declared.script.CodecItem.{CodecItem}
 use Rattle.script_types.specs.declared.script.OrderItem.{OrderItem}
 use Rattle.script_types.specs.declared.script.OrderItem.TheVariants as item
 use Rattle.script_types.specs.declared.script.ScriptData.{ScriptData}
@@ -52,39 +49,34 @@ use Rattle.script_types.specs.declared.steps.Variable.{Variable}
 use Rattle.report_text.specs.declared.result.StepResult.{StepResult}
 use Rattle.report_text.specs.declared.result.StepResult.TheVariants as result
 use Rattle.trace_text.specs.Report.{refusal_in}
-use Rattle.trace_text.specs.Follow.{Recorded, Course, record_of, opening_in, opening_at, promise_after, steps_in, steps_of, chunk_for, source_error, output_at, with_result, Answer, handle_move, take_move, media_move, copied_chunk, outcome_for, end_of, turn_on, item_entry, advance, decode_move, is_gone, encode_move, look_of_flush, look_of_state, step_move, next_move, item_move}
+use Rattle.trace_text.specs.Follow.{Recorded, Course, record_of, opening_at, promise_after, steps_of, chunk_for, source_error, output_at, with_result, Answer, handle_move, take_move, media_move, copied_chunk, outcome_for, end_of, turn_on, item_entry, advance, decode_move, is_gone, encode_move, look_of_state, step_move, next_move, item_move}
 use Rattle.script_types.specs.declared.steps.MediaStep.{MediaStep}
 use Rattle.script_types.specs.declared.steps.MediaStep.TheVariants as on_media
 use Rattle.script_types.specs.declared.steps.VariableKind.{VariableKind}
-use Rattle.media_variables.specs.Variables.{Reference, Shape, SoundOf, PictureOf, ChunkOf, Medium, Came, medium_at, media_ref, sound_of, sound_in, sound_at, handed_by, handed_of, media_came, taken_came, variables_of}
+use Rattle.media_variables.specs.Variables.{Reference, Shape, SoundOf, Medium, Came, medium_at, media_ref, sound_of, sound_in, sound_at, handed_by, handed_of, media_came, taken_came, variables_of}
 use Rattle.media_variables.specs.Held.{held_by}
-use Rattle.media_accounts.specs.Accounts.{media_of, MayAdd, IsQuiet}
+use Rattle.media_accounts.specs.Accounts.{media_of, IsQuiet}
 use Rattle.trace_text.specs.Fits.{taken_by, brought_to, came_at, variables_at, result_in, step_in, called, mark_of, IsResultOf, LookShows, IsLocalAnswer, HasArguments}
 use Rattle.order_laws.specs.Sound.{IsSound, promise_of, IsFlush}
-use Rattle.order_laws.proofs.Entries.{below_or_past, MayAddAll}
+use Rattle.order_laws.specs.SoundSteps.{stands_in}
+use Rattle.order_laws.proofs.Entries.{MayAddAll}
 use Rattle.order_laws.proofs.Grown.{IsFound, taken_as, brought}
-use Rattle.order_laws.proofs.Legal.{Steps, MayBeRefused, call_legal, take_legal, start_legal, done_legal, turn_legal, reclaim_legal}
-use Rattle.order_laws.proofs.Moves.{Stands, next_who, next_place, take_result, AnswerFits, AskFits, MoveFits, none_quiet, call_quiet}
-
-steps_within : (cs : List CallerItem) (c j : ℕ) (x : Step) → slice_get (steps_in cs c) j ≡ Some x → c < length cs
-steps_within [] c j x h = absurd cc
-steps_within (y ∷ ys) zero j x h = omega arith
-steps_within (y ∷ ys) (suc c) j x h = let lt = steps_within ys c j x h in omega arith
+use Rattle.order_laws.proofs.Legal.{Steps, some_is, MayBeRefused, call_legal, take_legal, start_legal, done_legal, turn_legal, reclaim_legal}
+use Rattle.order_laws.proofs.Moves.{Stands, next_who, next_place, take_result, Apart, local_apart, AnswerFits, AskFits, MoveFits, none_quiet, call_quiet}
 
 -- the caller's next step
 abbrev IsNext : ScriptData → Course → ℕ → Step → Type 0
 IsNext s v c x = step_in s c (length (at c v.callers)) ≡ Some x
 
 caller_there : (s : ScriptData) (media : List (List Chunk)) (made : List CoderId) (v : Course) (c : ℕ) (x : Step) → Stands s media made v → IsNext s v c x → c < length v.callers
-caller_there s media made v c x st is = let lt = steps_within s.callers c (length (at c v.callers)) x is in let n = st.callers in omega (arith, lt, n)
+caller_there s media made v c x st is =
+    let there = stands_in s.callers c (length (at c v.callers)) x is in
+    let lt = slice_get_within s.callers c there.caller there.is_caller in
+    let n = st.callers in omega (arith, lt, n)
 
 -- a legal entry has a state after it
 legal_after : (e : Entry) (t : State) → Steps e t → (u : State) × (entry_step e t ≡ Some u)
-legal_after e t steps = by_state (entry_step e t) refl
-  where
-    by_state : (o : Option State) → entry_step e t ≡ o → (u : State) × (entry_step e t ≡ Some u)
-    by_state None is = absurd (let bad = sym (ap is_some is) ∙ steps in cc)
-    by_state (Some u) is = (u, is)
+legal_after e t steps = (unwrap_or (entry_step e t) t, some_is (entry_step e t) t steps)
 
 -- ---- calls
 
@@ -134,11 +126,6 @@ ask_fits s media made v c k x e error sound st is calls steps names arguments sh
 
 -- ---- steps that make no entry
 
--- a result that is no call of any codec, and no look beyond what there is
-record Apart (v : Course) (r : StepResult) : Type 0 where
-  climbs : (k : ℕ) → MayClimb (reach k (mark_of r)) (length (at k (histories v.codecs))) (length (at k (histories v.codecs)))
-  no_call : (k : ℕ) (who : Who) → call_in k who (mark_of r) ≡ []
-
 answer_fits : (s : ScriptData) (media : List (List Chunk)) (made : List CoderId) (v : Course) (c : ℕ) (x : Step) (r : StepResult) → Stands s media made v → IsNext s v c x → Apart v r → IsResultOf s (record_of (with_result c r v)) (next_who v c) x r → IsFound s (record_of (with_result c r v)) r
     → LookShows s (record_of (with_result c r v)) c x r → ((o : Option Came) → IsLocalAnswer s media (variables_of c v.media.variables) o c x r) → IsQuiet (steps_of s) (brought_to s media (record_of (with_result c r v))) c (length (at c v.callers)) → AnswerFits s media v c r
 answer_fits s media made v c x r st is apart made_of found looks answers quiet = record {
@@ -151,8 +138,7 @@ answer_fits s media made v c x r st is apart made_of found looks answers quiet =
     shows = looks;
     answers = (let came = came_at s media (record_of (with_result c r v)) c (length (at c v.callers)) in subst (λ (vs : List (Option Medium)). IsLocalAnswer s media vs came c x r) (sym before) (answers came));
   };
-  climbs = apart.climbs;
-  no_call = apart.no_call;
+  apart = apart;
   quiet = quiet;
 }
 
@@ -163,12 +149,6 @@ still_fits s media made v c x r st is apart made_of found looks answers other =
     answer_fits s media made v c x r st is apart made_of found looks answers
     (none_quiet s (brought_to s media (record_of (with_result c r v))) c (length (at c v.callers)) (ap (option_and_then media_of) is ∙ other))
 
-local_apart : (v : Course) (error : Option DomError) → Apart v (result.Local error)
-local_apart v error = record { climbs = λ k. omega arith; no_call = λ k who. refl }
-
-absent_apart : (v : Course) → Apart v result.Absent
-absent_apart v = record { climbs = λ k. omega arith; no_call = λ k who. refl }
-
 -- a look at a codec sees its whole history
 look_climbs : (v : Course) (on k : ℕ) (b : Bool) → (b ≡ true → on ≡ k) → MayClimb (cond b (Some (length (codec_at on v.codecs).history, length (codec_at on v.codecs).history)) None) (length (at k (histories v.codecs))) (length (at k (histories v.codecs)))
 look_climbs v on k false same = omega arith
@@ -177,7 +157,7 @@ look_climbs v on k true same =
 
 decode_fits : (s : ScriptData) (media : List (List Chunk)) (made : List CoderId) (v : Course) (c k : ℕ) (chunk : Variable) (o : Option Chunk) → IsSound s → Stands s media made v → IsNext s v c (step.Decode k chunk) → chunk_for media (steps_of s c) (variables_of c v.media.variables) chunk.step ≡ o
     → MoveFits s media v (decode_move (next_who v c) k o (codec_at k v.codecs))
-decode_fits s media made v c k chunk None sound st is none = still_fits s media made v c (step.Decode k chunk) result.Absent st is (absent_apart v) tt tt tt (λ o. none) refl
+decode_fits s media made v c k chunk None sound st is none = still_fits s media made v c (step.Decode k chunk) result.Absent st is (local_apart v result.Absent refl) tt tt tt (λ o. none) refl
 decode_fits s media made v c k chunk (Some value) sound st is some =
     ask_fits s media made v c k (step.Decode k chunk) (entry.Decode (next_who v c) value) _ sound st is refl (call_legal (next_who v c) (call.Decode value) (state_of (codec_at k v.codecs))) refl (value, some, refl) (call_shows (next_who v c) (call.Decode value) (state_of (codec_at k v.codecs))) (none_added v.media.pool (entry.Decode (next_who v c) value) refl)
 
@@ -200,31 +180,10 @@ promise_call s media made v c x promise sound st is looks =
     let came = flush_came s media (record_of v) (record { caller = c; step = promise.step }) (variables_at s media (record_of v) c promise.step) (came_at s media (record_of v) c promise.step) c flush.0 there.0 flush.2 (rw same at fits.made) (rw same at fits.answers) in
     (came.0, came.1, came.2, there.1 ∙ ap (λ (q : StepResult). Some q) came.3)
 
--- a codec that is not there is opened as a new one
-opening_past : (cs : List CodecItem) (k : ℕ) → length cs ≤ k → opening_in cs k ≡ record { kind = kind.AudioDecoder; saturation = 4 }
-opening_past [] k le = refl
-opening_past (c ∷ cs) zero le = absurd (omega (arith, le))
-opening_past (c ∷ cs) (suc k) le = opening_past cs k (omega (arith, le))
-
--- each codec is opened as the script says
-pub opens : (s : ScriptData) (media : List (List Chunk)) (made : List CoderId) (v : Course) (k : ℕ) → Stands s media made v → (codec_at k v.codecs).opening ≡ opening_at s k
-opens s media made v k st = elim (below_or_past k (length v.codecs)) [
-  | inl lt ↦ st.opened k lt
-  | inr le ↦ rw (slice_get_past v.codecs k le, opening_past s.codecs k (let n = st.count in omega (arith, le, n))) refl
-]
-
--- the whole history that a look sees
-all_there : (v : Course) (k : ℕ) → take (length (codec_at k v.codecs).history) (at k (histories v.codecs)) ≡ (codec_at k v.codecs).history
-all_there v k = ap (take (length (codec_at k v.codecs).history)) (history_at k v.codecs) ∙ take-length (codec_at k v.codecs).history
-
--- what a look at a promise comes to
-promise_shows : (s : ScriptData) (media : List (List Chunk)) (made : List CoderId) (v : Course) (k p : ℕ) → Stands s media made v
-    → promise_after (codec_at k v.codecs).opening (codec_at k v.codecs).history p ≡ promise_after (opening_at s k) (take (length (codec_at k v.codecs).history) (at k (histories v.codecs))) p
-promise_shows s media made v k p st =
-    rw (all_there v k, sym (opens s media made v k st)) refl
-
-state_shows : (s : ScriptData) (media : List (List Chunk)) (made : List CoderId) (v : Course) (k : ℕ) → Stands s media made v → state_of (codec_at k v.codecs) ≡ state_after (opening_at s k) (take (length (codec_at k v.codecs).history) (at k (histories v.codecs)))
-state_shows s media made v k st = rw (all_there v k, sym (opens s media made v k st)) refl
+-- what a look sees of a codec's whole history
+all_there : {X : Type 0} (F : Opening → List Entry → X) (s : ScriptData) (media : List (List Chunk)) (made : List CoderId) (v : Course) (k : ℕ) → Stands s media made v
+    → F (codec_at k v.codecs).opening (codec_at k v.codecs).history ≡ F (opening_at s k) (take (length (codec_at k v.codecs).history) (at k (histories v.codecs)))
+all_there F s media made v k st = rw (history_at k v.codecs, take-length (codec_at k v.codecs).history, sym (st.opened k)) refl
 
 look_apart : (v : Course) (k : ℕ) (r : StepResult) → mark_of r ≡ mark.Look k (length (codec_at k v.codecs).history) → Apart v r
 look_apart v k r is = record {
@@ -232,35 +191,25 @@ look_apart v k r is = record {
   no_call = λ n who. ap (call_in n who) is;
 }
 
-poll_fits : (s : ScriptData) (media : List (List Chunk)) (made : List CoderId) (v : Course) (c : ℕ) (promise : Variable) → IsSound s → Stands s media made v → IsNext s v c (step.Poll promise) → MoveFits s media v (Answer c (look_of_flush v.codecs (slice_get (at c v.callers) promise.step)))
-poll_fits s media made v c promise sound st is =
-    let found = promise_call s media made v c (step.Poll promise) promise sound st is refl in
-    let d = codec_at found.0 v.codecs in
-    let r = result.Look found.0 (length d.history) (promise_after d.opening d.history found.1) in
-    subst (λ (o : Option StepResult). MoveFits s media v (Answer c (look_of_flush v.codecs o))) (sym found.3)
-    (still_fits s media made v c (step.Poll promise) r st is (look_apart v found.0 r refl) tt tt
-    (found.1, found.2, result_kept c c promise.step r (result.Call found.0 found.1 found.2) v.callers found.3, promise_shows s media made v found.0 found.1 st) (λ o. tt) refl)
+-- what a look at a promise comes to
+abbrev look_at : Course → ℕ → ℕ → StepResult
+look_at v k p = let d = codec_at k v.codecs in result.Look k (length d.history) (promise_after d.opening d.history p)
 
-await_fits : (s : ScriptData) (media : List (List Chunk)) (made : List CoderId) (v : Course) (c : ℕ) (promise : Variable) → IsSound s → Stands s media made v → IsNext s v c (step.Await promise) → MoveFits s media v (Answer c (look_of_flush v.codecs (slice_get (at c v.callers) promise.step)))
-await_fits s media made v c promise sound st is =
-    let found = promise_call s media made v c (step.Await promise) promise sound st is refl in
-    let d = codec_at found.0 v.codecs in
-    let r = result.Look found.0 (length d.history) (promise_after d.opening d.history found.1) in
-    subst (λ (o : Option StepResult). MoveFits s media v (Answer c (look_of_flush v.codecs o))) (sym found.3)
-    (still_fits s media made v c (step.Await promise) r st is (look_apart v found.0 r refl) tt tt
-    (found.1, found.2, result_kept c c promise.step r (result.Call found.0 found.1 found.2) v.callers found.3, promise_shows s media made v found.0 found.1 st) (λ o. tt) refl)
+look_shows : (s : ScriptData) (media : List (List Chunk)) (made : List CoderId) (v : Course) (c : ℕ) (promise : Variable) (r : StepResult) (k p : ℕ) (error : Option DomError) → Stands s media made v → result_in (record_of v) c promise.step ≡ Some (result.Call k p error)
+    → let w = record_of (with_result c r v) in let d = codec_at k v.codecs in
+    (q : ℕ) × (e : Option DomError) × (result_in w c promise.step ≡ Some (result.Call k q e)) × (promise_after d.opening d.history p ≡ promise_after (opening_at s k) (take (length d.history) (at k w.codecs)) q)
+look_shows s media made v c promise r k p error st was = (p, error, result_kept c c promise.step r (result.Call k p error) v.callers was, all_there (λ o h. promise_after o h p) s media made v k st)
 
 state_fits : (s : ScriptData) (media : List (List Chunk)) (made : List CoderId) (v : Course) (c k : ℕ) → Stands s media made v → IsNext s v c (step.State k) → MoveFits s media v (Answer c (look_of_state k (codec_at k v.codecs)))
 state_fits s media made v c k st is =
-    let t = state_shows s media made v k st in
     still_fits s media made v c (step.State k) (look_of_state k (codec_at k v.codecs)) st is (look_apart v k (look_of_state k (codec_at k v.codecs)) refl) tt tt
-    (refl, ap (λ (x : State). x.control.phase) t, ap (λ (x : State). x.control.size) t) (λ o. tt) refl
+    (refl, all_there (λ o h. (state_after o h).control.phase) s media made v k st, all_there (λ o h. (state_after o h).control.size) s media made v k st) (λ o. tt) refl
 
 -- a step on media, to which no output is brought
 handle_fits : (s : ScriptData) (media : List (List Chunk)) (made : List CoderId) (v : Course) (c : ℕ) (x : MediaStep) (o : Option Came) → Stands s media made v → IsNext s v c (step.Media x)
     → media_came v.media.pool (next_who v c) (brought (copied_chunk media (steps_of s c) x) None) x (variables_of c v.media.variables) ≡ o → MoveFits s media v (handle_move (next_who v c) o)
 handle_fits s media made v c x None st is comes = tt
-handle_fits s media made v c x (Some y) st is comes = record { next = refl; caller = caller_there s media made v c (step.Media x) st is; handled = x; is_step = is; comes = comes }
+handle_fits s media made v c x (Some y) st is comes = (refl, record { caller = caller_there s media made v c (step.Media x) st is; handled = x; is_step = is; comes = comes })
 
 -- a take that found nothing comes to nothing of media
 take_quiet : (s : ScriptData) (media : List (List Chunk)) (v : Course) (c k n : ℕ) (bind : List ℕ) (holds : VariableKind) → c < length v.callers → IsNext s v c (step.Media (on_media.Take k bind holds))
@@ -272,66 +221,57 @@ take_quiet s media v c k n bind holds lt is x pool vs named =
     let none : taken_by s w (result_in w c j) ≡ None = ap (taken_by s w) (result_new c (result.NoUnit k n) v.callers lt) in
     rw (sym same, none) refl
 
--- what is not taken yet of a codec's outputs, as a look at its whole history sees it
-untaken : (s : ScriptData) (media : List (List Chunk)) (made : List CoderId) (v : Course) (k : ℕ) → Stands s media made v
-    → let d = codec_at k v.codecs in let h = take (length d.history) (at k (histories v.codecs)) in
-    output_at (opening_at s k) h (state_after (opening_at s k) h).control.taken ≡ output_at d.opening d.history (state_of d).control.taken
-untaken s media made v k st =
-    rw (all_there v k, sym (opens s media made v k st)) refl
-
 take_fits : (s : ScriptData) (media : List (List Chunk)) (made : List CoderId) (v : Course) (c k : ℕ) (bind : List ℕ) (holds : VariableKind) (o : Option output.Unit) → IsSound s → Stands s media made v → IsNext s v c (step.Media (on_media.Take k bind holds))
     → output_at (codec_at k v.codecs).opening (codec_at k v.codecs).history (state_of (codec_at k v.codecs)).control.taken ≡ o
     → MoveFits s media v (take_move (next_who v c) k (codec_at k v.codecs) (taken_came v.media.pool (length (at c v.callers)) (option_map (taken_as (take_result v k (state_of (codec_at k v.codecs)).control.taken)) o) (variables_of c v.media.variables)))
 take_fits s media made v c k bind holds None sound st is none =
     let n = next_place v k in
     answer_fits s media made v c (step.Media (on_media.Take k bind holds)) (result.NoUnit k n) st is (look_apart v k (result.NoUnit k n) refl) refl tt
-    (refl, untaken s media made v k st ∙ none) (λ o. tt) (take_quiet s media v c k n bind holds (caller_there s media made v c (step.Media (on_media.Take k bind holds)) st is) is)
+    (refl, sym (all_there (λ o h. output_at o h (state_after o h).control.taken) s media made v k st) ∙ none) (λ o. tt) (take_quiet s media v c k n bind holds (caller_there s media made v c (step.Media (on_media.Take k bind holds)) st is) is)
 take_fits s media made v c k bind holds (Some u) sound st is some =
     let d = codec_at k v.codecs in
     let n = (state_of d).control.taken in
     let counted : (state_of d).control.shown ≡ length (outputs_of (shown d.opening d.history)) = shown_counted d.opening d.history (state_of d) (st.boxes.each k).replays in
     let below : n < length (outputs_of (shown d.opening d.history)) = slice_get_within (outputs_of (shown d.opening d.history)) n u some in
-    let after = legal_after (entry.Take (next_who v c) n) (state_of d) (take_legal (next_who v c) (state_of d) (omega (arith, counted, below))) in
-    record {
-      next = refl;
-      caller = caller_there s media made v c (step.Media (on_media.Take k bind holds)) st is;
-      codec = (let lt = sound.taken c (length (at c v.callers)) k (step.Media (on_media.Take k bind holds)) is refl in let m = st.count in omega (arith, lt, m));
-      bind = bind;
-      holds = holds;
-      is_step = is;
-      number = n;
-      takes = refl;
-      after = after.0;
-      steps = after.1;
-      unit = u;
-      there = rw (history_at k v.codecs, sym (opens s media made v k st)) some;
-      comes = refl;
-    }
+    let after = legal_after (entry.Take (next_who v c) n) (state_of d) (take_legal (next_who v c) (state_of d) (omega (arith, counted, below))) in (
+      n,
+      refl,
+      refl,
+      record {
+        caller = caller_there s media made v c (step.Media (on_media.Take k bind holds)) st is;
+        codec = (let lt = sound.taken c (length (at c v.callers)) k (step.Media (on_media.Take k bind holds)) is refl in let m = st.count in omega (arith, lt, m));
+        bind = bind;
+        holds = holds;
+        is_step = is;
+        after = after.0;
+        steps = after.1;
+        unit = u;
+        there = rw (history_at k v.codecs, sym (st.opened k)) some;
+        comes = refl;
+      },
+    )
 
 -- ---- encodes
 
--- what is handed over is legal where it tells whether the codec is configured
-encode_legal : (who : Who) (number : ℕ) (shape : SoundShape) (held : Option MediaRef) (t : State) (b : Bool) → is_configured t.control ≡ b → Steps (entry.Encode who (handed_by number b shape held)) t
-encode_legal who number shape None t b is = refl
-encode_legal who number shape (Some r) t true is = rw is refl
-encode_legal who number shape (Some r) t false is = rw is refl
+-- what stands behind a value that was mapped
+mapped : {X Y : Type 0} (f : X → Y) (o : Option X) (y : Y) → option_map f o ≡ Some y → (x : X) × (o ≡ Some x) × (f x ≡ y)
+mapped f None y is = absurd cc
+mapped f (Some x) y is = (x, refl, some_same (f x) y is)
 
--- its exception is what its entry shows
-encode_shows : (who : Who) (number : ℕ) (shape : SoundShape) (held : Option MediaRef) (t : State) (b : Bool) → is_configured t.control ≡ b
-    → encode_error (is_gone (handed_by number b shape held)) t.control ≡ refusal_in (shows (entry.Encode who (handed_by number b shape held)) t)
-encode_shows who number shape None t b is = refl
-encode_shows who number shape (Some r) t true is = rw is refl
-encode_shows who number shape (Some r) t false is = rw is refl
-
--- it adds a reference to what is held
-encode_adds : (pool : List PoolEntry) (who : Who) (shape : SoundShape) (held : Option MediaRef) (b : Bool) → ((r : MediaRef) → held ≡ Some r → is_held r.resource pool ≡ true) → MayAddAll pool (entry.Encode who (handed_by (references_made pool) b shape held))
-encode_adds pool who shape None b lives = none_added pool (entry.Encode who handed.Gone) refl
-encode_adds pool who shape (Some r) false lives = none_added pool (entry.Encode who handed.Kept) refl
-encode_adds pool who shape (Some r) true lives = λ i p is. (let same = only_one i p is in subst (MayAdd pool) same (lives r refl, refl))
-  where
-    only_one : (i : ℕ) (p : Pair) → slice_get (record { resource = r.resource; reference = references_made pool } ∷ []) i ≡ Some p → record { resource = r.resource; reference = references_made pool } ≡ p
-    only_one zero p is = cc
-    only_one (suc i) p is = absurd cc
+-- what is handed over is legal where it tells whether the codec is configured, its exception is what its entry shows, and it
+-- adds a reference to what is held
+encode_said : (pool : List PoolEntry) (who : Who) (shape : SoundShape) (held : Option MediaRef) (t : State) (b : Bool) → is_configured t.control ≡ b → ((r : MediaRef) → held ≡ Some r → is_held r.resource pool ≡ true)
+    → let h = handed_by (references_made pool) b shape held in Steps (entry.Encode who h) t × (encode_error (is_gone h) t.control ≡ refusal_in (shows (entry.Encode who h) t)) × MayAddAll pool (entry.Encode who h)
+encode_said pool who shape None t b is lives = (refl, refl, none_added pool (entry.Encode who handed.Gone) refl)
+encode_said pool who shape (Some r) t false is lives = (rw is refl, rw is refl, none_added pool (entry.Encode who handed.Kept) refl)
+encode_said pool who shape (Some r) t true is lives = (
+  rw is refl,
+  rw is refl,
+  λ i p at. elim (get_more [] (record { resource = r.resource; reference = references_made pool }) i p at) [
+    | inl none ↦ absurd cc
+    | inr only ↦ rw only.1 (lives r refl, refl)
+  ],
+)
 
 -- the reference of audio data is that of its variable
 sound_held : (m : Option Medium) (x : Sound) (r : MediaRef) → option_and_then sound_in m ≡ Some x → x.held ≡ Some r → (q : Reference) × (held_by m ≡ Some q) × (q.resource ≡ r.resource)
@@ -339,12 +279,9 @@ sound_held None x r is holds = absurd cc
 sound_held (Some m) x r is holds = by_shape m.shape m.held is
   where
     by_shape : (shape : Shape) (held : Option Reference) → sound_in (record { shape = shape; held = held }) ≡ Some x → (q : Reference) × (held ≡ Some q) × (q.resource ≡ r.resource)
-    by_shape (PictureOf shape) held is = absurd cc
-    by_shape (ChunkOf chunk) held is = absurd cc
-    by_shape (SoundOf shape) None is =
-        absurd (let bad : None ≡ Some r = ap (λ (s : Sound). s.held) (some_same (sound_of shape None) x is) ∙ holds in cc)
-    by_shape (SoundOf shape) (Some q) is =
-        (q, refl, ap (λ (y : MediaRef). y.resource) (some_same (media_ref q) r (ap (λ (s : Sound). s.held) (some_same (sound_of shape (Some q)) x is) ∙ holds)))
+    by_shape (SoundOf shape) held is =
+        let found = mapped media_ref held r (ap (λ (s : Sound). s.held) (some_same (sound_of shape held) x is) ∙ holds) in (found.0, found.1, ap (λ (y : MediaRef). y.resource) found.2)
+    by_shape shape held is = absurd cc
 
 abbrev one_if : Bool → ℕ
 one_if b = if b then 1 else 0
@@ -366,16 +303,15 @@ live_held numbered pool number resource legal lives =
 encode_fits : LiveAreNumbered → (s : ScriptData) (media : List (List Chunk)) (made : List CoderId) (v : Course) (c k : ℕ) (content : Variable) (o : Option Sound) → IsSound s → Stands s media made v → IsNext s v c (step.Media (on_media.Encode k content))
     → sound_at (variables_of c v.media.variables) content.step ≡ o → MoveFits s media v (encode_move (next_who v c) k v.media.pool o (codec_at k v.codecs))
 encode_fits numbered s media made v c k content None sound st is none =
-    answer_fits s media made v c (step.Media (on_media.Encode k content)) result.Absent st is (absent_apart v) tt tt tt (λ o. none)
+    answer_fits s media made v c (step.Media (on_media.Encode k content)) result.Absent st is (local_apart v result.Absent refl) tt tt tt (λ o. none)
     (call_quiet s (brought_to s media (record_of (with_result c result.Absent v))) c (length (at c v.callers)) k (step.Media (on_media.Encode k content)) is refl)
 encode_fits numbered s media made v c k content (Some x) sound st is some =
     let who = next_who v c in
     let t = state_of (codec_at k v.codecs) in
     let pool = v.media.pool in
-    let n = references_made pool in
     let accepts = is_configured t.control in
-    ask_fits s media made v c k (step.Media (on_media.Encode k content)) (entry.Encode who (handed_of n accepts x)) _ sound st is refl (encode_legal who n x.shape x.held t accepts refl) refl
-    (x, n, accepts, some, refl) (encode_shows who n x.shape x.held t accepts refl) (encode_adds pool who x.shape x.held accepts lives)
+    let said = encode_said pool who x.shape x.held t accepts refl lives in
+    ask_fits s media made v c k (step.Media (on_media.Encode k content)) (entry.Encode who (handed_of (references_made pool) accepts x)) _ sound st is refl said.0 refl (x, references_made pool, accepts, some, refl) said.1 said.2
   where
     lives : (r : MediaRef) → x.held ≡ Some r → is_held r.resource v.media.pool ≡ true
     lives r holds =
@@ -394,18 +330,22 @@ step_fits : LiveAreNumbered → (s : ScriptData) (media : List (List Chunk)) (ma
 step_fits numbered s media made v c (step.Configure on config) sound st is =
     ask_fits s media made v c on (step.Configure on config) (entry.Configure (next_who v c) config) _ sound st is refl (call_legal (next_who v c) (call.Configure config) (state_of (codec_at on v.codecs))) refl refl (call_shows (next_who v c) (call.Configure config) (state_of (codec_at on v.codecs)))
     (none_added v.media.pool (entry.Configure (next_who v c) config) refl)
-step_fits numbered s media made v c (step.Chunk bind source) sound st is = still_fits s media made v c (step.Chunk bind source) (result.Local (source_error source)) st is (local_apart v (source_error source)) tt tt tt (λ o. refl) refl
+step_fits numbered s media made v c (step.Chunk bind source) sound st is = still_fits s media made v c (step.Chunk bind source) (result.Local (source_error source)) st is (local_apart v (result.Local (source_error source)) refl) tt tt tt (λ o. refl) refl
 step_fits numbered s media made v c (step.Decode on chunk) sound st is = decode_fits s media made v c on chunk (chunk_for media (steps_of s c) (variables_of c v.media.variables) chunk.step) sound st is refl
 step_fits numbered s media made v c (step.Flush on bind) sound st is =
     ask_fits s media made v c on (step.Flush on bind) (entry.Flush (next_who v c)) _ sound st is refl (call_legal (next_who v c) call.Flush (state_of (codec_at on v.codecs))) refl refl (call_shows (next_who v c) call.Flush (state_of (codec_at on v.codecs))) (none_added v.media.pool (entry.Flush (next_who v c)) refl)
-step_fits numbered s media made v c (step.Poll promise) sound st is = poll_fits s media made v c promise sound st is
-step_fits numbered s media made v c (step.Await promise) sound st is = await_fits s media made v c promise sound st is
+step_fits numbered s media made v c (step.Poll promise) sound st is =
+    let found = promise_call s media made v c (step.Poll promise) promise sound st is refl in
+    let r = look_at v found.0 found.1 in
+    rw found.3 (still_fits s media made v c (step.Poll promise) r st is (look_apart v found.0 r refl) tt tt (look_shows s media made v c promise r found.0 found.1 found.2 st found.3) (λ o. tt) refl)
+step_fits numbered s media made v c (step.Await promise) sound st is =
+    let found = promise_call s media made v c (step.Await promise) promise sound st is refl in
+    let r = look_at v found.0 found.1 in
+    rw found.3 (still_fits s media made v c (step.Await promise) r st is (look_apart v found.0 r refl) tt tt (look_shows s media made v c promise r found.0 found.1 found.2 st found.3) (λ o. tt) refl)
 step_fits numbered s media made v c (step.Reset on) sound st is =
-    let t = state_of (codec_at on v.codecs) in
-    ask_fits s media made v c on (step.Reset on) (entry.Reset (next_who v c)) _ sound st is refl refl refl refl (removal_is_shown (removal_error t.control) t.control.pending) (none_added v.media.pool (entry.Reset (next_who v c)) refl)
+    ask_fits s media made v c on (step.Reset on) (entry.Reset (next_who v c)) _ sound st is refl refl refl refl (removal_is_shown (removal_error (state_of (codec_at on v.codecs)).control) _) (none_added v.media.pool (entry.Reset (next_who v c)) refl)
 step_fits numbered s media made v c (step.Close on) sound st is =
-    let t = state_of (codec_at on v.codecs) in
-    ask_fits s media made v c on (step.Close on) (entry.Close (next_who v c)) _ sound st is refl refl refl refl (removal_is_shown (removal_error t.control) t.control.pending) (none_added v.media.pool (entry.Close (next_who v c)) refl)
+    ask_fits s media made v c on (step.Close on) (entry.Close (next_who v c)) _ sound st is refl refl refl refl (removal_is_shown (removal_error (state_of (codec_at on v.codecs)).control) _) (none_added v.media.pool (entry.Close (next_who v c)) refl)
 step_fits numbered s media made v c (step.State on) sound st is = state_fits s media made v c on st is
 step_fits numbered s media made v c (step.Media x) sound st is = media_fits numbered s media made v c x sound st is
 
@@ -427,50 +367,41 @@ end_says false (Some n) answer = refl
 end_says false None None = refl
 end_says false None (Some units) = refl
 
-start_own : (t : State) (refusal : Option ℕ) (o : Option Item) (e : Entry) → start_item t.control ≡ o → option_map (λ (i : Item). entry.Start t.control.epoch i.number) o ≡ Some e → Own t refusal e
-start_own t refusal None e is made = absurd cc
-start_own t refusal (Some i) e is made =
-    let same : entry.Start t.control.epoch i.number ≡ e = cc in
-    subst (Own t refusal) same (record { legal = start_legal t i is; nobody = refl; fits = tt })
-
-done_own : (s : ScriptData) (media : List (List Chunk)) (made : List CoderId) (v : Course) (k : ℕ) (wants : Bool) (moment : ℕ) (o : Option Running) (e : Entry) → Stands s media made v → (state_of (codec_at k v.codecs)).control.running ≡ o
-    → option_map (end_of wants moment (codec_at k v.codecs).holding.refusal (state_of (codec_at k v.codecs)).running_given) o ≡ Some e → Own (state_of (codec_at k v.codecs)) (codec_at k v.codecs).holding.refusal e
-done_own s media made v k wants moment None e st is ends = absurd cc
-done_own s media made v k wants moment (Some r) e st is ends =
-    let d = codec_at k v.codecs in
-    let t = state_of d in
-    let same : end_of wants moment d.holding.refusal t.running_given r ≡ e = cc in
-    subst (Own t d.holding.refusal) same (record {
-      legal = done_legal t r moment wants d.holding.refusal is (may_be d.holding.refusal refl);
-      nobody = refl;
-      fits = end_says wants d.holding.refusal (answer_to r.kind t.running_given);
-    })
-  where
-    may_be : (q : Option ℕ) → (codec_at k v.codecs).holding.refusal ≡ q → MayBeRefused r (state_of (codec_at k v.codecs)) q
-    may_be None q = tt
-    may_be (Some n) q =
-        let needs = (st.boxes.each k).has.needs n q in
-        let same : needs.running ≡ r = some_same needs.running r (sym needs.is_running ∙ is) in
-        (ap (λ (x : Running). x.kind) (sym same) ∙ needs.configure, needs.supported)
+-- what is known of an item whose box was refused
+refused_item : (s : ScriptData) (media : List (List Chunk)) (made : List CoderId) (v : Course) (k : ℕ) (r : Running) (q : Option ℕ) → Stands s media made v → (state_of (codec_at k v.codecs)).control.running ≡ Some r → (codec_at k v.codecs).holding.refusal ≡ q → MayBeRefused r (state_of (codec_at k v.codecs)) q
+refused_item s media made v k r None st is refusal = tt
+refused_item s media made v k r (Some n) st is refusal =
+    let needs = (st.boxes.each k).has.needs n refusal in
+    let same : needs.running ≡ r = some_same needs.running r (sym needs.is_running ∙ is) in
+    (ap (λ (x : Running). x.kind) (sym same) ∙ needs.configure, needs.supported)
 
 turn_own : (t : State) (refusal : Option ℕ) (ts : List Task) (e : Entry) → t.control.tasks ≡ ts → turn_on ts ≡ Some e → Own t refusal e
 turn_own t refusal [] e is made = absurd cc
-turn_own t refusal (x ∷ ts) e is made =
-    let same : entry.Turn ≡ e = cc in
-    subst (Own t refusal) same (record { legal = turn_legal t x ts is; nobody = refl; fits = tt })
-
-reclaim_own : (t : State) (refusal : Option ℕ) (moment : ℕ) (b : Bool) (e : Entry) → may_reclaim moment t.control ≡ b → cond b (Some (entry.Reclaim moment)) None ≡ Some e → Own t refusal e
-reclaim_own t refusal moment false e is made = absurd cc
-reclaim_own t refusal moment true e is made =
-    let same : entry.Reclaim moment ≡ e = cc in
-    subst (Own t refusal) same (record { legal = reclaim_legal t moment is; nobody = refl; fits = tt })
+turn_own t refusal (x ∷ ts) e is made = subst (Own t refusal) (some_same entry.Turn e made) (record { legal = turn_legal t x ts is; nobody = refl; fits = tt })
 
 item_own : (s : ScriptData) (media : List (List Chunk)) (made : List CoderId) (v : Course) (k : ℕ) (wants : Bool) (x : OrderItem) (e : Entry) → Stands s media made v → item_entry wants x (codec_at k v.codecs) ≡ Some e → Own (state_of (codec_at k v.codecs)) (codec_at k v.codecs).holding.refusal e
 item_own s media made v k wants (item.Caller c) e st is = absurd cc
-item_own s media made v k wants (item.Start n) e st is = start_own (state_of (codec_at k v.codecs)) (codec_at k v.codecs).holding.refusal (start_item (state_of (codec_at k v.codecs)).control) e refl is
-item_own s media made v k wants (item.Done n moment) e st is = done_own s media made v k wants moment (state_of (codec_at k v.codecs)).control.running e st refl is
+item_own s media made v k wants (item.Start n) e st is =
+    let d = codec_at k v.codecs in
+    let t = state_of d in
+    let found = mapped (λ (i : Item). entry.Start t.control.epoch i.number) (start_item t.control) e is in
+    subst (Own t d.holding.refusal) found.2 (record { legal = start_legal t found.0 found.1; nobody = refl; fits = tt })
+item_own s media made v k wants (item.Done n moment) e st is =
+    let d = codec_at k v.codecs in
+    let t = state_of d in
+    let found = mapped (end_of wants moment d.holding.refusal t.running_given) t.control.running e is in
+    let r = found.0 in
+    subst (Own t d.holding.refusal) found.2 (record {
+      legal = done_legal t r moment wants d.holding.refusal found.1 (refused_item s media made v k r d.holding.refusal st found.1 refl);
+      nobody = refl;
+      fits = end_says wants d.holding.refusal (answer_to r.kind t.running_given);
+    })
 item_own s media made v k wants (item.Turn n) e st is = turn_own (state_of (codec_at k v.codecs)) (codec_at k v.codecs).holding.refusal (state_of (codec_at k v.codecs)).control.tasks e refl is
-item_own s media made v k wants (item.Reclaim n moment) e st is = reclaim_own (state_of (codec_at k v.codecs)) (codec_at k v.codecs).holding.refusal moment (may_reclaim moment (state_of (codec_at k v.codecs)).control) e refl is
+item_own s media made v k wants (item.Reclaim n moment) e st is =
+    let d = codec_at k v.codecs in
+    let t = state_of d in
+    let found = cond_some (may_reclaim moment t.control) (entry.Reclaim moment) e is in
+    subst (Own t d.holding.refusal) found.1 (record { legal = reclaim_legal t moment found.0; nobody = refl; fits = tt })
 
 -- a codec that is not there has nothing to do
 none_past : (wants : Bool) (x : OrderItem) (o : Opening) → item_entry wants x (new_codec o) ≡ None
@@ -483,7 +414,7 @@ own_fits s media made v k wants x (Some e) st is =
     let own = item_own s media made v k wants x e st is in
     let after = legal_after e (state_of (codec_at k v.codecs)) own.legal in
     record {
-      codec = elim (below_or_past k (length v.codecs)) [
+      codec = elim (cases_lt k (length v.codecs)) [
         | inl lt ↦ lt
         | inr le ↦ absurd (let bad = sym (none_past wants x _) ∙ (rw (slice_get_past v.codecs k le) at is) in cc)
       ];

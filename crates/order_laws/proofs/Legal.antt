@@ -12,12 +12,12 @@ use Rattle.codec_model.specs.declared.entry.Item.{Item}
 use Rattle.codec_model.specs.declared.entry.Running.{Running}
 use Rattle.codec_model.specs.declared.entry.WorkKind.TheVariants as kind
 use Rattle.codec_model.specs.declared.entry.Task.{Task}
-use Rattle.codec_model.specs.declared.entry.Task.TheVariants as task
 use Rattle.codec_model.specs.declared.entry.Entry.{Entry}
 use Rattle.codec_model.specs.declared.entry.Entry.TheVariants as entry
 use Rattle.std.proofs.lemmas.Bool.{lt-ltb}
 use Rattle.codec_model.specs.Control.{may_start, front, start_item, may_reclaim}
 use Rattle.codec_model.specs.Replay.{State, step, opening_state, replay, answer_to, entry_of, start_step, done_step, done_ended, ended_of, IsLegal}
+use Rattle.codec_model.specs.StepLaws.{turn_made}
 use Rattle.codec_model.specs.Shown.{shown_at, each_shown, each_shown_from}
 use Rattle.codec_model.specs.ShownLaws.{each_append, each_more, each_length}
 use Rattle.codec_accounts.specs.Codec.{state_after}
@@ -28,7 +28,7 @@ use Rattle.trace_text.specs.Follow.{outcome_by, outcome_for}
 abbrev pub Steps : Entry → State → Type 0
 Steps e s = is_some (step e s) ≡ true
 
-some_is : {X : Type 0} (o : Option X) (d : X) → is_some o ≡ true → o ≡ Some (unwrap_or o d)
+pub some_is : {X : Type 0} (o : Option X) (d : X) → is_some o ≡ true → o ≡ Some (unwrap_or o d)
 some_is None d h = absurd cc
 some_is (Some x) d h = refl
 
@@ -68,13 +68,10 @@ start_legal s i h =
     let may = cond_is (may_start s.control) (front s.control.work) i h in
     start_on s.control.work i s may.0 may.1
 
+-- an end by the codec's definition
 answered : (r : Running) (s : State) (moment : ℕ) (a : Option (List media.Unit)) → answer_to r.kind s.running_given ≡ a → is_some (done_ended r (ended_of r.kind s.running_given (outcome_by a)) moment s) ≡ true
 answered r s moment None e = rw e refl
 answered r s moment (Some us) e = rw (e, eq-eqb (length us) (length us) refl) refl
-
--- an end by the codec's definition
-answer_legal : (r : Running) (s : State) (moment : ℕ) → is_some (done_ended r (ended_of r.kind s.running_given (outcome_by (answer_to r.kind s.running_given))) moment s) ≡ true
-answer_legal r s moment = answered r s moment (answer_to r.kind s.running_given) refl
 
 -- what is known of the running item where its end says that it was refused a box
 abbrev pub MayBeRefused : Running → State → Option ℕ → Type 0
@@ -83,7 +80,7 @@ MayBeRefused r s (Some e) = (r.kind ≡ kind.Configure) × (is_supported s.runni
 
 outcome_legal : (r : Running) (s : State) (moment : ℕ) (wants : Bool) (refusal : Option ℕ) → MayBeRefused r s refusal → is_some (done_ended r (ended_of r.kind s.running_given (outcome_for wants refusal (answer_to r.kind s.running_given))) moment s) ≡ true
 outcome_legal r s moment true refusal may = refl
-outcome_legal r s moment false None may = answer_legal r s moment
+outcome_legal r s moment false None may = answered r s moment (answer_to r.kind s.running_given) refl
 outcome_legal r s moment false (Some e) may = rw (may.0, may.1) refl
 
 pub done_legal : (s : State) (r : Running) (moment : ℕ) (wants : Bool) (refusal : Option ℕ) → s.control.running ≡ Some r → MayBeRefused r s refusal → Steps (entry.Done r.epoch r.number moment (outcome_for wants refusal (answer_to r.kind s.running_given))) s
@@ -92,8 +89,7 @@ done_legal s r moment wants refusal h may =
     (rw (eq-eqb r.epoch r.epoch refl, eq-eqb r.number r.number refl) (outcome_legal r s moment wants refusal may))
 
 pub turn_legal : (s : State) (x : Task) (ts : List Task) → s.control.tasks ≡ x ∷ ts → Steps entry.Turn s
-turn_legal s task.Dequeue ts h = rw h refl
-turn_legal s x ts h = rw h refl
+turn_legal s x ts h = ap is_some (turn_made x ts s h)
 
 pub reclaim_legal : (s : State) (moment : ℕ) → may_reclaim moment s.control ≡ true → Steps (entry.Reclaim moment) s
 reclaim_legal s moment h = rw h refl

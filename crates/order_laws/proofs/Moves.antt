@@ -6,7 +6,6 @@ use Rattle.std.proofs.lemmas.Bool.{cases_eq, ne_eqb}
 use Rattle.std.proofs.lemmas.List.{map-append, length-map}
 use Rattle.std.proofs.lemmas.Option.{slice_get_within}
 use Rattle.wc_base.specs.Options.{some_same}
-use Rattle.wc_base.specs.declared.who.By.TheVariants as by
 use Rattle.codec_model.specs.Held.{HeldStays}
 use Rattle.wc_pool.specs.Laws.{LiveAreNumbered}
 use Rattle.wc_base.specs.declared.error.DomError.{DomError}
@@ -21,29 +20,29 @@ use Rattle.codec_model.specs.declared.entry.Entry.TheVariants as entry
 use Rattle.codec_model.specs.Replay.{State, step as entry_step}
 use Rattle.codec_model.specs.Shown.{shows}
 use Rattle.codec_accounts.specs.Owed.{at, append_at}
-use Rattle.codec_accounts.specs.ListLaws.{append_at_length, at_same, at_other, get_end, result_kept, result_new, result_more, there}
+use Rattle.codec_accounts.specs.ListLaws.{append_at_length, at_same, at_other, get_end, result_kept, result_new, result_more}
 use Rattle.codec_accounts.specs.Calls.{who_of, Mark, reach, named_at, named, call_in, all_calls, Climbs}
 use Rattle.codec_accounts.specs.Calls as mark
 use Rattle.codec_accounts.specs.CallsLaws.{names_call, named_more, calls_in_more, climbs_on, climbs_add, MayClimb}
 use Rattle.codec_accounts.specs.Codec.{CodecValue, state_after, state_of, codec_at, histories}
-use Rattle.codec_accounts.specs.AccountLaws.{Accounted, EntryFits, accounted_more, history_at, histories_count}
+use Rattle.codec_accounts.specs.AccountLaws.{Accounted, EntryFits, accounted_more, history_at}
 use Rattle.script_types.specs.declared.script.ScriptData.{ScriptData}
 use Rattle.script_types.specs.declared.steps.Step.{Step}
 use Rattle.script_types.specs.declared.steps.Step.TheVariants as step
 use Rattle.report_text.specs.declared.result.StepResult.{StepResult}
 use Rattle.report_text.specs.declared.result.StepResult.TheVariants as result
 use Rattle.trace_text.specs.Report.{refusal_in}
-use Rattle.media_variables.specs.Variables.{Medium, Media, Came, Brought, media_came, variables_of, after_came}
-use Rattle.media_accounts.specs.Accounts.{pool_by, media_of, came_in, OneMore, IsQuiet, MediaStand, StepStands, NothingStands, StepsStand, OthersStand, LaterStand, LaterStands, EntryStands, EntriesStand}
+use Rattle.media_variables.specs.Variables.{Medium, Media, Came, Brought, media_came, unit_came, variables_of}
+use Rattle.media_accounts.specs.Accounts.{media_of, OneMore, IsQuiet, MediaStand, StepStands, NothingStands, StepsStand, OthersStand, LaterStand, LaterStands, EntryStands, EntriesStand}
 use Rattle.script_types.specs.declared.steps.MediaStep.{MediaStep}
 use Rattle.script_types.specs.declared.steps.MediaStep.TheVariants as on_media
 use Rattle.script_types.specs.declared.steps.VariableKind.{VariableKind}
 use Rattle.trace_text.specs.Follow.{Recorded, Course, record_of, opening_at, steps_of, copied_chunk, output_at, with_result, with_entry, Move, Idle, Answer, Advance, Ask, Handle, Receive, after_move}
-use Rattle.trace_text.specs.Fits.{result_in, entry_in, step_in, called, taken_from, exception_at, mark_of, marks_of, taken_by, brought_to, made_steps, came_at, variables_at, IsAnswerOf, IsResultBy, LookShows, IsLocalAnswer, IsMediaAnswer, HasArguments, ArgumentsAreIn, MarksClimb}
+use Rattle.trace_text.specs.Fits.{result_in, entry_in, step_in, called, taken_from, exception_at, mark_of, marks_of, taken_by, brought_to, made_steps, came_at, variables_at, LookShows, IsLocalAnswer, HasArguments, ArgumentsAreIn, MarksClimb}
 use Rattle.order_laws.proofs.Legal.{shown_last}
-use Rattle.order_laws.proofs.Entries.{codec_count, opened_still, call_fits, history_there, entries_new, longer_history, made_stays, same_history, this_history, lending_of, OneEntry, MayAddAll, entry_more, nobody_adds}
+use Rattle.order_laws.proofs.Entries.{codec_count, opened_still, call_fits, history_there, entries_new, longer_history, made_stays, same_history, this_history, lending_of, MayAddAll, entry_more, nobody_adds}
 use Rattle.order_laws.proofs.Grown.{Legals, Grows, SameMedia, variables_stay, ResultFits, taken_as, brought, output_stays, brought_stays, result_stays}
-use Rattle.order_laws.proofs.Answers.{IsOwn, own_facts, own_shows, media_own, takes_none, media_answers}
+use Rattle.order_laws.proofs.Answers.{IsOwn, own_facts, media_own}
 
 -- the laws of media
 pub record MediaLaws : Type 0 where
@@ -59,7 +58,7 @@ pub record MediaLaws : Type 0 where
 pub record Stands (s : ScriptData) (media : List (List Chunk)) (made : List CoderId) (v : Course) : Type 0 where
   pub callers : length v.callers ≡ length s.callers
   pub count : length v.codecs ≡ length s.codecs
-  pub opened : (k : ℕ) → k < length v.codecs → (codec_at k v.codecs).opening ≡ opening_at s k
+  pub opened : (k : ℕ) → (codec_at k v.codecs).opening ≡ opening_at s k
   pub same_made : v.slots.made ≡ made
   pub boxes : Accounted v.codecs v.slots
   pub results : (c j : ℕ) (r : StepResult) → result_in (record_of v) c j ≡ Some r → ResultFits s media (record_of v) c j r
@@ -70,13 +69,7 @@ pub record Stands (s : ScriptData) (media : List (List Chunk)) (made : List Code
 
 -- a codec's history, as the script opened it
 pub legals : (s : ScriptData) (media : List (List Chunk)) (made : List CoderId) (v : Course) → Stands s media made v → Legals s (record_of v)
-legals s media made v st k = elim (there k (histories v.codecs)) [
-  | inr none ↦ rw none refl
-  | inl lt ↦ (
-      let below : k < length v.codecs = (let c = histories_count v.codecs in omega (arith, lt, c)) in
-      rw (history_at k v.codecs, sym (st.opened k below)) (ap is_some (st.boxes.each k).replays)
-      )
-]
+legals s media made v st k = rw (history_at k v.codecs, sym (st.opened k)) (ap is_some (st.boxes.each k).replays)
 
 -- ---- results and marks
 
@@ -106,12 +99,19 @@ take_result v k n = result.Unit k (next_place v k) n
 abbrev pub SameBefore : ScriptData → List (List Chunk) → Course → Recorded → ℕ → Type 0
 SameBefore s media v w c = variables_at s media w c (length (at c v.callers)) ≡ variables_of c v.media.variables
 
+-- a result that is no call of any codec, and no look beyond what there is
+pub record Apart (v : Course) (r : StepResult) : Type 0 where
+  pub climbs : (k : ℕ) → MayClimb (reach k (mark_of r)) (length (at k (histories v.codecs))) (length (at k (histories v.codecs)))
+  pub no_call : (k : ℕ) (who : Who) → call_in k who (mark_of r) ≡ []
+
+pub local_apart : (v : Course) (r : StepResult) → IsOwn r → Apart v r
+local_apart v r own = record { climbs = λ k. rw own (omega arith); no_call = λ k who. ap (call_in k who) own }
+
 -- a result without an entry: the script's step that it answers, and what it shows
 pub record AnswerFits (s : ScriptData) (media : List (List Chunk)) (v : Course) (c : ℕ) (r : StepResult) : Type 0 where
   pub caller : c < length v.callers
   pub fits : SameBefore s media v (record_of (with_result c r v)) c → ResultFits s media (record_of (with_result c r v)) c (length (at c v.callers)) r
-  pub climbs : (k : ℕ) → MayClimb (reach k (mark_of r)) (length (at k (histories v.codecs))) (length (at k (histories v.codecs)))
-  pub no_call : (k : ℕ) (who : Who) → call_in k who (mark_of r) ≡ []
+  pub apart : Apart v r
   pub quiet : IsQuiet (steps_of s) (brought_to s media (record_of (with_result c r v))) c (length (at c v.callers))
 
 -- an entry of no caller
@@ -137,44 +137,41 @@ pub record AskFits (s : ScriptData) (media : List (List Chunk)) (v : Course) (c 
   pub shown : error ≡ refusal_in (shows e (state_of (codec_at k v.codecs)))
 
 -- what the next step of a caller, one on media, comes to
-pub record HandleFits (s : ScriptData) (media : List (List Chunk)) (v : Course) (who : Who) (y : Came) : Type 0 where
-  pub next : who ≡ next_who v who.caller
-  pub caller : who.caller < length v.callers
+pub record HandleFits (s : ScriptData) (media : List (List Chunk)) (v : Course) (c : ℕ) (y : Came) : Type 0 where
+  pub caller : c < length v.callers
   pub handled : MediaStep
-  pub is_step : step_in s who.caller (length (at who.caller v.callers)) ≡ Some (step.Media handled)
-  pub comes : media_came v.media.pool (next_who v who.caller) (brought (copied_chunk media (steps_of s who.caller) handled) None) handled (variables_of who.caller v.media.variables) ≡ Some y
+  pub is_step : step_in s c (length (at c v.callers)) ≡ Some (step.Media handled)
+  pub comes : media_came v.media.pool (next_who v c) (brought (copied_chunk media (steps_of s c) handled) None) handled (variables_of c v.media.variables) ≡ Some y
 
--- a take of an output that was shown: the caller's next step, its entry, and what it comes to
-pub record ReceiveFits (s : ScriptData) (media : List (List Chunk)) (v : Course) (who : Who) (k : ℕ) (e : Entry) (y : Came) : Type 0 where
-  pub next : who ≡ next_who v who.caller
-  pub caller : who.caller < length v.callers
+-- a take of the output with this number, which was shown: the caller's next step, and what it comes to
+pub record ReceiveFits (s : ScriptData) (media : List (List Chunk)) (v : Course) (c k n : ℕ) (y : Came) : Type 0 where
+  pub caller : c < length v.callers
   pub codec : k < length v.codecs
   pub bind : List ℕ
   pub holds : VariableKind
-  pub is_step : step_in s who.caller (length (at who.caller v.callers)) ≡ Some (step.Media (on_media.Take k bind holds))
-  pub number : ℕ
-  pub takes : e ≡ entry.Take who number
+  pub is_step : step_in s c (length (at c v.callers)) ≡ Some (step.Media (on_media.Take k bind holds))
   pub after : State
-  pub steps : entry_step e (state_of (codec_at k v.codecs)) ≡ Some after
+  pub steps : entry_step (entry.Take (next_who v c) n) (state_of (codec_at k v.codecs)) ≡ Some after
   pub unit : output.Unit
-  pub there : output_at (opening_at s k) (at k (histories v.codecs)) number ≡ Some unit
-  pub comes : media_came v.media.pool who (brought None (Some (taken_as (take_result v k number) unit))) (on_media.Take k bind holds) (variables_of who.caller v.media.variables) ≡ Some y
+  pub there : output_at (opening_at s k) (at k (histories v.codecs)) n ≡ Some unit
+  pub comes : media_came v.media.pool (next_who v c) (brought None (Some (taken_as (take_result v k n) unit))) (on_media.Take k bind holds) (variables_of c v.media.variables) ≡ Some y
 
 abbrev pub MoveFits : ScriptData → List (List Chunk) → Course → Move → Type 0
 MoveFits s media v Idle = Unit {0}
 MoveFits s media v (Answer c r) = AnswerFits s media v c r
 MoveFits s media v (Advance k e) = AdvanceFits v k e
 MoveFits s media v (Ask c k e error) = AskFits s media v c k e error
-MoveFits s media v (Handle who y) = HandleFits s media v who y
-MoveFits s media v (Receive who k e y) = ReceiveFits s media v who k e y
+MoveFits s media v (Handle who y) = (who ≡ next_who v who.caller) × HandleFits s media v who.caller y
+MoveFits s media v (Receive who k e y) = (n : ℕ) × (e ≡ entry.Take who n) × (who ≡ next_who v who.caller) × ReceiveFits s media v who.caller k n y
 
 -- ---- what grows
 
-answer_grows : (v : Course) (c : ℕ) (r : StepResult) → Grows (record_of v) (record_of (with_result c r v))
-answer_grows v c r = record {
-  stays = λ b j q h. result_kept b c j r q v.callers h;
-  more = λ k. ([], sym (append-nil (at k (histories v.codecs))));
-}
+-- one result more, with these media
+abbrev told_by : ℕ → StepResult → Media → Course → Course
+told_by c r m v = record (with_result c r v) { media = m }
+
+result_grows : (v : Course) (c : ℕ) (r : StepResult) (m : Media) → Grows (record_of v) (record_of (told_by c r m v))
+result_grows v c r m = record { stays = λ b j q h. result_kept b c j r q v.callers h; more = λ k. ([], sym (append-nil (at k (histories v.codecs)))) }
 
 advance_grows : (v : Course) (k : ℕ) (e : Entry) → Grows (record_of v) (record_of (with_entry k e v))
 advance_grows v k e = record { stays = λ b j q h. h; more = λ n. longer_history v k n e }
@@ -183,8 +180,8 @@ abbrev call_result : Course → ℕ → Option DomError → StepResult
 call_result v k error = result.Call k (next_place v k) error
 
 -- one entry more, and the result of its caller
-both_grow : (v : Course) (c k : ℕ) (e : Entry) (r : StepResult) → Grows (record_of v) (record_of (with_result c r (with_entry k e v)))
-both_grow v c k e r = record { stays = λ b j q h. result_kept b c j r q v.callers h; more = λ n. longer_history v k n e }
+both_grow : (v : Course) (c k : ℕ) (e : Entry) (r : StepResult) (m : Media) → Grows (record_of v) (record_of (told_by c r m (with_entry k e v)))
+both_grow v c k e r m = record { stays = λ b j q h. result_kept b c j r q v.callers h; more = λ n. longer_history v k n e }
 
 -- the results of a course that goes on by one result
 results_more : (s : ScriptData) (media : List (List Chunk)) (made : List CoderId) (v u : Course) (c : ℕ) (r : StepResult) → Stands s media made v → Grows (record_of v) (record_of u) → SameMedia s media (record_of v) (record_of u) → u.callers ≡ append_at c r v.callers → ResultFits s media (record_of u) c (length (at c v.callers)) r
@@ -244,84 +241,71 @@ call_quiet s brought c j k (step.Media x) is h = absurd cc
 call_quiet s brought c j k x is h = none_quiet s brought c j (ap (option_and_then media_of) is)
 
 -- all media stand after one entry more of a codec, whose course goes on to u
-entry_stands : MediaLaws → (s : ScriptData) (media : List (List Chunk)) (made : List CoderId) (v u : Course) (k : ℕ) (e : Entry) (t : State) → Stands s media made v → OneEntry s v k e t → MayAddAll v.media.pool e
+entry_stands : MediaLaws → (s : ScriptData) (media : List (List Chunk)) (made : List CoderId) (v u : Course) (k : ℕ) (e : Entry) (t : State) → Stands s media made v → k < length v.codecs → entry_step e (state_of (codec_at k v.codecs)) ≡ Some t → MayAddAll v.media.pool e
     → LaterStands (steps_of s) (brought_to s media (record_of v)) (brought_to s media (record_of u)) (lending_of s v.codecs) (made_steps (record_of v)) (length s.callers) v.media
     → EntryStands (steps_of s) (brought_to s media (record_of u)) (lending_of s (with_entry k e v).codecs) (made_steps (record_of v)) (length s.callers) k (next_place v k) e (state_of (codec_at k v.codecs)) v.media
-entry_stands laws s media made v u k e t st one may later =
+entry_stands laws s media made v u k e t st lt steps may later =
     laws.codecs (steps_of s) (brought_to s media (record_of u)) (lending_of s v.codecs) (lending_of s (with_entry k e v).codecs) (made_steps (record_of v)) (length s.callers) k (next_place v k) e (state_of (codec_at k v.codecs)) v.media
-    later.stands (entry_more laws.held s v k e t one may)
-
--- what the steps that were made came to is told as before
-entry_told : (s : ScriptData) (media : List (List Chunk)) (v u : Course) (k : ℕ) (e : Entry)
-    → LaterStands (steps_of s) (brought_to s media (record_of v)) (brought_to s media (record_of u)) (lending_of s v.codecs) (made_steps (record_of v)) (length s.callers) v.media
-    → EntryStands (steps_of s) (brought_to s media (record_of u)) (lending_of s (with_entry k e v).codecs) (made_steps (record_of v)) (length s.callers) k (next_place v k) e (state_of (codec_at k v.codecs)) v.media
-    → u.media.pool ≡ (with_entry k e v).media.pool → SameMedia s media (record_of v) (record_of u)
-entry_told s media v u k e later stands pool c j lt =
-    ap (λ (p : List PoolEntry). came_in (steps_of s) (brought_to s media (record_of u)) p c j) pool ∙ (stands.same c j ∙ later.same c j lt)
+    later.stands (entry_more laws.held s v k e t lt (st.opened k) (st.boxes.each k).replays steps may)
 
 -- the variables of a caller before its next step are those of the course
 same_before : (s : ScriptData) (media : List (List Chunk)) (made : List CoderId) (v u : Course) (c : ℕ) → Stands s media made v → SameMedia s media (record_of v) (record_of u) → SameBefore s media v (record_of u) c
 same_before s media made v u c st told =
     variables_stay s media (record_of v) (record_of u) c (length (at c v.callers)) told (omega arith) ∙ sym (st.stand.variables c)
 
--- an entry of a caller is of a step that was made
-named_within : (s : ScriptData) (media : List (List Chunk)) (made : List CoderId) (v : Course) (k p : ℕ) (e : Entry) (who : Who) → Stands s media made v → entry_in (record_of v) k p ≡ Some e → who_of e ≡ Some who → who.step < made_steps (record_of v) who.caller
-named_within s media made v k p e who st is names =
-    let marks = marks_of (record_of v) in
-    let there = names_call k (at k (histories v.codecs)) marks p e who (st.once k) is names in
-    let lt : who.step < length (at who.caller marks) = slice_get_within (at who.caller marks) who.step (mark.Call k p) there in
-    let long = marks_long who.caller v.callers in
-    omega (arith, lt, long)
-
--- an entry has what its step gives still
+-- an entry has what its step gives still; its caller made that step
 arguments_stay : (s : ScriptData) (media : List (List Chunk)) (made : List CoderId) (v u : Course) (k p : ℕ) (e : Entry) (who : Who) → Stands s media made v → SameMedia s media (record_of v) (record_of u) → entry_in (record_of v) k p ≡ Some e → who_of e ≡ Some who
     → (x : Step) × (step_in s who.caller who.step ≡ Some x) × HasArguments s media (variables_at s media (record_of u) who.caller who.step) who e x
 arguments_stay s media made v u k p e who st told is names =
     let had = st.arguments k p e who is names in
-    let lt = named_within s media made v k p e who st is names in (
-      had.0,
-      had.1,
-      subst (λ (vs : List (Option Medium)). HasArguments s media vs who e had.0) (sym (variables_stay s media (record_of v) (record_of u) who.caller who.step told (omega (arith, lt)))) had.2,
-    )
+    let marks = marks_of (record_of v) in
+    let there = names_call k (at k (histories v.codecs)) marks p e who (st.once k) is names in
+    let lt : who.step < length (at who.caller marks) = slice_get_within (at who.caller marks) who.step (mark.Call k p) there in
+    let long = marks_long who.caller v.callers in
+    (had.0, had.1, rw (variables_stay s media (record_of v) (record_of u) who.caller who.step told (omega (arith, lt, long))) had.2)
 
 -- ---- each kind of move
 
+-- what stands after a result without an entry, with these media
+result_stands : (s : ScriptData) (media : List (List Chunk)) (made : List CoderId) (v : Course) (c : ℕ) (r : StepResult) (m : Media) → Stands s media made v → c < length v.callers → Apart v r
+    → SameMedia s media (record_of v) (record_of (told_by c r m v)) → ResultFits s media (record_of (told_by c r m v)) c (length (at c v.callers)) r
+    → MediaStand (steps_of s) (brought_to s media (record_of (told_by c r m v))) (lending_of s v.codecs) (made_steps (record_of (told_by c r m v))) (length s.callers) m → Stands s media made (told_by c r m v)
+result_stands s media made v c r m st lt apart told fits stand = record {
+  callers = append_at_length c r v.callers ∙ st.callers;
+  count = st.count;
+  opened = st.opened;
+  same_made = st.same_made;
+  boxes = st.boxes;
+  results = results_more s media made v (told_by c r m v) c r st (result_grows v c r m) told refl fits;
+  arguments = λ k p e who is names. arguments_stay s media made v (told_by c r m v) k p e who st told is names;
+  once = λ k. calls_once v (told_by c r m v) c k r [] (st.once k) refl lt (sym (append-nil (at k (histories v.codecs))))
+      (rw (append-nil (at k (histories v.codecs)), apart.no_call k (next_who v c), append-nil (named (at k (histories v.codecs)))) refl);
+  climbs = marks_climb v (told_by c r m v) c r st.climbs refl lt (λ k. omega arith) apart.climbs;
+  stand = stand;
+}
+
 answer_stands : MediaLaws → (s : ScriptData) (media : List (List Chunk)) (made : List CoderId) (v : Course) (c : ℕ) (r : StepResult) → Stands s media made v → AnswerFits s media v c r → Stands s media made (with_result c r v)
 answer_stands laws s media made v c r st a =
-    let later = later_stands laws s media made v (with_result c r v) st (answer_grows v c r) in
-    record {
-      callers = append_at_length c r v.callers ∙ st.callers;
-      count = st.count;
-      opened = st.opened;
-      same_made = st.same_made;
-      boxes = st.boxes;
-      results = results_more s media made v (with_result c r v) c r st (answer_grows v c r) later.same refl (a.fits (same_before s media made v (with_result c r v) c st later.same));
-      arguments = λ k p e who is names. arguments_stay s media made v (with_result c r v) k p e who st later.same is names;
-      once = λ k. calls_once v (with_result c r v) c k r [] (st.once k) refl a.caller (sym (append-nil (at k (histories v.codecs))))
-          (ap named (append-nil (at k (histories v.codecs))) ∙ sym (ap (λ l. named (at k (histories v.codecs)) ++ l) (a.no_call k (next_who v c)) ∙ append-nil (named (at k (histories v.codecs)))));
-      climbs = marks_climb v (with_result c r v) c r st.climbs refl a.caller (λ k. omega arith) a.climbs;
-      stand = laws.others (steps_of s) (brought_to s media (record_of (with_result c r v))) (lending_of s v.codecs) (made_steps (record_of v)) (made_steps (record_of (with_result c r v))) (length s.callers) v.media c later.stands (one_more v (with_result c r v) c r refl a.caller) a.quiet;
-    }
+    let u = with_result c r v in
+    let later = later_stands laws s media made v u st (result_grows v c r v.media) in
+    result_stands s media made v c r v.media st a.caller a.apart later.same (a.fits (same_before s media made v u c st later.same))
+    (laws.others (steps_of s) (brought_to s media (record_of u)) (lending_of s v.codecs) (made_steps (record_of v)) (made_steps (record_of u)) (length s.callers) v.media c later.stands (one_more v u c r refl a.caller) a.quiet)
 
 up_to : (v : Course) (k n : ℕ) (e : Entry) → length (at n (histories v.codecs)) ≤ length (at n (histories (with_entry k e v).codecs))
 up_to v k n e = let m = longer_history v k n e in let l = ap length m.1 in let a = length-append (at n (histories v.codecs)) m.0 in omega (arith, l, a)
-
--- the codec's next entry
-one_entry : (s : ScriptData) (media : List (List Chunk)) (made : List CoderId) (v : Course) (k : ℕ) (e : Entry) (t : State) → Stands s media made v → k < length v.codecs → entry_step e (state_of (codec_at k v.codecs)) ≡ Some t → OneEntry s v k e t
-one_entry s media made v k e t st lt steps = record { codec = lt; opened = st.opened k lt; replays = (st.boxes.each k).replays; steps = steps }
 
 advance_stands : MediaLaws → (s : ScriptData) (media : List (List Chunk)) (made : List CoderId) (v : Course) (k : ℕ) (e : Entry) → Stands s media made v → AdvanceFits v k e → Stands s media made (with_entry k e v)
 advance_stands laws s media made v k e st a =
     let u = with_entry k e v in
     let later = later_stands laws s media made v u st (advance_grows v k e) in
-    let stands = entry_stands laws s media made v u k e a.after st (one_entry s media made v k e a.after st a.codec a.steps) (nobody_adds v.media.pool e a.nobody) later in
-    let told = entry_told s media v u k e later stands refl in
+    let stands = entry_stands laws s media made v u k e a.after st a.codec a.steps (nobody_adds v.media.pool e a.nobody) later in
+    let told : SameMedia s media (record_of v) (record_of u) = λ d j lt. stands.same d j ∙ later.same d j lt in
     let here = at k (histories v.codecs) in
     let still : named (here ++ e ∷ []) ≡ named here = rw (named_more here e, a.nobody, append-nil (named here)) refl in
     record {
       callers = st.callers;
       count = codec_count v k e ∙ st.count;
-      opened = λ j lt. opened_still s v k e st.opened j (let c = codec_count v k e in omega (arith, lt, c));
+      opened = opened_still s v k e a.codec st.opened;
       same_made = made_stays v k e ∙ st.same_made;
       boxes = accounted_more v.codecs v.slots k e a.after st.boxes a.codec a.steps a.fits;
       results = λ b j q is. result_stays s media (record_of v) (record_of u) (legals s media made v st) st.climbs (advance_grows v k e) told b j q is (st.results b j q is);
@@ -352,13 +336,8 @@ entry_arguments s media made v u c k e r x st told a is_step has codecs n q f wh
     elim (entries_new v k q n e f (ap (λ (ds : List CodecValue). slice_get (at n (histories ds)) q) (sym codecs) ∙ is)) [
       | inl was ↦ arguments_stay s media made v u n q f who st told was names
       | inr new ↦ (
-          let same : next_who v c ≡ who = some_same (next_who v c) who (sym a.names ∙ (ap who_of (sym new.value) ∙ names)) in
-          let here : HasArguments s media (variables_at s media (record_of u) c (length (at c v.callers))) (next_who v c) e x =
-          subst (λ (vs : List (Option Medium)). HasArguments s media vs (next_who v c) e x) (sym (same_before s media made v u c st told)) has in (
-            x,
-            subst (λ (w : Who). step_in s w.caller w.step ≡ Some x) same is_step,
-            subst (λ (g : Entry). HasArguments s media (variables_at s media (record_of u) who.caller who.step) who g x) (sym new.value) (subst (λ (w : Who). HasArguments s media (variables_at s media (record_of u) w.caller w.step) w e x) same here),
-          )
+          let same : who ≡ next_who v c = some_same who (next_who v c) (sym names ∙ (ap who_of new.value ∙ a.names)) in
+          rw (same, new.value) (x, is_step, rw (same_before s media made v u c st told) has)
           )
     ]
 
@@ -376,16 +355,32 @@ entry_once v c k e r once a n =
 
 entry_climbs : (v : Course) (c k : ℕ) (e : Entry) (r : StepResult) → MarksClimb (record_of v) → IsNextEntry v c k e r → MarksClimb (record_of (with_result c r (with_entry k e v)))
 entry_climbs v c k e r climbs a =
-    marks_climb v (with_result c r (with_entry k e v)) c r climbs refl a.caller (λ n. up_to v k n e) (λ n. rw a.marks (may n))
-  where
-    may : (n : ℕ) → MayClimb (reach n (mark.Call k (next_place v k))) (length (at n (histories v.codecs))) (length (at n (histories (with_entry k e v).codecs)))
-    may n =
-        let p = next_place v k in
-        let long : length (at k (histories v.codecs)) ≡ p = history_there v k in
-        elim (cases_eq n k) [
-          | inr other ↦ rw (ne_eqb k n (λ h. other (sym h))) (up_to v k n e)
-          | inl same ↦ rw (same, eq-eqb k k refl) (omega (arith, long), (let l = ap length (this_history v k e a.codec) in let q = length-append (at k (histories v.codecs)) (e ∷ []) in omega (arith, long, l, q)))
-        ]
+    let p = next_place v k in
+    let long : length (at k (histories v.codecs)) ≡ p = history_there v k in
+    marks_climb v (with_result c r (with_entry k e v)) c r climbs refl a.caller (λ n. up_to v k n e) (λ n. rw a.marks (elim (cases_eq n k) [
+      | inr other ↦ rw (ne_eqb k n (λ h. other (sym h))) (up_to v k n e)
+      | inl same ↦ rw (same, eq-eqb k k refl) (omega (arith, long), (let l = ap length (this_history v k e a.codec) in let q = length-append (at k (histories v.codecs)) (e ∷ []) in omega (arith, long, l, q)))
+    ]))
+
+-- what stands after an entry of a caller and its result, with these media
+entered_stands : (s : ScriptData) (media : List (List Chunk)) (made : List CoderId) (v : Course) (c k : ℕ) (e : Entry) (r : StepResult) (m : Media) (t : State) (x : Step) → Stands s media made v → IsNextEntry v c k e r → entry_step e (state_of (codec_at k v.codecs)) ≡ Some t
+    → step_in s c (length (at c v.callers)) ≡ Some x → HasArguments s media (variables_of c v.media.variables) (next_who v c) e x → SameMedia s media (record_of v) (record_of (told_by c r m (with_entry k e v)))
+    → ResultFits s media (record_of (told_by c r m (with_entry k e v))) c (length (at c v.callers)) r
+    → MediaStand (steps_of s) (brought_to s media (record_of (told_by c r m (with_entry k e v)))) (lending_of s (with_entry k e v).codecs) (made_steps (record_of (told_by c r m (with_entry k e v)))) (length s.callers) m → Stands s media made (told_by c r m (with_entry k e v))
+entered_stands s media made v c k e r m t x st next steps is_step has told fits stand =
+    let u = told_by c r m (with_entry k e v) in
+    record {
+      callers = append_at_length c r v.callers ∙ st.callers;
+      count = codec_count v k e ∙ st.count;
+      opened = opened_still s v k e next.codec st.opened;
+      same_made = made_stays v k e ∙ st.same_made;
+      boxes = accounted_more v.codecs v.slots k e t st.boxes next.codec steps (call_fits e (next_who v c) (codec_at k v.codecs).holding.refusal next.names);
+      results = results_more s media made v u c r st (both_grow v c k e r m) told refl fits;
+      arguments = entry_arguments s media made v u c k e r x st told next is_step has refl;
+      once = entry_once v c k e r st.once next;
+      climbs = entry_climbs v c k e r st.climbs next;
+      stand = stand;
+    }
 
 -- ---- calls
 
@@ -397,14 +392,13 @@ call_there s media made v c k e error st a =
     let h = at k (histories v.codecs) in
     let p = next_place v k in
     let legal = legals s media made v st k in
-    let state : state_after (opening_at s k) h ≡ state_of (codec_at k v.codecs) = rw (history_at k v.codecs, st.opened k a.codec) refl in
+    let state : state_after (opening_at s k) h ≡ state_of (codec_at k v.codecs) = rw (history_at k v.codecs, st.opened k) refl in
     let shown : error ≡ exception_at (opening_at s k) (at k (histories u.codecs)) p = rw (this_history v k e a.codec, sym (history_there v k), shown_last (opening_at s k) h e legal, state) a.shown in
     let none = no_look s media (record_of u) c k p a.step error a.calls in
     record {
       step = a.step;
       is_step = a.is_step;
-      made = subst (λ (t : Option ℕ). IsResultBy s (record_of u) (next_who v c) t (called a.step) (call_result v k error)) (sym none.0)
-          (subst (λ (o : Option ℕ). IsAnswerOf s (record_of u) o (call_result v k error)) (sym a.calls) (refl, shown));
+      made = rw (none.0, a.calls) (refl, shown);
       found = tt;
       shows = none.1;
       answers = none.2 (variables_at s media (record_of u) c (length (at c v.callers))) (came_at s media (record_of u) c (length (at c v.callers)));
@@ -424,158 +418,64 @@ ask_stands : MediaLaws → (s : ScriptData) (media : List (List Chunk)) (made : 
 ask_stands laws s media made v c k e error st a =
     let u = after_move (Ask c k e error) v in
     let r = call_result v k error in
-    let next : IsNextEntry v c k e r = record { caller = a.caller; codec = a.codec; names = a.names; marks = refl } in
-    let later = later_stands laws s media made v u st (both_grow v c k e r) in
-    let stands = entry_stands laws s media made v u k e a.after st (one_entry s media made v k e a.after st a.codec a.steps) a.adds later in
-    let told = entry_told s media v u k e later stands refl in
-    record {
-      callers = append_at_length c r v.callers ∙ st.callers;
-      count = codec_count v k e ∙ st.count;
-      opened = λ j lt. opened_still s v k e st.opened j (let n = codec_count v k e in omega (arith, lt, n));
-      same_made = made_stays v k e ∙ st.same_made;
-      boxes = accounted_more v.codecs v.slots k e a.after st.boxes a.codec a.steps (call_fits e (next_who v c) (codec_at k v.codecs).holding.refusal a.names);
-      results = results_more s media made v u c r st (both_grow v c k e r) told refl (call_there s media made v c k e error st a);
-      arguments = entry_arguments s media made v u c k e r a.step st told next a.is_step a.arguments refl;
-      once = entry_once v c k e r st.once next;
-      climbs = entry_climbs v c k e r st.climbs next;
-      stand = laws.others (steps_of s) (brought_to s media (record_of u)) (lending_of s u.codecs) (made_steps (record_of v)) (made_steps (record_of u)) (length s.callers) u.media c stands.stands (one_more v u c r refl a.caller)
-          (call_quiet s (brought_to s media (record_of u)) c (length (at c v.callers)) k a.step a.is_step a.calls);
-    }
+    let later = later_stands laws s media made v u st (both_grow v c k e r u.media) in
+    let stands = entry_stands laws s media made v u k e a.after st a.codec a.steps a.adds later in
+    entered_stands s media made v c k e r u.media a.after a.step st (record { caller = a.caller; codec = a.codec; names = a.names; marks = refl }) a.steps a.is_step a.arguments (λ d j lt. stands.same d j ∙ later.same d j lt) (call_there s media made v c k e error st a)
+    (laws.others (steps_of s) (brought_to s media (record_of u)) (lending_of s u.codecs) (made_steps (record_of v)) (made_steps (record_of u)) (length s.callers) u.media c stands.stands (one_more v u c r refl a.caller)
+    (call_quiet s (brought_to s media (record_of u)) c (length (at c v.callers)) k a.step a.is_step a.calls))
 
 -- ---- steps on media
 
--- what all earlier steps came to is told as before
-still_told : (s : ScriptData) (media : List (List Chunk)) (v u : Course) (c : ℕ) (y : Came) (m : Media)
-    → ((d j : ℕ) → j < made_steps (record_of v) d → came_in (steps_of s) (brought_to s media (record_of u)) m.pool d j ≡ came_at s media (record_of v) d j)
-    → StepStands (steps_of s) (brought_to s media (record_of u)) (lending_of s u.codecs) (made_steps (record_of v)) (made_steps (record_of u)) (length s.callers) m c y
-    → u.media ≡ after_came (next_who v c) y m → SameMedia s media (record_of v) (record_of u)
-still_told s media v u c y m before told same d j lt =
-    ap (λ (n : Media). came_in (steps_of s) (brought_to s media (record_of u)) n.pool d j) same ∙ (told.earlier d j lt ∙ before d j lt)
-
 -- a step on media of this caller, to which no output is brought
-handled_stands : MediaLaws → (s : ScriptData) (media : List (List Chunk)) (made : List CoderId) (v : Course) (who : Who) (y : Came) → Stands s media made v → HandleFits s media v who y → Stands s media made (after_move (Handle (next_who v who.caller) y) v)
-handled_stands laws s media made v who y st a =
-    let c = who.caller in
+handled_stands : MediaLaws → (s : ScriptData) (media : List (List Chunk)) (made : List CoderId) (v : Course) (c : ℕ) (y : Came) → Stands s media made v → HandleFits s media v c y → Stands s media made (after_move (Handle (next_who v c) y) v)
+handled_stands laws s media made v c y st a =
     let u = after_move (Handle (next_who v c) y) v in
     let r = y.answer in
     let chunk = copied_chunk media (steps_of s c) a.handled in
     let below : c < length s.callers = (let n = st.callers in let lt = a.caller in omega (arith, lt, n)) in
-    let grows : Grows (record_of v) (record_of u) = record { stays = (answer_grows v c r).stays; more = (answer_grows v c r).more } in
-    let later = later_stands laws s media made v u st grows in
+    let later = later_stands laws s media made v u st (result_grows v c r u.media) in
     let own : IsOwn r = media_own v.media.pool (next_who v c) chunk a.handled (variables_of c v.media.variables) y a.comes in
-    let fitting = own_facts s (record_of u) r own in
-    let none : taken_by s (record_of u) (result_in (record_of u) c (length (at c v.callers))) ≡ None = ap (taken_by s (record_of u)) (result_new c r v.callers a.caller) ∙ fitting.took in
+    let facts = own_facts s media (record_of u) v.media.pool (next_who v c) chunk (variables_at s media (record_of u) c (length (at c v.callers))) (variables_of c v.media.variables) y c a.handled r a.comes own refl in
+    let none : taken_by s (record_of u) (result_in (record_of u) c (length (at c v.callers))) ≡ None = ap (taken_by s (record_of u)) (result_new c r v.callers a.caller) ∙ facts.took in
     let told : StepStands (steps_of s) (brought_to s media (record_of u)) (lending_of s v.codecs) (made_steps (record_of v)) (made_steps (record_of u)) (length s.callers) v.media c y =
     laws.media (steps_of s) (brought_to s media (record_of u)) (lending_of s v.codecs) (made_steps (record_of v)) (made_steps (record_of u)) (length s.callers) v.media c a.handled y later.stands below (one_more v u c r refl a.caller) a.is_step (rw none a.comes) in
-    let still : SameMedia s media (record_of v) (record_of u) = still_told s media v u c y v.media later.same told refl in
-    let none_named = takes_none v.media.pool (next_who v c) chunk a.handled (variables_of c v.media.variables) y a.comes in
-    let fits : ResultFits s media (record_of u) c (length (at c v.callers)) r = record {
+    result_stands s media made v c r u.media st a.caller (local_apart v r own) (λ d j lt. told.earlier d j lt ∙ later.same d j lt)
+    (record {
       step = step.Media a.handled;
       is_step = a.is_step;
-      made = subst (λ (t : Option ℕ). IsResultBy s (record_of u) (next_who v c) t (called (step.Media a.handled)) r) (sym none_named.0)
-          (subst (λ (o : Option ℕ). IsAnswerOf s (record_of u) o r) (sym none_named.1) fitting.answers);
-      found = fitting.found;
-      shows = own_shows s (record_of u) c a.handled r own;
-      answers = media_answers s media v.media.pool (next_who v c) chunk a.handled (variables_at s media (record_of u) c (length (at c v.callers))) (variables_of c v.media.variables) y (came_at s media (record_of u) c (length (at c v.callers))) c r a.comes (subst (λ (o : Option Came). IsMediaAnswer o r) (sym told.here) refl);
-    } in
-    record {
-      callers = append_at_length c r v.callers ∙ st.callers;
-      count = st.count;
-      opened = st.opened;
-      same_made = st.same_made;
-      boxes = st.boxes;
-      results = results_more s media made v u c r st grows still refl fits;
-      arguments = λ k p e who is names. arguments_stay s media made v u k p e who st still is names;
-      once = λ k. calls_once v u c k r [] (st.once k) refl a.caller (sym (append-nil (at k (histories v.codecs))))
-          (ap named (append-nil (at k (histories v.codecs))) ∙ sym (ap (λ m. named (at k (histories v.codecs)) ++ call_in k (next_who v c) m) fitting.local ∙ append-nil (named (at k (histories v.codecs)))));
-      climbs = marks_climb v u c r st.climbs refl a.caller (λ k. omega arith)
-          (λ k. subst (λ (m : Mark). MayClimb (reach k m) (length (at k (histories v.codecs))) (length (at k (histories v.codecs)))) (sym fitting.local) (omega arith));
-      stand = told.stands;
-    }
-
-handle_stands : MediaLaws → (s : ScriptData) (media : List (List Chunk)) (made : List CoderId) (v : Course) (who : Who) (y : Came) → Stands s media made v → HandleFits s media v who y → Stands s media made (after_move (Handle who y) v)
-handle_stands laws s media made v who y st a = subst (λ (w : Who). Stands s media made (after_move (Handle w y) v)) (sym a.next) (handled_stands laws s media made v who y st a)
+      made = facts.made;
+      found = facts.found;
+      shows = facts.shows;
+      answers = subst (λ (o : Option Came). IsLocalAnswer s media (variables_at s media (record_of u) c (length (at c v.callers))) o c (step.Media a.handled) r) (sym told.here) facts.answers;
+    }) told.stands
 
 -- ---- takes
 
-abbrev answer_of : StepResult → Option Came → StepResult
-answer_of r None = r
-answer_of r (Some y) = y.answer
-
--- what a take of an output comes to answers as the take does
-taken_answer : (pool : List PoolEntry) (who : Who) (k : ℕ) (bind : List ℕ) (holds : VariableKind) (r : StepResult) (u : output.Unit) (vs : List (Option Medium)) (y : Came)
-    → media_came pool who (brought None (Some (taken_as r u))) (on_media.Take k bind holds) vs ≡ Some y → y.answer ≡ r
-taken_answer pool who k bind holds r (unit.Sound samples) vs y comes = sym (ap (answer_of r) comes)
-taken_answer pool who k bind holds r (unit.Image picture) vs y comes = sym (ap (answer_of r) comes)
-taken_answer pool who k bind holds r (unit.Coded chunk config) vs y comes = sym (ap (answer_of r) comes)
-
--- the result of a take fits
-take_there : (s : ScriptData) (media : List (List Chunk)) (v u : Course) (c k n : ℕ) (bind : List ℕ) (holds : VariableKind) (shown : output.Unit) → step_in s c (length (at c v.callers)) ≡ Some (step.Media (on_media.Take k bind holds))
-    → at k (histories u.codecs) ≡ at k (histories v.codecs) ++ entry.Take (next_who v c) n ∷ []
-    → output_at (opening_at s k) (at k (histories u.codecs)) n ≡ Some shown
-    → ResultFits s media (record_of u) c (length (at c v.callers)) (take_result v k n)
-take_there s media v u c k n bind holds shown is grown found = record {
-  step = step.Media (on_media.Take k bind holds);
-  is_step = is;
-  made = (refl, stands);
-  found = (shown, found);
-  shows = tt;
-  answers = tt;
-}
-  where
-    stands : entry_in (record_of u) k (next_place v k) ≡ Some (entry.Take (next_who v c) n)
-    stands = rw (grown, sym (history_there v k)) (get_end (at k (histories v.codecs)) (entry.Take (next_who v c) n))
-
--- a take does nothing to the pool
-take_pool : (v : Course) (k n c : ℕ) (e : Entry) → e ≡ entry.Take (next_who v c) n → (with_entry k e v).media.pool ≡ v.media.pool
-take_pool v k n c e takes =
-    ap (λ (x : Entry). v.media.pool ++ pool_by (by.Codec k (next_place v k)) x (state_of (codec_at k v.codecs)) v.media.pool) takes ∙ append-nil v.media.pool
-
-take_adds : (pool : List PoolEntry) (who : Who) (n : ℕ) (e : Entry) → e ≡ entry.Take who n → MayAddAll pool e
-take_adds pool who n e takes = subst (λ (x : Entry). MayAddAll pool x) (sym takes) (λ i p is. absurd cc)
+unit_answer : (pool : List PoolEntry) (j : ℕ) (r : StepResult) (u : output.Unit) (vs : List (Option Medium)) → (unit_came pool j r u vs).answer ≡ r
+unit_answer pool j r (unit.Sound samples) vs = refl
+unit_answer pool j r u vs = refl
 
 -- a take of this caller: all but its media are as after a call
-received_stands : MediaLaws → (s : ScriptData) (media : List (List Chunk)) (made : List CoderId) (v : Course) (c k : ℕ) (e : Entry) (y : Came) → Stands s media made v → ReceiveFits s media v (next_who v c) k e y → Stands s media made (after_move (Receive (next_who v c) k e y) v)
-received_stands laws s media made v c k e y st a =
+received_stands : MediaLaws → (s : ScriptData) (media : List (List Chunk)) (made : List CoderId) (v : Course) (c k n : ℕ) (y : Came) → Stands s media made v → ReceiveFits s media v c k n y → Stands s media made (after_move (Receive (next_who v c) k (entry.Take (next_who v c) n) y) v)
+received_stands laws s media made v c k n y st a =
+    let e = entry.Take (next_who v c) n in
     let u = after_move (Receive (next_who v c) k e y) v in
-    let r = y.answer in
-    let n = a.number in
-    let step_taken = on_media.Take k a.bind a.holds in
+    let r = take_result v k n in
+    let vs = variables_of c v.media.variables in
     let below : c < length s.callers = (let m = st.callers in let lt = a.caller in omega (arith, lt, m)) in
-    let answers : r ≡ take_result v k n = taken_answer v.media.pool (next_who v c) k a.bind a.holds (take_result v k n) a.unit (variables_of c v.media.variables) y a.comes in
-    let names : who_of e ≡ Some (next_who v c) = ap who_of a.takes in
-    let next : IsNextEntry v c k e r = record { caller = a.caller; codec = a.codec; names = names; marks = ap mark_of answers } in
-    let grows : Grows (record_of v) (record_of u) = record { stays = (both_grow v c k e r).stays; more = (both_grow v c k e r).more } in
+    let answers : y.answer ≡ r = ap (λ (z : Came). z.answer) (sym (some_same (unit_came v.media.pool (length (at c v.callers)) r a.unit vs) y a.comes)) ∙ unit_answer v.media.pool (length (at c v.callers)) r a.unit vs in
+    let grows = both_grow v c k e y.answer u.media in
     let later = later_stands laws s media made v u st grows in
     let shown : output_at (opening_at s k) (at k (histories u.codecs)) n ≡ Some a.unit = output_stays s (record_of v) (record_of u) grows k n a.unit a.there in
-    let took : taken_by s (record_of u) (result_in (record_of u) c (length (at c v.callers))) ≡ Some (taken_as (take_result v k n) a.unit) = rw (result_new c r v.callers a.caller, answers, shown) refl in
+    let stood : entry_in (record_of u) k (next_place v k) ≡ Some e = rw (this_history v k e a.codec, sym (history_there v k)) (get_end (at k (histories v.codecs)) e) in
+    let took : taken_by s (record_of u) (result_in (record_of u) c (length (at c v.callers))) ≡ Some (taken_as r a.unit) = rw (result_new c y.answer v.callers a.caller, answers, shown) refl in
     let m = (with_entry k e v).media in
-    let pool : m.pool ≡ v.media.pool = take_pool v k n c e a.takes in
-    let stands = entry_stands laws s media made v u k e a.after st (one_entry s media made v k e a.after st a.codec a.steps) (take_adds v.media.pool (next_who v c) n e a.takes) later in
-    let before = λ (d j : ℕ) (lt : j < made_steps (record_of v) d). stands.same d j ∙ later.same d j lt in
+    let stands = entry_stands laws s media made v u k e a.after st a.codec a.steps (λ i p is. absurd cc) later in
     let told : StepStands (steps_of s) (brought_to s media (record_of u)) (lending_of s u.codecs) (made_steps (record_of v)) (made_steps (record_of u)) (length s.callers) m c y =
-    laws.media (steps_of s) (brought_to s media (record_of u)) (lending_of s u.codecs) (made_steps (record_of v)) (made_steps (record_of u)) (length s.callers) m c step_taken y stands.stands below (one_more v u c r refl a.caller) a.is_step (rw (took, pool) a.comes) in
-    let still : SameMedia s media (record_of v) (record_of u) = still_told s media v u c y m before told refl in
-    let grown : at k (histories u.codecs) ≡ at k (histories v.codecs) ++ entry.Take (next_who v c) n ∷ [] = this_history v k e a.codec ∙ ap (λ (x : Entry). at k (histories v.codecs) ++ x ∷ []) a.takes in
-    let fits : ResultFits s media (record_of u) c (length (at c v.callers)) r =
-    subst (ResultFits s media (record_of u) c (length (at c v.callers))) (sym answers) (take_there s media v u c k n a.bind a.holds a.unit a.is_step grown shown) in
-    record {
-      callers = append_at_length c r v.callers ∙ st.callers;
-      count = codec_count v k e ∙ st.count;
-      opened = λ j lt. opened_still s v k e st.opened j (let m = codec_count v k e in omega (arith, lt, m));
-      same_made = made_stays v k e ∙ st.same_made;
-      boxes = accounted_more v.codecs v.slots k e a.after st.boxes a.codec a.steps (call_fits e (next_who v c) (codec_at k v.codecs).holding.refusal names);
-      results = results_more s media made v u c r st grows still refl fits;
-      arguments = entry_arguments s media made v u c k e r (step.Media step_taken) st still next a.is_step (n, a.takes) refl;
-      once = entry_once v c k e r st.once next;
-      climbs = entry_climbs v c k e r st.climbs next;
-      stand = told.stands;
-    }
-
-receive_stands : MediaLaws → (s : ScriptData) (media : List (List Chunk)) (made : List CoderId) (v : Course) (who : Who) (k : ℕ) (e : Entry) (y : Came) → Stands s media made v → ReceiveFits s media v who k e y → Stands s media made (after_move (Receive who k e y) v)
-receive_stands laws s media made v who k e y st a =
-    subst (λ (w : Who). Stands s media made (after_move (Receive w k e y) v)) (sym a.next)
-    (received_stands laws s media made v who.caller k e y st (subst (λ (w : Who). ReceiveFits s media v w k e y) a.next a))
+    laws.media (steps_of s) (brought_to s media (record_of u)) (lending_of s u.codecs) (made_steps (record_of v)) (made_steps (record_of u)) (length s.callers) m c (on_media.Take k a.bind a.holds) y stands.stands below (one_more v u c y.answer refl a.caller) a.is_step (rw (took, append-nil v.media.pool) a.comes) in
+    entered_stands s media made v c k e y.answer u.media a.after (step.Media (on_media.Take k a.bind a.holds)) st (record { caller = a.caller; codec = a.codec; names = refl; marks = ap mark_of answers }) a.steps a.is_step (n, refl)
+    (λ d j lt. told.earlier d j lt ∙ (stands.same d j ∙ later.same d j lt))
+    (rw answers (record { step = step.Media (on_media.Take k a.bind a.holds); is_step = a.is_step; made = (refl, stood); found = (a.unit, shown); shows = tt; answers = tt })) told.stands
 
 -- What stands of a course stands after a move that fits.
 pub move_stands : MediaLaws → (s : ScriptData) (media : List (List Chunk)) (made : List CoderId) (v : Course) (m : Move) → Stands s media made v → MoveFits s media v m → Stands s media made (after_move m v)
@@ -583,5 +483,5 @@ move_stands laws s media made v Idle st fits = st
 move_stands laws s media made v (Answer c r) st fits = answer_stands laws s media made v c r st fits
 move_stands laws s media made v (Advance k e) st fits = advance_stands laws s media made v k e st fits
 move_stands laws s media made v (Ask c k e error) st fits = ask_stands laws s media made v c k e error st fits
-move_stands laws s media made v (Handle who y) st fits = handle_stands laws s media made v who y st fits
-move_stands laws s media made v (Receive who k e y) st fits = receive_stands laws s media made v who k e y st fits
+move_stands laws s media made v (Handle who y) st fits = rw fits.0 (handled_stands laws s media made v who.caller y st fits.1)
+move_stands laws s media made v (Receive who k e y) st fits = rw (fits.1, fits.2) (received_stands laws s media made v who.caller k fits.0 y st fits.3)

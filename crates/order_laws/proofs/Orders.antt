@@ -1,5 +1,5 @@
 -- Following a script's order makes a run that fits the script.
-use Rattle.std.proofs.Common.{ℕ, zero, suc, ◌≡◌, ◌<◌, List, [], ◌∷◌, length, map, Some, None, is_some, refl, ap, sym, subst, ◌∙◌, arith}
+use Rattle.std.proofs.Common.{ℕ, zero, suc, ◌≡◌, List, [], ◌∷◌, length, map, Some, None, is_some, refl, ap, sym, subst, ◌∙◌, arith}
 use Rattle.std.specs.Prelude.{slice_get}
 use Rattle.std.specs.List.{sum_by}
 use Rattle.std.proofs.lemmas.List.{length-map}
@@ -10,13 +10,14 @@ use Rattle.codec_model.specs.declared.entry.Entry.{Entry}
 use Rattle.codec_model.specs.declared.entry.Pair.{Pair}
 use Rattle.wc_pool.specs.declared.entry.PoolOp.{PoolOp}
 use Rattle.codec_model.specs.Replay.{IsLegal}
+use Rattle.codec_model.specs.Held.{held_in}
 use Rattle.codec_accounts.specs.Owed.{at}
 use Rattle.codec_accounts.specs.ListLaws.{at_empty}
 use Rattle.codec_accounts.specs.Calls.{Climbs}
 use Rattle.codec_accounts.specs.Calls as mark
-use Rattle.codec_accounts.specs.Codec.{CodecValue, new_codec, codec_at, histories}
+use Rattle.codec_accounts.specs.Codec.{CodecValue, new_codec, state_of, codec_at, histories}
 use Rattle.codec_accounts.specs.Registry.{BoxesAccounted}
-use Rattle.codec_accounts.specs.AccountLaws.{Accounted, are_givable}
+use Rattle.codec_accounts.specs.AccountLaws.{Accounted, are_givable, history_at}
 use Rattle.codec_accounts.specs.BoxAccounts.{nothing_accounted, boxes_accounted}
 use Rattle.script_types.specs.declared.script.CallerItem.{CallerItem}
 use Rattle.script_types.specs.declared.script.CodecItem.{CodecItem}
@@ -28,10 +29,10 @@ use Rattle.trace_text.specs.Follow.{Recorded, Course, record_of, opening_of, ope
 use Rattle.trace_text.specs.Fits.{recorded_of, mark_of, marks_of, CallsAreIn, LooksAreIn, ArgumentsAreIn, LocalsAreIn, LookShows, IsLocalAnswer, brought_to, made_steps, came_at, variables_at, lends_in, FollowsTheOrder, Fits}
 use Rattle.media_accounts.specs.Accounts.{lent_at, Lending, nothing_lent, MediaAreIn, MediaStand}
 use Rattle.order_laws.specs.Sound.{IsSound}
-use Rattle.order_laws.specs.Course.{held_by_codecs, IsCourse}
+use Rattle.order_laws.specs.Course.{IsCourse}
 use Rattle.order_laws.proofs.Entries.{lending_of}
 use Rattle.order_laws.proofs.Moves.{MediaLaws, Stands, legals, move_stands}
-use Rattle.order_laws.proofs.Items.{item_fits, opens}
+use Rattle.order_laws.proofs.Items.{item_fits}
 
 -- ---- the beginning
 
@@ -39,15 +40,14 @@ new_codecs : (cs : List CodecItem) → map new_codec (map opening_of cs) ≡ map
 new_codecs [] = refl
 new_codecs (c ∷ cs) = ap (λ (ds : List CodecValue). new_codec (opening_of c) ∷ ds) (new_codecs cs)
 
-new_opening : (cs : List CodecItem) (k : ℕ) → k < length (map (λ c. new_codec (opening_of c)) cs) → (codec_at k (map (λ c. new_codec (opening_of c)) cs)).opening ≡ opening_in cs k
-new_opening [] k lt = absurd (omega (arith, lt))
-new_opening (c ∷ cs) zero lt = refl
-new_opening (c ∷ cs) (suc k) lt = new_opening cs k (omega (arith, lt))
+-- a new codec is opened as the script says
+new_at : (cs : List CodecItem) (k : ℕ) → codec_at k (map (λ c. new_codec (opening_of c)) cs) ≡ new_codec (opening_in cs k)
+new_at [] k = refl
+new_at (c ∷ cs) zero = refl
+new_at (c ∷ cs) (suc k) = new_at cs k
 
 no_history : (cs : List CodecItem) (k : ℕ) → at k (histories (map (λ c. new_codec (opening_of c)) cs)) ≡ []
-no_history [] k = refl
-no_history (c ∷ cs) zero = refl
-no_history (c ∷ cs) (suc k) = no_history cs k
+no_history cs k = history_at k (map (λ c. new_codec (opening_of c)) cs) ∙ ap (λ (d : CodecValue). d.history) (new_at cs k)
 
 no_calls : (k first : ℕ) (cs : List CallerItem) → mark.all_calls k first (map (λ rs. map mark_of rs) (map (λ c. []) cs)) ≡ []
 no_calls k first [] = refl
@@ -57,12 +57,6 @@ no_calls k first (c ∷ cs) = no_calls k (suc first) cs
 none_made : (s : ScriptData) (made : List CoderId) → (λ c. 0) ≡ made_steps (record_of (nothing_yet s made))
 none_made s made = λ i c. sym (ap length (at_empty {X = StepResult} c s.callers)) i
 
--- nothing is lent to a codec yet
-none_held : (cs : List CodecItem) (k : ℕ) → held_by_codecs (map (λ c. new_codec (opening_of c)) cs) k ≡ []
-none_held [] k = refl
-none_held (c ∷ cs) zero = refl
-none_held (c ∷ cs) (suc k) = none_held cs k
-
 lending : (ℕ → ℕ → List PoolOp) → (ℕ → List Pair) → Lending
 lending lends holds = record { lends = lends; holds = holds }
 
@@ -70,13 +64,13 @@ none_lent : (s : ScriptData) (made : List CoderId) → nothing_lent ≡ lending_
 unfolding lending
 none_lent s made = λ i. lending
     (λ k place. sym (ap (λ (h : List Entry). lent_at (opening_at s k) h place) (no_history s.codecs k)) i)
-    (λ k. sym (none_held s.codecs k) i)
+    (λ k. sym (ap (λ (d : CodecValue). held_in (state_of d)) (new_at s.codecs k)) i)
 
 nothing_stands : MediaLaws → (s : ScriptData) (media : List (List Chunk)) (made : List CoderId) → Stands s media made (nothing_yet s made)
 nothing_stands laws s media made = record {
   callers = length-map s.callers _;
   count = length-map s.codecs _;
-  opened = λ k lt. new_opening s.codecs k lt;
+  opened = λ k. ap (λ (d : CodecValue). d.opening) (new_at s.codecs k);
   same_made = refl;
   boxes = subst (λ (ds : List CodecValue). Accounted ds (record { made = made; history = [] })) (new_codecs s.codecs) (nothing_accounted (map opening_of s.codecs) made);
   results = λ c j r is. absurd (let none : None ≡ Some r = sym (ap (λ (xs : List StepResult). slice_get xs j) (at_empty c s.callers)) ∙ is in cc);
@@ -103,7 +97,7 @@ course_of laws s media made items v sound follows =
     record {
       callers = st.callers;
       codecs = st.count;
-      openings = λ k. opens s media made v k st;
+      openings = st.opened;
       legal = λ k. ap is_some (st.boxes.each k).replays;
       media = st.stand.there;
       boxes = st.same_made;
@@ -113,37 +107,25 @@ course_of laws s media made items v sound follows =
 
 -- ---- a whole run
 
--- what was recorded fits
-record Fitting (s : ScriptData) (media : List (List Chunk)) (made : List CoderId) (w : Recorded) : Type 0 where
-  calls : CallsAreIn s w
-  looks : LooksAreIn s w
-  arguments : ArgumentsAreIn s media w
-  locals : LocalsAreIn s media w
-  accounted : MediaAreIn (steps_of s) (brought_to s media w) (lends_in s w) (made_steps w) w.pool
-  boxes : BoxesAccounted made (opening_at s) w.codecs w.slots
-  legal : (k : ℕ) → IsLegal (opening_at s k) (at k w.codecs)
-
-fitting : (s : ScriptData) (media : List (List Chunk)) (made : List CoderId) (v : Course) → Stands s media made v → Fitting s media made (record_of v)
-fitting s media made v st = record {
-  calls = record { made = λ c j r is. (let f = st.results c j r is in (f.step, f.is_step, f.made)); once = st.once };
-  looks = record {
-    climbs = st.climbs;
-    shows = λ c j x r is at. (let f = st.results c j r at in subst (λ y. LookShows s (record_of v) c y r) (some_same f.step x (sym f.is_step ∙ is)) f.shows);
-  };
-  arguments = st.arguments;
-  locals = λ c j x r is at. (let f = st.results c j r at in subst (λ y. IsLocalAnswer s media (variables_at s media (record_of v) c j) (came_at s media (record_of v) c j) c y r) (some_same f.step x (sym f.is_step ∙ is)) f.answers);
-  accounted = st.stand.accounted;
-  boxes = subst (λ (l : List CoderId). BoxesAccounted l (opening_at s) (histories v.codecs) v.slots.history) st.same_made (boxes_accounted (opening_at s) v.codecs v.slots st.opened st.boxes);
-  legal = legals s media made v st;
-}
-
-run_fitting : MediaLaws → (s : ScriptData) (media : List (List Chunk)) (made : List CoderId) (run : Run) → IsSound s → FollowsTheOrder s media made run → Fitting s media made (recorded_of run)
-run_fitting laws s media made run sound follows = subst (Fitting s media made) (sym follows.is_recorded) (fitting s media made follows.course (stands_of laws s media made (order_items s) follows.course sound follows.follows))
-
 pub fits_of : MediaLaws → (s : ScriptData) (media : List (List Chunk)) (made : List CoderId) (run : Run) → IsSound s → FollowsTheOrder s media made run → Fits s media made run
 fits_of laws s media made run sound follows =
-    let f = run_fitting laws s media made run sound follows in
-    record { calls = f.calls; looks = f.looks; arguments = f.arguments; locals = f.locals; accounted = f.accounted; boxes = f.boxes; follows = follows }
+    let v = follows.course in
+    let st = stands_of laws s media made (order_items s) v sound follows.follows in
+    let is = sym follows.is_recorded in
+    record {
+      calls = subst (λ (w : Recorded). CallsAreIn s w) is (record { made = λ c j r at. (let f = st.results c j r at in (f.step, f.is_step, f.made)); once = st.once });
+      looks = subst (λ (w : Recorded). LooksAreIn s w) is (record {
+        climbs = st.climbs;
+        shows = λ c j x r there at. (let f = st.results c j r at in subst (λ y. LookShows s (record_of v) c y r) (some_same f.step x (sym f.is_step ∙ there)) f.shows);
+      });
+      arguments = subst (λ (w : Recorded). ArgumentsAreIn s media w) is st.arguments;
+      locals = subst (λ (w : Recorded). LocalsAreIn s media w) is (λ c j x r there at. (let f = st.results c j r at in subst (λ y. IsLocalAnswer s media (variables_at s media (record_of v) c j) (came_at s media (record_of v) c j) c y r) (some_same f.step x (sym f.is_step ∙ there)) f.answers));
+      accounted = subst (λ (w : Recorded). MediaAreIn (steps_of s) (brought_to s media w) (lends_in s w) (made_steps w) w.pool) is st.stand.accounted;
+      boxes = subst (λ (w : Recorded). BoxesAccounted made (opening_at s) w.codecs w.slots) is
+          (subst (λ (l : List CoderId). BoxesAccounted l (opening_at s) (histories v.codecs) v.slots.history) st.same_made (boxes_accounted (opening_at s) v.codecs v.slots (λ k lt. st.opened k) st.boxes));
+      follows = follows;
+    }
 
 pub legal_of : MediaLaws → (s : ScriptData) (media : List (List Chunk)) (made : List CoderId) (run : Run) (k : ℕ) → IsSound s → FollowsTheOrder s media made run → IsLegal (opening_at s k) (at k (recorded_of run).codecs)
-legal_of laws s media made run k sound follows = (run_fitting laws s media made run sound follows).legal k
+legal_of laws s media made run k sound follows =
+    subst (λ (w : Recorded). IsLegal (opening_at s k) (at k w.codecs)) (sym follows.is_recorded) (legals s media made follows.course (stands_of laws s media made (order_items s) follows.course sound follows.follows) k)
