@@ -6,7 +6,6 @@ use Rattle.std.proofs.lemmas.Bool.{cases_eq, cases_lt, ne_eqb, eqb-true}
 use Rattle.std.proofs.lemmas.Option.{slice_get_past, slice_get_within, cond_some}
 use Rattle.wc_base.specs.Options.{some_same}
 use Rattle.wc_base.specs.declared.error.DomError.{DomError}
-use Rattle.wc_base.specs.declared.error.DomError.TheVariants as dom
 use Rattle.wc_base.specs.declared.who.Who.{Who}
 use Rattle.wc_base.specs.declared.media.SoundShape.{SoundShape}
 use Rattle.wc_pool.specs.declared.entry.PoolEntry.{PoolEntry}
@@ -31,9 +30,9 @@ use Rattle.codec_model.specs.Replay.{State, step as entry_step, entry_of, call_e
 use Rattle.codec_model.specs.Held.{adds_held}
 use Rattle.codec_model.specs.declared.entry.Pair.{Pair}
 use Rattle.codec_model.specs.declared.entry.Handed.TheVariants as handed
-use Rattle.codec_model.specs.Shown.{refusal, rejection, rejections, removal_shows, shows, shown, outputs_of, exception_of}
+use Rattle.codec_model.specs.Shown.{refusal, rejection, removal_shows, shows, shown, outputs_of, exception_of}
 use Rattle.codec_accounts.specs.Owed.{at}
-use Rattle.codec_accounts.specs.ListLaws.{get_some, get_more, result_kept, result_new}
+use Rattle.codec_accounts.specs.ListLaws.{get_some, result_kept, result_new}
 use Rattle.codec_accounts.specs.Calls.{who_of, reach, call_in}
 use Rattle.codec_accounts.specs.Calls as mark
 use Rattle.codec_accounts.specs.CallsLaws.{MayClimb}
@@ -68,12 +67,6 @@ use Rattle.order_laws.proofs.Moves.{Stands, next_who, next_place, take_result, A
 abbrev IsNext : ScriptData → Course → ℕ → Step → Type 0
 IsNext s v c x = step_in s c (length (at c v.callers)) ≡ Some x
 
-caller_there : (s : ScriptData) (media : List (List Chunk)) (made : List CoderId) (v : Course) (c : ℕ) (x : Step) → Stands s media made v → IsNext s v c x → c < length v.callers
-caller_there s media made v c x st is =
-    let there = stands_in s.callers c (length (at c v.callers)) x is in
-    let lt = slice_get_within s.callers c there.caller there.is_caller in
-    let n = st.callers in omega (arith, lt, n)
-
 -- a legal entry has a state after it
 legal_after : (e : Entry) (t : State) → Steps e t → (u : State) × (entry_step e t ≡ Some u)
 legal_after e t steps = (unwrap_or (entry_step e t) t, some_is (entry_step e t) t steps)
@@ -84,70 +77,21 @@ refused_by : (o : Option DomError) → o ≡ refusal_in (refusal o)
 refused_by None = refl
 refused_by (Some error) = refl
 
-no_refusal : (place : ℕ) (o : Option DomError) → None ≡ refusal_in (rejection place o)
-no_refusal place None = refl
-no_refusal place (Some error) = refl
-
-no_rejection : (error : DomError) (ps : List ℕ) → None ≡ refusal_in (rejections error ps)
-no_rejection error [] = refl
-no_rejection error (p ∷ ps) = refl
-
 -- the exception of a call is what its entry shows
 call_shows : (who : Who) (x : Call) (s : State) → exception_of x (call_error x s.control) ≡ refusal_in (shows (entry_of who x) s)
 call_shows who (call.Configure config) s = refused_by (call_error (call.Configure config) s.control)
 call_shows who (call.Decode chunk) s = refused_by (call_error (call.Decode chunk) s.control)
-call_shows who call.Flush s = no_refusal s.control.place (call_error call.Flush s.control)
+call_shows who call.Flush s = elim (call_error call.Flush s.control) as (λ (o : Option DomError). None ≡ refusal_in (rejection s.control.place o)) [ None ↦ refl | Some error ↦ refl ]
 
 removal_is_shown : (o : Option DomError) (pending : List ℕ) → o ≡ refusal_in (removal_shows o pending)
-removal_is_shown None pending = no_rejection dom.Abort pending
+removal_is_shown None [] = refl
+removal_is_shown None (p ∷ ps) = refl
 removal_is_shown (Some error) pending = refl
 
 none_added : (pool : List PoolEntry) (e : Entry) → adds_held e ≡ [] → MayAddAll pool e
 none_added pool e none i p is = absurd (let bad : None ≡ Some p = sym (ap (λ (ps : List Pair). slice_get ps i) none) ∙ is in cc)
 
--- a caller's step on a codec, and its entry
-ask_fits : (s : ScriptData) (media : List (List Chunk)) (made : List CoderId) (v : Course) (c k : ℕ) (x : Step) (e : Entry) (error : Option DomError) → IsSound s → Stands s media made v → IsNext s v c x → called x ≡ Some k → Steps e (state_of (codec_at k v.codecs))
-    → who_of e ≡ Some (next_who v c) → HasArguments s media (variables_of c v.media.variables) (next_who v c) e x → error ≡ refusal_in (shows e (state_of (codec_at k v.codecs))) → MayAddAll v.media.pool e → AskFits s media v c k e error
-ask_fits s media made v c k x e error sound st is calls steps names arguments shown adds =
-    let after = legal_after e (state_of (codec_at k v.codecs)) steps in
-    record {
-      caller = caller_there s media made v c x st is;
-      codec = (let lt = sound.called c (length (at c v.callers)) k x is calls in let n = st.count in omega (arith, lt, n));
-      step = x;
-      is_step = is;
-      calls = calls;
-      after = after.0;
-      steps = after.1;
-      names = names;
-      arguments = arguments;
-      adds = adds;
-      shown = shown;
-    }
-
 -- ---- steps that make no entry
-
-answer_fits : (s : ScriptData) (media : List (List Chunk)) (made : List CoderId) (v : Course) (c : ℕ) (x : Step) (r : StepResult) → Stands s media made v → IsNext s v c x → Apart v r → IsResultOf s (record_of (with_result c r v)) (next_who v c) x r → IsFound s (record_of (with_result c r v)) r
-    → LookShows s (record_of (with_result c r v)) c x r → ((o : Option Came) → IsLocalAnswer s media (variables_of c v.media.variables) o c x r) → IsQuiet (steps_of s) (brought_to s media (record_of (with_result c r v))) c (length (at c v.callers)) → AnswerFits s media v c r
-answer_fits s media made v c x r st is apart made_of found looks answers quiet = record {
-  caller = caller_there s media made v c x st is;
-  fits = λ before. record {
-    step = x;
-    is_step = is;
-    made = made_of;
-    found = found;
-    shows = looks;
-    answers = (let came = came_at s media (record_of (with_result c r v)) c (length (at c v.callers)) in subst (λ (vs : List (Option Medium)). IsLocalAnswer s media vs came c x r) (sym before) (answers came));
-  };
-  apart = apart;
-  quiet = quiet;
-}
-
--- a step that is none on media
-still_fits : (s : ScriptData) (media : List (List Chunk)) (made : List CoderId) (v : Course) (c : ℕ) (x : Step) (r : StepResult) → Stands s media made v → IsNext s v c x → Apart v r → IsResultOf s (record_of (with_result c r v)) (next_who v c) x r → IsFound s (record_of (with_result c r v)) r
-    → LookShows s (record_of (with_result c r v)) c x r → ((o : Option Came) → IsLocalAnswer s media (variables_of c v.media.variables) o c x r) → media_of x ≡ None → AnswerFits s media v c r
-still_fits s media made v c x r st is apart made_of found looks answers other =
-    answer_fits s media made v c x r st is apart made_of found looks answers
-    (none_quiet s (brought_to s media (record_of (with_result c r v))) c (length (at c v.callers)) (ap (option_and_then media_of) is ∙ other))
 
 -- a look at a codec sees its whole history
 look_climbs : (v : Course) (on k : ℕ) (b : Bool) → (b ≡ true → on ≡ k) → MayClimb (cond b (Some (length (codec_at on v.codecs).history, length (codec_at on v.codecs).history)) None) (length (at k (histories v.codecs))) (length (at k (histories v.codecs)))
@@ -155,30 +99,12 @@ look_climbs v on k false same = omega arith
 look_climbs v on k true same =
     let h = ap length (history_at k v.codecs) in rw (same refl) (omega (arith, h), omega (arith, h))
 
-decode_fits : (s : ScriptData) (media : List (List Chunk)) (made : List CoderId) (v : Course) (c k : ℕ) (chunk : Variable) (o : Option Chunk) → IsSound s → Stands s media made v → IsNext s v c (step.Decode k chunk) → chunk_for media (steps_of s c) (variables_of c v.media.variables) chunk.step ≡ o
-    → MoveFits s media v (decode_move (next_who v c) k o (codec_at k v.codecs))
-decode_fits s media made v c k chunk None sound st is none = still_fits s media made v c (step.Decode k chunk) result.Absent st is (local_apart v result.Absent refl) tt tt tt (λ o. none) refl
-decode_fits s media made v c k chunk (Some value) sound st is some =
-    ask_fits s media made v c k (step.Decode k chunk) (entry.Decode (next_who v c) value) _ sound st is refl (call_legal (next_who v c) (call.Decode value) (state_of (codec_at k v.codecs))) refl (value, some, refl) (call_shows (next_who v c) (call.Decode value) (state_of (codec_at k v.codecs))) (none_added v.media.pool (entry.Decode (next_who v c) value) refl)
-
 -- the earlier flush came to a call
 flush_came : (s : ScriptData) (media : List (List Chunk)) (w : Recorded) (who : Who) (vs : List (Option Medium)) (o : Option Came) (c : ℕ) (y : Step) (r : StepResult) → IsFlush y → IsResultOf s w who y r → IsLocalAnswer s media vs o c y r → (k : ℕ) × (p : ℕ) × (error : Option DomError) × (r ≡ result.Call k p error)
 flush_came s media w who vs o c (step.Flush on bind) (result.Call k p error) flush made answers = (k, p, error, refl)
 flush_came s media w who vs o c (step.Flush on bind) result.Absent flush made answers = absurd answers
 flush_came s media w who vs o c (step.Flush on bind) r flush made answers = absurd made
 flush_came s media w who vs o c x r flush made answers = absurd flush
-
--- a step that looks at an earlier promise finds the call of its flush
-promise_call : (s : ScriptData) (media : List (List Chunk)) (made : List CoderId) (v : Course) (c : ℕ) (x : Step) (promise : Variable) → IsSound s → Stands s media made v → IsNext s v c x → promise_of x ≡ Some promise
-    → (k : ℕ) × (p : ℕ) × (error : Option DomError) × (result_in (record_of v) c promise.step ≡ Some (result.Call k p error))
-promise_call s media made v c x promise sound st is looks =
-    let before : promise.step < length (at c v.callers) = sound.earlier c (length (at c v.callers)) x promise is looks in
-    let there = get_some (at c v.callers) promise.step before in
-    let flush = sound.promised c (length (at c v.callers)) x promise is looks in
-    let fits = st.results c promise.step there.0 there.1 in
-    let same : fits.step ≡ flush.0 = some_same fits.step flush.0 (sym fits.is_step ∙ flush.1) in
-    let came = flush_came s media (record_of v) (record { caller = c; step = promise.step }) (variables_at s media (record_of v) c promise.step) (came_at s media (record_of v) c promise.step) c flush.0 there.0 flush.2 (rw same at fits.made) (rw same at fits.answers) in
-    (came.0, came.1, came.2, there.1 ∙ ap (λ (q : StepResult). Some q) came.3)
 
 -- what a look sees of a codec's whole history
 all_there : {X : Type 0} (F : Opening → List Entry → X) (s : ScriptData) (media : List (List Chunk)) (made : List CoderId) (v : Course) (k : ℕ) → Stands s media made v
@@ -195,62 +121,6 @@ look_apart v k r is = record {
 abbrev look_at : Course → ℕ → ℕ → StepResult
 look_at v k p = let d = codec_at k v.codecs in result.Look k (length d.history) (promise_after d.opening d.history p)
 
-look_shows : (s : ScriptData) (media : List (List Chunk)) (made : List CoderId) (v : Course) (c : ℕ) (promise : Variable) (r : StepResult) (k p : ℕ) (error : Option DomError) → Stands s media made v → result_in (record_of v) c promise.step ≡ Some (result.Call k p error)
-    → let w = record_of (with_result c r v) in let d = codec_at k v.codecs in
-    (q : ℕ) × (e : Option DomError) × (result_in w c promise.step ≡ Some (result.Call k q e)) × (promise_after d.opening d.history p ≡ promise_after (opening_at s k) (take (length d.history) (at k w.codecs)) q)
-look_shows s media made v c promise r k p error st was = (p, error, result_kept c c promise.step r (result.Call k p error) v.callers was, all_there (λ o h. promise_after o h p) s media made v k st)
-
-state_fits : (s : ScriptData) (media : List (List Chunk)) (made : List CoderId) (v : Course) (c k : ℕ) → Stands s media made v → IsNext s v c (step.State k) → MoveFits s media v (Answer c (look_of_state k (codec_at k v.codecs)))
-state_fits s media made v c k st is =
-    still_fits s media made v c (step.State k) (look_of_state k (codec_at k v.codecs)) st is (look_apart v k (look_of_state k (codec_at k v.codecs)) refl) tt tt
-    (refl, all_there (λ o h. (state_after o h).control.phase) s media made v k st, all_there (λ o h. (state_after o h).control.size) s media made v k st) (λ o. tt) refl
-
--- a step on media, to which no output is brought
-handle_fits : (s : ScriptData) (media : List (List Chunk)) (made : List CoderId) (v : Course) (c : ℕ) (x : MediaStep) (o : Option Came) → Stands s media made v → IsNext s v c (step.Media x)
-    → media_came v.media.pool (next_who v c) (brought (copied_chunk media (steps_of s c) x) None) x (variables_of c v.media.variables) ≡ o → MoveFits s media v (handle_move (next_who v c) o)
-handle_fits s media made v c x None st is comes = tt
-handle_fits s media made v c x (Some y) st is comes = (refl, record { caller = caller_there s media made v c (step.Media x) st is; handled = x; is_step = is; comes = comes })
-
--- a take that found nothing comes to nothing of media
-take_quiet : (s : ScriptData) (media : List (List Chunk)) (v : Course) (c k n : ℕ) (bind : List ℕ) (holds : VariableKind) → c < length v.callers → IsNext s v c (step.Media (on_media.Take k bind holds))
-    → IsQuiet (steps_of s) (brought_to s media (record_of (with_result c (result.NoUnit k n) v))) c (length (at c v.callers))
-take_quiet s media v c k n bind holds lt is x pool vs named =
-    let w = record_of (with_result c (result.NoUnit k n) v) in
-    let j = length (at c v.callers) in
-    let same : on_media.Take k bind holds ≡ x = some_same (on_media.Take k bind holds) x (sym (ap (option_and_then media_of) is) ∙ named) in
-    let none : taken_by s w (result_in w c j) ≡ None = ap (taken_by s w) (result_new c (result.NoUnit k n) v.callers lt) in
-    rw (sym same, none) refl
-
-take_fits : (s : ScriptData) (media : List (List Chunk)) (made : List CoderId) (v : Course) (c k : ℕ) (bind : List ℕ) (holds : VariableKind) (o : Option output.Unit) → IsSound s → Stands s media made v → IsNext s v c (step.Media (on_media.Take k bind holds))
-    → output_at (codec_at k v.codecs).opening (codec_at k v.codecs).history (state_of (codec_at k v.codecs)).control.taken ≡ o
-    → MoveFits s media v (take_move (next_who v c) k (codec_at k v.codecs) (taken_came v.media.pool (length (at c v.callers)) (option_map (taken_as (take_result v k (state_of (codec_at k v.codecs)).control.taken)) o) (variables_of c v.media.variables)))
-take_fits s media made v c k bind holds None sound st is none =
-    let n = next_place v k in
-    answer_fits s media made v c (step.Media (on_media.Take k bind holds)) (result.NoUnit k n) st is (look_apart v k (result.NoUnit k n) refl) refl tt
-    (refl, sym (all_there (λ o h. output_at o h (state_after o h).control.taken) s media made v k st) ∙ none) (λ o. tt) (take_quiet s media v c k n bind holds (caller_there s media made v c (step.Media (on_media.Take k bind holds)) st is) is)
-take_fits s media made v c k bind holds (Some u) sound st is some =
-    let d = codec_at k v.codecs in
-    let n = (state_of d).control.taken in
-    let counted : (state_of d).control.shown ≡ length (outputs_of (shown d.opening d.history)) = shown_counted d.opening d.history (state_of d) (st.boxes.each k).replays in
-    let below : n < length (outputs_of (shown d.opening d.history)) = slice_get_within (outputs_of (shown d.opening d.history)) n u some in
-    let after = legal_after (entry.Take (next_who v c) n) (state_of d) (take_legal (next_who v c) (state_of d) (omega (arith, counted, below))) in (
-      n,
-      refl,
-      refl,
-      record {
-        caller = caller_there s media made v c (step.Media (on_media.Take k bind holds)) st is;
-        codec = (let lt = sound.taken c (length (at c v.callers)) k (step.Media (on_media.Take k bind holds)) is refl in let m = st.count in omega (arith, lt, m));
-        bind = bind;
-        holds = holds;
-        is_step = is;
-        after = after.0;
-        steps = after.1;
-        unit = u;
-        there = rw (history_at k v.codecs, sym (st.opened k)) some;
-        comes = refl;
-      },
-    )
-
 -- ---- encodes
 
 -- what stands behind a value that was mapped
@@ -258,20 +128,17 @@ mapped : {X Y : Type 0} (f : X → Y) (o : Option X) (y : Y) → option_map f o 
 mapped f None y is = absurd cc
 mapped f (Some x) y is = (x, refl, some_same (f x) y is)
 
+only_one : {X : Type 0} (x : X) (i : ℕ) (p : X) → slice_get (x ∷ []) i ≡ Some p → p ≡ x
+only_one x zero p is = cc
+only_one x (suc i) p is = absurd cc
+
 -- what is handed over is legal where it tells whether the codec is configured, its exception is what its entry shows, and it
 -- adds a reference to what is held
 encode_said : (pool : List PoolEntry) (who : Who) (shape : SoundShape) (held : Option MediaRef) (t : State) (b : Bool) → is_configured t.control ≡ b → ((r : MediaRef) → held ≡ Some r → is_held r.resource pool ≡ true)
     → let h = handed_by (references_made pool) b shape held in Steps (entry.Encode who h) t × (encode_error (is_gone h) t.control ≡ refusal_in (shows (entry.Encode who h) t)) × MayAddAll pool (entry.Encode who h)
 encode_said pool who shape None t b is lives = (refl, refl, none_added pool (entry.Encode who handed.Gone) refl)
 encode_said pool who shape (Some r) t false is lives = (rw is refl, rw is refl, none_added pool (entry.Encode who handed.Kept) refl)
-encode_said pool who shape (Some r) t true is lives = (
-  rw is refl,
-  rw is refl,
-  λ i p at. elim (get_more [] (record { resource = r.resource; reference = references_made pool }) i p at) [
-    | inl none ↦ absurd cc
-    | inr only ↦ rw only.1 (lives r refl, refl)
-  ],
-)
+encode_said pool who shape (Some r) t true is lives = (rw is refl, rw is refl, λ i p at. rw (only_one (record { resource = r.resource; reference = references_made pool }) i p at) (lives r refl, refl))
 
 -- the reference of audio data is that of its variable
 sound_held : (m : Option Medium) (x : Sound) (r : MediaRef) → option_and_then sound_in m ≡ Some x → x.held ≡ Some r → (q : Reference) × (held_by m ≡ Some q) × (q.resource ≡ r.resource)
@@ -300,58 +167,175 @@ live_held numbered pool number resource legal lives =
     let some = count_some (λ f. is_live resource f pool) (references_made pool) number (numbered pool number resource legal lives).0 (ap (λ (o : Option ℕ). is_number o resource) lives ∙ eq-eqb resource resource refl) in
     ap not (ne_eqb (references_of resource pool) 0 (λ e. omega (arith, some, e)))
 
-encode_fits : LiveAreNumbered → (s : ScriptData) (media : List (List Chunk)) (made : List CoderId) (v : Course) (c k : ℕ) (content : Variable) (o : Option Sound) → IsSound s → Stands s media made v → IsNext s v c (step.Media (on_media.Encode k content))
-    → sound_at (variables_of c v.media.variables) content.step ≡ o → MoveFits s media v (encode_move (next_who v c) k v.media.pool o (codec_at k v.codecs))
-encode_fits numbered s media made v c k content None sound st is none =
-    answer_fits s media made v c (step.Media (on_media.Encode k content)) result.Absent st is (local_apart v result.Absent refl) tt tt tt (λ o. none)
-    (call_quiet s (brought_to s media (record_of (with_result c result.Absent v))) c (length (at c v.callers)) k (step.Media (on_media.Encode k content)) is refl)
-encode_fits numbered s media made v c k content (Some x) sound st is some =
-    let who = next_who v c in
-    let t = state_of (codec_at k v.codecs) in
-    let pool = v.media.pool in
-    let accepts = is_configured t.control in
-    let said = encode_said pool who x.shape x.held t accepts refl lives in
-    ask_fits s media made v c k (step.Media (on_media.Encode k content)) (entry.Encode who (handed_of (references_made pool) accepts x)) _ sound st is refl said.0 refl (x, references_made pool, accepts, some, refl) said.1 said.2
-  where
-    lives : (r : MediaRef) → x.held ≡ Some r → is_held r.resource v.media.pool ≡ true
-    lives r holds =
-        let found = sound_held (medium_at (variables_of c v.media.variables) content.step) x r some holds in
-        subst (λ (i : ℕ). is_held i v.media.pool ≡ true) found.2 (live_held numbered v.media.pool found.0.number found.0.resource st.stand.accounted.legal (st.stand.held.live c content.step found.0 found.1))
+-- the next step of a caller, after what stands of a course of a sound script
+module _ (numbered : LiveAreNumbered) (s : ScriptData) (media : List (List Chunk)) (made : List CoderId) (v : Course) (c : ℕ) (sound : IsSound s) (st : Stands s media made v) where
+  caller_there : (x : Step) → IsNext s v c x → c < length v.callers
+  caller_there x is =
+      let there = stands_in s.callers c (length (at c v.callers)) x is in
+      let lt = slice_get_within s.callers c there.caller there.is_caller in
+      let n = st.callers in omega (arith, lt, n)
 
--- a step on media
-media_fits : LiveAreNumbered → (s : ScriptData) (media : List (List Chunk)) (made : List CoderId) (v : Course) (c : ℕ) (x : MediaStep) → IsSound s → Stands s media made v → IsNext s v c (step.Media x) → MoveFits s media v (media_move s media (next_who v c) x v)
-media_fits numbered s media made v c (on_media.Take on bind kind) sound st is =
-    take_fits s media made v c on bind kind (output_at (codec_at on v.codecs).opening (codec_at on v.codecs).history (state_of (codec_at on v.codecs)).control.taken) sound st is refl
-media_fits numbered s media made v c (on_media.Encode on content) sound st is = encode_fits numbered s media made v c on content (sound_at (variables_of c v.media.variables) content.step) sound st is refl
-media_fits numbered s media made v c x sound st is =
-    handle_fits s media made v c x (media_came v.media.pool (next_who v c) (brought (copied_chunk media (steps_of s c) x) None) x (variables_of c v.media.variables)) st is refl
+  -- a caller's step on a codec, and its entry
+  ask_fits : (k : ℕ) (x : Step) (e : Entry) (error : Option DomError) → IsNext s v c x → called x ≡ Some k → Steps e (state_of (codec_at k v.codecs))
+      → who_of e ≡ Some (next_who v c) → HasArguments s media (variables_of c v.media.variables) (next_who v c) e x → error ≡ refusal_in (shows e (state_of (codec_at k v.codecs))) → MayAddAll v.media.pool e → AskFits s media v c k e error
+  ask_fits k x e error is calls steps names arguments shown adds =
+      let after = legal_after e (state_of (codec_at k v.codecs)) steps in
+      record {
+        caller = caller_there x is;
+        codec = (let lt = sound.called c (length (at c v.callers)) k x is calls in let n = st.count in omega (arith, lt, n));
+        step = x;
+        is_step = is;
+        calls = calls;
+        after = after.0;
+        steps = after.1;
+        names = names;
+        arguments = arguments;
+        adds = adds;
+        shown = shown;
+      }
 
-step_fits : LiveAreNumbered → (s : ScriptData) (media : List (List Chunk)) (made : List CoderId) (v : Course) (c : ℕ) (x : Step) → IsSound s → Stands s media made v → IsNext s v c x → MoveFits s media v (step_move s media (next_who v c) x v)
-step_fits numbered s media made v c (step.Configure on config) sound st is =
-    ask_fits s media made v c on (step.Configure on config) (entry.Configure (next_who v c) config) _ sound st is refl (call_legal (next_who v c) (call.Configure config) (state_of (codec_at on v.codecs))) refl refl (call_shows (next_who v c) (call.Configure config) (state_of (codec_at on v.codecs)))
-    (none_added v.media.pool (entry.Configure (next_who v c) config) refl)
-step_fits numbered s media made v c (step.Chunk bind source) sound st is = still_fits s media made v c (step.Chunk bind source) (result.Local (source_error source)) st is (local_apart v (result.Local (source_error source)) refl) tt tt tt (λ o. refl) refl
-step_fits numbered s media made v c (step.Decode on chunk) sound st is = decode_fits s media made v c on chunk (chunk_for media (steps_of s c) (variables_of c v.media.variables) chunk.step) sound st is refl
-step_fits numbered s media made v c (step.Flush on bind) sound st is =
-    ask_fits s media made v c on (step.Flush on bind) (entry.Flush (next_who v c)) _ sound st is refl (call_legal (next_who v c) call.Flush (state_of (codec_at on v.codecs))) refl refl (call_shows (next_who v c) call.Flush (state_of (codec_at on v.codecs))) (none_added v.media.pool (entry.Flush (next_who v c)) refl)
-step_fits numbered s media made v c (step.Poll promise) sound st is =
-    let found = promise_call s media made v c (step.Poll promise) promise sound st is refl in
-    let r = look_at v found.0 found.1 in
-    rw found.3 (still_fits s media made v c (step.Poll promise) r st is (look_apart v found.0 r refl) tt tt (look_shows s media made v c promise r found.0 found.1 found.2 st found.3) (λ o. tt) refl)
-step_fits numbered s media made v c (step.Await promise) sound st is =
-    let found = promise_call s media made v c (step.Await promise) promise sound st is refl in
-    let r = look_at v found.0 found.1 in
-    rw found.3 (still_fits s media made v c (step.Await promise) r st is (look_apart v found.0 r refl) tt tt (look_shows s media made v c promise r found.0 found.1 found.2 st found.3) (λ o. tt) refl)
-step_fits numbered s media made v c (step.Reset on) sound st is =
-    ask_fits s media made v c on (step.Reset on) (entry.Reset (next_who v c)) _ sound st is refl refl refl refl (removal_is_shown (removal_error (state_of (codec_at on v.codecs)).control) _) (none_added v.media.pool (entry.Reset (next_who v c)) refl)
-step_fits numbered s media made v c (step.Close on) sound st is =
-    ask_fits s media made v c on (step.Close on) (entry.Close (next_who v c)) _ sound st is refl refl refl refl (removal_is_shown (removal_error (state_of (codec_at on v.codecs)).control) _) (none_added v.media.pool (entry.Close (next_who v c)) refl)
-step_fits numbered s media made v c (step.State on) sound st is = state_fits s media made v c on st is
-step_fits numbered s media made v c (step.Media x) sound st is = media_fits numbered s media made v c x sound st is
+  answer_fits : (x : Step) (r : StepResult) → IsNext s v c x → Apart v r → IsResultOf s (record_of (with_result c r v)) (next_who v c) x r → IsFound s (record_of (with_result c r v)) r
+      → LookShows s (record_of (with_result c r v)) c x r → ((o : Option Came) → IsLocalAnswer s media (variables_of c v.media.variables) o c x r) → IsQuiet (steps_of s) (brought_to s media (record_of (with_result c r v))) c (length (at c v.callers)) → AnswerFits s media v c r
+  answer_fits x r is apart made_of found looks answers quiet = record {
+    caller = caller_there x is;
+    fits = λ before. record {
+      step = x;
+      is_step = is;
+      made = made_of;
+      found = found;
+      shows = looks;
+      answers = (let came = came_at s media (record_of (with_result c r v)) c (length (at c v.callers)) in subst (λ (vs : List (Option Medium)). IsLocalAnswer s media vs came c x r) (sym before) (answers came));
+    };
+    apart = apart;
+    quiet = quiet;
+  }
 
-next_fits : LiveAreNumbered → (s : ScriptData) (media : List (List Chunk)) (made : List CoderId) (v : Course) (c : ℕ) (o : Option Step) → IsSound s → Stands s media made v → step_in s c (length (at c v.callers)) ≡ o → MoveFits s media v (next_move s media (next_who v c) o v)
-next_fits numbered s media made v c None sound st is = tt
-next_fits numbered s media made v c (Some x) sound st is = step_fits numbered s media made v c x sound st is
+  -- a step that is none on media
+  still_fits : (x : Step) (r : StepResult) → IsNext s v c x → Apart v r → IsResultOf s (record_of (with_result c r v)) (next_who v c) x r → IsFound s (record_of (with_result c r v)) r
+      → LookShows s (record_of (with_result c r v)) c x r → ((o : Option Came) → IsLocalAnswer s media (variables_of c v.media.variables) o c x r) → media_of x ≡ None → AnswerFits s media v c r
+  still_fits x r is apart made_of found looks answers other =
+      answer_fits x r is apart made_of found looks answers
+      (none_quiet s (brought_to s media (record_of (with_result c r v))) c (length (at c v.callers)) (ap (option_and_then media_of) is ∙ other))
+
+  decode_fits : (k : ℕ) (chunk : Variable) (o : Option Chunk) → IsNext s v c (step.Decode k chunk) → chunk_for media (steps_of s c) (variables_of c v.media.variables) chunk.step ≡ o → MoveFits s media v (decode_move (next_who v c) k o (codec_at k v.codecs))
+  decode_fits k chunk None is none = still_fits (step.Decode k chunk) result.Absent is (local_apart v result.Absent refl) tt tt tt (λ o. none) refl
+  decode_fits k chunk (Some value) is some =
+      ask_fits k (step.Decode k chunk) (entry.Decode (next_who v c) value) _ is refl (call_legal (next_who v c) (call.Decode value) (state_of (codec_at k v.codecs))) refl (value, some, refl) (call_shows (next_who v c) (call.Decode value) (state_of (codec_at k v.codecs))) (none_added v.media.pool (entry.Decode (next_who v c) value) refl)
+
+  -- a step that looks at an earlier promise finds the call of its flush
+  promise_call : (x : Step) (promise : Variable) → IsNext s v c x → promise_of x ≡ Some promise → (k : ℕ) × (p : ℕ) × (error : Option DomError) × (result_in (record_of v) c promise.step ≡ Some (result.Call k p error))
+  promise_call x promise is looks =
+      let before : promise.step < length (at c v.callers) = sound.earlier c (length (at c v.callers)) x promise is looks in
+      let there = get_some (at c v.callers) promise.step before in
+      let flush = sound.promised c (length (at c v.callers)) x promise is looks in
+      let fits = st.results c promise.step there.0 there.1 in
+      let same : fits.step ≡ flush.0 = some_same fits.step flush.0 (sym fits.is_step ∙ flush.1) in
+      let came = flush_came s media (record_of v) (record { caller = c; step = promise.step }) (variables_at s media (record_of v) c promise.step) (came_at s media (record_of v) c promise.step) c flush.0 there.0 flush.2 (rw same at fits.made) (rw same at fits.answers) in
+      (came.0, came.1, came.2, there.1 ∙ ap (λ (q : StepResult). Some q) came.3)
+
+  look_shows : (promise : Variable) (r : StepResult) (k p : ℕ) (error : Option DomError) → result_in (record_of v) c promise.step ≡ Some (result.Call k p error) → let w = record_of (with_result c r v) in let d = codec_at k v.codecs in
+      (q : ℕ) × (e : Option DomError) × (result_in w c promise.step ≡ Some (result.Call k q e)) × (promise_after d.opening d.history p ≡ promise_after (opening_at s k) (take (length d.history) (at k w.codecs)) q)
+  look_shows promise r k p error was = (p, error, result_kept c c promise.step r (result.Call k p error) v.callers was, all_there (λ o h. promise_after o h p) s media made v k st)
+
+  state_fits : (k : ℕ) → IsNext s v c (step.State k) → MoveFits s media v (Answer c (look_of_state k (codec_at k v.codecs)))
+  state_fits k is =
+      still_fits (step.State k) (look_of_state k (codec_at k v.codecs)) is (look_apart v k (look_of_state k (codec_at k v.codecs)) refl) tt tt
+      (refl, all_there (λ o h. (state_after o h).control.phase) s media made v k st, all_there (λ o h. (state_after o h).control.size) s media made v k st) (λ o. tt) refl
+
+  -- a step on media, to which no output is brought
+  handle_fits : (x : MediaStep) (o : Option Came) → IsNext s v c (step.Media x) → media_came v.media.pool (next_who v c) (brought (copied_chunk media (steps_of s c) x) None) x (variables_of c v.media.variables) ≡ o → MoveFits s media v (handle_move (next_who v c) o)
+  handle_fits x None is comes = tt
+  handle_fits x (Some y) is comes = (refl, record { caller = caller_there (step.Media x) is; handled = x; is_step = is; comes = comes })
+
+  -- a take that found nothing comes to nothing of media
+  take_quiet : (k n : ℕ) (bind : List ℕ) (holds : VariableKind) → c < length v.callers → IsNext s v c (step.Media (on_media.Take k bind holds)) → IsQuiet (steps_of s) (brought_to s media (record_of (with_result c (result.NoUnit k n) v))) c (length (at c v.callers))
+  take_quiet k n bind holds lt is x pool vs named =
+      let w = record_of (with_result c (result.NoUnit k n) v) in
+      let j = length (at c v.callers) in
+      let same : on_media.Take k bind holds ≡ x = some_same (on_media.Take k bind holds) x (sym (ap (option_and_then media_of) is) ∙ named) in
+      let none : taken_by s w (result_in w c j) ≡ None = ap (taken_by s w) (result_new c (result.NoUnit k n) v.callers lt) in
+      rw (sym same, none) refl
+
+  take_fits : (k : ℕ) (bind : List ℕ) (holds : VariableKind) (o : Option output.Unit) → IsNext s v c (step.Media (on_media.Take k bind holds)) → output_at (codec_at k v.codecs).opening (codec_at k v.codecs).history (state_of (codec_at k v.codecs)).control.taken ≡ o
+      → MoveFits s media v (take_move (next_who v c) k (codec_at k v.codecs) (taken_came v.media.pool (length (at c v.callers)) (option_map (taken_as (take_result v k (state_of (codec_at k v.codecs)).control.taken)) o) (variables_of c v.media.variables)))
+  take_fits k bind holds None is none =
+      let n = next_place v k in
+      answer_fits (step.Media (on_media.Take k bind holds)) (result.NoUnit k n) is (look_apart v k (result.NoUnit k n) refl) refl tt
+      (refl, sym (all_there (λ o h. output_at o h (state_after o h).control.taken) s media made v k st) ∙ none) (λ o. tt) (take_quiet k n bind holds (caller_there (step.Media (on_media.Take k bind holds)) is) is)
+  take_fits k bind holds (Some u) is some =
+      let d = codec_at k v.codecs in
+      let n = (state_of d).control.taken in
+      let counted : (state_of d).control.shown ≡ length (outputs_of (shown d.opening d.history)) = shown_counted d.opening d.history (state_of d) (st.boxes.each k).replays in
+      let below : n < length (outputs_of (shown d.opening d.history)) = slice_get_within (outputs_of (shown d.opening d.history)) n u some in
+      let after = legal_after (entry.Take (next_who v c) n) (state_of d) (take_legal (next_who v c) (state_of d) (omega (arith, counted, below))) in (
+        n,
+        refl,
+        refl,
+        record {
+          caller = caller_there (step.Media (on_media.Take k bind holds)) is;
+          codec = (let lt = sound.taken c (length (at c v.callers)) k (step.Media (on_media.Take k bind holds)) is refl in let m = st.count in omega (arith, lt, m));
+          bind = bind;
+          holds = holds;
+          is_step = is;
+          after = after.0;
+          steps = after.1;
+          unit = u;
+          there = rw (history_at k v.codecs, sym (st.opened k)) some;
+          comes = refl;
+        },
+      )
+
+  encode_fits : (k : ℕ) (content : Variable) (o : Option Sound) → IsNext s v c (step.Media (on_media.Encode k content)) → sound_at (variables_of c v.media.variables) content.step ≡ o → MoveFits s media v (encode_move (next_who v c) k v.media.pool o (codec_at k v.codecs))
+  encode_fits k content None is none =
+      answer_fits (step.Media (on_media.Encode k content)) result.Absent is (local_apart v result.Absent refl) tt tt tt (λ o. none)
+      (call_quiet s (brought_to s media (record_of (with_result c result.Absent v))) c (length (at c v.callers)) k (step.Media (on_media.Encode k content)) is refl)
+  encode_fits k content (Some x) is some =
+      let who = next_who v c in
+      let t = state_of (codec_at k v.codecs) in
+      let pool = v.media.pool in
+      let accepts = is_configured t.control in
+      let said = encode_said pool who x.shape x.held t accepts refl lives in
+      ask_fits k (step.Media (on_media.Encode k content)) (entry.Encode who (handed_of (references_made pool) accepts x)) _ is refl said.0 refl (x, references_made pool, accepts, some, refl) said.1 said.2
+    where
+      lives : (r : MediaRef) → x.held ≡ Some r → is_held r.resource v.media.pool ≡ true
+      lives r holds =
+          let found = sound_held (medium_at (variables_of c v.media.variables) content.step) x r some holds in
+          subst (λ (i : ℕ). is_held i v.media.pool ≡ true) found.2 (live_held numbered v.media.pool found.0.number found.0.resource st.stand.accounted.legal (st.stand.held.live c content.step found.0 found.1))
+
+  -- a step on media
+  media_fits : (x : MediaStep) → IsNext s v c (step.Media x) → MoveFits s media v (media_move s media (next_who v c) x v)
+  media_fits (on_media.Take on bind kind) is =
+      take_fits on bind kind (output_at (codec_at on v.codecs).opening (codec_at on v.codecs).history (state_of (codec_at on v.codecs)).control.taken) is refl
+  media_fits (on_media.Encode on content) is = encode_fits on content (sound_at (variables_of c v.media.variables) content.step) is refl
+  media_fits x is =
+      handle_fits x (media_came v.media.pool (next_who v c) (brought (copied_chunk media (steps_of s c) x) None) x (variables_of c v.media.variables)) is refl
+
+  step_fits : (x : Step) → IsNext s v c x → MoveFits s media v (step_move s media (next_who v c) x v)
+  step_fits (step.Configure on config) is =
+      ask_fits on (step.Configure on config) (entry.Configure (next_who v c) config) _ is refl (call_legal (next_who v c) (call.Configure config) (state_of (codec_at on v.codecs))) refl refl (call_shows (next_who v c) (call.Configure config) (state_of (codec_at on v.codecs)))
+      (none_added v.media.pool (entry.Configure (next_who v c) config) refl)
+  step_fits (step.Chunk bind source) is = still_fits (step.Chunk bind source) (result.Local (source_error source)) is (local_apart v (result.Local (source_error source)) refl) tt tt tt (λ o. refl) refl
+  step_fits (step.Decode on chunk) is = decode_fits on chunk (chunk_for media (steps_of s c) (variables_of c v.media.variables) chunk.step) is refl
+  step_fits (step.Flush on bind) is =
+      ask_fits on (step.Flush on bind) (entry.Flush (next_who v c)) _ is refl (call_legal (next_who v c) call.Flush (state_of (codec_at on v.codecs))) refl refl (call_shows (next_who v c) call.Flush (state_of (codec_at on v.codecs))) (none_added v.media.pool (entry.Flush (next_who v c)) refl)
+  step_fits (step.Poll promise) is =
+      let found = promise_call (step.Poll promise) promise is refl in
+      let r = look_at v found.0 found.1 in
+      rw found.3 (still_fits (step.Poll promise) r is (look_apart v found.0 r refl) tt tt (look_shows promise r found.0 found.1 found.2 found.3) (λ o. tt) refl)
+  step_fits (step.Await promise) is =
+      let found = promise_call (step.Await promise) promise is refl in
+      let r = look_at v found.0 found.1 in
+      rw found.3 (still_fits (step.Await promise) r is (look_apart v found.0 r refl) tt tt (look_shows promise r found.0 found.1 found.2 found.3) (λ o. tt) refl)
+  step_fits (step.Reset on) is =
+      ask_fits on (step.Reset on) (entry.Reset (next_who v c)) _ is refl refl refl refl (removal_is_shown (removal_error (state_of (codec_at on v.codecs)).control) _) (none_added v.media.pool (entry.Reset (next_who v c)) refl)
+  step_fits (step.Close on) is =
+      ask_fits on (step.Close on) (entry.Close (next_who v c)) _ is refl refl refl refl (removal_is_shown (removal_error (state_of (codec_at on v.codecs)).control) _) (none_added v.media.pool (entry.Close (next_who v c)) refl)
+  step_fits (step.State on) is = state_fits on is
+  step_fits (step.Media x) is = media_fits x is
+
+  next_fits : (o : Option Step) → step_in s c (length (at c v.callers)) ≡ o → MoveFits s media v (next_move s media (next_who v c) o v)
+  next_fits None is = tt
+  next_fits (Some x) is = step_fits x is
 
 -- ---- entries of no caller
 
@@ -426,7 +410,7 @@ own_fits s media made v k wants x (Some e) st is =
 
 -- Each item of a sound script's order makes a move that fits.
 pub item_fits : LiveAreNumbered → (s : ScriptData) (media : List (List Chunk)) (made : List CoderId) (v : Course) (wants : Bool) (x : OrderItem) → IsSound s → Stands s media made v → MoveFits s media v (item_move s media wants x v)
-item_fits numbered s media made v wants (item.Caller c) sound st = next_fits numbered s media made v c (step_in s c (length (at c v.callers))) sound st refl
+item_fits numbered s media made v wants (item.Caller c) sound st = next_fits numbered s media made v c sound st (step_in s c (length (at c v.callers))) refl
 item_fits numbered s media made v wants (item.Start k) sound st = own_fits s media made v k wants (item.Start k) (item_entry wants (item.Start k) (codec_at k v.codecs)) st refl
 item_fits numbered s media made v wants (item.Done k moment) sound st = own_fits s media made v k wants (item.Done k moment) (item_entry wants (item.Done k moment) (codec_at k v.codecs)) st refl
 item_fits numbered s media made v wants (item.Turn k) sound st = own_fits s media made v k wants (item.Turn k) (item_entry wants (item.Turn k) (codec_at k v.codecs)) st refl

@@ -24,7 +24,7 @@ use Rattle.codec_accounts.specs.ListLaws.{append_at_length, at_same, at_other, g
 use Rattle.codec_accounts.specs.Calls.{who_of, Mark, reach, named_at, named, call_in, all_calls, Climbs}
 use Rattle.codec_accounts.specs.Calls as mark
 use Rattle.codec_accounts.specs.CallsLaws.{names_call, named_more, calls_in_more, climbs_on, climbs_add, MayClimb}
-use Rattle.codec_accounts.specs.Codec.{CodecValue, state_after, state_of, codec_at, histories}
+use Rattle.codec_accounts.specs.Codec.{CodecValue, state_of, codec_at, histories}
 use Rattle.codec_accounts.specs.AccountLaws.{Accounted, EntryFits, accounted_more, history_at}
 use Rattle.script_types.specs.declared.script.ScriptData.{ScriptData}
 use Rattle.script_types.specs.declared.steps.Step.{Step}
@@ -391,9 +391,7 @@ call_there s media made v c k e error st a =
     let u = after_move (Ask c k e error) v in
     let h = at k (histories v.codecs) in
     let p = next_place v k in
-    let legal = legals s media made v st k in
-    let state : state_after (opening_at s k) h ≡ state_of (codec_at k v.codecs) = rw (history_at k v.codecs, st.opened k) refl in
-    let shown : error ≡ exception_at (opening_at s k) (at k (histories u.codecs)) p = rw (this_history v k e a.codec, sym (history_there v k), shown_last (opening_at s k) h e legal, state) a.shown in
+    let shown : error ≡ exception_at (opening_at s k) (at k (histories u.codecs)) p = rw (this_history v k e a.codec, sym (history_there v k), shown_last (opening_at s k) h e (legals s media made v st k), history_at k v.codecs, sym (st.opened k)) a.shown in
     let none = no_look s media (record_of u) c k p a.step error a.calls in
     record {
       step = a.step;

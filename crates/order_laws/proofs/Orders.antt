@@ -1,5 +1,6 @@
 -- Following a script's order makes a run that fits the script.
 use Rattle.std.proofs.Common.{ℕ, zero, suc, ◌≡◌, List, [], ◌∷◌, length, map, Some, None, is_some, refl, ap, sym, subst, ◌∙◌, arith}
+use mathlib.Core.List.{map-map}
 use Rattle.std.specs.Prelude.{slice_get}
 use Rattle.std.specs.List.{sum_by}
 use Rattle.std.proofs.lemmas.List.{length-map}
@@ -36,10 +37,6 @@ use Rattle.order_laws.proofs.Items.{item_fits}
 
 -- ---- the beginning
 
-new_codecs : (cs : List CodecItem) → map new_codec (map opening_of cs) ≡ map (λ c. new_codec (opening_of c)) cs
-new_codecs [] = refl
-new_codecs (c ∷ cs) = ap (λ (ds : List CodecValue). new_codec (opening_of c) ∷ ds) (new_codecs cs)
-
 -- a new codec is opened as the script says
 new_at : (cs : List CodecItem) (k : ℕ) → codec_at k (map (λ c. new_codec (opening_of c)) cs) ≡ new_codec (opening_in cs k)
 new_at [] k = refl
@@ -72,7 +69,7 @@ nothing_stands laws s media made = record {
   count = length-map s.codecs _;
   opened = λ k. ap (λ (d : CodecValue). d.opening) (new_at s.codecs k);
   same_made = refl;
-  boxes = subst (λ (ds : List CodecValue). Accounted ds (record { made = made; history = [] })) (new_codecs s.codecs) (nothing_accounted (map opening_of s.codecs) made);
+  boxes = subst (λ (ds : List CodecValue). Accounted ds (record { made = made; history = [] })) (map-map new_codec opening_of s.codecs) (nothing_accounted (map opening_of s.codecs) made);
   results = λ c j r is. absurd (let none : None ≡ Some r = sym (ap (λ (xs : List StepResult). slice_get xs j) (at_empty c s.callers)) ∙ is in cc);
   arguments = λ k p e who is names. absurd (let none : None ≡ Some e = sym (ap (λ (xs : List Entry). slice_get xs p) (no_history s.codecs k)) ∙ is in cc);
   once = λ k. subst (λ (h : List Entry). mark.CallsAreIn k h (marks_of (record_of (nothing_yet s made)))) (sym (no_history s.codecs k)) (λ t. ap (sum_by t) (sym (no_calls k 0 s.callers)));
