@@ -22,11 +22,13 @@ use Rattle.codec_model.specs.declared.entry.Call.TheVariants as call
 use Rattle.codec_model.specs.declared.entry.Entry.{Entry}
 use Rattle.codec_model.specs.declared.entry.Entry.TheVariants as entry
 use Rattle.codec_model.specs.declared.entry.Item.{Item}
+use Rattle.codec_model.specs.declared.entry.Removal.{Removal}
+use Rattle.codec_model.specs.declared.entry.Removal.TheVariants as removal
 use Rattle.codec_model.specs.declared.entry.Running.{Running}
 use Rattle.codec_model.specs.declared.entry.Task.{Task}
 use Rattle.codec_model.specs.Control.{start_item, may_reclaim}
 use Rattle.history_laws.specs.CountLaws.{shown_counted}
-use Rattle.codec_model.specs.Replay.{State, step as entry_step, entry_of, call_error, encode_error, is_configured, removal_error, answer_to}
+use Rattle.codec_model.specs.Replay.{State, step as entry_step, entry_of, removal_entry, call_error, encode_error, is_configured, removal_error, answer_to}
 use Rattle.codec_model.specs.Held.{adds_held}
 use Rattle.codec_model.specs.declared.entry.Pair.{Pair}
 use Rattle.codec_model.specs.declared.entry.Handed.TheVariants as handed
@@ -36,7 +38,7 @@ use Rattle.codec_accounts.specs.ListLaws.{get_some, result_kept, result_new}
 use Rattle.codec_accounts.specs.Calls.{who_of, reach, call_in}
 use Rattle.codec_accounts.specs.Calls as mark
 use Rattle.codec_accounts.specs.CallsLaws.{MayClimb}
-use Rattle.codec_accounts.specs.Codec.{new_codec, state_after, state_of, codec_at, histories}
+use Rattle.codec_accounts.specs.Codec.{CodecValue, new_codec, state_after, state_of, codec_at, histories}
 use Rattle.codec_accounts.specs.StartLaws.{EndFits}
 use Rattle.codec_accounts.specs.AccountLaws.{EntryFits, history_at}
 use Rattle.script_types.specs.declared.script.OrderItem.{OrderItem}
@@ -60,8 +62,8 @@ use Rattle.order_laws.specs.Sound.{IsSound, promise_of, IsFlush}
 use Rattle.order_laws.specs.SoundSteps.{stands_in}
 use Rattle.order_laws.proofs.Entries.{MayAddAll}
 use Rattle.order_laws.proofs.Grown.{IsFound, taken_as, brought}
-use Rattle.order_laws.proofs.Legal.{Steps, some_is, MayBeRefused, call_legal, take_legal, start_legal, done_legal, turn_legal, reclaim_legal}
-use Rattle.order_laws.proofs.Moves.{Stands, next_who, next_place, take_result, Apart, local_apart, AnswerFits, AskFits, MoveFits, none_quiet, call_quiet}
+use Rattle.order_laws.proofs.Legal.{Steps, some_is, MayBeRefused, take_legal, start_legal, done_legal, turn_legal, reclaim_legal}
+use Rattle.order_laws.proofs.Moves.{Stands, next_who, next_place, take_result, Apart, local_apart, AnswerFits, AskFits, ReceiveFits, MoveFits, none_quiet, call_quiet}
 
 -- the caller's next step
 abbrev IsNext : ScriptData → Course → ℕ → Step → Type 0
@@ -77,12 +79,6 @@ refused_by : (o : Option DomError) → o ≡ refusal_in (refusal o)
 refused_by None = refl
 refused_by (Some error) = refl
 
--- the exception of a call is what its entry shows
-call_shows : (who : Who) (x : Call) (s : State) → exception_of x (call_error x s.control) ≡ refusal_in (shows (entry_of who x) s)
-call_shows who (call.Configure config) s = refused_by (call_error (call.Configure config) s.control)
-call_shows who (call.Decode chunk) s = refused_by (call_error (call.Decode chunk) s.control)
-call_shows who call.Flush s = elim (call_error call.Flush s.control) as (λ (o : Option DomError). None ≡ refusal_in (rejection s.control.place o)) [ None ↦ refl | Some error ↦ refl ]
-
 removal_is_shown : (o : Option DomError) (pending : List ℕ) → o ≡ refusal_in (removal_shows o pending)
 removal_is_shown None [] = refl
 removal_is_shown None (p ∷ ps) = refl
@@ -91,7 +87,21 @@ removal_is_shown (Some error) pending = refl
 none_added : (pool : List PoolEntry) (e : Entry) → adds_held e ≡ [] → MayAddAll pool e
 none_added pool e none i p is = absurd (let bad : None ≡ Some p = sym (ap (λ (ps : List Pair). slice_get ps i) none) ∙ is in cc)
 
--- ---- steps that make no entry
+-- an entry is legal, this exception is what it shows, and what it adds may be added
+abbrev Said : List PoolEntry → State → Entry → Option DomError → Type 0
+Said pool t e error = Steps e t × (error ≡ refusal_in (shows e t)) × MayAddAll pool e
+
+call_said : (pool : List PoolEntry) (who : Who) (x : Call) (t : State) → Said pool t (entry_of who x) (exception_of x (call_error x t.control))
+call_said pool who (call.Configure config) t = (refl, refused_by (call_error (call.Configure config) t.control), none_added pool (entry.Configure who config) refl)
+call_said pool who (call.Decode chunk) t = (refl, refused_by (call_error (call.Decode chunk) t.control), none_added pool (entry.Decode who chunk) refl)
+call_said pool who call.Flush t =
+    (refl, elim (call_error call.Flush t.control) as (λ (o : Option DomError). None ≡ refusal_in (rejection t.control.place o)) [ None ↦ refl | Some error ↦ refl ], none_added pool (entry.Flush who) refl)
+
+removal_said : (pool : List PoolEntry) (who : Who) (r : Removal) (t : State) → Said pool t (removal_entry who r) (removal_error t.control)
+removal_said pool who removal.Reset t = (refl, removal_is_shown (removal_error t.control) t.control.pending, none_added pool (entry.Reset who) refl)
+removal_said pool who removal.Close t = (refl, removal_is_shown (removal_error t.control) t.control.pending, none_added pool (entry.Close who) refl)
+
+-- ---- looks
 
 -- a look at a codec sees its whole history
 look_climbs : (v : Course) (on k : ℕ) (b : Bool) → (b ≡ true → on ≡ k) → MayClimb (cond b (Some (length (codec_at on v.codecs).history, length (codec_at on v.codecs).history)) None) (length (at k (histories v.codecs))) (length (at k (histories v.codecs)))
@@ -135,7 +145,7 @@ only_one x (suc i) p is = absurd cc
 -- what is handed over is legal where it tells whether the codec is configured, its exception is what its entry shows, and it
 -- adds a reference to what is held
 encode_said : (pool : List PoolEntry) (who : Who) (shape : SoundShape) (held : Option MediaRef) (t : State) (b : Bool) → is_configured t.control ≡ b → ((r : MediaRef) → held ≡ Some r → is_held r.resource pool ≡ true)
-    → let h = handed_by (references_made pool) b shape held in Steps (entry.Encode who h) t × (encode_error (is_gone h) t.control ≡ refusal_in (shows (entry.Encode who h) t)) × MayAddAll pool (entry.Encode who h)
+    → let h = handed_by (references_made pool) b shape held in Said pool t (entry.Encode who h) (encode_error (is_gone h) t.control)
 encode_said pool who shape None t b is lives = (refl, refl, none_added pool (entry.Encode who handed.Gone) refl)
 encode_said pool who shape (Some r) t false is lives = (rw is refl, rw is refl, none_added pool (entry.Encode who handed.Kept) refl)
 encode_said pool who shape (Some r) t true is lives = (rw is refl, rw is refl, λ i p at. rw (only_one (record { resource = r.resource; reference = references_made pool }) i p at) (lives r refl, refl))
@@ -171,18 +181,16 @@ live_held numbered pool number resource legal lives =
 module _ (numbered : LiveAreNumbered) (s : ScriptData) (media : List (List Chunk)) (made : List CoderId) (v : Course) (c : ℕ) (sound : IsSound s) (st : Stands s media made v) where
   caller_there : (x : Step) → IsNext s v c x → c < length v.callers
   caller_there x is =
-      let there = stands_in s.callers c (length (at c v.callers)) x is in
-      let lt = slice_get_within s.callers c there.caller there.is_caller in
-      let n = st.callers in omega (arith, lt, n)
+      let there = stands_in s.callers c (length (at c v.callers)) x is in omega (arith, slice_get_within s.callers c there.caller there.is_caller, st.callers)
 
   -- a caller's step on a codec, and its entry
-  ask_fits : (k : ℕ) (x : Step) (e : Entry) (error : Option DomError) → IsNext s v c x → called x ≡ Some k → Steps e (state_of (codec_at k v.codecs))
-      → who_of e ≡ Some (next_who v c) → HasArguments s media (variables_of c v.media.variables) (next_who v c) e x → error ≡ refusal_in (shows e (state_of (codec_at k v.codecs))) → MayAddAll v.media.pool e → AskFits s media v c k e error
-  ask_fits k x e error is calls steps names arguments shown adds =
-      let after = legal_after e (state_of (codec_at k v.codecs)) steps in
+  ask_fits : (k : ℕ) (x : Step) (e : Entry) (error : Option DomError) → IsNext s v c x → called x ≡ Some k → Said v.media.pool (state_of (codec_at k v.codecs)) e error
+      → who_of e ≡ Some (next_who v c) → HasArguments s media (variables_of c v.media.variables) (next_who v c) e x → AskFits s media v c k e error
+  ask_fits k x e error is calls said names arguments =
+      let after = legal_after e (state_of (codec_at k v.codecs)) said.0 in
       record {
         caller = caller_there x is;
-        codec = (let lt = sound.called c (length (at c v.callers)) k x is calls in let n = st.count in omega (arith, lt, n));
+        codec = omega (arith, sound.called c (length (at c v.callers)) k x is calls, st.count);
         step = x;
         is_step = is;
         calls = calls;
@@ -190,8 +198,8 @@ module _ (numbered : LiveAreNumbered) (s : ScriptData) (media : List (List Chunk
         steps = after.1;
         names = names;
         arguments = arguments;
-        adds = adds;
-        shown = shown;
+        adds = said.2;
+        shown = said.1;
       }
 
   answer_fits : (x : Step) (r : StepResult) → IsNext s v c x → Apart v r → IsResultOf s (record_of (with_result c r v)) (next_who v c) x r → IsFound s (record_of (with_result c r v)) r
@@ -220,7 +228,7 @@ module _ (numbered : LiveAreNumbered) (s : ScriptData) (media : List (List Chunk
   decode_fits : (k : ℕ) (chunk : Variable) (o : Option Chunk) → IsNext s v c (step.Decode k chunk) → chunk_for media (steps_of s c) (variables_of c v.media.variables) chunk.step ≡ o → MoveFits s media v (decode_move (next_who v c) k o (codec_at k v.codecs))
   decode_fits k chunk None is none = still_fits (step.Decode k chunk) result.Absent is (local_apart v result.Absent refl) tt tt tt (λ o. none) refl
   decode_fits k chunk (Some value) is some =
-      ask_fits k (step.Decode k chunk) (entry.Decode (next_who v c) value) _ is refl (call_legal (next_who v c) (call.Decode value) (state_of (codec_at k v.codecs))) refl (value, some, refl) (call_shows (next_who v c) (call.Decode value) (state_of (codec_at k v.codecs))) (none_added v.media.pool (entry.Decode (next_who v c) value) refl)
+      ask_fits k (step.Decode k chunk) (entry.Decode (next_who v c) value) _ is refl (call_said v.media.pool (next_who v c) (call.Decode value) (state_of (codec_at k v.codecs))) refl (value, some, refl)
 
   -- a step that looks at an earlier promise finds the call of its flush
   promise_call : (x : Step) (promise : Variable) → IsNext s v c x → promise_of x ≡ Some promise → (k : ℕ) × (p : ℕ) × (error : Option DomError) × (result_in (record_of v) c promise.step ≡ Some (result.Call k p error))
@@ -267,23 +275,20 @@ module _ (numbered : LiveAreNumbered) (s : ScriptData) (media : List (List Chunk
       let n = (state_of d).control.taken in
       let counted : (state_of d).control.shown ≡ length (outputs_of (shown d.opening d.history)) = shown_counted d.opening d.history (state_of d) (st.boxes.each k).replays in
       let below : n < length (outputs_of (shown d.opening d.history)) = slice_get_within (outputs_of (shown d.opening d.history)) n u some in
-      let after = legal_after (entry.Take (next_who v c) n) (state_of d) (take_legal (next_who v c) (state_of d) (omega (arith, counted, below))) in (
-        n,
-        refl,
-        refl,
-        record {
-          caller = caller_there (step.Media (on_media.Take k bind holds)) is;
-          codec = (let lt = sound.taken c (length (at c v.callers)) k (step.Media (on_media.Take k bind holds)) is refl in let m = st.count in omega (arith, lt, m));
-          bind = bind;
-          holds = holds;
-          is_step = is;
-          after = after.0;
-          steps = after.1;
-          unit = u;
-          there = rw (history_at k v.codecs, sym (st.opened k)) some;
-          comes = refl;
-        },
-      )
+      let after = legal_after (entry.Take (next_who v c) n) (state_of d) (take_legal (next_who v c) (state_of d) (omega (arith, counted, below))) in
+      let fits : ReceiveFits s media v c k n _ = record {
+        caller = caller_there (step.Media (on_media.Take k bind holds)) is;
+        codec = omega (arith, sound.taken c (length (at c v.callers)) k (step.Media (on_media.Take k bind holds)) is refl, st.count);
+        bind = bind;
+        holds = holds;
+        is_step = is;
+        after = after.0;
+        steps = after.1;
+        unit = u;
+        there = rw (history_at k v.codecs, sym (st.opened k)) some;
+        comes = refl;
+      } in
+      (n, refl, refl, fits)
 
   encode_fits : (k : ℕ) (content : Variable) (o : Option Sound) → IsNext s v c (step.Media (on_media.Encode k content)) → sound_at (variables_of c v.media.variables) content.step ≡ o → MoveFits s media v (encode_move (next_who v c) k v.media.pool o (codec_at k v.codecs))
   encode_fits k content None is none =
@@ -295,7 +300,7 @@ module _ (numbered : LiveAreNumbered) (s : ScriptData) (media : List (List Chunk
       let pool = v.media.pool in
       let accepts = is_configured t.control in
       let said = encode_said pool who x.shape x.held t accepts refl lives in
-      ask_fits k (step.Media (on_media.Encode k content)) (entry.Encode who (handed_of (references_made pool) accepts x)) _ is refl said.0 refl (x, references_made pool, accepts, some, refl) said.1 said.2
+      ask_fits k (step.Media (on_media.Encode k content)) (entry.Encode who (handed_of (references_made pool) accepts x)) _ is refl said refl (x, references_made pool, accepts, some, refl)
     where
       lives : (r : MediaRef) → x.held ≡ Some r → is_held r.resource v.media.pool ≡ true
       lives r holds =
@@ -311,13 +316,10 @@ module _ (numbered : LiveAreNumbered) (s : ScriptData) (media : List (List Chunk
       handle_fits x (media_came v.media.pool (next_who v c) (brought (copied_chunk media (steps_of s c) x) None) x (variables_of c v.media.variables)) is refl
 
   step_fits : (x : Step) → IsNext s v c x → MoveFits s media v (step_move s media (next_who v c) x v)
-  step_fits (step.Configure on config) is =
-      ask_fits on (step.Configure on config) (entry.Configure (next_who v c) config) _ is refl (call_legal (next_who v c) (call.Configure config) (state_of (codec_at on v.codecs))) refl refl (call_shows (next_who v c) (call.Configure config) (state_of (codec_at on v.codecs)))
-      (none_added v.media.pool (entry.Configure (next_who v c) config) refl)
+  step_fits (step.Configure on config) is = ask_fits on (step.Configure on config) (entry.Configure (next_who v c) config) _ is refl (call_said v.media.pool (next_who v c) (call.Configure config) (state_of (codec_at on v.codecs))) refl refl
   step_fits (step.Chunk bind source) is = still_fits (step.Chunk bind source) (result.Local (source_error source)) is (local_apart v (result.Local (source_error source)) refl) tt tt tt (λ o. refl) refl
   step_fits (step.Decode on chunk) is = decode_fits on chunk (chunk_for media (steps_of s c) (variables_of c v.media.variables) chunk.step) is refl
-  step_fits (step.Flush on bind) is =
-      ask_fits on (step.Flush on bind) (entry.Flush (next_who v c)) _ is refl (call_legal (next_who v c) call.Flush (state_of (codec_at on v.codecs))) refl refl (call_shows (next_who v c) call.Flush (state_of (codec_at on v.codecs))) (none_added v.media.pool (entry.Flush (next_who v c)) refl)
+  step_fits (step.Flush on bind) is = ask_fits on (step.Flush on bind) (entry.Flush (next_who v c)) _ is refl (call_said v.media.pool (next_who v c) call.Flush (state_of (codec_at on v.codecs))) refl refl
   step_fits (step.Poll promise) is =
       let found = promise_call (step.Poll promise) promise is refl in
       let r = look_at v found.0 found.1 in
@@ -326,10 +328,8 @@ module _ (numbered : LiveAreNumbered) (s : ScriptData) (media : List (List Chunk
       let found = promise_call (step.Await promise) promise is refl in
       let r = look_at v found.0 found.1 in
       rw found.3 (still_fits (step.Await promise) r is (look_apart v found.0 r refl) tt tt (look_shows promise r found.0 found.1 found.2 found.3) (λ o. tt) refl)
-  step_fits (step.Reset on) is =
-      ask_fits on (step.Reset on) (entry.Reset (next_who v c)) _ is refl refl refl refl (removal_is_shown (removal_error (state_of (codec_at on v.codecs)).control) _) (none_added v.media.pool (entry.Reset (next_who v c)) refl)
-  step_fits (step.Close on) is =
-      ask_fits on (step.Close on) (entry.Close (next_who v c)) _ is refl refl refl refl (removal_is_shown (removal_error (state_of (codec_at on v.codecs)).control) _) (none_added v.media.pool (entry.Close (next_who v c)) refl)
+  step_fits (step.Reset on) is = ask_fits on (step.Reset on) (entry.Reset (next_who v c)) _ is refl (removal_said v.media.pool (next_who v c) removal.Reset (state_of (codec_at on v.codecs))) refl refl
+  step_fits (step.Close on) is = ask_fits on (step.Close on) (entry.Close (next_who v c)) _ is refl (removal_said v.media.pool (next_who v c) removal.Close (state_of (codec_at on v.codecs))) refl refl
   step_fits (step.State on) is = state_fits on is
   step_fits (step.Media x) is = media_fits x is
 
@@ -340,10 +340,10 @@ module _ (numbered : LiveAreNumbered) (s : ScriptData) (media : List (List Chunk
 -- ---- entries of no caller
 
 -- an entry that an item makes is legal there, of no caller, and says how its start's acquire went
-record Own (t : State) (refusal : Option ℕ) (e : Entry) : Type 0 where
-  legal : Steps e t
+record Own (d : CodecValue) (e : Entry) : Type 0 where
+  legal : Steps e (state_of d)
   nobody : who_of e ≡ None
-  fits : EntryFits e refusal
+  fits : EntryFits e d.holding.refusal
 
 end_says : (wants : Bool) (refusal : Option ℕ) (answer : Option (List output.Unit)) → EndFits refusal (outcome_for wants refusal answer)
 end_says true refusal answer = tt
@@ -359,33 +359,29 @@ refused_item s media made v k r (Some n) st is refusal =
     let same : needs.running ≡ r = some_same needs.running r (sym needs.is_running ∙ is) in
     (ap (λ (x : Running). x.kind) (sym same) ∙ needs.configure, needs.supported)
 
-turn_own : (t : State) (refusal : Option ℕ) (ts : List Task) (e : Entry) → t.control.tasks ≡ ts → turn_on ts ≡ Some e → Own t refusal e
-turn_own t refusal [] e is made = absurd cc
-turn_own t refusal (x ∷ ts) e is made = subst (Own t refusal) (some_same entry.Turn e made) (record { legal = turn_legal t x ts is; nobody = refl; fits = tt })
+turn_own : (d : CodecValue) (ts : List Task) (e : Entry) → (state_of d).control.tasks ≡ ts → turn_on ts ≡ Some e → Own d e
+turn_own d [] e is made = absurd cc
+turn_own d (x ∷ ts) e is made = subst (Own d) (some_same entry.Turn e made) (record { legal = turn_legal (state_of d) x ts is; nobody = refl; fits = tt })
 
-item_own : (s : ScriptData) (media : List (List Chunk)) (made : List CoderId) (v : Course) (k : ℕ) (wants : Bool) (x : OrderItem) (e : Entry) → Stands s media made v → item_entry wants x (codec_at k v.codecs) ≡ Some e → Own (state_of (codec_at k v.codecs)) (codec_at k v.codecs).holding.refusal e
-item_own s media made v k wants (item.Caller c) e st is = absurd cc
-item_own s media made v k wants (item.Start n) e st is =
-    let d = codec_at k v.codecs in
+item_own : (d : CodecValue) (wants : Bool) (x : OrderItem) (e : Entry) → ((r : Running) → (state_of d).control.running ≡ Some r → MayBeRefused r (state_of d) d.holding.refusal) → item_entry wants x d ≡ Some e → Own d e
+item_own d wants (item.Caller c) e may is = absurd cc
+item_own d wants (item.Start n) e may is =
     let t = state_of d in
     let found = mapped (λ (i : Item). entry.Start t.control.epoch i.number) (start_item t.control) e is in
-    subst (Own t d.holding.refusal) found.2 (record { legal = start_legal t found.0 found.1; nobody = refl; fits = tt })
-item_own s media made v k wants (item.Done n moment) e st is =
-    let d = codec_at k v.codecs in
+    subst (Own d) found.2 (record { legal = start_legal t found.0 found.1; nobody = refl; fits = tt })
+item_own d wants (item.Done n moment) e may is =
     let t = state_of d in
     let found = mapped (end_of wants moment d.holding.refusal t.running_given) t.control.running e is in
     let r = found.0 in
-    subst (Own t d.holding.refusal) found.2 (record {
-      legal = done_legal t r moment wants d.holding.refusal found.1 (refused_item s media made v k r d.holding.refusal st found.1 refl);
+    subst (Own d) found.2 (record {
+      legal = done_legal t r moment wants d.holding.refusal found.1 (may r found.1);
       nobody = refl;
       fits = end_says wants d.holding.refusal (answer_to r.kind t.running_given);
     })
-item_own s media made v k wants (item.Turn n) e st is = turn_own (state_of (codec_at k v.codecs)) (codec_at k v.codecs).holding.refusal (state_of (codec_at k v.codecs)).control.tasks e refl is
-item_own s media made v k wants (item.Reclaim n moment) e st is =
-    let d = codec_at k v.codecs in
-    let t = state_of d in
-    let found = cond_some (may_reclaim moment t.control) (entry.Reclaim moment) e is in
-    subst (Own t d.holding.refusal) found.1 (record { legal = reclaim_legal t moment found.0; nobody = refl; fits = tt })
+item_own d wants (item.Turn n) e may is = turn_own d (state_of d).control.tasks e refl is
+item_own d wants (item.Reclaim n moment) e may is =
+    let found = cond_some (may_reclaim moment (state_of d).control) (entry.Reclaim moment) e is in
+    subst (Own d) found.1 (record { legal = reclaim_legal (state_of d) moment found.0; nobody = refl; fits = tt })
 
 -- a codec that is not there has nothing to do
 none_past : (wants : Bool) (x : OrderItem) (o : Opening) → item_entry wants x (new_codec o) ≡ None
@@ -395,7 +391,7 @@ none_past wants x o = refl
 own_fits : (s : ScriptData) (media : List (List Chunk)) (made : List CoderId) (v : Course) (k : ℕ) (wants : Bool) (x : OrderItem) (o : Option Entry) → Stands s media made v → item_entry wants x (codec_at k v.codecs) ≡ o → MoveFits s media v (advance k o)
 own_fits s media made v k wants x None st is = tt
 own_fits s media made v k wants x (Some e) st is =
-    let own = item_own s media made v k wants x e st is in
+    let own = item_own (codec_at k v.codecs) wants x e (λ r runs. refused_item s media made v k r (codec_at k v.codecs).holding.refusal st runs refl) is in
     let after = legal_after e (state_of (codec_at k v.codecs)) own.legal in
     record {
       codec = elim (cases_lt k (length v.codecs)) [

@@ -6,8 +6,6 @@ use Rattle.wc_base.specs.declared.who.Who.{Who}
 use Rattle.wc_config.specs.Configs.{is_supported}
 use Rattle.codec_definitions.specs.declared.unit.Unit as media
 use Rattle.codec_model.specs.declared.entry.Opening.{Opening}
-use Rattle.codec_model.specs.declared.entry.Call.{Call}
-use Rattle.codec_model.specs.declared.entry.Call.TheVariants as call
 use Rattle.codec_model.specs.declared.entry.Item.{Item}
 use Rattle.codec_model.specs.declared.entry.Running.{Running}
 use Rattle.codec_model.specs.declared.entry.WorkKind.TheVariants as kind
@@ -16,7 +14,7 @@ use Rattle.codec_model.specs.declared.entry.Entry.{Entry}
 use Rattle.codec_model.specs.declared.entry.Entry.TheVariants as entry
 use Rattle.std.proofs.lemmas.Bool.{lt-ltb}
 use Rattle.codec_model.specs.Control.{may_start, front, start_item, may_reclaim}
-use Rattle.codec_model.specs.Replay.{State, step, opening_state, replay, answer_to, entry_of, start_step, done_step, done_ended, ended_of, IsLegal}
+use Rattle.codec_model.specs.Replay.{State, step, opening_state, replay, answer_to, start_step, done_step, done_ended, ended_of, IsLegal}
 use Rattle.codec_model.specs.StepLaws.{turn_made}
 use Rattle.codec_model.specs.Shown.{shown_at, each_shown, each_shown_from}
 use Rattle.codec_model.specs.ShownLaws.{each_append, each_more, each_length}
@@ -48,11 +46,6 @@ shown_last o h e l =
     let r = legal_state o h l in
     ap (λ xs. slice_get xs (length h)) (each_more o h e (state_after o h) r)
     ∙ (ap (λ n. slice_get (each_shown o h ++ shown_at e (state_after o h) ∷ []) n) (sym (each_length o h (state_after o h) r)) ∙ get_end (each_shown o h) (shown_at e (state_after o h)))
-
--- a call is always legal
-pub call_legal : (who : Who) (x : Call) (s : State) → Steps (entry_of who x) s
-call_legal who call.Flush s = refl
-call_legal who x s = refl
 
 -- a take of the first output that was shown and not taken yet
 pub take_legal : (who : Who) (s : State) → s.control.taken < s.control.shown → Steps (entry.Take who s.control.taken) s
