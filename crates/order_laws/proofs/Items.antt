@@ -357,7 +357,7 @@ refused_item s media made v k r None st is refusal = tt
 refused_item s media made v k r (Some n) st is refusal =
     let needs = (st.boxes.each k).has.needs n refusal in
     let same : needs.running ≡ r = some_same needs.running r (sym needs.is_running ∙ is) in
-    (ap (λ (x : Running). x.kind) (sym same) ∙ needs.configure, needs.supported)
+    rw (ap (λ (x : Running). x.kind) (sym same) ∙ needs.configure, needs.supported) refl
 
 turn_own : (d : CodecValue) (ts : List Task) (e : Entry) → (state_of d).control.tasks ≡ ts → turn_on ts ≡ Some e → Own d e
 turn_own d [] e is made = absurd cc

@@ -3,12 +3,12 @@ use Rattle.std.proofs.Common.{ℕ, ◌≡◌, ◌<◌, Bool, true, false, eq-eqb
 use Rattle.std.specs.Prelude.{unwrap_or, slice_get}
 use Rattle.wc_base.specs.Options.{some_same, cond_is}
 use Rattle.wc_base.specs.declared.who.Who.{Who}
-use Rattle.wc_config.specs.Configs.{is_supported}
 use Rattle.codec_definitions.specs.declared.unit.Unit as media
 use Rattle.codec_model.specs.declared.entry.Opening.{Opening}
 use Rattle.codec_model.specs.declared.entry.Item.{Item}
 use Rattle.codec_model.specs.declared.entry.Running.{Running}
-use Rattle.codec_model.specs.declared.entry.WorkKind.TheVariants as kind
+use Rattle.codec_model.specs.declared.entry.Outcome.TheVariants as outcome
+use Rattle.codec_model.specs.declared.entry.Ended.TheVariants as ended
 use Rattle.codec_model.specs.declared.entry.Task.{Task}
 use Rattle.codec_model.specs.declared.entry.Entry.{Entry}
 use Rattle.codec_model.specs.declared.entry.Entry.TheVariants as entry
@@ -69,12 +69,12 @@ answered r s moment (Some us) e = rw (e, eq-eqb (length us) (length us) refl) re
 -- what is known of the running item where its end says that it was refused a box
 abbrev pub MayBeRefused : Running → State → Option ℕ → Type 0
 MayBeRefused r s None = Unit {0}
-MayBeRefused r s (Some e) = (r.kind ≡ kind.Configure) × (is_supported s.running_given.config ≡ true)
+MayBeRefused r s (Some e) = ended_of r.kind s.running_given (outcome.NoSlot e) ≡ Some (ended.NoSlot e)
 
 outcome_legal : (r : Running) (s : State) (moment : ℕ) (wants : Bool) (refusal : Option ℕ) → MayBeRefused r s refusal → is_some (done_ended r (ended_of r.kind s.running_given (outcome_for wants refusal (answer_to r.kind s.running_given))) moment s) ≡ true
 outcome_legal r s moment true refusal may = refl
 outcome_legal r s moment false None may = answered r s moment (answer_to r.kind s.running_given) refl
-outcome_legal r s moment false (Some e) may = rw (may.0, may.1) refl
+outcome_legal r s moment false (Some e) may = rw may refl
 
 pub done_legal : (s : State) (r : Running) (moment : ℕ) (wants : Bool) (refusal : Option ℕ) → s.control.running ≡ Some r → MayBeRefused r s refusal → Steps (entry.Done r.epoch r.number moment (outcome_for wants refusal (answer_to r.kind s.running_given))) s
 done_legal s r moment wants refusal h may =
