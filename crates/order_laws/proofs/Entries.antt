@@ -1,6 +1,6 @@
 -- What one entry more makes of a course: of its codecs and their histories, and of what codecs call for in the pool's history
 -- and hold of it.
-use Rattle.std.proofs.Common.{ℕ, ◌≡◌, ◌≢◌, ◌≤◌, ◌<◌, ◌++◌, ◌⊎◌, inl, inr, Bool, true, false, if◌then◌else◌, List, [], ◌∷◌, take, length, length-append, Option, Some, None, refl, ap, sym, ◌∙◌, arith}
+use Rattle.std.proofs.Common.{ℕ, ◌≡◌, ◌≢◌, ◌≤◌, ◌<◌, ◌++◌, ◌⊎◌, inl, inr, Bool, true, false, if◌then◌else◌, List, [], ◌∷◌, length, length-append, Option, Some, None, refl, ap, sym, ◌∙◌, arith}
 use Rattle.std.specs.Prelude.{slice_get, unwrap_or}
 use Rattle.std.proofs.Math.Seq.{take-length}
 use Rattle.std.proofs.lemmas.Bool.{cases_eq, cases_lt}
@@ -52,12 +52,9 @@ longer_history v k n e = let g = at_grows n k e (histories v.codecs) in (g.0, ap
 
 -- the registry is of the same boxes
 pub made_stays : (v : Course) (k : ℕ) (e : Entry) → (with_entry k e v).slots.made ≡ v.slots.made
-made_stays v k e = by_step (step_by e (codec_at k v.codecs))
-  where
-    by_step : (b : BoxStep) → (slots_after (next_by k (codec_at k v.codecs)) b (codec_at k v.codecs).holding.box v.slots).made ≡ v.slots.made
-    by_step Keep = refl
-    by_step Give = refl
-    by_step (Renew id) = refl
+made_stays v k e =
+    let d = codec_at k v.codecs in
+    elim (step_by e d) as (λ (b : BoxStep). (slots_after (next_by k d) b d.holding.box v.slots).made ≡ v.slots.made) [ Keep ↦ refl | Give ↦ refl | Renew id ↦ refl ]
 
 -- another history stays
 pub same_history : (v : Course) (k n : ℕ) (e : Entry) → n ≢ k → at n (histories (with_entry k e v).codecs) ≡ at n (histories v.codecs)
@@ -79,13 +76,10 @@ lent_past o h n le = ap (called_at o h n) (slice_get_past h n le)
 -- each entry before the last one calls for what it did
 lent_kept : (o : Opening) (h : List Entry) (e : Entry) (n : ℕ) → n ≢ length h → lent_at o (h ++ e ∷ []) n ≡ lent_at o h n
 lent_kept o h e n other = elim (cases_lt n (length h)) [
-  | inl lt ↦ rw (get_within h (e ∷ []) n lt) (same_front (slice_get h n) (take-append-le n h (e ∷ []) (omega (arith, lt))))
+  | inl lt ↦ rw (get_within h (e ∷ []) n lt)
+      (elim (slice_get h n) as (λ (x : Option Entry). called_at o (h ++ e ∷ []) n x ≡ called_at o h n x) [ None ↦ refl | Some f ↦ rw (take-append-le n h (e ∷ []) (omega (arith, lt))) refl ])
   | inr le ↦ lent_past o (h ++ e ∷ []) n (let l = length-append h (e ∷ []) in omega (arith, le, l, other)) ∙ sym (lent_past o h n le)
 ]
-  where
-    same_front : (x : Option Entry) → take n (h ++ e ∷ []) ≡ take n h → called_at o (h ++ e ∷ []) n x ≡ called_at o h n x
-    same_front None front = refl
-    same_front (Some f) front = rw front refl
 
 -- what a codec holds is what an entry lets go and what it leaves
 held_parts : (e : Entry) (s : State) → AreParts (held_in s) (lets_go e s) (leaves_held e s)

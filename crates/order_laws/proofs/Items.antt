@@ -1,8 +1,8 @@
 -- Each item of a sound script's order makes a move that fits.
-use Rattle.std.proofs.Common.{ℕ, zero, suc, ◌≡◌, ◌≤◌, ◌<◌, inl, inr, Bool, true, false, not, cond, if◌then◌else◌, eq-eqb, List, [], ◌∷◌, take, length, Option, Some, None, refl, ap, sym, subst, ◌∙◌, arith}
+use Rattle.std.proofs.Common.{ℕ, zero, suc, ◌≡◌, ◌≤◌, ◌<◌, inl, inr, Bool, true, false, not, if◌then◌else◌, eq-eqb, List, [], ◌∷◌, take, length, Option, Some, None, is_some, refl, ap, sym, subst, ◌∙◌, arith}
 use Rattle.std.proofs.Math.Seq.{take-length}
-use Rattle.std.specs.Prelude.{slice_get, unwrap_or, option_map, option_and_then, ◌==◌}
-use Rattle.std.proofs.lemmas.Bool.{cases_eq, cases_lt, ne_eqb, eqb-true}
+use Rattle.std.specs.Prelude.{slice_get, unwrap_or, option_map, option_and_then}
+use Rattle.std.proofs.lemmas.Bool.{cases_eq, cases_lt, ne_eqb}
 use Rattle.std.proofs.lemmas.Option.{slice_get_past, slice_get_within, cond_some}
 use Rattle.wc_base.specs.Options.{some_same}
 use Rattle.wc_base.specs.declared.error.DomError.{DomError}
@@ -27,6 +27,7 @@ use Rattle.codec_model.specs.declared.entry.Removal.TheVariants as removal
 use Rattle.codec_model.specs.declared.entry.Running.{Running}
 use Rattle.codec_model.specs.declared.entry.Task.{Task}
 use Rattle.codec_model.specs.Control.{start_item, may_reclaim}
+use Rattle.codec_model.specs.StepLaws.{turn_made}
 use Rattle.history_laws.specs.CountLaws.{shown_counted}
 use Rattle.codec_model.specs.Replay.{State, step as entry_step, entry_of, removal_entry, call_error, encode_error, is_configured, removal_error, answer_to}
 use Rattle.codec_model.specs.Held.{adds_held}
@@ -37,7 +38,6 @@ use Rattle.codec_accounts.specs.Owed.{at}
 use Rattle.codec_accounts.specs.ListLaws.{get_some, result_kept, result_new}
 use Rattle.codec_accounts.specs.Calls.{who_of, reach, call_in}
 use Rattle.codec_accounts.specs.Calls as mark
-use Rattle.codec_accounts.specs.CallsLaws.{MayClimb}
 use Rattle.codec_accounts.specs.Codec.{CodecValue, new_codec, state_after, state_of, codec_at, histories}
 use Rattle.codec_accounts.specs.StartLaws.{EndFits}
 use Rattle.codec_accounts.specs.AccountLaws.{EntryFits, history_at}
@@ -62,7 +62,7 @@ use Rattle.order_laws.specs.Sound.{IsSound, promise_of, IsFlush}
 use Rattle.order_laws.specs.SoundSteps.{stands_in}
 use Rattle.order_laws.proofs.Entries.{MayAddAll}
 use Rattle.order_laws.proofs.Grown.{IsFound, taken_as, brought}
-use Rattle.order_laws.proofs.Legal.{Steps, some_is, MayBeRefused, take_legal, start_legal, done_legal, turn_legal, reclaim_legal}
+use Rattle.order_laws.proofs.Legal.{Steps, some_is, MayBeRefused, take_legal, start_legal, done_legal}
 use Rattle.order_laws.proofs.Moves.{Stands, next_who, next_place, take_result, Apart, local_apart, AnswerFits, AskFits, ReceiveFits, MoveFits, none_quiet, call_quiet}
 
 -- the caller's next step
@@ -103,12 +103,6 @@ removal_said pool who removal.Close t = (refl, removal_is_shown (removal_error t
 
 -- ---- looks
 
--- a look at a codec sees its whole history
-look_climbs : (v : Course) (on k : ℕ) (b : Bool) → (b ≡ true → on ≡ k) → MayClimb (cond b (Some (length (codec_at on v.codecs).history, length (codec_at on v.codecs).history)) None) (length (at k (histories v.codecs))) (length (at k (histories v.codecs)))
-look_climbs v on k false same = omega arith
-look_climbs v on k true same =
-    let h = ap length (history_at k v.codecs) in rw (same refl) (omega (arith, h), omega (arith, h))
-
 -- the earlier flush came to a call
 flush_came : (s : ScriptData) (media : List (List Chunk)) (w : Recorded) (who : Who) (vs : List (Option Medium)) (o : Option Came) (c : ℕ) (y : Step) (r : StepResult) → IsFlush y → IsResultOf s w who y r → IsLocalAnswer s media vs o c y r → (k : ℕ) × (p : ℕ) × (error : Option DomError) × (r ≡ result.Call k p error)
 flush_came s media w who vs o c (step.Flush on bind) (result.Call k p error) flush made answers = (k, p, error, refl)
@@ -121,9 +115,13 @@ all_there : {X : Type 0} (F : Opening → List Entry → X) (s : ScriptData) (me
     → F (codec_at k v.codecs).opening (codec_at k v.codecs).history ≡ F (opening_at s k) (take (length (codec_at k v.codecs).history) (at k (histories v.codecs)))
 all_there F s media made v k st = rw (history_at k v.codecs, take-length (codec_at k v.codecs).history, sym (st.opened k)) refl
 
+-- a look at a codec sees its whole history
 look_apart : (v : Course) (k : ℕ) (r : StepResult) → mark_of r ≡ mark.Look k (length (codec_at k v.codecs).history) → Apart v r
 look_apart v k r is = record {
-  climbs = λ n. rw is (look_climbs v k n (k == n) (eqb-true k n));
+  climbs = λ n. rw is (elim (cases_eq n k) [
+    | inr other ↦ rw (ne_eqb k n (λ e. other (sym e))) (omega arith)
+    | inl same ↦ (let h = ap length (history_at k v.codecs) in rw (same, eq-eqb k k refl) (omega (arith, h), omega (arith, h)))
+  ]);
   no_call = λ n who. ap (call_in n who) is;
 }
 
@@ -361,7 +359,7 @@ refused_item s media made v k r (Some n) st is refusal =
 
 turn_own : (d : CodecValue) (ts : List Task) (e : Entry) → (state_of d).control.tasks ≡ ts → turn_on ts ≡ Some e → Own d e
 turn_own d [] e is made = absurd cc
-turn_own d (x ∷ ts) e is made = subst (Own d) (some_same entry.Turn e made) (record { legal = turn_legal (state_of d) x ts is; nobody = refl; fits = tt })
+turn_own d (x ∷ ts) e is made = subst (Own d) (some_same entry.Turn e made) (record { legal = ap is_some (turn_made x ts (state_of d) is); nobody = refl; fits = tt })
 
 item_own : (d : CodecValue) (wants : Bool) (x : OrderItem) (e : Entry) → ((r : Running) → (state_of d).control.running ≡ Some r → MayBeRefused r (state_of d) d.holding.refusal) → item_entry wants x d ≡ Some e → Own d e
 item_own d wants (item.Caller c) e may is = absurd cc
@@ -381,7 +379,7 @@ item_own d wants (item.Done n moment) e may is =
 item_own d wants (item.Turn n) e may is = turn_own d (state_of d).control.tasks e refl is
 item_own d wants (item.Reclaim n moment) e may is =
     let found = cond_some (may_reclaim moment (state_of d).control) (entry.Reclaim moment) e is in
-    subst (Own d) found.1 (record { legal = reclaim_legal (state_of d) moment found.0; nobody = refl; fits = tt })
+    subst (Own d) found.1 (record { legal = rw found.0 refl; nobody = refl; fits = tt })
 
 -- a codec that is not there has nothing to do
 none_past : (wants : Bool) (x : OrderItem) (o : Opening) → item_entry wants x (new_codec o) ≡ None

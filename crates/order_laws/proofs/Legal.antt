@@ -9,13 +9,11 @@ use Rattle.codec_model.specs.declared.entry.Item.{Item}
 use Rattle.codec_model.specs.declared.entry.Running.{Running}
 use Rattle.codec_model.specs.declared.entry.Outcome.TheVariants as outcome
 use Rattle.codec_model.specs.declared.entry.Ended.TheVariants as ended
-use Rattle.codec_model.specs.declared.entry.Task.{Task}
 use Rattle.codec_model.specs.declared.entry.Entry.{Entry}
 use Rattle.codec_model.specs.declared.entry.Entry.TheVariants as entry
 use Rattle.std.proofs.lemmas.Bool.{lt-ltb}
-use Rattle.codec_model.specs.Control.{may_start, front, start_item, may_reclaim}
+use Rattle.codec_model.specs.Control.{may_start, front, start_item}
 use Rattle.codec_model.specs.Replay.{State, step, opening_state, replay, answer_to, start_step, done_step, done_ended, ended_of, IsLegal}
-use Rattle.codec_model.specs.StepLaws.{turn_made}
 use Rattle.codec_model.specs.Shown.{shown_at, each_shown, each_shown_from}
 use Rattle.codec_model.specs.ShownLaws.{each_append, each_more, each_length}
 use Rattle.codec_accounts.specs.Codec.{state_after}
@@ -80,9 +78,3 @@ pub done_legal : (s : State) (r : Running) (moment : ℕ) (wants : Bool) (refusa
 done_legal s r moment wants refusal h may =
     subst (λ (o : Option Running). is_some (done_step o r.epoch r.number moment (outcome_for wants refusal (answer_to r.kind s.running_given)) s) ≡ true) (sym h)
     (rw (eq-eqb r.epoch r.epoch refl, eq-eqb r.number r.number refl) (outcome_legal r s moment wants refusal may))
-
-pub turn_legal : (s : State) (x : Task) (ts : List Task) → s.control.tasks ≡ x ∷ ts → Steps entry.Turn s
-turn_legal s x ts h = ap is_some (turn_made x ts s h)
-
-pub reclaim_legal : (s : State) (moment : ℕ) → may_reclaim moment s.control ≡ true → Steps (entry.Reclaim moment) s
-reclaim_legal s moment h = rw h refl

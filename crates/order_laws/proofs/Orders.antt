@@ -8,8 +8,6 @@ use Rattle.wc_base.specs.Options.{some_same}
 use Rattle.wc_config.specs.declared.codec.CoderId.{CoderId}
 use Rattle.wc_chunk.specs.declared.chunk.Chunk.{Chunk}
 use Rattle.codec_model.specs.declared.entry.Entry.{Entry}
-use Rattle.codec_model.specs.declared.entry.Pair.{Pair}
-use Rattle.wc_pool.specs.declared.entry.PoolOp.{PoolOp}
 use Rattle.codec_model.specs.Replay.{IsLegal}
 use Rattle.codec_model.specs.Held.{held_in}
 use Rattle.codec_accounts.specs.Owed.{at}
@@ -54,14 +52,11 @@ no_calls k first (c ∷ cs) = no_calls k (suc first) cs
 none_made : (s : ScriptData) (made : List CoderId) → (λ c. 0) ≡ made_steps (record_of (nothing_yet s made))
 none_made s made = λ i c. sym (ap length (at_empty {X = StepResult} c s.callers)) i
 
-lending : (ℕ → ℕ → List PoolOp) → (ℕ → List Pair) → Lending
-lending lends holds = record { lends = lends; holds = holds }
-
 none_lent : (s : ScriptData) (made : List CoderId) → nothing_lent ≡ lending_of s (nothing_yet s made).codecs
-unfolding lending
-none_lent s made = λ i. lending
-    (λ k place. sym (ap (λ (h : List Entry). lent_at (opening_at s k) h place) (no_history s.codecs k)) i)
-    (λ k. sym (ap (λ (d : CodecValue). held_in (state_of d)) (new_at s.codecs k)) i)
+none_lent s made = λ i. record {
+  lends = λ k place. sym (ap (λ (h : List Entry). lent_at (opening_at s k) h place) (no_history s.codecs k)) i;
+  holds = λ k. sym (ap (λ (d : CodecValue). held_in (state_of d)) (new_at s.codecs k)) i;
+}
 
 nothing_stands : MediaLaws → (s : ScriptData) (media : List (List Chunk)) (made : List CoderId) → Stands s media made (nothing_yet s made)
 nothing_stands laws s media made = record {

@@ -120,14 +120,11 @@ in_range (d ∷ ds) (suc k) r h = let lt = in_range ds k r h in omega (arith, lt
 
 -- ---- ends
 
-not_wanted : (refusal : Option ℕ) (answer : Option (List media.Unit)) → is_want (outcome_for false refusal answer) ≡ false
-not_wanted (Some e) answer = refl
-not_wanted None None = refl
-not_wanted None (Some units) = refl
-
 wanted_by : (wants : Bool) (refusal : Option ℕ) (answer : Option (List media.Unit)) → is_want (outcome_for wants refusal answer) ≡ wants
 wanted_by true refusal answer = refl
-wanted_by false refusal answer = not_wanted refusal answer
+wanted_by false (Some e) answer = refl
+wanted_by false None None = refl
+wanted_by false None (Some units) = refl
 
 -- two ends of the same item that are not idle want memory both or neither
 wants_agree : (s : ScriptData) (media : List (List Chunk)) (xs : List OrderItem) (k moment : ℕ) (a b : Bool) (others : List CoderId) (v w z : Course) (r : Running) → SameWants (histories w.codecs) (histories z.codecs) → (state_of (codec_at k v.codecs)).control.running ≡ Some r
