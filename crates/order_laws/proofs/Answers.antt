@@ -1,24 +1,15 @@
 -- What steps on media answer, to which no output is brought, is neither a call of a codec, nor a look at one, nor a take.
 use Rattle.std.proofs.Common.{ℕ, ◌≡◌, List, [], Option, Some, None, Result, Ok, Err, refl}
 use Rattle.std.specs.Prelude.{unwrap_or, option_map}
-use Rattle.wc_base.specs.declared.error.DomError.{DomError}
-use Rattle.wc_base.specs.declared.who.Who.{Who}
-use Rattle.wc_chunk.specs.declared.chunk.Chunk.{Chunk}
-use Rattle.wc_chunk.specs.Copied.{copied_count, copied_to}
+use Rattle.wc_base.specs.declared.{error.DomError.DomError, who.Who.Who}
+use Rattle.wc_chunk.specs.{declared.chunk.Chunk.Chunk, Copied.copied_count, Copied.copied_to}
 use Rattle.wc_pool.specs.declared.entry.PoolEntry.{PoolEntry}
 use Rattle.wc_audio.specs.Copies.{copied_audio, allocation_size}
-use Rattle.wc_video.specs.Frames.{content_of}
+use Rattle.wc_video.specs.{Frames.content_of, Layouts.size_of, Layouts.layouts_of}
 use Rattle.wc_video.specs.Copies as video
-use Rattle.wc_video.specs.Layouts.{size_of, layouts_of}
 use Rattle.codec_accounts.specs.Calls as mark
-use Rattle.script_types.specs.declared.script.ScriptData.{ScriptData}
-use Rattle.script_types.specs.declared.options.Options.{Options}
-use Rattle.script_types.specs.declared.options.Options.TheVariants as options
-use Rattle.script_types.specs.declared.steps.MediaStep.{MediaStep}
-use Rattle.script_types.specs.declared.steps.MediaStep.TheVariants as media
-use Rattle.script_types.specs.declared.steps.Step.TheVariants as step
+use Rattle.script_types.specs.declared.{script.ScriptData.ScriptData, options.Options.Options, steps.MediaStep.MediaStep, steps.Step.Step}
 use Rattle.report_text.specs.declared.result.StepResult.{StepResult}
-use Rattle.report_text.specs.declared.result.StepResult.TheVariants as result
 use Rattle.media_variables.specs.Variables.{Reference, Shape, SoundOf, PictureOf, Medium, Came, zeros, sound_of, frame_of, copy_options, rect_of, layouts_in, audio_copied, frame_copied, planes_copied, chunk_copied, size_found, copy_chunk, copy_medium, size_of_medium, chunk_of_variable, media_came}
 use Rattle.media_variables.specs.CameLaws.{by_came}
 use Rattle.trace_text.specs.Follow.{Recorded}
@@ -31,22 +22,22 @@ IsOwn r = mark_of r ≡ mark.Local
 
 -- it answers its step, names no output, and took none
 pub record OwnFacts (s : ScriptData) (files : List (List Chunk)) (w : Recorded) (who : Who) (before : List (Option Medium)) (y : Came) (c : ℕ) (x : MediaStep) (r : StepResult) : Type 0 where
-  pub made : IsResultOf s w who (step.Media x) r
+  pub made : IsResultOf s w who (Step.Media x) r
   pub found : IsFound s w r
-  pub shows : LookShows s w c (step.Media x) r
-  pub answers : IsLocalAnswer s files before (Some y) c (step.Media x) r
+  pub shows : LookShows s w c (Step.Media x) r
+  pub answers : IsLocalAnswer s files before (Some y) c (Step.Media x) r
   pub took : taken_by s w (Some r) ≡ None
 
 -- a step on media answers what it comes to
 pub own_facts : (s : ScriptData) (files : List (List Chunk)) (w : Recorded) (pool : List PoolEntry) (who : Who) (chunk : Option Chunk) (before vs : List (Option Medium)) (y : Came) (c : ℕ) (x : MediaStep) (r : StepResult)
     → media_came pool who (brought chunk None) x vs ≡ Some y → IsOwn r → r ≡ y.answer → OwnFacts s files w who before y c x r
-own_facts s files w pool who chunk before vs y c x (result.Call k place error) comes own same = absurd cc
-own_facts s files w pool who chunk before vs y c x (result.Look k n end) comes own same = absurd cc
-own_facts s files w pool who chunk before vs y c x (result.State k n state size) comes own same = absurd cc
-own_facts s files w pool who chunk before vs y c x (result.Unit k place n) comes own same = absurd cc
-own_facts s files w pool who chunk before vs y c x (result.NoUnit k n) comes own same = absurd cc
-own_facts s files w pool who chunk before vs y c (media.Take on bind kind) r comes own same = absurd cc
-own_facts s files w pool who chunk before vs y c (media.Encode on content) r comes own same = absurd cc
+own_facts s files w pool who chunk before vs y c x (StepResult.Call k place error) comes own same = absurd cc
+own_facts s files w pool who chunk before vs y c x (StepResult.Look k n end) comes own same = absurd cc
+own_facts s files w pool who chunk before vs y c x (StepResult.State k n state size) comes own same = absurd cc
+own_facts s files w pool who chunk before vs y c x (StepResult.Unit k place n) comes own same = absurd cc
+own_facts s files w pool who chunk before vs y c x (StepResult.NoUnit k n) comes own same = absurd cc
+own_facts s files w pool who chunk before vs y c (MediaStep.Take on bind kind) r comes own same = absurd cc
+own_facts s files w pool who chunk before vs y c (MediaStep.Encode on content) r comes own same = absurd cc
 own_facts s files w pool who chunk before vs y c x r comes own same = record { made = tt; found = tt; shows = tt; answers = same; took = refl }
 
 -- ---- copies and sizes
@@ -61,8 +52,8 @@ chunk_own None size = refl
 chunk_own (Some c) size = result_own (chunk_copied (copied_to c.bytes (zeros size))) (copied_count c.bytes (zeros size)) (λ e. refl) (λ n. refl)
 
 copy_own : (shape : Shape) (held : Option Reference) (o : Options) (size : ℕ) → IsOwn (copy_medium (record { shape = shape; held = held }) o size)
-copy_own (SoundOf shape) held (options.Audio (Some o)) size = result_own (audio_copied size) (copied_audio (sound_of shape held) size (copy_options o)) (λ e. refl) (λ bytes. refl)
-copy_own (PictureOf shape) held (options.Frame (Some o)) size =
+copy_own (SoundOf shape) held (Options.Audio (Some o)) size = result_own (audio_copied size) (copied_audio (sound_of shape held) size (copy_options o)) (λ e. refl) (λ bytes. refl)
+copy_own (PictureOf shape) held (Options.Frame (Some o)) size =
     let f = frame_of shape held in
     let bytes = unwrap_or (content_of f) [] in
     result_own (planes_copied bytes (zeros size)) (video.plan_for f (option_map rect_of o.rect) (layouts_in o)) (λ e. refl)
@@ -70,8 +61,8 @@ copy_own (PictureOf shape) held (options.Frame (Some o)) size =
 copy_own shape held o size = refl
 
 size_own : (shape : Shape) (held : Option Reference) (o : Options) → IsOwn (size_of_medium (record { shape = shape; held = held }) o)
-size_own (SoundOf shape) held (options.Audio (Some o)) = result_own size_found (allocation_size (sound_of shape held) (copy_options o)) (λ e. refl) (λ n. refl)
-size_own (PictureOf shape) held (options.Frame (Some o)) = result_own size_found (video.allocation_size (frame_of shape held) (option_map rect_of o.rect) (layouts_in o)) (λ e. refl) (λ n. refl)
+size_own (SoundOf shape) held (Options.Audio (Some o)) = result_own size_found (allocation_size (sound_of shape held) (copy_options o)) (λ e. refl) (λ n. refl)
+size_own (PictureOf shape) held (Options.Frame (Some o)) = result_own size_found (video.allocation_size (frame_of shape held) (option_map rect_of o.rect) (layouts_in o)) (λ e. refl) (λ n. refl)
 size_own shape held o = refl
 
 -- ---- every step

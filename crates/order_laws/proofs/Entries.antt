@@ -8,16 +8,11 @@ use Rattle.std.proofs.lemmas.List.{take-append-le}
 use Rattle.std.proofs.lemmas.Option.{slice_get_past}
 use Rattle.wc_base.specs.declared.who.Who.{Who}
 use Rattle.wc_pool.specs.declared.entry.PoolEntry.{PoolEntry}
-use Rattle.codec_model.specs.declared.entry.Entry.{Entry}
-use Rattle.codec_model.specs.declared.entry.Entry.TheVariants as entry
-use Rattle.codec_model.specs.declared.entry.Opening.{Opening}
-use Rattle.codec_model.specs.declared.entry.Pair.{Pair}
+use Rattle.codec_model.specs.{declared.entry.Entry.Entry, declared.entry.Opening.Opening, declared.entry.Pair.Pair, ShownLaws.replay_append}
 use Rattle.codec_model.specs.Replay.{State, opening_state, replay, step as entry_step}
 use Rattle.codec_model.specs.Held.{adds_held, lets_go, leaves_held, running_pairs, waiting_held, held_in, is_done, is_removal, HeldStays}
-use Rattle.codec_model.specs.ShownLaws.{replay_append}
-use Rattle.codec_accounts.specs.Owed.{at}
+use Rattle.codec_accounts.specs.{Owed.at, Calls.who_of}
 use Rattle.codec_accounts.specs.ListLaws.{IsNew, at_same, at_other, at_grows, get_end, get_within, result_more}
-use Rattle.codec_accounts.specs.Calls.{who_of}
 use Rattle.codec_accounts.specs.Codec.{CodecValue, state_of, codec_at, histories, after_entry, slots_after, next_by, step_by, BoxStep, Keep, Give, Renew}
 use Rattle.codec_accounts.specs.AccountLaws.{EntryFits, histories_more, history_at, histories_count, set_here, set_other, set_count}
 use Rattle.script_types.specs.declared.script.ScriptData.{ScriptData}
@@ -37,7 +32,7 @@ opened_still s v k e lt opened j = elim (cases_eq j k) [
 ]
 
 pub call_fits : (e : Entry) (who : Who) (refusal : Option ℕ) → who_of e ≡ Some who → EntryFits e refusal
-call_fits (entry.Done epoch item moment o) who refusal names = absurd cc
+call_fits (Entry.Done epoch item moment o) who refusal names = absurd cc
 call_fits e who refusal names = tt
 
 -- the histories after an entry
@@ -121,5 +116,5 @@ entry_more stays s v k e t lt opened replays steps may =
 
 -- an entry of no caller adds nothing
 pub nobody_adds : (pool : List PoolEntry) (e : Entry) → who_of e ≡ None → MayAddAll pool e
-nobody_adds pool entry.Turn nobody i p is = absurd cc
+nobody_adds pool Entry.Turn nobody i p is = absurd cc
 nobody_adds pool e nobody i p is = absurd cc

@@ -3,23 +3,14 @@ use Rattle.std.proofs.Common.{ℕ, zero, suc, ◌≡◌, ◌≤◌, ◌<◌, ◌
 use Rattle.std.specs.Prelude.{slice_get, option_map, option_and_then}
 use Rattle.std.proofs.lemmas.List.{take-append-le}
 use Rattle.std.proofs.lemmas.Option.{slice_get_within}
-use Rattle.wc_base.specs.declared.error.DomError.{DomError}
-use Rattle.wc_base.specs.declared.who.Who.{Who}
+use Rattle.wc_base.specs.declared.{error.DomError.DomError, who.Who.Who}
 use Rattle.wc_chunk.specs.declared.chunk.Chunk.{Chunk}
 use Rattle.codec_definitions.specs.declared.unit.Unit as media
-use Rattle.codec_model.specs.declared.entry.Entry.{Entry}
-use Rattle.codec_model.specs.declared.entry.Entry.TheVariants as entry
-use Rattle.codec_model.specs.declared.entry.Shown.{Shown}
-use Rattle.codec_model.specs.Replay.{IsLegal}
+use Rattle.codec_model.specs.{declared.entry.Entry.Entry, declared.entry.Shown.Shown, Replay.IsLegal}
 use Rattle.history_laws.specs.CountLaws.{outputs_stay}
-use Rattle.codec_accounts.specs.Owed.{at}
-use Rattle.codec_accounts.specs.ListLaws.{get_some, get_kept}
-use Rattle.script_types.specs.declared.script.ScriptData.{ScriptData}
-use Rattle.script_types.specs.declared.steps.Step.{Step}
-use Rattle.script_types.specs.declared.steps.Step.TheVariants as step
-use Rattle.script_types.specs.declared.steps.MediaStep.TheVariants as on_media
+use Rattle.codec_accounts.specs.{Owed.at, ListLaws.get_some, ListLaws.get_kept}
+use Rattle.script_types.specs.declared.{script.ScriptData.ScriptData, steps.Step.Step, steps.MediaStep.MediaStep}
 use Rattle.report_text.specs.declared.result.StepResult.{StepResult}
-use Rattle.report_text.specs.declared.result.StepResult.TheVariants as result
 use Rattle.trace_text.specs.Report.{refusal_in}
 use Rattle.trace_text.specs.Follow.{Recorded, opening_at, steps_of, copied_chunk, output_at}
 use Rattle.trace_text.specs.Fits.{result_in, entry_in, step_in, called, taken_from, exception_at, made_steps, taken_by, brought_to, came_at, variables_at, IsAnswerOf, IsResultBy, IsResultOf, LookShows, IsLocalAnswer, MarksClimb}
@@ -54,7 +45,7 @@ variables_stay s media w v c n same le = same_variables s media w v c n (λ j lt
 
 -- the output that a result names was shown
 abbrev pub IsFound : ScriptData → Recorded → StepResult → Type 0
-IsFound s w (result.Unit k p n) = (u : media.Unit) × (output_at (opening_at s k) (at k w.codecs) n ≡ Some u)
+IsFound s w (StepResult.Unit k p n) = (u : media.Unit) × (output_at (opening_at s k) (at k w.codecs) n ≡ Some u)
 IsFound s w _ = Unit {0}
 
 -- A result fits: the script's step that it answers, and what it shows.
@@ -66,20 +57,20 @@ pub record ResultFits (s : ScriptData) (media : List (List Chunk)) (w : Recorded
   pub shows : LookShows s w c step r
   pub answers : IsLocalAnswer s media (variables_at s media w c j) (came_at s media w c j) c step r
 
-answer_stays : (s : ScriptData) (w v : Recorded) → Legals s w → Grows w v → (o : Option ℕ) (r : StepResult) → ((k p : ℕ) (e : Option DomError) → r ≡ result.Call k p e → p < length (at k w.codecs)) → IsAnswerOf s w o r → IsAnswerOf s v o r
-answer_stays s w v legal g (Some k) (result.Call other p error) within h =
+answer_stays : (s : ScriptData) (w v : Recorded) → Legals s w → Grows w v → (o : Option ℕ) (r : StepResult) → ((k p : ℕ) (e : Option DomError) → r ≡ StepResult.Call k p e → p < length (at k w.codecs)) → IsAnswerOf s w o r → IsAnswerOf s v o r
+answer_stays s w v legal g (Some k) (StepResult.Call other p error) within h =
     let more = g.more k in
     let here : p < length (at k w.codecs) = (let lt = within other p error refl in let same = ap (λ n. length (at n w.codecs)) h.0 in omega (arith, lt, same)) in
     (h.0, h.1 ∙ sym (ap (λ (l : List Entry). exception_at (opening_at s k) l p) more.1 ∙ ap (λ (o : Option Shown). option_and_then (λ (x : Shown). refusal_in x.events) o) (shown_kept (opening_at s k) (at k w.codecs) more.0 p (legal k) here)))
-answer_stays s w v legal g o result.Absent within h = h
+answer_stays s w v legal g o StepResult.Absent within h = h
 answer_stays s w v legal g o r within h = h
 
 entry_stays : (w v : Recorded) → Grows w v → (k p : ℕ) (e : Entry) → entry_in w k p ≡ Some e → entry_in v k p ≡ Some e
 entry_stays w v g k p e is = let m = g.more k in ap (λ (l : List Entry). slice_get l p) m.1 ∙ get_kept (at k w.codecs) m.0 p e is
 
-made_stays : (s : ScriptData) (w v : Recorded) → Legals s w → Grows w v → (who : Who) (t o : Option ℕ) (r : StepResult) → ((k p : ℕ) (e : Option DomError) → r ≡ result.Call k p e → p < length (at k w.codecs)) → IsResultBy s w who t o r → IsResultBy s v who t o r
+made_stays : (s : ScriptData) (w v : Recorded) → Legals s w → Grows w v → (who : Who) (t o : Option ℕ) (r : StepResult) → ((k p : ℕ) (e : Option DomError) → r ≡ StepResult.Call k p e → p < length (at k w.codecs)) → IsResultBy s w who t o r → IsResultBy s v who t o r
 made_stays s w v legal g who None o r within h = answer_stays s w v legal g o r within h
-made_stays s w v legal g who (Some k) o (result.Unit other p n) within h = (h.0, entry_stays w v g k p (entry.Take who n) h.1)
+made_stays s w v legal g who (Some k) o (StepResult.Unit other p n) within h = (h.0, entry_stays w v g k p (Entry.Take who n) h.1)
 made_stays s w v legal g who (Some k) o r within h = h
 
 -- ---- outputs
@@ -90,7 +81,7 @@ output_stays s w v g k n u is =
     ap (λ (l : List Entry). output_at (opening_at s k) l n) m.1 ∙ outputs_stay (opening_at s k) (at k w.codecs) m.0 n u is
 
 found_stays : (s : ScriptData) (w v : Recorded) → Grows w v → (r : StepResult) → IsFound s w r → IsFound s v r
-found_stays s w v g (result.Unit k p n) found = (found.0, output_stays s w v g k n found.0 found.1)
+found_stays s w v g (StepResult.Unit k p n) found = (found.0, output_stays s w v g k n found.0 found.1)
 found_stays s w v g r found = found
 
 -- this output is taken, by a step that answers so
@@ -98,8 +89,8 @@ abbrev pub taken_as : StepResult → media.Unit → Taken
 taken_as answer u = record { unit = u; answer = answer }
 
 taken_stays : (s : ScriptData) (w v : Recorded) → Grows w v → (r : StepResult) → IsFound s w r → taken_by s v (Some r) ≡ taken_by s w (Some r)
-taken_stays s w v g (result.Unit k p n) found =
-    ap (option_map (taken_as (result.Unit k p n))) (output_stays s w v g k n found.0 found.1 ∙ sym found.1)
+taken_stays s w v g (StepResult.Unit k p n) found =
+    ap (option_map (taken_as (StepResult.Unit k p n))) (output_stays s w v g k n found.0 found.1 ∙ sym found.1)
 taken_stays s w v g r found = refl
 
 -- this chunk and this output are brought to a step
@@ -120,13 +111,13 @@ front_stays : (w v : Recorded) (k n : ℕ) → Grows w v → n ≤ length (at k 
 front_stays w v k n g within = let m = g.more k in ap (take n) m.1 ∙ take-append-le n (at k w.codecs) m.0 within
 
 shows_stays : (s : ScriptData) (w v : Recorded) → Grows w v → (c : ℕ) (x : Step) (r : StepResult) → ((k n : ℕ) → look_of r ≡ Some (k, n) → n ≤ length (at k w.codecs)) → LookShows s w c x r → LookShows s v c x r
-shows_stays s w v g c (step.Await promise) (result.Look k n end) within h =
-    (h.0, h.1, g.stays c promise.step (result.Call k h.0 h.1) h.2, rw (front_stays w v k n g (within k n refl)) h.3)
-shows_stays s w v g c (step.Poll promise) (result.Look k n end) within h =
-    (h.0, h.1, g.stays c promise.step (result.Call k h.0 h.1) h.2, rw (front_stays w v k n g (within k n refl)) h.3)
-shows_stays s w v g c (step.State on) (result.State k n state size) within h = rw (front_stays w v k n g (within k n refl)) h
-shows_stays s w v g c (step.Media (on_media.Take on bind kind)) (result.NoUnit k n) within h = rw (front_stays w v k n g (within k n refl)) h
-shows_stays s w v g c x result.Absent within h = h
+shows_stays s w v g c (Step.Await promise) (StepResult.Look k n end) within h =
+    (h.0, h.1, g.stays c promise.step (StepResult.Call k h.0 h.1) h.2, rw (front_stays w v k n g (within k n refl)) h.3)
+shows_stays s w v g c (Step.Poll promise) (StepResult.Look k n end) within h =
+    (h.0, h.1, g.stays c promise.step (StepResult.Call k h.0 h.1) h.2, rw (front_stays w v k n g (within k n refl)) h.3)
+shows_stays s w v g c (Step.State on) (StepResult.State k n state size) within h = rw (front_stays w v k n g (within k n refl)) h
+shows_stays s w v g c (Step.Media (MediaStep.Take on bind kind)) (StepResult.NoUnit k n) within h = rw (front_stays w v k n g (within k n refl)) h
+shows_stays s w v g c x StepResult.Absent within h = h
 shows_stays s w v g c x r within h = h
 
 -- a result that fits does so still

@@ -4,56 +4,29 @@ use Rattle.std.proofs.Math.Seq.{take-length}
 use Rattle.std.specs.Prelude.{slice_get, unwrap_or, option_map, option_and_then}
 use Rattle.std.proofs.lemmas.Bool.{cases_eq, cases_lt, ne_eqb}
 use Rattle.std.proofs.lemmas.Option.{slice_get_past, slice_get_within, cond_some}
-use Rattle.wc_base.specs.Options.{some_same}
-use Rattle.wc_base.specs.declared.error.DomError.{DomError}
-use Rattle.wc_base.specs.declared.who.Who.{Who}
-use Rattle.wc_base.specs.declared.media.SoundShape.{SoundShape}
-use Rattle.wc_pool.specs.declared.entry.PoolEntry.{PoolEntry}
-use Rattle.wc_pool.specs.declared.reference.MediaRef.{MediaRef}
+use Rattle.wc_base.specs.{Options.some_same, declared.error.DomError.DomError, declared.who.Who.Who, declared.media.SoundShape.SoundShape}
+use Rattle.wc_pool.specs.{declared.entry.PoolEntry.PoolEntry, declared.reference.MediaRef.MediaRef, Laws.LiveAreNumbered}
 use Rattle.wc_pool.specs.Bag.{resource_of, is_number, is_live, references_made, references_of, count_below, is_held, is_legal_pool}
-use Rattle.wc_pool.specs.Laws.{LiveAreNumbered}
 use Rattle.wc_audio.specs.Sound.{Sound}
 use Rattle.wc_config.specs.declared.codec.CoderId.{CoderId}
 use Rattle.wc_chunk.specs.declared.chunk.Chunk.{Chunk}
 use Rattle.codec_definitions.specs.declared.unit.Unit as output
-use Rattle.codec_model.specs.declared.entry.Opening.{Opening}
-use Rattle.codec_model.specs.declared.entry.Call.{Call}
-use Rattle.codec_model.specs.declared.entry.Call.TheVariants as call
-use Rattle.codec_model.specs.declared.entry.Entry.{Entry}
-use Rattle.codec_model.specs.declared.entry.Entry.TheVariants as entry
-use Rattle.codec_model.specs.declared.entry.Item.{Item}
-use Rattle.codec_model.specs.declared.entry.Removal.{Removal}
-use Rattle.codec_model.specs.declared.entry.Removal.TheVariants as removal
-use Rattle.codec_model.specs.declared.entry.Running.{Running}
-use Rattle.codec_model.specs.declared.entry.Task.{Task}
-use Rattle.codec_model.specs.Control.{start_item, may_reclaim}
-use Rattle.codec_model.specs.StepLaws.{turn_made}
+use Rattle.codec_model.specs.declared.entry.{Opening.Opening, Call.Call, Entry.Entry, Item.Item, Removal.Removal, Running.Running, Task.Task}
+use Rattle.codec_model.specs.{Control.start_item, Control.may_reclaim, StepLaws.turn_made, Held.adds_held, declared.entry.Pair.Pair}
 use Rattle.history_laws.specs.CountLaws.{shown_counted}
 use Rattle.codec_model.specs.Replay.{State, step as entry_step, entry_of, removal_entry, call_error, encode_error, is_configured, removal_error, answer_to}
-use Rattle.codec_model.specs.Held.{adds_held}
-use Rattle.codec_model.specs.declared.entry.Pair.{Pair}
-use Rattle.codec_model.specs.declared.entry.Handed.TheVariants as handed
+use Rattle.codec_model.specs.declared.entry.Handed.{Handed}
 use Rattle.codec_model.specs.Shown.{refusal, rejection, removal_shows, shows, shown, outputs_of, exception_of}
-use Rattle.codec_accounts.specs.Owed.{at}
+use Rattle.codec_accounts.specs.{Owed.at, StartLaws.EndFits, AccountLaws.EntryFits, AccountLaws.history_at}
 use Rattle.codec_accounts.specs.ListLaws.{get_some, result_kept, result_new}
 use Rattle.codec_accounts.specs.Calls.{who_of, reach, call_in}
 use Rattle.codec_accounts.specs.Calls as mark
 use Rattle.codec_accounts.specs.Codec.{CodecValue, new_codec, state_after, state_of, codec_at, histories}
-use Rattle.codec_accounts.specs.StartLaws.{EndFits}
-use Rattle.codec_accounts.specs.AccountLaws.{EntryFits, history_at}
-use Rattle.script_types.specs.declared.script.OrderItem.{OrderItem}
-use Rattle.script_types.specs.declared.script.OrderItem.TheVariants as item
-use Rattle.script_types.specs.declared.script.ScriptData.{ScriptData}
-use Rattle.script_types.specs.declared.steps.Step.{Step}
-use Rattle.script_types.specs.declared.steps.Step.TheVariants as step
-use Rattle.script_types.specs.declared.steps.Variable.{Variable}
+use Rattle.script_types.specs.declared.{script.OrderItem.OrderItem, script.ScriptData.ScriptData, steps.Step.Step, steps.Variable.Variable}
 use Rattle.report_text.specs.declared.result.StepResult.{StepResult}
-use Rattle.report_text.specs.declared.result.StepResult.TheVariants as result
 use Rattle.trace_text.specs.Report.{refusal_in}
 use Rattle.trace_text.specs.Follow.{Recorded, Course, record_of, opening_at, promise_after, steps_of, chunk_for, source_error, output_at, with_result, Answer, handle_move, take_move, media_move, copied_chunk, outcome_for, end_of, turn_on, item_entry, advance, decode_move, is_gone, encode_move, look_of_state, step_move, next_move, item_move}
-use Rattle.script_types.specs.declared.steps.MediaStep.{MediaStep}
-use Rattle.script_types.specs.declared.steps.MediaStep.TheVariants as on_media
-use Rattle.script_types.specs.declared.steps.VariableKind.{VariableKind}
+use Rattle.script_types.specs.declared.steps.{MediaStep.MediaStep, VariableKind.VariableKind}
 use Rattle.media_variables.specs.Variables.{Reference, Shape, SoundOf, Medium, Came, medium_at, media_ref, sound_of, sound_in, sound_at, handed_by, handed_of, media_came, taken_came, variables_of}
 use Rattle.media_variables.specs.Held.{held_by}
 use Rattle.media_accounts.specs.Accounts.{media_of, IsQuiet}
@@ -92,22 +65,22 @@ abbrev Said : List PoolEntry → State → Entry → Option DomError → Type 0
 Said pool t e error = Steps e t × (error ≡ refusal_in (shows e t)) × MayAddAll pool e
 
 call_said : (pool : List PoolEntry) (who : Who) (x : Call) (t : State) → Said pool t (entry_of who x) (exception_of x (call_error x t.control))
-call_said pool who (call.Configure config) t = (refl, refused_by (call_error (call.Configure config) t.control), none_added pool (entry.Configure who config) refl)
-call_said pool who (call.Decode chunk) t = (refl, refused_by (call_error (call.Decode chunk) t.control), none_added pool (entry.Decode who chunk) refl)
-call_said pool who call.Flush t =
-    (refl, elim (call_error call.Flush t.control) as (λ (o : Option DomError). None ≡ refusal_in (rejection t.control.place o)) [ None ↦ refl | Some error ↦ refl ], none_added pool (entry.Flush who) refl)
+call_said pool who (Call.Configure config) t = (refl, refused_by (call_error (Call.Configure config) t.control), none_added pool (Entry.Configure who config) refl)
+call_said pool who (Call.Decode chunk) t = (refl, refused_by (call_error (Call.Decode chunk) t.control), none_added pool (Entry.Decode who chunk) refl)
+call_said pool who Call.Flush t =
+    (refl, elim (call_error Call.Flush t.control) as (λ (o : Option DomError). None ≡ refusal_in (rejection t.control.place o)) [ None ↦ refl | Some error ↦ refl ], none_added pool (Entry.Flush who) refl)
 
 removal_said : (pool : List PoolEntry) (who : Who) (r : Removal) (t : State) → Said pool t (removal_entry who r) (removal_error t.control)
-removal_said pool who removal.Reset t = (refl, removal_is_shown (removal_error t.control) t.control.pending, none_added pool (entry.Reset who) refl)
-removal_said pool who removal.Close t = (refl, removal_is_shown (removal_error t.control) t.control.pending, none_added pool (entry.Close who) refl)
+removal_said pool who Removal.Reset t = (refl, removal_is_shown (removal_error t.control) t.control.pending, none_added pool (Entry.Reset who) refl)
+removal_said pool who Removal.Close t = (refl, removal_is_shown (removal_error t.control) t.control.pending, none_added pool (Entry.Close who) refl)
 
 -- ---- looks
 
 -- the earlier flush came to a call
-flush_came : (s : ScriptData) (media : List (List Chunk)) (w : Recorded) (who : Who) (vs : List (Option Medium)) (o : Option Came) (c : ℕ) (y : Step) (r : StepResult) → IsFlush y → IsResultOf s w who y r → IsLocalAnswer s media vs o c y r → (k : ℕ) × (p : ℕ) × (error : Option DomError) × (r ≡ result.Call k p error)
-flush_came s media w who vs o c (step.Flush on bind) (result.Call k p error) flush made answers = (k, p, error, refl)
-flush_came s media w who vs o c (step.Flush on bind) result.Absent flush made answers = absurd answers
-flush_came s media w who vs o c (step.Flush on bind) r flush made answers = absurd made
+flush_came : (s : ScriptData) (media : List (List Chunk)) (w : Recorded) (who : Who) (vs : List (Option Medium)) (o : Option Came) (c : ℕ) (y : Step) (r : StepResult) → IsFlush y → IsResultOf s w who y r → IsLocalAnswer s media vs o c y r → (k : ℕ) × (p : ℕ) × (error : Option DomError) × (r ≡ StepResult.Call k p error)
+flush_came s media w who vs o c (Step.Flush on bind) (StepResult.Call k p error) flush made answers = (k, p, error, refl)
+flush_came s media w who vs o c (Step.Flush on bind) StepResult.Absent flush made answers = absurd answers
+flush_came s media w who vs o c (Step.Flush on bind) r flush made answers = absurd made
 flush_came s media w who vs o c x r flush made answers = absurd flush
 
 -- what a look sees of a codec's whole history
@@ -127,7 +100,7 @@ look_apart v k r is = record {
 
 -- what a look at a promise comes to
 abbrev look_at : Course → ℕ → ℕ → StepResult
-look_at v k p = let d = codec_at k v.codecs in result.Look k (length d.history) (promise_after d.opening d.history p)
+look_at v k p = let d = codec_at k v.codecs in StepResult.Look k (length d.history) (promise_after d.opening d.history p)
 
 -- ---- encodes
 
@@ -143,9 +116,9 @@ only_one x (suc i) p is = absurd cc
 -- what is handed over is legal where it tells whether the codec is configured, its exception is what its entry shows, and it
 -- adds a reference to what is held
 encode_said : (pool : List PoolEntry) (who : Who) (shape : SoundShape) (held : Option MediaRef) (t : State) (b : Bool) → is_configured t.control ≡ b → ((r : MediaRef) → held ≡ Some r → is_held r.resource pool ≡ true)
-    → let h = handed_by (references_made pool) b shape held in Said pool t (entry.Encode who h) (encode_error (is_gone h) t.control)
-encode_said pool who shape None t b is lives = (refl, refl, none_added pool (entry.Encode who handed.Gone) refl)
-encode_said pool who shape (Some r) t false is lives = (rw is refl, rw is refl, none_added pool (entry.Encode who handed.Kept) refl)
+    → let h = handed_by (references_made pool) b shape held in Said pool t (Entry.Encode who h) (encode_error (is_gone h) t.control)
+encode_said pool who shape None t b is lives = (refl, refl, none_added pool (Entry.Encode who Handed.Gone) refl)
+encode_said pool who shape (Some r) t false is lives = (rw is refl, rw is refl, none_added pool (Entry.Encode who Handed.Kept) refl)
 encode_said pool who shape (Some r) t true is lives = (rw is refl, rw is refl, λ i p at. rw (only_one (record { resource = r.resource; reference = references_made pool }) i p at) (lives r refl, refl))
 
 -- the reference of audio data is that of its variable
@@ -223,13 +196,13 @@ module _ (numbered : LiveAreNumbered) (s : ScriptData) (media : List (List Chunk
       answer_fits x r is apart made_of found looks answers
       (none_quiet s (brought_to s media (record_of (with_result c r v))) c (length (at c v.callers)) (ap (option_and_then media_of) is ∙ other))
 
-  decode_fits : (k : ℕ) (chunk : Variable) (o : Option Chunk) → IsNext s v c (step.Decode k chunk) → chunk_for media (steps_of s c) (variables_of c v.media.variables) chunk.step ≡ o → MoveFits s media v (decode_move (next_who v c) k o (codec_at k v.codecs))
-  decode_fits k chunk None is none = still_fits (step.Decode k chunk) result.Absent is (local_apart v result.Absent refl) tt tt tt (λ o. none) refl
+  decode_fits : (k : ℕ) (chunk : Variable) (o : Option Chunk) → IsNext s v c (Step.Decode k chunk) → chunk_for media (steps_of s c) (variables_of c v.media.variables) chunk.step ≡ o → MoveFits s media v (decode_move (next_who v c) k o (codec_at k v.codecs))
+  decode_fits k chunk None is none = still_fits (Step.Decode k chunk) StepResult.Absent is (local_apart v StepResult.Absent refl) tt tt tt (λ o. none) refl
   decode_fits k chunk (Some value) is some =
-      ask_fits k (step.Decode k chunk) (entry.Decode (next_who v c) value) _ is refl (call_said v.media.pool (next_who v c) (call.Decode value) (state_of (codec_at k v.codecs))) refl (value, some, refl)
+      ask_fits k (Step.Decode k chunk) (Entry.Decode (next_who v c) value) _ is refl (call_said v.media.pool (next_who v c) (Call.Decode value) (state_of (codec_at k v.codecs))) refl (value, some, refl)
 
   -- a step that looks at an earlier promise finds the call of its flush
-  promise_call : (x : Step) (promise : Variable) → IsNext s v c x → promise_of x ≡ Some promise → (k : ℕ) × (p : ℕ) × (error : Option DomError) × (result_in (record_of v) c promise.step ≡ Some (result.Call k p error))
+  promise_call : (x : Step) (promise : Variable) → IsNext s v c x → promise_of x ≡ Some promise → (k : ℕ) × (p : ℕ) × (error : Option DomError) × (result_in (record_of v) c promise.step ≡ Some (StepResult.Call k p error))
   promise_call x promise is looks =
       let before : promise.step < length (at c v.callers) = sound.earlier c (length (at c v.callers)) x promise is looks in
       let there = get_some (at c v.callers) promise.step before in
@@ -239,44 +212,44 @@ module _ (numbered : LiveAreNumbered) (s : ScriptData) (media : List (List Chunk
       let came = flush_came s media (record_of v) (record { caller = c; step = promise.step }) (variables_at s media (record_of v) c promise.step) (came_at s media (record_of v) c promise.step) c flush.0 there.0 flush.2 (rw same at fits.made) (rw same at fits.answers) in
       (came.0, came.1, came.2, there.1 ∙ ap (λ (q : StepResult). Some q) came.3)
 
-  look_shows : (promise : Variable) (r : StepResult) (k p : ℕ) (error : Option DomError) → result_in (record_of v) c promise.step ≡ Some (result.Call k p error) → let w = record_of (with_result c r v) in let d = codec_at k v.codecs in
-      (q : ℕ) × (e : Option DomError) × (result_in w c promise.step ≡ Some (result.Call k q e)) × (promise_after d.opening d.history p ≡ promise_after (opening_at s k) (take (length d.history) (at k w.codecs)) q)
-  look_shows promise r k p error was = (p, error, result_kept c c promise.step r (result.Call k p error) v.callers was, all_there (λ o h. promise_after o h p) s media made v k st)
+  look_shows : (promise : Variable) (r : StepResult) (k p : ℕ) (error : Option DomError) → result_in (record_of v) c promise.step ≡ Some (StepResult.Call k p error) → let w = record_of (with_result c r v) in let d = codec_at k v.codecs in
+      (q : ℕ) × (e : Option DomError) × (result_in w c promise.step ≡ Some (StepResult.Call k q e)) × (promise_after d.opening d.history p ≡ promise_after (opening_at s k) (take (length d.history) (at k w.codecs)) q)
+  look_shows promise r k p error was = (p, error, result_kept c c promise.step r (StepResult.Call k p error) v.callers was, all_there (λ o h. promise_after o h p) s media made v k st)
 
-  state_fits : (k : ℕ) → IsNext s v c (step.State k) → MoveFits s media v (Answer c (look_of_state k (codec_at k v.codecs)))
+  state_fits : (k : ℕ) → IsNext s v c (Step.State k) → MoveFits s media v (Answer c (look_of_state k (codec_at k v.codecs)))
   state_fits k is =
-      still_fits (step.State k) (look_of_state k (codec_at k v.codecs)) is (look_apart v k (look_of_state k (codec_at k v.codecs)) refl) tt tt
+      still_fits (Step.State k) (look_of_state k (codec_at k v.codecs)) is (look_apart v k (look_of_state k (codec_at k v.codecs)) refl) tt tt
       (refl, all_there (λ o h. (state_after o h).control.phase) s media made v k st, all_there (λ o h. (state_after o h).control.size) s media made v k st) (λ o. tt) refl
 
   -- a step on media, to which no output is brought
-  handle_fits : (x : MediaStep) (o : Option Came) → IsNext s v c (step.Media x) → media_came v.media.pool (next_who v c) (brought (copied_chunk media (steps_of s c) x) None) x (variables_of c v.media.variables) ≡ o → MoveFits s media v (handle_move (next_who v c) o)
+  handle_fits : (x : MediaStep) (o : Option Came) → IsNext s v c (Step.Media x) → media_came v.media.pool (next_who v c) (brought (copied_chunk media (steps_of s c) x) None) x (variables_of c v.media.variables) ≡ o → MoveFits s media v (handle_move (next_who v c) o)
   handle_fits x None is comes = tt
-  handle_fits x (Some y) is comes = (refl, record { caller = caller_there (step.Media x) is; handled = x; is_step = is; comes = comes })
+  handle_fits x (Some y) is comes = (refl, record { caller = caller_there (Step.Media x) is; handled = x; is_step = is; comes = comes })
 
   -- a take that found nothing comes to nothing of media
-  take_quiet : (k n : ℕ) (bind : List ℕ) (holds : VariableKind) → c < length v.callers → IsNext s v c (step.Media (on_media.Take k bind holds)) → IsQuiet (steps_of s) (brought_to s media (record_of (with_result c (result.NoUnit k n) v))) c (length (at c v.callers))
+  take_quiet : (k n : ℕ) (bind : List ℕ) (holds : VariableKind) → c < length v.callers → IsNext s v c (Step.Media (MediaStep.Take k bind holds)) → IsQuiet (steps_of s) (brought_to s media (record_of (with_result c (StepResult.NoUnit k n) v))) c (length (at c v.callers))
   take_quiet k n bind holds lt is x pool vs named =
-      let w = record_of (with_result c (result.NoUnit k n) v) in
+      let w = record_of (with_result c (StepResult.NoUnit k n) v) in
       let j = length (at c v.callers) in
-      let same : on_media.Take k bind holds ≡ x = some_same (on_media.Take k bind holds) x (sym (ap (option_and_then media_of) is) ∙ named) in
-      let none : taken_by s w (result_in w c j) ≡ None = ap (taken_by s w) (result_new c (result.NoUnit k n) v.callers lt) in
+      let same : MediaStep.Take k bind holds ≡ x = some_same (MediaStep.Take k bind holds) x (sym (ap (option_and_then media_of) is) ∙ named) in
+      let none : taken_by s w (result_in w c j) ≡ None = ap (taken_by s w) (result_new c (StepResult.NoUnit k n) v.callers lt) in
       rw (sym same, none) refl
 
-  take_fits : (k : ℕ) (bind : List ℕ) (holds : VariableKind) (o : Option output.Unit) → IsNext s v c (step.Media (on_media.Take k bind holds)) → output_at (codec_at k v.codecs).opening (codec_at k v.codecs).history (state_of (codec_at k v.codecs)).control.taken ≡ o
+  take_fits : (k : ℕ) (bind : List ℕ) (holds : VariableKind) (o : Option output.Unit) → IsNext s v c (Step.Media (MediaStep.Take k bind holds)) → output_at (codec_at k v.codecs).opening (codec_at k v.codecs).history (state_of (codec_at k v.codecs)).control.taken ≡ o
       → MoveFits s media v (take_move (next_who v c) k (codec_at k v.codecs) (taken_came v.media.pool (length (at c v.callers)) (option_map (taken_as (take_result v k (state_of (codec_at k v.codecs)).control.taken)) o) (variables_of c v.media.variables)))
   take_fits k bind holds None is none =
       let n = next_place v k in
-      answer_fits (step.Media (on_media.Take k bind holds)) (result.NoUnit k n) is (look_apart v k (result.NoUnit k n) refl) refl tt
-      (refl, sym (all_there (λ o h. output_at o h (state_after o h).control.taken) s media made v k st) ∙ none) (λ o. tt) (take_quiet k n bind holds (caller_there (step.Media (on_media.Take k bind holds)) is) is)
+      answer_fits (Step.Media (MediaStep.Take k bind holds)) (StepResult.NoUnit k n) is (look_apart v k (StepResult.NoUnit k n) refl) refl tt
+      (refl, sym (all_there (λ o h. output_at o h (state_after o h).control.taken) s media made v k st) ∙ none) (λ o. tt) (take_quiet k n bind holds (caller_there (Step.Media (MediaStep.Take k bind holds)) is) is)
   take_fits k bind holds (Some u) is some =
       let d = codec_at k v.codecs in
       let n = (state_of d).control.taken in
       let counted : (state_of d).control.shown ≡ length (outputs_of (shown d.opening d.history)) = shown_counted d.opening d.history (state_of d) (st.boxes.each k).replays in
       let below : n < length (outputs_of (shown d.opening d.history)) = slice_get_within (outputs_of (shown d.opening d.history)) n u some in
-      let after = legal_after (entry.Take (next_who v c) n) (state_of d) (take_legal (next_who v c) (state_of d) (omega (arith, counted, below))) in
+      let after = legal_after (Entry.Take (next_who v c) n) (state_of d) (take_legal (next_who v c) (state_of d) (omega (arith, counted, below))) in
       let fits : ReceiveFits s media v c k n _ = record {
-        caller = caller_there (step.Media (on_media.Take k bind holds)) is;
-        codec = omega (arith, sound.taken c (length (at c v.callers)) k (step.Media (on_media.Take k bind holds)) is refl, st.count);
+        caller = caller_there (Step.Media (MediaStep.Take k bind holds)) is;
+        codec = omega (arith, sound.taken c (length (at c v.callers)) k (Step.Media (MediaStep.Take k bind holds)) is refl, st.count);
         bind = bind;
         holds = holds;
         is_step = is;
@@ -288,17 +261,17 @@ module _ (numbered : LiveAreNumbered) (s : ScriptData) (media : List (List Chunk
       } in
       (n, refl, refl, fits)
 
-  encode_fits : (k : ℕ) (content : Variable) (o : Option Sound) → IsNext s v c (step.Media (on_media.Encode k content)) → sound_at (variables_of c v.media.variables) content.step ≡ o → MoveFits s media v (encode_move (next_who v c) k v.media.pool o (codec_at k v.codecs))
+  encode_fits : (k : ℕ) (content : Variable) (o : Option Sound) → IsNext s v c (Step.Media (MediaStep.Encode k content)) → sound_at (variables_of c v.media.variables) content.step ≡ o → MoveFits s media v (encode_move (next_who v c) k v.media.pool o (codec_at k v.codecs))
   encode_fits k content None is none =
-      answer_fits (step.Media (on_media.Encode k content)) result.Absent is (local_apart v result.Absent refl) tt tt tt (λ o. none)
-      (call_quiet s (brought_to s media (record_of (with_result c result.Absent v))) c (length (at c v.callers)) k (step.Media (on_media.Encode k content)) is refl)
+      answer_fits (Step.Media (MediaStep.Encode k content)) StepResult.Absent is (local_apart v StepResult.Absent refl) tt tt tt (λ o. none)
+      (call_quiet s (brought_to s media (record_of (with_result c StepResult.Absent v))) c (length (at c v.callers)) k (Step.Media (MediaStep.Encode k content)) is refl)
   encode_fits k content (Some x) is some =
       let who = next_who v c in
       let t = state_of (codec_at k v.codecs) in
       let pool = v.media.pool in
       let accepts = is_configured t.control in
       let said = encode_said pool who x.shape x.held t accepts refl lives in
-      ask_fits k (step.Media (on_media.Encode k content)) (entry.Encode who (handed_of (references_made pool) accepts x)) _ is refl said refl (x, references_made pool, accepts, some, refl)
+      ask_fits k (Step.Media (MediaStep.Encode k content)) (Entry.Encode who (handed_of (references_made pool) accepts x)) _ is refl said refl (x, references_made pool, accepts, some, refl)
     where
       lives : (r : MediaRef) → x.held ≡ Some r → is_held r.resource v.media.pool ≡ true
       lives r holds =
@@ -306,30 +279,30 @@ module _ (numbered : LiveAreNumbered) (s : ScriptData) (media : List (List Chunk
           subst (λ (i : ℕ). is_held i v.media.pool ≡ true) found.2 (live_held numbered v.media.pool found.0.number found.0.resource st.stand.accounted.legal (st.stand.held.live c content.step found.0 found.1))
 
   -- a step on media
-  media_fits : (x : MediaStep) → IsNext s v c (step.Media x) → MoveFits s media v (media_move s media (next_who v c) x v)
-  media_fits (on_media.Take on bind kind) is =
+  media_fits : (x : MediaStep) → IsNext s v c (Step.Media x) → MoveFits s media v (media_move s media (next_who v c) x v)
+  media_fits (MediaStep.Take on bind kind) is =
       take_fits on bind kind (output_at (codec_at on v.codecs).opening (codec_at on v.codecs).history (state_of (codec_at on v.codecs)).control.taken) is refl
-  media_fits (on_media.Encode on content) is = encode_fits on content (sound_at (variables_of c v.media.variables) content.step) is refl
+  media_fits (MediaStep.Encode on content) is = encode_fits on content (sound_at (variables_of c v.media.variables) content.step) is refl
   media_fits x is =
       handle_fits x (media_came v.media.pool (next_who v c) (brought (copied_chunk media (steps_of s c) x) None) x (variables_of c v.media.variables)) is refl
 
   step_fits : (x : Step) → IsNext s v c x → MoveFits s media v (step_move s media (next_who v c) x v)
-  step_fits (step.Configure on config) is = ask_fits on (step.Configure on config) (entry.Configure (next_who v c) config) _ is refl (call_said v.media.pool (next_who v c) (call.Configure config) (state_of (codec_at on v.codecs))) refl refl
-  step_fits (step.Chunk bind source) is = still_fits (step.Chunk bind source) (result.Local (source_error source)) is (local_apart v (result.Local (source_error source)) refl) tt tt tt (λ o. refl) refl
-  step_fits (step.Decode on chunk) is = decode_fits on chunk (chunk_for media (steps_of s c) (variables_of c v.media.variables) chunk.step) is refl
-  step_fits (step.Flush on bind) is = ask_fits on (step.Flush on bind) (entry.Flush (next_who v c)) _ is refl (call_said v.media.pool (next_who v c) call.Flush (state_of (codec_at on v.codecs))) refl refl
-  step_fits (step.Poll promise) is =
-      let found = promise_call (step.Poll promise) promise is refl in
+  step_fits (Step.Configure on config) is = ask_fits on (Step.Configure on config) (Entry.Configure (next_who v c) config) _ is refl (call_said v.media.pool (next_who v c) (Call.Configure config) (state_of (codec_at on v.codecs))) refl refl
+  step_fits (Step.Chunk bind source) is = still_fits (Step.Chunk bind source) (StepResult.Local (source_error source)) is (local_apart v (StepResult.Local (source_error source)) refl) tt tt tt (λ o. refl) refl
+  step_fits (Step.Decode on chunk) is = decode_fits on chunk (chunk_for media (steps_of s c) (variables_of c v.media.variables) chunk.step) is refl
+  step_fits (Step.Flush on bind) is = ask_fits on (Step.Flush on bind) (Entry.Flush (next_who v c)) _ is refl (call_said v.media.pool (next_who v c) Call.Flush (state_of (codec_at on v.codecs))) refl refl
+  step_fits (Step.Poll promise) is =
+      let found = promise_call (Step.Poll promise) promise is refl in
       let r = look_at v found.0 found.1 in
-      rw found.3 (still_fits (step.Poll promise) r is (look_apart v found.0 r refl) tt tt (look_shows promise r found.0 found.1 found.2 found.3) (λ o. tt) refl)
-  step_fits (step.Await promise) is =
-      let found = promise_call (step.Await promise) promise is refl in
+      rw found.3 (still_fits (Step.Poll promise) r is (look_apart v found.0 r refl) tt tt (look_shows promise r found.0 found.1 found.2 found.3) (λ o. tt) refl)
+  step_fits (Step.Await promise) is =
+      let found = promise_call (Step.Await promise) promise is refl in
       let r = look_at v found.0 found.1 in
-      rw found.3 (still_fits (step.Await promise) r is (look_apart v found.0 r refl) tt tt (look_shows promise r found.0 found.1 found.2 found.3) (λ o. tt) refl)
-  step_fits (step.Reset on) is = ask_fits on (step.Reset on) (entry.Reset (next_who v c)) _ is refl (removal_said v.media.pool (next_who v c) removal.Reset (state_of (codec_at on v.codecs))) refl refl
-  step_fits (step.Close on) is = ask_fits on (step.Close on) (entry.Close (next_who v c)) _ is refl (removal_said v.media.pool (next_who v c) removal.Close (state_of (codec_at on v.codecs))) refl refl
-  step_fits (step.State on) is = state_fits on is
-  step_fits (step.Media x) is = media_fits x is
+      rw found.3 (still_fits (Step.Await promise) r is (look_apart v found.0 r refl) tt tt (look_shows promise r found.0 found.1 found.2 found.3) (λ o. tt) refl)
+  step_fits (Step.Reset on) is = ask_fits on (Step.Reset on) (Entry.Reset (next_who v c)) _ is refl (removal_said v.media.pool (next_who v c) Removal.Reset (state_of (codec_at on v.codecs))) refl refl
+  step_fits (Step.Close on) is = ask_fits on (Step.Close on) (Entry.Close (next_who v c)) _ is refl (removal_said v.media.pool (next_who v c) Removal.Close (state_of (codec_at on v.codecs))) refl refl
+  step_fits (Step.State on) is = state_fits on is
+  step_fits (Step.Media x) is = media_fits x is
 
   next_fits : (o : Option Step) → step_in s c (length (at c v.callers)) ≡ o → MoveFits s media v (next_move s media (next_who v c) o v)
   next_fits None is = tt
@@ -359,15 +332,15 @@ refused_item s media made v k r (Some n) st is refusal =
 
 turn_own : (d : CodecValue) (ts : List Task) (e : Entry) → (state_of d).control.tasks ≡ ts → turn_on ts ≡ Some e → Own d e
 turn_own d [] e is made = absurd cc
-turn_own d (x ∷ ts) e is made = subst (Own d) (some_same entry.Turn e made) (record { legal = ap is_some (turn_made x ts (state_of d) is); nobody = refl; fits = tt })
+turn_own d (x ∷ ts) e is made = subst (Own d) (some_same Entry.Turn e made) (record { legal = ap is_some (turn_made x ts (state_of d) is); nobody = refl; fits = tt })
 
 item_own : (d : CodecValue) (wants : Bool) (x : OrderItem) (e : Entry) → ((r : Running) → (state_of d).control.running ≡ Some r → MayBeRefused r (state_of d) d.holding.refusal) → item_entry wants x d ≡ Some e → Own d e
-item_own d wants (item.Caller c) e may is = absurd cc
-item_own d wants (item.Start n) e may is =
+item_own d wants (OrderItem.Caller c) e may is = absurd cc
+item_own d wants (OrderItem.Start n) e may is =
     let t = state_of d in
-    let found = mapped (λ (i : Item). entry.Start t.control.epoch i.number) (start_item t.control) e is in
+    let found = mapped (λ (i : Item). Entry.Start t.control.epoch i.number) (start_item t.control) e is in
     subst (Own d) found.2 (record { legal = start_legal t found.0 found.1; nobody = refl; fits = tt })
-item_own d wants (item.Done n moment) e may is =
+item_own d wants (OrderItem.Done n moment) e may is =
     let t = state_of d in
     let found = mapped (end_of wants moment d.holding.refusal t.running_given) t.control.running e is in
     let r = found.0 in
@@ -376,14 +349,14 @@ item_own d wants (item.Done n moment) e may is =
       nobody = refl;
       fits = end_says wants d.holding.refusal (answer_to r.kind t.running_given);
     })
-item_own d wants (item.Turn n) e may is = turn_own d (state_of d).control.tasks e refl is
-item_own d wants (item.Reclaim n moment) e may is =
-    let found = cond_some (may_reclaim moment (state_of d).control) (entry.Reclaim moment) e is in
+item_own d wants (OrderItem.Turn n) e may is = turn_own d (state_of d).control.tasks e refl is
+item_own d wants (OrderItem.Reclaim n moment) e may is =
+    let found = cond_some (may_reclaim moment (state_of d).control) (Entry.Reclaim moment) e is in
     subst (Own d) found.1 (record { legal = rw found.0 refl; nobody = refl; fits = tt })
 
 -- a codec that is not there has nothing to do
 none_past : (wants : Bool) (x : OrderItem) (o : Opening) → item_entry wants x (new_codec o) ≡ None
-none_past wants (item.Caller c) o = refl
+none_past wants (OrderItem.Caller c) o = refl
 none_past wants x o = refl
 
 own_fits : (s : ScriptData) (media : List (List Chunk)) (made : List CoderId) (v : Course) (k : ℕ) (wants : Bool) (x : OrderItem) (o : Option Entry) → Stands s media made v → item_entry wants x (codec_at k v.codecs) ≡ o → MoveFits s media v (advance k o)
@@ -404,8 +377,8 @@ own_fits s media made v k wants x (Some e) st is =
 
 -- Each item of a sound script's order makes a move that fits.
 pub item_fits : LiveAreNumbered → (s : ScriptData) (media : List (List Chunk)) (made : List CoderId) (v : Course) (wants : Bool) (x : OrderItem) → IsSound s → Stands s media made v → MoveFits s media v (item_move s media wants x v)
-item_fits numbered s media made v wants (item.Caller c) sound st = next_fits numbered s media made v c sound st (step_in s c (length (at c v.callers))) refl
-item_fits numbered s media made v wants (item.Start k) sound st = own_fits s media made v k wants (item.Start k) (item_entry wants (item.Start k) (codec_at k v.codecs)) st refl
-item_fits numbered s media made v wants (item.Done k moment) sound st = own_fits s media made v k wants (item.Done k moment) (item_entry wants (item.Done k moment) (codec_at k v.codecs)) st refl
-item_fits numbered s media made v wants (item.Turn k) sound st = own_fits s media made v k wants (item.Turn k) (item_entry wants (item.Turn k) (codec_at k v.codecs)) st refl
-item_fits numbered s media made v wants (item.Reclaim k moment) sound st = own_fits s media made v k wants (item.Reclaim k moment) (item_entry wants (item.Reclaim k moment) (codec_at k v.codecs)) st refl
+item_fits numbered s media made v wants (OrderItem.Caller c) sound st = next_fits numbered s media made v c sound st (step_in s c (length (at c v.callers))) refl
+item_fits numbered s media made v wants (OrderItem.Start k) sound st = own_fits s media made v k wants (OrderItem.Start k) (item_entry wants (OrderItem.Start k) (codec_at k v.codecs)) st refl
+item_fits numbered s media made v wants (OrderItem.Done k moment) sound st = own_fits s media made v k wants (OrderItem.Done k moment) (item_entry wants (OrderItem.Done k moment) (codec_at k v.codecs)) st refl
+item_fits numbered s media made v wants (OrderItem.Turn k) sound st = own_fits s media made v k wants (OrderItem.Turn k) (item_entry wants (OrderItem.Turn k) (codec_at k v.codecs)) st refl
+item_fits numbered s media made v wants (OrderItem.Reclaim k moment) sound st = own_fits s media made v k wants (OrderItem.Reclaim k moment) (item_entry wants (OrderItem.Reclaim k moment) (codec_at k v.codecs)) st refl

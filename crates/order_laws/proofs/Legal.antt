@@ -1,23 +1,15 @@
 -- Each entry that following an order makes is legal.
 use Rattle.std.proofs.Common.{ℕ, ◌≡◌, ◌<◌, Bool, true, false, eq-eqb, List, [], ◌∷◌, ◌++◌, length, Option, Some, None, is_some, refl, ap, sym, subst, ◌∙◌, arith}
 use Rattle.std.specs.Prelude.{unwrap_or, slice_get}
-use Rattle.wc_base.specs.Options.{some_same, cond_is}
-use Rattle.wc_base.specs.declared.who.Who.{Who}
+use Rattle.wc_base.specs.{Options.some_same, Options.cond_is, declared.who.Who.Who}
 use Rattle.codec_definitions.specs.declared.unit.Unit as media
-use Rattle.codec_model.specs.declared.entry.Opening.{Opening}
-use Rattle.codec_model.specs.declared.entry.Item.{Item}
-use Rattle.codec_model.specs.declared.entry.Running.{Running}
-use Rattle.codec_model.specs.declared.entry.Outcome.TheVariants as outcome
-use Rattle.codec_model.specs.declared.entry.Ended.TheVariants as ended
-use Rattle.codec_model.specs.declared.entry.Entry.{Entry}
-use Rattle.codec_model.specs.declared.entry.Entry.TheVariants as entry
+use Rattle.codec_model.specs.declared.entry.{Opening.Opening, Item.Item, Running.Running, Outcome.Outcome, Ended.Ended, Entry.Entry}
 use Rattle.std.proofs.lemmas.Bool.{lt-ltb}
 use Rattle.codec_model.specs.Control.{may_start, front, start_item}
 use Rattle.codec_model.specs.Replay.{State, step, opening_state, replay, answer_to, start_step, done_step, done_ended, ended_of, IsLegal}
 use Rattle.codec_model.specs.Shown.{shown_at, each_shown, each_shown_from}
 use Rattle.codec_model.specs.ShownLaws.{each_append, each_more, each_length}
-use Rattle.codec_accounts.specs.Codec.{state_after}
-use Rattle.codec_accounts.specs.ListLaws.{get_within, get_end}
+use Rattle.codec_accounts.specs.{Codec.state_after, ListLaws.get_within, ListLaws.get_end}
 use Rattle.trace_text.specs.Follow.{outcome_by, outcome_for}
 
 -- an entry is legal after a state
@@ -46,7 +38,7 @@ shown_last o h e l =
     ∙ (ap (λ n. slice_get (each_shown o h ++ shown_at e (state_after o h) ∷ []) n) (sym (each_length o h (state_after o h) r)) ∙ get_end (each_shown o h) (shown_at e (state_after o h)))
 
 -- a take of the first output that was shown and not taken yet
-pub take_legal : (who : Who) (s : State) → s.control.taken < s.control.shown → Steps (entry.Take who s.control.taken) s
+pub take_legal : (who : Who) (s : State) → s.control.taken < s.control.shown → Steps (Entry.Take who s.control.taken) s
 take_legal who s lt = rw (eq-eqb s.control.taken s.control.taken refl, lt-ltb s.control.taken s.control.shown lt) refl
 
 start_on : (is : List Item) (i : Item) (s : State) → may_start s.control ≡ true → front is ≡ Some i → is_some (start_step is s.control.epoch i.number s) ≡ true
@@ -54,7 +46,7 @@ start_on [] i s may f = absurd cc
 start_on (j ∷ rest) i s may f =
     rw (may, eq-eqb s.control.epoch s.control.epoch refl, eq-eqb i.number j.number (ap (λ (x : Item). x.number) (sym (some_same j i f)))) refl
 
-pub start_legal : (s : State) (i : Item) → start_item s.control ≡ Some i → Steps (entry.Start s.control.epoch i.number) s
+pub start_legal : (s : State) (i : Item) → start_item s.control ≡ Some i → Steps (Entry.Start s.control.epoch i.number) s
 start_legal s i h =
     let may = cond_is (may_start s.control) (front s.control.work) i h in
     start_on s.control.work i s may.0 may.1
@@ -67,14 +59,14 @@ answered r s moment (Some us) e = rw (e, eq-eqb (length us) (length us) refl) re
 -- what is known of the running item where its end says that it was refused a box
 abbrev pub MayBeRefused : Running → State → Option ℕ → Type 0
 MayBeRefused r s None = Unit {0}
-MayBeRefused r s (Some e) = ended_of r.kind s.running_given (outcome.NoSlot e) ≡ Some (ended.NoSlot e)
+MayBeRefused r s (Some e) = ended_of r.kind s.running_given (Outcome.NoSlot e) ≡ Some (Ended.NoSlot e)
 
 outcome_legal : (r : Running) (s : State) (moment : ℕ) (wants : Bool) (refusal : Option ℕ) → MayBeRefused r s refusal → is_some (done_ended r (ended_of r.kind s.running_given (outcome_for wants refusal (answer_to r.kind s.running_given))) moment s) ≡ true
 outcome_legal r s moment true refusal may = refl
 outcome_legal r s moment false None may = answered r s moment (answer_to r.kind s.running_given) refl
 outcome_legal r s moment false (Some e) may = rw may refl
 
-pub done_legal : (s : State) (r : Running) (moment : ℕ) (wants : Bool) (refusal : Option ℕ) → s.control.running ≡ Some r → MayBeRefused r s refusal → Steps (entry.Done r.epoch r.number moment (outcome_for wants refusal (answer_to r.kind s.running_given))) s
+pub done_legal : (s : State) (r : Running) (moment : ℕ) (wants : Bool) (refusal : Option ℕ) → s.control.running ≡ Some r → MayBeRefused r s refusal → Steps (Entry.Done r.epoch r.number moment (outcome_for wants refusal (answer_to r.kind s.running_given))) s
 done_legal s r moment wants refusal h may =
     subst (λ (o : Option Running). is_some (done_step o r.epoch r.number moment (outcome_for wants refusal (answer_to r.kind s.running_given)) s) ≡ true) (sym h)
     (rw (eq-eqb r.epoch r.epoch refl, eq-eqb r.number r.number refl) (outcome_legal r s moment wants refusal may))

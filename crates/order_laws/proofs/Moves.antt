@@ -5,20 +5,13 @@ use Rattle.std.specs.List.{sum_by}
 use Rattle.std.proofs.lemmas.Bool.{cases_eq, ne_eqb}
 use Rattle.std.proofs.lemmas.List.{map-append, length-map}
 use Rattle.std.proofs.lemmas.Option.{slice_get_within}
-use Rattle.wc_base.specs.Options.{some_same}
-use Rattle.codec_model.specs.Held.{HeldStays}
-use Rattle.wc_pool.specs.Laws.{LiveAreNumbered}
-use Rattle.wc_base.specs.declared.error.DomError.{DomError}
-use Rattle.wc_base.specs.declared.who.Who.{Who}
+use Rattle.wc_base.specs.{Options.some_same, declared.error.DomError.DomError, declared.who.Who.Who}
+use Rattle.codec_model.specs.{Held.HeldStays, declared.entry.Entry.Entry, Replay.State, Replay.step as entry_step, Shown.shows}
+use Rattle.wc_pool.specs.{Laws.LiveAreNumbered, declared.entry.PoolEntry.PoolEntry}
 use Rattle.wc_config.specs.declared.codec.CoderId.{CoderId}
 use Rattle.wc_chunk.specs.declared.chunk.Chunk.{Chunk}
-use Rattle.wc_pool.specs.declared.entry.PoolEntry.{PoolEntry}
 use Rattle.codec_definitions.specs.declared.unit.Unit as output
 use Rattle.codec_definitions.specs.declared.unit.Unit.TheVariants as unit
-use Rattle.codec_model.specs.declared.entry.Entry.{Entry}
-use Rattle.codec_model.specs.declared.entry.Entry.TheVariants as entry
-use Rattle.codec_model.specs.Replay.{State, step as entry_step}
-use Rattle.codec_model.specs.Shown.{shows}
 use Rattle.codec_accounts.specs.Owed.{at, append_at}
 use Rattle.codec_accounts.specs.ListLaws.{append_at_length, at_same, at_other, get_end, result_kept, result_new, result_more}
 use Rattle.codec_accounts.specs.Calls.{who_of, Mark, reach, named_at, named, call_in, all_calls, Climbs}
@@ -26,17 +19,11 @@ use Rattle.codec_accounts.specs.Calls as mark
 use Rattle.codec_accounts.specs.CallsLaws.{names_call, named_more, calls_in_more, climbs_on, climbs_add, MayClimb}
 use Rattle.codec_accounts.specs.Codec.{CodecValue, state_of, codec_at, histories}
 use Rattle.codec_accounts.specs.AccountLaws.{Accounted, EntryFits, accounted_more, history_at}
-use Rattle.script_types.specs.declared.script.ScriptData.{ScriptData}
-use Rattle.script_types.specs.declared.steps.Step.{Step}
-use Rattle.script_types.specs.declared.steps.Step.TheVariants as step
+use Rattle.script_types.specs.declared.{script.ScriptData.ScriptData, steps.Step.Step, steps.MediaStep.MediaStep, steps.VariableKind.VariableKind}
 use Rattle.report_text.specs.declared.result.StepResult.{StepResult}
-use Rattle.report_text.specs.declared.result.StepResult.TheVariants as result
 use Rattle.trace_text.specs.Report.{refusal_in}
 use Rattle.media_variables.specs.Variables.{Medium, Media, Came, Brought, media_came, unit_came, variables_of}
 use Rattle.media_accounts.specs.Accounts.{media_of, OneMore, IsQuiet, MediaStand, StepStands, NothingStands, StepsStand, OthersStand, LaterStand, LaterStands, EntryStands, EntriesStand}
-use Rattle.script_types.specs.declared.steps.MediaStep.{MediaStep}
-use Rattle.script_types.specs.declared.steps.MediaStep.TheVariants as on_media
-use Rattle.script_types.specs.declared.steps.VariableKind.{VariableKind}
 use Rattle.trace_text.specs.Follow.{Recorded, Course, record_of, opening_at, steps_of, copied_chunk, output_at, with_result, with_entry, Move, Idle, Answer, Advance, Ask, Handle, Receive, after_move}
 use Rattle.trace_text.specs.Fits.{result_in, entry_in, step_in, called, taken_from, exception_at, mark_of, marks_of, taken_by, brought_to, made_steps, came_at, variables_at, LookShows, IsLocalAnswer, HasArguments, ArgumentsAreIn, MarksClimb}
 use Rattle.order_laws.proofs.Legal.{shown_last}
@@ -93,7 +80,7 @@ abbrev pub next_place : Course → ℕ → ℕ
 next_place v k = length (codec_at k v.codecs).history
 
 abbrev pub take_result : Course → ℕ → ℕ → StepResult
-take_result v k n = result.Unit k (next_place v k) n
+take_result v k n = StepResult.Unit k (next_place v k) n
 
 -- the variables of its caller's media before it, as a course that goes on has them, are those of the course
 abbrev pub SameBefore : ScriptData → List (List Chunk) → Course → Recorded → ℕ → Type 0
@@ -140,7 +127,7 @@ pub record AskFits (s : ScriptData) (media : List (List Chunk)) (v : Course) (c 
 pub record HandleFits (s : ScriptData) (media : List (List Chunk)) (v : Course) (c : ℕ) (y : Came) : Type 0 where
   pub caller : c < length v.callers
   pub handled : MediaStep
-  pub is_step : step_in s c (length (at c v.callers)) ≡ Some (step.Media handled)
+  pub is_step : step_in s c (length (at c v.callers)) ≡ Some (Step.Media handled)
   pub comes : media_came v.media.pool (next_who v c) (brought (copied_chunk media (steps_of s c) handled) None) handled (variables_of c v.media.variables) ≡ Some y
 
 -- a take of the output with this number, which was shown: the caller's next step, and what it comes to
@@ -149,12 +136,12 @@ pub record ReceiveFits (s : ScriptData) (media : List (List Chunk)) (v : Course)
   pub codec : k < length v.codecs
   pub bind : List ℕ
   pub holds : VariableKind
-  pub is_step : step_in s c (length (at c v.callers)) ≡ Some (step.Media (on_media.Take k bind holds))
+  pub is_step : step_in s c (length (at c v.callers)) ≡ Some (Step.Media (MediaStep.Take k bind holds))
   pub after : State
-  pub steps : entry_step (entry.Take (next_who v c) n) (state_of (codec_at k v.codecs)) ≡ Some after
+  pub steps : entry_step (Entry.Take (next_who v c) n) (state_of (codec_at k v.codecs)) ≡ Some after
   pub unit : output.Unit
   pub there : output_at (opening_at s k) (at k (histories v.codecs)) n ≡ Some unit
-  pub comes : media_came v.media.pool (next_who v c) (brought None (Some (taken_as (take_result v k n) unit))) (on_media.Take k bind holds) (variables_of c v.media.variables) ≡ Some y
+  pub comes : media_came v.media.pool (next_who v c) (brought None (Some (taken_as (take_result v k n) unit))) (MediaStep.Take k bind holds) (variables_of c v.media.variables) ≡ Some y
 
 abbrev pub MoveFits : ScriptData → List (List Chunk) → Course → Move → Type 0
 MoveFits s media v Idle = Unit {0}
@@ -162,7 +149,7 @@ MoveFits s media v (Answer c r) = AnswerFits s media v c r
 MoveFits s media v (Advance k e) = AdvanceFits v k e
 MoveFits s media v (Ask c k e error) = AskFits s media v c k e error
 MoveFits s media v (Handle who y) = (who ≡ next_who v who.caller) × HandleFits s media v who.caller y
-MoveFits s media v (Receive who k e y) = (n : ℕ) × (e ≡ entry.Take who n) × (who ≡ next_who v who.caller) × ReceiveFits s media v who.caller k n y
+MoveFits s media v (Receive who k e y) = (n : ℕ) × (e ≡ Entry.Take who n) × (who ≡ next_who v who.caller) × ReceiveFits s media v who.caller k n y
 
 -- ---- what grows
 
@@ -177,7 +164,7 @@ advance_grows : (v : Course) (k : ℕ) (e : Entry) → Grows (record_of v) (reco
 advance_grows v k e = record { stays = λ b j q h. h; more = λ n. longer_history v k n e }
 
 abbrev call_result : Course → ℕ → Option DomError → StepResult
-call_result v k error = result.Call k (next_place v k) error
+call_result v k error = StepResult.Call k (next_place v k) error
 
 -- one entry more, and the result of its caller
 both_grow : (v : Course) (c k : ℕ) (e : Entry) (r : StepResult) (m : Media) → Grows (record_of v) (record_of (told_by c r m (with_entry k e v)))
@@ -234,10 +221,10 @@ none_quiet s brought c j none x pool vs is = absurd (let bad : None ≡ Some x =
 
 -- a step that calls a codec is quiet: it is none on media, or one that encodes
 pub call_quiet : (s : ScriptData) (brought : ℕ → ℕ → MediaStep → Brought) (c j k : ℕ) (x : Step) → step_in s c j ≡ Some x → called x ≡ Some k → IsQuiet (steps_of s) brought c j
-call_quiet s brought c j k (step.Media (on_media.Encode on content)) is h = λ y pool vs named. (
-    let same = some_same (on_media.Encode on content) y (sym (ap (option_and_then media_of) is) ∙ named) in rw (sym same) refl
+call_quiet s brought c j k (Step.Media (MediaStep.Encode on content)) is h = λ y pool vs named. (
+    let same = some_same (MediaStep.Encode on content) y (sym (ap (option_and_then media_of) is) ∙ named) in rw (sym same) refl
     )
-call_quiet s brought c j k (step.Media x) is h = absurd cc
+call_quiet s brought c j k (Step.Media x) is h = absurd cc
 call_quiet s brought c j k x is h = none_quiet s brought c j (ap (option_and_then media_of) is)
 
 -- all media stand after one entry more of a codec, whose course goes on to u
@@ -403,13 +390,13 @@ call_there s media made v c k e error st a =
     }
   where
     no_look : (s : ScriptData) (media : List (List Chunk)) (w : Recorded) (c k p : ℕ) (x : Step) (error : Option DomError) → called x ≡ Some k
-        → (taken_from x ≡ None) × LookShows s w c x (result.Call k p error) × ((vs : List (Option Medium)) (o : Option Came) → IsLocalAnswer s media vs o c x (result.Call k p error))
-    no_look s media w c k p (step.Chunk bind source) error h = absurd cc
-    no_look s media w c k p (step.Poll promise) error h = absurd cc
-    no_look s media w c k p (step.Await promise) error h = absurd cc
-    no_look s media w c k p (step.State on) error h = absurd cc
-    no_look s media w c k p (step.Media (on_media.Encode on content)) error h = (refl, tt, λ vs o. tt)
-    no_look s media w c k p (step.Media x) error h = absurd cc
+        → (taken_from x ≡ None) × LookShows s w c x (StepResult.Call k p error) × ((vs : List (Option Medium)) (o : Option Came) → IsLocalAnswer s media vs o c x (StepResult.Call k p error))
+    no_look s media w c k p (Step.Chunk bind source) error h = absurd cc
+    no_look s media w c k p (Step.Poll promise) error h = absurd cc
+    no_look s media w c k p (Step.Await promise) error h = absurd cc
+    no_look s media w c k p (Step.State on) error h = absurd cc
+    no_look s media w c k p (Step.Media (MediaStep.Encode on content)) error h = (refl, tt, λ vs o. tt)
+    no_look s media w c k p (Step.Media x) error h = absurd cc
     no_look s media w c k p x error h = (refl, tt, λ vs o. tt)
 
 ask_stands : MediaLaws → (s : ScriptData) (media : List (List Chunk)) (made : List CoderId) (v : Course) (c k : ℕ) (e : Entry) (error : Option DomError) → Stands s media made v → AskFits s media v c k e error → Stands s media made (after_move (Ask c k e error) v)
@@ -439,12 +426,12 @@ handled_stands laws s media made v c y st a =
     laws.media (steps_of s) (brought_to s media (record_of u)) (lending_of s v.codecs) (made_steps (record_of v)) (made_steps (record_of u)) (length s.callers) v.media c a.handled y later.stands below (one_more v u c r refl a.caller) a.is_step (rw none a.comes) in
     result_stands s media made v c r u.media st a.caller (local_apart v r own) (λ d j lt. told.earlier d j lt ∙ later.same d j lt)
     (record {
-      step = step.Media a.handled;
+      step = Step.Media a.handled;
       is_step = a.is_step;
       made = facts.made;
       found = facts.found;
       shows = facts.shows;
-      answers = subst (λ (o : Option Came). IsLocalAnswer s media (variables_at s media (record_of u) c (length (at c v.callers))) o c (step.Media a.handled) r) (sym told.here) facts.answers;
+      answers = subst (λ (o : Option Came). IsLocalAnswer s media (variables_at s media (record_of u) c (length (at c v.callers))) o c (Step.Media a.handled) r) (sym told.here) facts.answers;
     }) told.stands
 
 -- ---- takes
@@ -454,9 +441,9 @@ unit_answer pool j r (unit.Sound samples) vs = refl
 unit_answer pool j r u vs = refl
 
 -- a take of this caller: all but its media are as after a call
-received_stands : MediaLaws → (s : ScriptData) (media : List (List Chunk)) (made : List CoderId) (v : Course) (c k n : ℕ) (y : Came) → Stands s media made v → ReceiveFits s media v c k n y → Stands s media made (after_move (Receive (next_who v c) k (entry.Take (next_who v c) n) y) v)
+received_stands : MediaLaws → (s : ScriptData) (media : List (List Chunk)) (made : List CoderId) (v : Course) (c k n : ℕ) (y : Came) → Stands s media made v → ReceiveFits s media v c k n y → Stands s media made (after_move (Receive (next_who v c) k (Entry.Take (next_who v c) n) y) v)
 received_stands laws s media made v c k n y st a =
-    let e = entry.Take (next_who v c) n in
+    let e = Entry.Take (next_who v c) n in
     let u = after_move (Receive (next_who v c) k e y) v in
     let r = take_result v k n in
     let vs = variables_of c v.media.variables in
@@ -470,10 +457,10 @@ received_stands laws s media made v c k n y st a =
     let m = (with_entry k e v).media in
     let stands = entry_stands laws s media made v u k e a.after st a.codec a.steps (λ i p is. absurd cc) later in
     let told : StepStands (steps_of s) (brought_to s media (record_of u)) (lending_of s u.codecs) (made_steps (record_of v)) (made_steps (record_of u)) (length s.callers) m c y =
-    laws.media (steps_of s) (brought_to s media (record_of u)) (lending_of s u.codecs) (made_steps (record_of v)) (made_steps (record_of u)) (length s.callers) m c (on_media.Take k a.bind a.holds) y stands.stands below (one_more v u c y.answer refl a.caller) a.is_step (rw (took, append-nil v.media.pool) a.comes) in
-    entered_stands s media made v c k e y.answer u.media a.after (step.Media (on_media.Take k a.bind a.holds)) st (record { caller = a.caller; codec = a.codec; names = refl; marks = ap mark_of answers }) a.steps a.is_step (n, refl)
+    laws.media (steps_of s) (brought_to s media (record_of u)) (lending_of s u.codecs) (made_steps (record_of v)) (made_steps (record_of u)) (length s.callers) m c (MediaStep.Take k a.bind a.holds) y stands.stands below (one_more v u c y.answer refl a.caller) a.is_step (rw (took, append-nil v.media.pool) a.comes) in
+    entered_stands s media made v c k e y.answer u.media a.after (Step.Media (MediaStep.Take k a.bind a.holds)) st (record { caller = a.caller; codec = a.codec; names = refl; marks = ap mark_of answers }) a.steps a.is_step (n, refl)
     (λ d j lt. told.earlier d j lt ∙ (stands.same d j ∙ later.same d j lt))
-    (rw answers (record { step = step.Media (on_media.Take k a.bind a.holds); is_step = a.is_step; made = (refl, stood); found = (a.unit, shown); shows = tt; answers = tt })) told.stands
+    (rw answers (record { step = Step.Media (MediaStep.Take k a.bind a.holds); is_step = a.is_step; made = (refl, stood); found = (a.unit, shown); shows = tt; answers = tt })) told.stands
 
 -- What stands of a course stands after a move that fits.
 pub move_stands : MediaLaws → (s : ScriptData) (media : List (List Chunk)) (made : List CoderId) (v : Course) (m : Move) → Stands s media made v → MoveFits s media v m → Stands s media made (after_move m v)

@@ -7,31 +7,21 @@ use Rattle.std.proofs.lemmas.List.{length-map}
 use Rattle.wc_base.specs.Options.{some_same}
 use Rattle.wc_config.specs.declared.codec.CoderId.{CoderId}
 use Rattle.wc_chunk.specs.declared.chunk.Chunk.{Chunk}
-use Rattle.codec_model.specs.declared.entry.Entry.{Entry}
-use Rattle.codec_model.specs.Replay.{IsLegal}
-use Rattle.codec_model.specs.Held.{held_in}
-use Rattle.codec_accounts.specs.Owed.{at}
-use Rattle.codec_accounts.specs.ListLaws.{at_empty}
-use Rattle.codec_accounts.specs.Calls.{Climbs}
+use Rattle.codec_model.specs.{declared.entry.Entry.Entry, Replay.IsLegal, Held.held_in}
+use Rattle.codec_accounts.specs.{Owed.at, ListLaws.at_empty, Calls.Climbs, Registry.BoxesAccounted}
 use Rattle.codec_accounts.specs.Calls as mark
 use Rattle.codec_accounts.specs.Codec.{CodecValue, new_codec, state_of, codec_at, histories}
-use Rattle.codec_accounts.specs.Registry.{BoxesAccounted}
 use Rattle.codec_accounts.specs.AccountLaws.{Accounted, are_givable, history_at}
 use Rattle.codec_accounts.specs.BoxAccounts.{nothing_accounted, boxes_accounted}
-use Rattle.script_types.specs.declared.script.CallerItem.{CallerItem}
-use Rattle.script_types.specs.declared.script.CodecItem.{CodecItem}
-use Rattle.script_types.specs.declared.script.OrderItem.{OrderItem}
-use Rattle.script_types.specs.declared.script.ScriptData.{ScriptData}
+use Rattle.script_types.specs.declared.script.{CallerItem.CallerItem, CodecItem.CodecItem, OrderItem.OrderItem, ScriptData.ScriptData}
 use Rattle.report_text.specs.declared.result.StepResult.{StepResult}
 use Rattle.trace_text.specs.declared.run.Run.{Run}
 use Rattle.trace_text.specs.Follow.{Recorded, Course, record_of, opening_of, opening_in, opening_at, steps_of, order_items, follow_item, item_move, Follows, nothing_yet}
 use Rattle.trace_text.specs.Fits.{recorded_of, mark_of, marks_of, CallsAreIn, LooksAreIn, ArgumentsAreIn, LocalsAreIn, LookShows, IsLocalAnswer, brought_to, made_steps, came_at, variables_at, lends_in, FollowsTheOrder, Fits}
 use Rattle.media_accounts.specs.Accounts.{lent_at, Lending, nothing_lent, MediaAreIn, MediaStand}
-use Rattle.order_laws.specs.Sound.{IsSound}
-use Rattle.order_laws.specs.Course.{IsCourse}
-use Rattle.order_laws.proofs.Entries.{lending_of}
+use Rattle.order_laws.specs.{Sound.IsSound, Course.IsCourse}
+use Rattle.order_laws.proofs.{Entries.lending_of, Items.item_fits}
 use Rattle.order_laws.proofs.Moves.{MediaLaws, Stands, legals, move_stands}
-use Rattle.order_laws.proofs.Items.{item_fits}
 
 -- ---- the beginning
 

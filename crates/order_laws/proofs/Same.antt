@@ -1,33 +1,20 @@
 -- Following an order makes one run, where the same ends want memory and as many boxes of each id are there.
 use Rattle.std.proofs.Common.{ℕ, zero, suc, ◌≡◌, ◌<◌, Bool, true, false, List, [], ◌∷◌, ◌++◌, length, map, Option, Some, None, refl, ap, sym, subst, ◌∙◌, arith, append_assoc, append-nil}
 use Rattle.std.specs.Prelude.{slice_get, option_map}
-use Rattle.wc_base.specs.declared.who.By.{By}
-use Rattle.wc_base.specs.declared.who.Who.{Who}
+use Rattle.wc_base.specs.declared.who.{By.By, Who.Who}
 use Rattle.wc_config.specs.declared.codec.CoderId.{CoderId}
 use Rattle.wc_chunk.specs.declared.chunk.Chunk.{Chunk}
 use Rattle.wc_pool.specs.Bag.{held_in}
 use Rattle.slot_registry.specs.Slots.{SlotsValue}
 use Rattle.codec_definitions.specs.declared.unit.Unit as media
-use Rattle.codec_model.specs.declared.entry.Entry.{Entry}
-use Rattle.codec_model.specs.declared.entry.Opening.{Opening}
-use Rattle.codec_model.specs.declared.entry.Running.{Running}
-use Rattle.codec_model.specs.Replay.{answer_to}
+use Rattle.codec_model.specs.{declared.entry.Entry.Entry, declared.entry.Opening.Opening, declared.entry.Running.Running, Replay.answer_to}
 use Rattle.codec_model.specs.Shown.{each_shown}
-use Rattle.codec_accounts.specs.Owed.{at}
-use Rattle.codec_accounts.specs.ListLaws.{get_kept, get_end}
+use Rattle.codec_accounts.specs.{Owed.at, ListLaws.get_kept, ListLaws.get_end, Registry.BoxOut}
 use Rattle.codec_accounts.specs.Codec.{Holding, CodecValue, state_of, codec_at, histories, BoxStep, Keep, Give, Renew, slots_after, holding_after, next_by, step_by}
-use Rattle.codec_accounts.specs.Registry.{BoxOut}
-use Rattle.script_types.specs.declared.script.CodecItem.{CodecItem}
-use Rattle.script_types.specs.declared.script.OrderItem.{OrderItem}
-use Rattle.script_types.specs.declared.script.OrderItem.TheVariants as item
-use Rattle.script_types.specs.declared.script.ScriptData.{ScriptData}
-use Rattle.script_types.specs.declared.steps.Step.{Step}
-use Rattle.script_types.specs.declared.steps.Step.TheVariants as step
-use Rattle.script_types.specs.declared.steps.MediaStep.TheVariants as on_media
-use Rattle.report_text.specs.declared.result.StepResult.TheVariants as result
-use Rattle.trace_text.specs.declared.run.CallerTrace.{CallerTrace}
-use Rattle.trace_text.specs.declared.run.CodecTrace.{CodecTrace}
-use Rattle.trace_text.specs.declared.run.Run.{Run}
+use Rattle.script_types.specs.declared.{script.CodecItem.CodecItem, script.OrderItem.OrderItem, script.ScriptData.ScriptData, steps.Step.Step}
+use Rattle.script_types.specs.declared.steps.MediaStep.{MediaStep}
+use Rattle.report_text.specs.declared.result.StepResult.{StepResult}
+use Rattle.trace_text.specs.declared.run.{CallerTrace.CallerTrace, CodecTrace.CodecTrace, Run.Run}
 use Rattle.trace_text.specs.Follow.{Recorded, Course, record_of, Move, Advance, Ask, Receive, after_move, with_result, with_entry, with_media, steps_of, order_items, item_move, next_move, step_move, done_entry, end_of, outcome_for, follow_item, Follows, nothing_yet}
 use Rattle.trace_text.specs.Fits.{recorded_of, IsLegalTrace, AreLegalTraces, IsLegalRun, FollowsTheOrder}
 use Rattle.order_laws.specs.Same.{is_want, wants_memory, SameWants, SameBoxes}
@@ -61,7 +48,7 @@ entry_same others k e v same =
 
 move_same : (others : List CoderId) (m : Move) (v : Course) → SameBoxes v.slots.made others → after_move m (with_made others v) ≡ with_made others (after_move m v)
 move_same others (Advance k e) v same = entry_same others k e v same
-move_same others (Ask c k e error) v same = ap (with_result c (result.Call k (length (codec_at k v.codecs).history) error)) (entry_same others k e v same)
+move_same others (Ask c k e error) v same = ap (with_result c (StepResult.Call k (length (codec_at k v.codecs).history) error)) (entry_same others k e v same)
 move_same others (Receive who k e y) v same = ap (λ (w : Course). with_result who.caller y.answer (with_media who y w)) (entry_same others k e v same)
 move_same others m v same = refl
 
@@ -73,9 +60,9 @@ move_made (Receive who k e y) v = made_stays v k e
 move_made m v = refl
 
 step_same : (s : ScriptData) (media : List (List Chunk)) (who : Who) (x : Step) (others : List CoderId) (v : Course) → step_move s media who x (with_made others v) ≡ step_move s media who x v
-step_same s media who (step.Media (on_media.Take on bind kind)) others v = refl
-step_same s media who (step.Media (on_media.Encode on content)) others v = refl
-step_same s media who (step.Media x) others v = refl
+step_same s media who (Step.Media (MediaStep.Take on bind kind)) others v = refl
+step_same s media who (Step.Media (MediaStep.Encode on content)) others v = refl
+step_same s media who (Step.Media x) others v = refl
 step_same s media who x others v = refl
 
 next_same : (s : ScriptData) (media : List (List Chunk)) (who : Who) (o : Option Step) (others : List CoderId) (v : Course) → next_move s media who o (with_made others v) ≡ next_move s media who o v
@@ -83,7 +70,7 @@ next_same s media who None others v = refl
 next_same s media who (Some x) others v = step_same s media who x others v
 
 item_same : (s : ScriptData) (media : List (List Chunk)) (wants : Bool) (x : OrderItem) (others : List CoderId) (v : Course) → item_move s media wants x (with_made others v) ≡ item_move s media wants x v
-item_same s media wants (item.Caller c) others v =
+item_same s media wants (OrderItem.Caller c) others v =
     let j = length (at c v.callers) in next_same s media (record { caller = c; step = j }) (slice_get (steps_of s c) j) others v
 item_same s media wants x others v = refl
 
@@ -128,7 +115,7 @@ wanted_by false None (Some units) = refl
 
 -- two ends of the same item that are not idle want memory both or neither
 wants_agree : (s : ScriptData) (media : List (List Chunk)) (xs : List OrderItem) (k moment : ℕ) (a b : Bool) (others : List CoderId) (v w z : Course) (r : Running) → SameWants (histories w.codecs) (histories z.codecs) → (state_of (codec_at k v.codecs)).control.running ≡ Some r
-    → Follows s media xs (follow_item s media a (item.Done k moment) v) w → Follows s media xs (follow_item s media b (item.Done k moment) (with_made others v)) z → a ≡ b
+    → Follows s media xs (follow_item s media a (OrderItem.Done k moment) v) w → Follows s media xs (follow_item s media b (OrderItem.Done k moment) (with_made others v)) z → a ≡ b
 wants_agree s media xs k moment a b others v w z r same runs f g =
     let d = codec_at k v.codecs in
     let refusal = d.holding.refusal in
@@ -140,15 +127,15 @@ wants_agree s media xs k moment a b others v w z r same runs f g =
     sym (wanted_by a refusal answer) ∙ (ap wants_memory (sym there) ∙ (same k (length (at k (histories v.codecs))) ∙ (ap wants_memory here ∙ wanted_by b refusal answer)))
 
 done_same : (s : ScriptData) (media : List (List Chunk)) (xs : List OrderItem) (k moment : ℕ) (a b : Bool) (others : List CoderId) (v w z : Course) → SameBoxes v.slots.made others → SameWants (histories w.codecs) (histories z.codecs)
-    → Follows s media xs (follow_item s media a (item.Done k moment) v) w → Follows s media xs (follow_item s media b (item.Done k moment) (with_made others v)) z → (o : Option Running) → (state_of (codec_at k v.codecs)).control.running ≡ o
-    → follow_item s media b (item.Done k moment) (with_made others v) ≡ with_made others (follow_item s media a (item.Done k moment) v)
+    → Follows s media xs (follow_item s media a (OrderItem.Done k moment) v) w → Follows s media xs (follow_item s media b (OrderItem.Done k moment) (with_made others v)) z → (o : Option Running) → (state_of (codec_at k v.codecs)).control.running ≡ o
+    → follow_item s media b (OrderItem.Done k moment) (with_made others v) ≡ with_made others (follow_item s media a (OrderItem.Done k moment) v)
 done_same s media xs k moment a b others v w z boxes same f g None none = rw none refl
 done_same s media xs k moment a b others v w z boxes same f g (Some r) runs =
-    subst (λ (c : Bool). follow_item s media c (item.Done k moment) (with_made others v) ≡ with_made others (follow_item s media a (item.Done k moment) v)) (wants_agree s media xs k moment a b others v w z r same runs f g) (follow_same s media a (item.Done k moment) others v boxes)
+    subst (λ (c : Bool). follow_item s media c (OrderItem.Done k moment) (with_made others v) ≡ with_made others (follow_item s media a (OrderItem.Done k moment) v)) (wants_agree s media xs k moment a b others v w z r same runs f g) (follow_same s media a (OrderItem.Done k moment) others v boxes)
 
 item_alike : (s : ScriptData) (media : List (List Chunk)) (xs : List OrderItem) (x : OrderItem) (a b : Bool) (others : List CoderId) (v w z : Course) → SameBoxes v.slots.made others → SameWants (histories w.codecs) (histories z.codecs)
     → Follows s media xs (follow_item s media a x v) w → Follows s media xs (follow_item s media b x (with_made others v)) z → follow_item s media b x (with_made others v) ≡ with_made others (follow_item s media a x v)
-item_alike s media xs (item.Done k moment) a b others v w z boxes same f g = done_same s media xs k moment a b others v w z boxes same f g (state_of (codec_at k v.codecs)).control.running refl
+item_alike s media xs (OrderItem.Done k moment) a b others v w z boxes same f g = done_same s media xs k moment a b others v w z boxes same f g (state_of (codec_at k v.codecs)).control.running refl
 item_alike s media xs x a b others v w z boxes same f g = follow_same s media a x others v boxes
 
 order_same : (s : ScriptData) (media : List (List Chunk)) (xs : List OrderItem) (others : List CoderId) (v w z : Course) → SameBoxes v.slots.made others → SameWants (histories w.codecs) (histories z.codecs) → Follows s media xs v w → Follows s media xs (with_made others v) z → z ≡ with_made others w

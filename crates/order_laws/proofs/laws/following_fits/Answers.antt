@@ -1,6 +1,5 @@
 use Rattle.order_laws.specs.SoundSteps.{sound_of}
-use Rattle.order_laws.proofs.Moves.{MediaLaws}
-use Rattle.order_laws.proofs.Orders.{fits_of, legal_of}
+use Rattle.order_laws.proofs.{Moves.MediaLaws, Orders.fits_of, Orders.legal_of}
 use Rattle.order_laws.proofs.laws.following_fits.Goals as goal
 
 pub returns : goal.returns

@@ -1,6 +1,5 @@
 use Rattle.order_laws.specs.SoundSteps.{sound_of}
-use Rattle.order_laws.proofs.Moves.{MediaLaws}
-use Rattle.order_laws.proofs.Orders.{course_of}
+use Rattle.order_laws.proofs.{Moves.MediaLaws, Orders.course_of}
 use Rattle.order_laws.proofs.laws.following_stands.Goals as goal
 
 pub returns : goal.returns
