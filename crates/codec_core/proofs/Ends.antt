@@ -23,7 +23,7 @@ use Rattle.codec_model.specs.declared.entry.Ended.{Ended}
 use Rattle.codec_model.specs.declared.entry.Ended.TheVariants as ended
 use Rattle.codec_model.specs.Control.{kind_of}
 use Rattle.codec_model.specs.Replay.{Given, State, given_more, answer_to, answers_to, ended_of, command_of, decoder_config, labelled, labelled_answer}
-use Rattle.codec_core.specs.Job.{JobValue, DoneValue, IsJob, IsJobOf, IsEnd, IsEndOf, none_refused_from, WasGiven, CoderAt, CoderFor, StillAt, StaysAt, EndsBy, EndsCommand, EndsWork, IsOrWants, labelled_end, end_by, outcome_of, stopped_box}
+use Rattle.codec_core.specs.Job.{JobValue, DoneValue, IsJob, IsJobOf, IsEnd, IsEndOf, none_refused_from, WasGiven, CoderAt, CoderFor, StillAt, StaysAt, EndsBy, EndsCommand, EndsWork, IsOrWants, labelled_end, end_by, outcome_of}
 
 asked_id : (id : CoderId) (wanted : Option CoderId) → asks_for id wanted ≡ true → wanted ≡ Some id
 asked_id id None h = absurd cc
@@ -35,10 +35,9 @@ serves_asked id config h = asked_id id (coder_id_of config) (and_parts (is_suppo
 
 -- a supported config asks for some id, so a box that is not missing serves it
 none_missing : (supported serving : Bool) (wanted : Option CoderId) → cond (supported && not serving) wanted None ≡ None → supported ≡ true → is_some wanted ≡ true → serving ≡ true
-none_missing true true wanted h s w = refl
-none_missing true false None h s w = absurd cc
-none_missing true false (Some id) h s w = absurd cc
-none_missing false serving wanted h s w = absurd cc
+none_missing supported true wanted h s w = refl
+none_missing true false wanted h s w = absurd (let none : is_some wanted ≡ is_some {A = CoderId} None = ap is_some h in cc)
+none_missing false false wanted h s w = absurd cc
 
 pub serves_there : (id : CoderId) (config : Config) → cond (is_supported config && not (serves id config)) (coder_id_of config) None ≡ None → is_supported config ≡ true → serves id config ≡ true
 serves_there id config h s =
@@ -108,28 +107,19 @@ still (ended.Ran units) old new before x ends at =
       meant = subst (λ i. IsAt i before.config (before.commands ++ x ∷ []) new.meaning) (sym same) (ends.goes before.config before.commands at.meant);
       accepted = rw same (none_refused_more old.id before.config [] before.commands x at.accepted (some_units (answer_after old.id before.config before.commands x) units answer));
     }
-still ended.Refused old new before x ends at = tt
-still (ended.NoSlot n) old new before x ends at = tt
-still ended.NoMemory old new before x ends at = tt
-
-same_box : (old new : Lent) → stopped_lent new ≡ stopped_lent old → stopped_box (Some new) ≡ stopped_box (Some old)
-same_box old new e = ap Some e
+still end old new before x ends at = tt
 
 -- ---- the config that outputs carry
 
 -- the end that was meant, or want of memory
 by_wants : (P : Ended → Type 0) (end e : Ended) → IsOrWants end e → P end → P ended.NoMemory → P e
-by_wants P end (ended.Ran units) is p wants = subst P (sym is) p
-by_wants P end ended.Refused is p wants = subst P (sym is) p
-by_wants P end (ended.NoSlot n) is p wants = subst P (sym is) p
 by_wants P end ended.NoMemory is p wants = wants
+by_wants P end e is p wants = subst P (sym is) p
 
 -- what a coder keeps tells nothing of its decoder's config
 setup_is : (c : Config) (state : CoderState) → setup_of (Configured c state) ≡ decoder_config c
-setup_is (config_of.AudioDecoder c) state = refl
-setup_is (config_of.AudioEncoder c) state = refl
-setup_is (config_of.VideoDecoder c) state = refl
 setup_is config_of.Bad state = refl
+setup_is c state = refl
 
 answers_labelled : (c d : Option AudioDecoderConfig) (answer : Option (List media.Unit)) (end : Ended) → ((units : List media.Unit) → end ≡ ended.Ran units → c ≡ d) → EndsBy answer end → EndsBy (labelled_answer d answer) (labelled_end c end)
 answers_labelled c d answer (ended.Ran units) same by = ap (labelled_answer d) by ∙ ap (λ (x : Option AudioDecoderConfig). Some (labelled x units)) (sym (same units refl))
@@ -139,9 +129,7 @@ answers_labelled c d answer ended.NoMemory same by = tt
 
 still_labelled : (c : Option AudioDecoderConfig) (end : Ended) (coder : Option Lent) (g : Given) → StillAt end coder g → StillAt (labelled_end c end) coder g
 still_labelled c (ended.Ran units) coder g h = h
-still_labelled c ended.Refused coder g h = tt
-still_labelled c (ended.NoSlot n) coder g h = tt
-still_labelled c ended.NoMemory coder g h = tt
+still_labelled c end coder g h = tt
 
 -- after a command that ran, the coder's config is the one that was given last
 setup_after : (end : Ended) (old new : Lent) (before : Given) (x : Command) → EndsCommand old x end new → WasGiven old before → (units : List media.Unit) → end ≡ ended.Ran units → setup_of new.meaning ≡ decoder_config before.config
@@ -171,7 +159,7 @@ command_ends w x is old new end e ends by =
           let at : WasGiven old before = is.given_is (Some old) before for in
           rw (is.more_is before) (by_wants (λ (y : Ended). StillAt y (Some new) (more x before)) (labelled_end c end) e by (still_labelled c end (Some new) (more x before) (still end old new before x ends at)) tt)
           );
-      same = same_box old new ends.same;
+      same = ap Some ends.same;
     }
 
 pub coded_ends : (old new : Lent) (end e : Ended) (input : Coded) → EndsCommand old (command_of input) end new → IsOrWants (labelled_end (setup_of new.meaning) end) e → EndsWork (Some old) (work.Coded input) e (Some new)
@@ -199,7 +187,7 @@ configure_ends old new config units none supported serving meant same =
         meant = subst (λ i. IsAt i config [] new.meaning) (sym id) meant;
         accepted = refl;
       };
-      same = same_box old new same;
+      same = ap Some same;
     }
 
 -- what a coder takes ends the command so

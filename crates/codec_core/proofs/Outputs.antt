@@ -50,13 +50,9 @@ numbered n [] more none = none
 numbered n (u ∷ us) more none = ap (λ vs. u ∷ vs) (numbered (n + 1) us more none)
 
 pub task_shown : (t : Task) (n : ℕ) → units_in (task_shows t n []) ≡ task_outputs t
-task_shown task.Unblock n = refl
-task_shown task.Process n = refl
-task_shown task.Desaturate n = refl
 task_shown (task.Output us) n = ap units_in (sym (append-nil (outputs_from n us))) ∙ numbered n us [] refl
 task_shown (task.Flushed p us) n = numbered n us (event.Resolve p ∷ []) refl
-task_shown task.Dequeue n = refl
-task_shown (task.Close x) n = refl
+task_shown t n = refl
 
 -- ---- the outputs from a place on
 

@@ -5,7 +5,7 @@ use Rattle.wc_base.specs.declared.who.By.{By}
 use Rattle.wc_base.specs.declared.who.By.TheVariants as by
 use Rattle.wc_base.specs.declared.who.Who.{Who}
 use Rattle.wc_config.specs.declared.codec.CoderId.{CoderId}
-use Rattle.coder_api.specs.Lent.{Lent, stopped_lent}
+use Rattle.coder_api.specs.Lent.{Lent}
 use Rattle.codec_model.specs.declared.entry.Opening.{Opening}
 use Rattle.codec_model.specs.declared.entry.Entry.{Entry}
 use Rattle.codec_model.specs.declared.entry.Entry.TheVariants as entry
@@ -18,7 +18,7 @@ use Rattle.codec_model.specs.declared.entry.Task.{Task}
 use Rattle.codec_model.specs.Control.{Control, start_item, turn_closes}
 use Rattle.codec_model.specs.Replay.{State, opening_state, step, replay, entry_of, removal_entry, removal_error}
 use Rattle.codec_model.specs.ShownLaws.{replay_more}
-use Rattle.codec_accounts.specs.Boxes.{Act, Asks, Begins, Ends, Removes, Other, Kept, stays, act_of, lets, lacking, start_act, removal_act, acts_of}
+use Rattle.codec_accounts.specs.Boxes.{Act, Asks, Begins, Ends, Other, Kept, stays, act_of, lets, lacking, start_act, removal_act, acts_of}
 use Rattle.codec_model.specs.Held.{closes_codec}
 use Rattle.codec_accounts.specs.Codec.{is_old}
 use Rattle.codec_accounts.specs.Asked.{Asked, asked_by, asked_in, asked_at}
@@ -48,9 +48,8 @@ keeps_running {old = old} {new = new} {e = e} b makes act = by b (subst (λ (a :
 -- ---- what entries are to the box
 
 pub call_act : (who : Who) (x : Call) (t : State) → act_of (entry_of who x) t ≡ removal_act false
-call_act who (call.Configure config) t = refl
-call_act who (call.Decode chunk) t = refl
 call_act who call.Flush t = refl
+call_act who x t = refl
 
 pub removal_is : (who : Who) (r : Removal) (t : State) → act_of (removal_entry who r) t ≡ removal_act (is_none (removal_error t.control))
 removal_is who removal.Reset t = refl
@@ -101,23 +100,41 @@ back_by old new e lent makes goes own =
     let back = lets_now old.opening old.history (state_at old) (state_at new) e at.0 (legal_before old new e makes) makes.steps at.1 goes in
     (at.0, at.2, ap (λ (o : Opening). lets o new.history at.0) makes.same_opening ∙ (ap (λ (h : List Entry). lets old.opening h at.0) makes.longer ∙ back))
 
-none_idle : (slot : Option Lent) (o : Option Running) (lent : Lent) → slot ≡ Some lent → ((r : Running) → o ≡ Some r → slot ≡ None) → is_some o ≡ false
-none_idle slot None lent is home = refl
-none_idle slot (Some r) lent is home = let e : ◌≡◌ {A = Option Lent} (Some lent) None = sym is ∙ home r refl in absurd cc
+none_idle : (slot : Option Lent) (o : Option Running) → ((r : Running) → o ≡ Some r → slot ≡ None) → is_some slot ≡ true → is_some o ≡ false
+none_idle slot None home some = refl
+none_idle slot (Some r) home some = absurd (let none = home r refl in cc)
+
+-- a box that is stopped is asked for as before
+stopped_own : (at : Option ℕ) (slot : Option Lent) → IsAskedAt at slot → IsAskedAt at (stopped_box slot)
+stopped_own at None own = tt
+stopped_own at (Some lent) own = own
+
+own_stopped : (at : Option ℕ) (slot : Option Lent) → IsAskedAt at (stopped_box slot) → IsAskedAt at slot
+own_stopped at None own = tt
+own_stopped at (Some lent) own = own
+
+pub job_same : (at : Option ℕ) (a b : Option Lent) → stopped_box b ≡ stopped_box a → IsAskedAt at a → IsAskedAt at b
+job_same at a b is own = own_stopped at b (subst (IsAskedAt at) (sym is) (stopped_own at a own))
+
+back_box : (old new : Codec) (e : Entry) (slot : Option Lent) → Makes old new e → (is_some slot ≡ true → LetsGo (act_of e (state_at old)) (state_at old)) → IsAskedAt (asked_of old) slot → GoesBack new (length old.history) slot
+back_box old new e None makes goes own = tt
+back_box old new e (Some lent) makes goes own = back_by old new e lent makes (goes refl) own
+
+back_stopped : (old new : Codec) (e : Entry) (slot : Option Lent) → Makes old new e → (is_some slot ≡ true → LetsGo (act_of e (state_at old)) (state_at old)) → IsAskedAt (asked_of old) slot → GoesBack new (length old.history) (stopped_box slot)
+back_stopped old new e slot makes goes own = back_box old new e (stopped_box slot) makes (λ some. goes (stopped_some slot some)) (stopped_own (asked_of old) slot own)
+  where
+    stopped_some : (o : Option Lent) → is_some (stopped_box o) ≡ true → is_some o ≡ true
+    stopped_some None some = some
+    stopped_some (Some lent) some = refl
 
 -- a codec's box is its own, and with an item at work it has none
 pub record AtHome (c : Codec) : Type 0 where
   pub own : IsAskedAt (asked_of c) c.slot
   pub out : (r : Running) → (state_at c).control.running ≡ Some r → c.slot ≡ None
 
-back_slot : (old new : Codec) (e : Entry) (slot : Option Lent) → old.slot ≡ slot → Makes old new e → act_of e (state_at old) ≡ Removes → ((r : Running) → (state_at old).control.running ≡ Some r → old.slot ≡ None)
-    → IsAskedAt (asked_of old) slot → GoesBack new (length old.history) (stopped_box slot)
-back_slot old new e None is makes act home own = tt
-back_slot old new e (Some lent) is makes act home own =
-    back_by old new e (stopped_lent lent) makes (subst (λ (a : Act). LetsGo a (state_at old)) (sym act) (none_idle old.slot (state_at old).control.running lent is home)) own
-
 pub back_removal : (old new : Codec) (e : Entry) (b : Bool) → Makes old new e → act_of e (state_at old) ≡ removal_act b → AtHome old → GoesBack new (length old.history) (handed_back (not b) old.slot)
-back_removal old new e true makes act home = back_slot old new e old.slot refl makes act home.out home.own
+back_removal old new e true makes act home =
+    back_stopped old new e old.slot makes (λ some. subst (λ (a : Act). LetsGo a (state_at old)) (sym act) (none_idle old.slot (state_at old).control.running home.out some)) home.own
 back_removal old new e false makes act home = tt
 
 -- a removal's answer
@@ -176,9 +193,6 @@ back_removed old new who r at coder makes home is same =
 
 -- ---- a start
 
-start_is : (old : Codec) (epoch item : ℕ) (o : Option CoderId) → o ≡ lacking (state_at old).given (start_item (state_at old).control) → act_of (entry.Start epoch item) (state_at old) ≡ start_act o
-start_is old epoch item o is = ap start_act (sym is)
-
 asks_since : (old new : Codec) (epoch item : ℕ) (o : Option CoderId) → Makes old new (entry.Start epoch item) → act_of (entry.Start epoch item) (state_at old) ≡ start_act o → is_some o ≡ true → asked_of new ≡ Some (length old.history)
 asks_since old new epoch item None makes act some = absurd cc
 asks_since old new epoch item (Some id) makes act some = asked_next old new (entry.Start epoch item) (Asks id) makes act
@@ -189,7 +203,7 @@ begins_since old new epoch item o makes act none = asked_next old new (entry.Sta
 pub own_start : (old new : Codec) (job : JobValue) → Makes old new (entry.Start job.epoch job.number) → missing_id job ≡ lacking (state_at old).given (start_item (state_at old).control)
     → job.place ≡ length old.history → job.coder ≡ old.slot → IsAskedAt (asked_of old) old.slot → IsOwnJob (asked_of new) job
 own_start old new job makes lacks place coder own =
-    let act = start_is old job.epoch job.number (missing_id job) lacks in
+    let act = ap start_act (sym lacks) in
     record {
       asks = λ some. asks_since old new job.epoch job.number (missing_id job) makes act some ∙ ap (λ (n : ℕ). Some n) (sym place);
       has = λ none. subst (λ (at : Option ℕ). IsAskedAt at job.coder) (sym (begins_since old new job.epoch job.number (missing_id job) makes act none)) (subst (IsAskedAt (asked_of old)) (sym coder) own);
@@ -199,15 +213,11 @@ goes_start : (o : Option CoderId) (t : State) (a : Act) → a ≡ start_act o �
 goes_start None t a is some = absurd cc
 goes_start (Some id) t a is some = subst (λ (x : Act). LetsGo x t) (sym is) tt
 
-back_job : (old new : Codec) (e : Entry) (slot : Option Lent) → Makes old new e → LetsGo (act_of e (state_at old)) (state_at old) → IsAskedAt (asked_of old) slot → GoesBack new (length old.history) slot
-back_job old new e None makes goes own = tt
-back_job old new e (Some lent) makes goes own = back_by old new e lent makes goes own
-
 pub back_start : (old new : Codec) (job : JobValue) → Makes old new (entry.Start job.epoch job.number) → missing_id job ≡ lacking (state_at old).given (start_item (state_at old).control)
     → job.place ≡ length old.history → job.coder ≡ old.slot → IsAskedAt (asked_of old) old.slot → is_some (missing_id job) ≡ true → GoesBack new job.place job.coder
 back_start old new job makes lacks place coder own = λ some.
-    let goes = goes_start (missing_id job) (state_at old) (act_of (entry.Start job.epoch job.number) (state_at old)) (start_is old job.epoch job.number (missing_id job) lacks) some in
-    let back = back_job old new (entry.Start job.epoch job.number) old.slot makes goes own in
+    let goes = goes_start (missing_id job) (state_at old) (act_of (entry.Start job.epoch job.number) (state_at old)) (ap start_act (sym lacks)) some in
+    let back = back_box old new (entry.Start job.epoch job.number) old.slot makes (λ _. goes) own in
     subst (λ (n : ℕ). GoesBack new n job.coder) (sym place) (subst (GoesBack new (length old.history)) (sym coder) back)
 
 -- ---- an end
@@ -217,15 +227,10 @@ old_is s d b end is =
     ap (λ (o : Option Running). is_old o s.control.epoch) end.is_running
     ∙ (ap (λ (n : ℕ). not (eqb n s.control.epoch)) end.same_epoch ∙ ap not is)
 
-back_ended : (old new : Codec) (d : DoneValue) (moment : ℕ) (coder : Option Lent) → Makes old new (entry.Done d.epoch d.number moment (outcome_of d.ended)) → is_old (state_at old).control.running (state_at old).control.epoch ≡ true
-    → IsAskedAt (asked_of old) coder → GoesBack new (length old.history) (stopped_box coder)
-back_ended old new d moment None makes is own = tt
-back_ended old new d moment (Some lent) makes is own = back_by old new (entry.Done d.epoch d.number moment (outcome_of d.ended)) (stopped_lent lent) makes is own
-
 pub back_done : (old new : Codec) (d : DoneValue) (moment : ℕ) (b : Bool) → Makes old new (entry.Done d.epoch d.number moment (outcome_of d.ended)) → IsEndOf (state_at old) d → eqb d.epoch (state_at old).control.epoch ≡ b
     → IsAskedAt (asked_of old) d.coder → GoesBack new (length old.history) (handed_back b d.coder)
 back_done old new d moment true makes end is own = tt
-back_done old new d moment false makes end is own = back_ended old new d moment d.coder makes (old_is (state_at old) d false end is) own
+back_done old new d moment false makes end is own = back_stopped old new (entry.Done d.epoch d.number moment (outcome_of d.ended)) d.coder makes (λ _. old_is (state_at old) d false end is) own
 
 pub own_done : (old new : Codec) (d : DoneValue) (moment : ℕ) (b : Bool) → Makes old new (entry.Done d.epoch d.number moment (outcome_of d.ended)) → IsEndOf (state_at old) d → eqb d.epoch (state_at old).control.epoch ≡ b
     → IsAskedAt (asked_of old) d.coder → IsAskedAt (asked_of new) (kept_box b d.coder)
@@ -236,18 +241,3 @@ own_done old new d moment true makes end is own =
     let fresh : x.old ≡ false = (known old new e makes).old ∙ old_is (state_at old) d true end is in
     let since = asked_next old new e Ends makes refl ∙ ap (λ (q : Bool). cond q None x.since) fresh in
     subst (λ (at : Option ℕ). IsAskedAt at d.coder) (sym since) own
-
--- ---- jobs
-
-pub job_same : (at : Option ℕ) (a b : Option Lent) → stopped_box b ≡ stopped_box a → IsAskedAt at a → IsAskedAt at b
-job_same at None None is own = own
-job_same at None (Some y) is own = absurd cc
-job_same at (Some x) None is own = absurd cc
-job_same at (Some x) (Some y) is own =
-    subst (λ (c : By). IsBy c at) (by_same is) own
-  where
-    some_lent : (p q : Lent) → Some p ≡ Some q → p ≡ q
-    some_lent p q h = cc
-
-    by_same : Some (stopped_lent y) ≡ Some (stopped_lent x) → x.by ≡ y.by
-    by_same h = ap (λ (l : Lent). l.by) (sym (some_lent (stopped_lent y) (stopped_lent x) h))

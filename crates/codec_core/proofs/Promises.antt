@@ -49,39 +49,26 @@ other_end p q error other = let apart : eqb p q ≡ false = grind (arith, nat_te
 
 -- ---- the table of states
 
-pub end_set : (states : List PromiseState) (ends : List PromiseEnd) (p : ℕ) (error : Option DomError) → p < length states → get_or states p promise.Pending ≡ promise.Pending → AreStates states ends → AreStates (set states p (promise_ended error)) (ends ++ record { promise = p; error = error } ∷ [])
-end_set states ends p error low pending h = record {
+-- one more end is of this promise alone
+more_ends : (states next : List PromiseState) (ends : List PromiseEnd) (p : ℕ) (error : Option DomError) → get_or next p promise.Pending ≡ or_later (get_or states p promise.Pending) (promise_ended error) → ((q : ℕ) → q ≢ p → get_or next q promise.Pending ≡ get_or states q promise.Pending) → AreStates states ends → AreStates next (ends ++ record { promise = p; error = error } ∷ [])
+more_ends states next ends p error own others h = record {
   each = λ q. elim (cases_eq q p) [
     | inl same ↦
-        rw same (
-        get_or-set_same states p (promise_ended error) promise.Pending low
-        ∙ sym (first_counts ends (record { promise = p; error = error }) p ∙ (ap (λ s. or_later s (promise_state (record { promise = p; error = error } ∷ []) p)) (sym (h.each p) ∙ pending) ∙ own_end p error))
-        )
+        rw same (own ∙ (ap (λ s. or_later s (promise_ended error)) (h.each p) ∙ sym (first_counts ends (record { promise = p; error = error }) p ∙ ap (or_later (promise_state ends p)) (own_end p error))))
     | inr other ↦
-        get_or-set_other states p q (promise_ended error) promise.Pending other
-        ∙ (h.each q ∙ sym (first_counts ends (record { promise = p; error = error }) q ∙ (ap (or_later (promise_state ends q)) (other_end p q error (λ e. other (sym e))) ∙ no_later (promise_state ends q))))
+        others q other ∙ (h.each q ∙ sym (first_counts ends (record { promise = p; error = error }) q ∙ (ap (or_later (promise_state ends q)) (other_end p q error (λ e. other (sym e))) ∙ no_later (promise_state ends q))))
   ];
 }
+
+pub end_set : (states : List PromiseState) (ends : List PromiseEnd) (p : ℕ) (error : Option DomError) → p < length states → get_or states p promise.Pending ≡ promise.Pending → AreStates states ends → AreStates (set states p (promise_ended error)) (ends ++ record { promise = p; error = error } ∷ [])
+end_set states ends p error low pending = more_ends states (set states p (promise_ended error)) ends p error (get_or-set_same states p (promise_ended error) promise.Pending low ∙ sym (ap (λ s. or_later s (promise_ended error)) pending)) (λ q other. get_or-set_other states p q (promise_ended error) promise.Pending other)
 
 -- a promise that has ended stays as it is
-pub end_kept : (states : List PromiseState) (ends : List PromiseEnd) (p : ℕ) (error : Option DomError) (s : PromiseState) → get_or states p promise.Pending ≡ s → ((later : PromiseState) → or_later s later ≡ s) → AreStates states ends → AreStates states (ends ++ record { promise = p; error = error } ∷ [])
-end_kept states ends p error s is stays h = record {
-  each = λ q. elim (cases_eq q p) [
-    | inl same ↦
-        rw same (
-        h.each p
-        ∙ sym (first_counts ends (record { promise = p; error = error }) p ∙ (ap (λ x. or_later x (promise_state (record { promise = p; error = error } ∷ []) p)) (sym (h.each p) ∙ is) ∙ (stays (promise_state (record { promise = p; error = error } ∷ []) p) ∙ (sym is ∙ h.each p))))
-        )
-    | inr other ↦
-        h.each q ∙ sym (first_counts ends (record { promise = p; error = error }) q ∙ (ap (or_later (promise_state ends q)) (other_end p q error (λ e. other (sym e))) ∙ no_later (promise_state ends q)))
-  ];
-}
-
 pub resolved_kept : (states : List PromiseState) (ends : List PromiseEnd) (p : ℕ) (error : Option DomError) → get_or states p promise.Pending ≡ promise.Resolved → AreStates states ends → AreStates states (ends ++ record { promise = p; error = error } ∷ [])
-resolved_kept states ends p error is h = end_kept states ends p error promise.Resolved is (λ later. refl) h
+resolved_kept states ends p error is = more_ends states states ends p error (is ∙ sym (ap (λ s. or_later s (promise_ended error)) is)) (λ q other. refl)
 
 pub rejected_kept : (states : List PromiseState) (ends : List PromiseEnd) (p : ℕ) (error : Option DomError) (x : DomError) → get_or states p promise.Pending ≡ promise.Rejected x → AreStates states ends → AreStates states (ends ++ record { promise = p; error = error } ∷ [])
-rejected_kept states ends p error x is h = end_kept states ends p error (promise.Rejected x) is (λ later. refl) h
+rejected_kept states ends p error x is = more_ends states states ends p error (is ∙ sym (ap (λ s. or_later s (promise_ended error)) is)) (λ q other. refl)
 
 -- one more entry has a promise that is pending
 pub one_pending : (states : List PromiseState) (ends : List PromiseEnd) → AreStates states ends → AreStates (states ++ promise.Pending ∷ []) ends
@@ -115,13 +102,9 @@ output_ends n [] = refl
 output_ends n (u ∷ us) = output_ends (n + 1) us
 
 pub task_ends : (t : Task) (n : ℕ) → ends_of (task_shows t n []) ≡ resolved_by t
-task_ends task.Unblock n = refl
-task_ends task.Process n = refl
-task_ends task.Desaturate n = refl
 task_ends (task.Output us) n = output_ends n us
 task_ends (task.Flushed p us) n = ends_append (outputs_from n us) (event.Resolve p ∷ []) ∙ rw (output_ends n us) refl
-task_ends task.Dequeue n = refl
-task_ends (task.Close x) n = refl
+task_ends t n = refl
 
 below_at : (error : DomError) (n : ℕ) (ps : List ℕ) → AllByRecursion (λ (e : PromiseEnd). e.promise < n) (map (rejected error) ps) → AllByRecursion (λ p. p < n) ps
 below_at error n [] h = tt

@@ -53,7 +53,7 @@ module _ {t : TraceValue} {slot : Option Lent} {k : Control} {spare : ℕ} (is :
 
   core_by : (waiting : List media.Unit) → OutputsWait (t.shown ++ x ∷ []) waiting k' → HasPlace → IsAskedAt (asked_at k'.opening (t.entries ++ e ∷ [])) next → IsCore (record { entries = t.entries ++ e ∷ []; shown = t.shown ++ x ∷ []; waiting = waiting; free = free - 1 }) next k' spare'
   core_by waiting outputs place own =
-      let same : k'.opening ≡ k.opening = m.same_opening ∙ ap (λ (c : Control). c.opening) is.kept.is_control in
+      let same : k'.opening ≡ k.opening = m.leaves.same_opening ∙ ap (λ (c : Control). c.opening) is.kept.is_control in
       record {
         kept = kept_more is.kept m;
         shows = rw (is.shows, shows, same) (sym (each_more k.opening t.entries e is.kept.state is.kept.replays));
@@ -73,7 +73,7 @@ module _ {t : TraceValue} {slot : Option Lent} {k : Control} {spare : ℕ} (is :
       let own : length (units_in x.events) ≡ length (units_in (events_of e is.kept.state)) = ap (λ (y : Shown). length (units_in y.events)) shows in
       let long = ap length (outputs_more xs x) ∙ length-append (units_shown xs) (units_in x.events) in
       let counted : k'.shown ≡ length (units_shown (xs ++ x ∷ [])) = omega (arith, more, was, now, own, is.outputs.counted, long) in
-      let taken : k'.taken ≡ k.taken = m.taken none ∙ ap (λ (c : Control). c.taken) is.kept.is_control in
+      let taken : k'.taken ≡ k.taken = m.leaves.taken none ∙ ap (λ (c : Control). c.taken) is.kept.is_control in
       record {
         counted = counted;
         took = omega (arith, counted, taken, long, is.outputs.counted, is.outputs.took);
@@ -139,9 +139,8 @@ next_fits is = omega (arith, is.fits, is.kept.is_place)
 -- ---- what entries show, by the control state
 
 call_shown : (who : Who) (x : Call) (s : State) → shown_at (entry_of who x) s ≡ record { turn = None; events = call_shows x s.control.place (call_error x s.control) }
-call_shown who (call.Configure config) s = refl
-call_shown who (call.Decode chunk) s = refl
 call_shown who call.Flush s = refl
+call_shown who x s = refl
 
 removal_shown : (who : Who) (r : Removal) (s : State) → shown_at (removal_entry who r) s ≡ record { turn = None; events = removal_shows (removal_error s.control) s.control.pending }
 removal_shown who removal.Reset s = refl
@@ -189,14 +188,10 @@ close_below : (error : DomError) (n : ℕ) (ps : List ℕ) → AllByRecursion (�
 close_below error n ps h = rejected_below error n ps (event.ErrorCall error ∷ []) tt h
 
 turn_below : (ts : List Task) (k : Control) → k.tasks ≡ ts → NamesEarlier k → EndsBelow k.place (turn_shows ts k)
-turn_below [] k is names = tt
-turn_below (task.Unblock ∷ ts) k is names = tt
-turn_below (task.Process ∷ ts) k is names = tt
-turn_below (task.Desaturate ∷ ts) k is names = tt
 turn_below (task.Output units ∷ ts) k is names = rw (← append-nil (outputs_from k.shown (carried k.active units))) (outputs_below k.place k.shown (carried k.active units) [] tt)
 turn_below (task.Flushed p units ∷ ts) k is names = outputs_below k.place k.shown (carried k.active units) (event.Resolve p ∷ []) (resolved_below k p units ts names is, tt)
-turn_below (task.Dequeue ∷ ts) k is names = tt
 turn_below (task.Close x ∷ ts) k is names = close_below x k.place k.pending (pending_below k names)
+turn_below ts k is names = tt
 
 -- the bound that the history's length gives
 module _ (always : Always IsNeverStuck) {h : List Entry} {slot : Option Lent} {k : Control} (kept : IsKept h slot k) where
@@ -216,12 +211,10 @@ module _ (always : Always IsNeverStuck) {h : List Entry} {slot : Option Lent} {k
   turn_ends y is = by_place y (turn_shows k.tasks k) (ap (λ (z : Shown). z.events) is) (turn_below k.tasks k refl names)
 
 call_below : (x : Call) (n : ℕ) (o : Option DomError) → EndsBelow (n + 1) (call_shows x n o)
-call_below (call.Configure config) n None = tt
-call_below (call.Configure config) n (Some error) = tt
-call_below (call.Decode chunk) n None = tt
-call_below (call.Decode chunk) n (Some error) = tt
-call_below call.Flush n None = tt
 call_below call.Flush n (Some error) = (omega arith, tt)
+call_below call.Flush n None = tt
+call_below x n (Some error) = tt
+call_below x n None = tt
 
 pub call_ends : {h : List Entry} {slot : Option Lent} {k : Control} (kept : IsKept h slot k) (x : Call) (y : Shown) → y ≡ record { turn = None; events = call_shows x k.place (call_error x k) } → EndsBelow (length h + 1) y.events
 call_ends {k = k} kept x y is = rw (ap (λ (z : Shown). z.events) is, ← kept.is_place) (call_below x k.place (call_error x k))

@@ -1,7 +1,7 @@
 -- Steps of a history, and where the box is after each.
 use Rattle.std.proofs.Common.{ℕ, ◌≡◌, ◌+◌, ◌≤◌, ◌<◌, ◌||◌, not, Bool, true, false, eqb, cond, List, [], ◌∷◌, ◌++◌, length-append, Option, Some, None, is_some, is_none, refl, ap, sym, subst, eq-eqb, ◌∙◌, arith}
 use Rattle.std.specs.Prelude.{unwrap_or, max, IfNone, OnSome}
-use Rattle.std.proofs.lemmas.Bool.{and_parts, eqb-true}
+use Rattle.std.proofs.lemmas.Bool.{and_parts, eqb-true, not-true}
 use Rattle.std.proofs.lemmas.Bool.Decides.{nat_tests}
 use Rattle.wc_base.specs.Options.{cond_is, some_same}
 use Rattle.wc_base.specs.declared.error.DomError.{DomError}
@@ -39,22 +39,21 @@ use Rattle.codec_core.specs.Job.{JobValue, DoneValue, missing_for, CoderAt, Code
 use Rattle.codec_core.specs.Codec.{state_at, Makes, CoderHome, IsKept, kept_box, reclaims, refused_as}
 
 -- what processing leaves as it is
-record Rest : Type 0 where
-  running : Option Running
-  halted : Bool
-  epoch : ℕ
-  place : ℕ
-  opening : Opening
-  phase : CodecState
-  taken : ℕ
+pub record Rest : Type 0 where
+  pub running : Option Running
+  pub halted : Bool
+  pub epoch : ℕ
+  pub place : ℕ
+  pub opening : Opening
+  pub phase : CodecState
+  pub taken : ℕ
 
-abbrev rest_of : Control → Rest
+abbrev pub rest_of : Control → Rest
 rest_of c = record { running = c.running; halted = c.halted; epoch = c.epoch; place = c.place; opening = c.opening; phase = c.phase; taken = c.taken }
 
 message_keeps : (w : Work) (place : ℕ) (ms : List Message) (s : Control) → rest_of (record (after_message (record { place = place; work = w }) s) { messages = ms }) ≡ rest_of s
-message_keeps (work.Configure config) place ms s = refl
 message_keeps (work.Coded input) place ms s = refl
-message_keeps work.Flush place ms s = refl
+message_keeps w place ms s = refl
 
 process_keeps : (s : Control) → rest_of (process s) ≡ rest_of s
 process_keeps s = by_queue (λ c. rest_of c ≡ rest_of s) (λ m ms c e h. message_keeps m.work m.place ms c ∙ h) s.messages s refl refl
@@ -73,72 +72,63 @@ abbrev pub takes : Entry → Bool
 takes (entry.Take who unit) = true
 takes _ = false
 
+-- the control state with this of it
+abbrev pub with_rest : Rest → Control → Control
+with_rest r c = record c { running = r.running; halted = r.halted; epoch = r.epoch; place = r.place; opening = r.opening; phase = r.phase; taken = r.taken }
+
+-- what a step leaves: the box is at home, and the place that is kept for a reclaim stays until the codec is closed
+pub record Leaves (slot : Option Lent) (e : Entry) (s t : State) (r : Rest) : Type 0 where
+  pub home : CoderHome slot (with_control (with_rest r t.control) t)
+  pub next_place : r.place ≡ s.control.place + 1
+  pub same_opening : r.opening ≡ s.control.opening
+  pub taken : takes e ≡ false → r.taken ≡ s.control.taken
+  pub kept_place : reclaims r.phase ≤ reclaims s.control.phase
+
 -- a legal step to a control state, with the box at home there
 pub record Moved (slot : Option Lent) (e : Entry) (s : State) (k : Control) : Type 0 where
   pub after : State
   pub steps : step e s ≡ Some after
   pub is_control : after.control ≡ k
-  pub home : CoderHome slot after
-  pub next_place : k.place ≡ s.control.place + 1
-  pub same_opening : k.opening ≡ s.control.opening
-  pub taken : takes e ≡ false → k.taken ≡ s.control.taken
-  -- the place that is kept for a reclaim stays until the codec is closed
-  pub kept_place : reclaims k.phase ≤ reclaims s.control.phase
+  pub leaves : Leaves slot e s after (rest_of k)
 
 -- an entry at which the running item and the epoch stay, with this phase and so many outputs taken after it
 moved_by : (slot : Option Lent) (e : Entry) (s : State) (k : Control) (phase : CodecState) (taken : ℕ) → rest_of k ≡ rest_of (record (at_next_place s.control) { phase = phase; taken = taken }) → reclaims phase ≤ reclaims s.control.phase → (takes e ≡ false → taken ≡ s.control.taken) → step e s ≡ Some (with_control k s) → CoderHome slot s → Moved slot e s k
-moved_by slot e s k phase taken same le none steps home =
-    let running : k.running ≡ s.control.running = ap (λ (r : Rest). r.running) same in
-    let epoch : k.epoch ≡ s.control.epoch = ap (λ (r : Rest). r.epoch) same in
-    record {
-      after = with_control k s;
-      steps = steps;
-      is_control = refl;
-      home = record {
-        idle = λ r e. home.idle (sym running ∙ r) (sym (ap (λ (r : Rest). r.halted) same) ∙ e);
-        out = λ r e. home.out r (sym running ∙ e);
-        busy = λ r e o. home.busy r (sym running ∙ e) (o ∙ epoch);
-        stale = λ r e l. home.stale r (sym running ∙ e) (rw epoch at l);
-        older = λ r e. rw epoch (home.older r (sym running ∙ e));
-      };
-      next_place = ap (λ (r : Rest). r.place) same;
-      same_opening = ap (λ (r : Rest). r.opening) same;
-      taken = λ h. ap (λ (r : Rest). r.taken) same ∙ none h;
-      kept_place = omega (arith, le, ap (λ (r : Rest). reclaims r.phase) same);
-    }
+moved_by slot e s k phase taken same le none steps home = record {
+  after = with_control k s;
+  steps = steps;
+  is_control = refl;
+  leaves = subst (Leaves slot e s (with_control k s)) (sym same) (record {
+    home = record { idle = home.idle; out = home.out; busy = home.busy; stale = home.stale; older = home.older };
+    next_place = refl;
+    same_opening = refl;
+    taken = none;
+    kept_place = le;
+  });
+}
 
 -- a removal begins a new epoch, with no box at home
 removed_moved : (slot : Option Lent) (e : Entry) (s : State) (k : Control) (phase : CodecState) → rest_of k ≡ rest_of (record (at_next_place s.control) { epoch = s.control.epoch + 1; halted = false; phase = phase }) → reclaims phase ≤ reclaims s.control.phase → step e s ≡ Some (removed k s) → CoderHome slot s → Moved None e s k
-removed_moved slot e s k phase same le steps home =
-    let running : k.running ≡ s.control.running = ap (λ (r : Rest). r.running) same in
-    let epoch : k.epoch ≡ s.control.epoch + 1 = ap (λ (r : Rest). r.epoch) same in
-    record {
-      after = removed k s;
-      steps = steps;
-      is_control = refl;
-      home = record {
-        idle = λ _ _. refl;
-        out = λ r i. refl;
-        busy = λ r i o. absurd (omega (arith, home.older r (sym running ∙ i), epoch));
-        stale = λ r i l. refl;
-        older = λ r i. omega (arith, home.older r (sym running ∙ i), epoch);
-      };
-      next_place = ap (λ (r : Rest). r.place) same;
-      same_opening = ap (λ (r : Rest). r.opening) same;
-      taken = λ none. ap (λ (r : Rest). r.taken) same;
-      kept_place = omega (arith, le, ap (λ (r : Rest). reclaims r.phase) same);
-    }
+removed_moved slot e s k phase same le steps home = record {
+  after = removed k s;
+  steps = steps;
+  is_control = refl;
+  leaves = subst (Leaves None e s (removed k s)) (sym same) (record {
+    home = record { idle = λ _ _. refl; out = λ r i. refl; busy = λ r i o. absurd (omega (arith, home.older r i, o)); stale = λ r i l. refl; older = λ r i. omega (arith, home.older r i) };
+    next_place = refl;
+    same_opening = refl;
+    taken = λ none. refl;
+    kept_place = le;
+  });
+}
 
 -- a codec that may be removed is not closed
 open_phase : (p : CodecState) → elim p as (λ _. Option DomError) [ Unconfigured ↦ None | Configured ↦ None | Closed ↦ Some dom.InvalidState ] ≡ None → reclaims p ≡ 1
-open_phase Unconfigured e = refl
-open_phase Configured e = refl
 open_phase Closed e = absurd cc
+open_phase p e = refl
 
 pub most_reclaims : (p : CodecState) → reclaims p ≤ 1
-most_reclaims Unconfigured = omega arith
-most_reclaims Configured = omega arith
 most_reclaims Closed = omega arith
+most_reclaims p = omega arith
 
 turn_moved : (slot : Option Lent) (s : State) (ts : List Task) (b : Bool) → s.control.tasks ≡ ts → turn_closes ts ≡ Some b → CoderHome slot s → Moved (kept_box (not b) slot) entry.Turn s (after_turn s.control)
 turn_moved slot s [] b e h home = absurd cc
@@ -181,44 +171,35 @@ start_moved s i can =
       after = t;
       steps = starts s i can;
       is_control = sym after;
-      home = record {
-        idle = λ r e. absurd cc;
-        out = λ r e. refl;
-        busy = λ r e o. refl;
-        stale = λ r e l. absurd (omega (arith, is_out r e));
-        older = λ r e. omega (arith, is_out r e);
-      };
-      next_place = ap (λ (c : Control). c.place) after;
-      same_opening = ap (λ (c : Control). c.opening) after;
-      taken = λ none. ap (λ (c : Control). c.taken) after;
-      kept_place = omega (arith, ap (λ (c : Control). reclaims c.phase) after);
+      leaves = subst (λ (c : Control). Leaves None (entry.Start s.control.epoch i.number) s t (rest_of c)) (sym after) (record {
+        home = record { idle = λ r e. absurd cc; out = λ r e. refl; busy = λ r e o. refl; stale = λ r e l. absurd (omega (arith, is_out r e)); older = λ r e. omega (arith, is_out r e) };
+        next_place = refl;
+        same_opening = refl;
+        taken = λ none. refl;
+        kept_place = omega arith;
+      });
     }
 
 -- the box at home of an idle codec was given all that was given
 home_idle : (s : State) (slot : Option Lent) → may_start s.control ≡ true → CoderHome slot s → CoderAt slot s.given
 home_idle s slot may home =
     let idle = and_parts (is_none s.control.running) (not s.control.halted) may in
-    home.idle (none_runs s.control.running idle.0) (not_halted s.control.halted idle.1)
+    home.idle (none_runs s.control.running idle.0) (not-true s.control.halted idle.1)
   where
     none_runs : (o : Option Running) → is_none o ≡ true → o ≡ None
     none_runs None h = refl
     none_runs (Some r) h = absurd cc
-
-    not_halted : (b : Bool) → not b ≡ true → b ≡ false
-    not_halted false h = refl
-    not_halted true h = absurd cc
 
 -- the box at home is missing for an item exactly where the coder that was given all does not serve it
 lacks_at : (w : Work) (slot : Option Lent) (g : Given) → CoderAt slot g → missing_for w slot ≡ missing_coder g w
 lacks_at (work.Configure config) None g at = rw at refl
 lacks_at (work.Configure config) (Some lent) g at = rw at.asked refl
 lacks_at (work.Coded input) slot g at = refl
-lacks_at work.Flush slot g at = refl
+lacks_at w slot g at = refl
 
 coder_for : (w : Work) (slot : Option Lent) (before : Given) → CoderAt slot before → CoderFor w slot before
 coder_for (work.Configure config) slot before at = tt
-coder_for (work.Coded input) slot before at = at
-coder_for work.Flush slot before at = at
+coder_for w slot before at = at
 
 -- ---- an end
 
@@ -226,17 +207,16 @@ done_steps : (s : State) (d : DoneValue) (moment : ℕ) (end : IsEndOf s d) → 
 done_steps s d moment end = rw (end.is_running, eq-eqb end.running.epoch d.epoch end.same_epoch, eq-eqb end.running.number d.number end.same_number, end.same_kind, end.end.legal) refl
 
 -- what the end of an item leaves, but for whether the codec is halted
-done_leaves : (r : Running) (e : Ended) (moment : ℕ) (s : Control) → rest_of (record (done_running r e moment s) { halted = false }) ≡ rest_of (record s { running = None; halted = false })
+done_leaves : (r : Running) (e : Ended) (moment : ℕ) (s : Control) → rest_of (done_running r e moment s) ≡ record (rest_of s) { running = None; halted = (done_running r e moment s).halted }
 done_leaves r e moment s =
     let idle : Control = record s { running = None } in
-    elim (eqb r.epoch s.epoch) as (λ b. rest_of (record (cond b (after_end r e (record idle { progress = Some (max moment (unwrap_or s.progress moment)) })) idle) { halted = false }) ≡ rest_of (record idle { halted = false })) [ true ↦ refl | false ↦ refl ]
+    let end : Bool → Control = λ b. cond b (after_end r e (record idle { progress = Some (max moment (unwrap_or s.progress moment)) })) idle in
+    elim (eqb r.epoch s.epoch) as (λ b. rest_of (end b) ≡ record (rest_of s) { running = None; halted = (end b).halted }) [ true ↦ refl | false ↦ refl ]
 
 -- a codec that is not halted by it was told units
 done_fine : (r : Running) (e : Ended) (moment : ℕ) (s : Control) → r.epoch ≡ s.epoch → (done_running r e moment s).halted ≡ false → (units : List media.Unit) × (e ≡ ended.Ran units)
 done_fine r (ended.Ran units) moment s o h = (units, refl)
-done_fine r ended.Refused moment s o h = absurd (let g = rw (eq-eqb r.epoch s.epoch o) at h in cc)
-done_fine r (ended.NoSlot n) moment s o h = absurd (let g = rw (eq-eqb r.epoch s.epoch o) at h in cc)
-done_fine r ended.NoMemory moment s o h = absurd (let g = rw (eq-eqb r.epoch s.epoch o) at h in cc)
+done_fine r e moment s o h = absurd (let g = rw (eq-eqb r.epoch s.epoch o) at h in cc)
 
 -- the box that comes home was given all that this epoch was
 idle_after : (slot next : Option Lent) (s : State) (d : DoneValue) (moment : ℕ) (end : IsEndOf s d) → CoderHome slot s → (b : Bool) → eqb d.epoch s.control.epoch ≡ b → next ≡ cond b d.coder None → (done_running end.running d.ended moment (at_next_place s.control)).halted ≡ false → CoderAt next s.given
@@ -256,22 +236,17 @@ done_moved slot next s d moment end home next_is =
     let k = done_running end.running d.ended moment (at_next_place s.control) in
     let l = done_leaves end.running d.ended moment (at_next_place s.control) in
     let after : after_done d.ended moment s.control ≡ k = rw end.is_running refl in
-    let none : (r : Running) → k.running ≡ Some r → ⊥ = λ r e. absurd (let f = sym (ap (λ (x : Rest). x.running) l) ∙ e in cc) in
     record {
       after = with_control k s;
       steps = done_steps s d moment end ∙ ap (λ (c : Control). Some (with_control c s)) after;
       is_control = sym after;
-      home = record {
-        idle = λ run fine. idle_after slot next s d moment end home (eqb d.epoch s.control.epoch) refl next_is fine;
-        out = λ r e. absurd (none r e);
-        busy = λ r e o. absurd (none r e);
-        stale = λ r e o. absurd (none r e);
-        older = λ r e. absurd (none r e);
-      };
-      next_place = rw after (ap (λ (x : Rest). x.place) l);
-      same_opening = rw after (ap (λ (x : Rest). x.opening) l);
-      taken = λ none. rw after (ap (λ (x : Rest). x.taken) l);
-      kept_place = omega (arith, ap (λ (c : Control). reclaims c.phase) after, ap (λ (x : Rest). reclaims x.phase) l);
+      leaves = subst (λ (c : Control). Leaves next (entry.Done d.epoch d.number moment (outcome_of d.ended)) s (with_control k s) (rest_of c)) (sym after) (subst (Leaves next (entry.Done d.epoch d.number moment (outcome_of d.ended)) s (with_control k s)) (sym l) (record {
+        home = record { idle = λ run fine. idle_after slot next s d moment end home (eqb d.epoch s.control.epoch) refl next_is fine; out = λ r e. absurd cc; busy = λ r e o. absurd cc; stale = λ r e o. absurd cc; older = λ r e. absurd cc };
+        next_place = refl;
+        same_opening = refl;
+        taken = λ none. refl;
+        kept_place = omega arith;
+      }));
     }
 
 -- ---- calls
@@ -300,14 +275,12 @@ call_keeps None x c e = accepted_keeps x c e
 call_keeps (Some error) x c e = record { phase = c.phase; same = refl; le = omega arith }
 
 call_steps : (who : Who) (x : Call) (s : State) → step (entry_of who x) s ≡ Some (with_control (after_call (call_error x s.control) x s.control) s)
-call_steps who (call.Configure config) s = refl
-call_steps who (call.Decode chunk) s = refl
 call_steps who call.Flush s = refl
+call_steps who x s = refl
 
 pub call_takes : (who : Who) (x : Call) → takes (entry_of who x) ≡ false
-call_takes who (call.Configure config) = refl
-call_takes who (call.Decode chunk) = refl
 call_takes who call.Flush = refl
+call_takes who x = refl
 
 -- an encode of data that is not detached is refused exactly where the codec is not configured
 not_refused : (b : Bool) → cond b None (Some dom.InvalidState) ≡ None → b ≡ true
@@ -359,9 +332,8 @@ removal_moved slot who r s error e home = by r error e (removal_steps who r s �
     by r (Some error) e steps = next_moved slot (removal_entry who r) s steps home
 
 reclaimed_phase : (p : CodecState) (b : Bool) → elim p as (λ _. Bool) [ Unconfigured ↦ false | Configured ↦ b | Closed ↦ false ] ≡ true → reclaims p ≡ 1
-reclaimed_phase Unconfigured b e = absurd cc
 reclaimed_phase Configured b e = refl
-reclaimed_phase Closed b e = absurd cc
+reclaimed_phase p b e = absurd cc
 
 pub reclaim_reclaims : (k k' : Control) (now : ℕ) → may_reclaim now k ≡ true → k' ≡ after_close (at_next_place k) → reclaims k'.phase + 1 ≤ reclaims k.phase
 reclaim_reclaims k k' now may after = rw (after, reclaimed_phase k.phase _ may) (omega arith)
@@ -377,16 +349,16 @@ module _ {h : List Entry} {slot : Option Lent} {k : Control} (kept : IsKept h sl
   pub kept_more : {next : Option Lent} {e : Entry} {k' : Control} → Moved next e kept.state k' → IsKept (h ++ e ∷ []) next k'
   kept_more {e = e} m = record {
     state = m.after;
-    replays = rw (m.same_opening, kept.is_control, replay_more h (opening_state k.opening) e, kept.replays) m.steps;
+    replays = rw (m.leaves.same_opening, kept.is_control, replay_more h (opening_state k.opening) e, kept.replays) m.steps;
     is_control = m.is_control;
-    is_place = m.next_place ∙ (ap (λ (c : Control). c.place + 1) kept.is_control ∙ (ap (λ n. n + 1) kept.is_place ∙ sym (length-append h (e ∷ []))));
-    home = m.home;
-    some_saturate = rw (m.same_opening, kept.is_control) kept.some_saturate;
+    is_place = m.leaves.next_place ∙ (ap (λ (c : Control). c.place + 1) kept.is_control ∙ (ap (λ n. n + 1) kept.is_place ∙ sym (length-append h (e ∷ []))));
+    home = subst (λ (c : Control). CoderHome _ (with_control (with_rest (rest_of c) m.after.control) m.after)) (sym m.is_control) m.leaves.home;
+    some_saturate = rw (m.leaves.same_opening, kept.is_control) kept.some_saturate;
   }
 
   -- the place that is kept for a reclaim
   pub place_kept : {next : Option Lent} {e : Entry} {k' : Control} → Moved next e kept.state k' → reclaims k'.phase ≤ reclaims k.phase
-  place_kept m = omega (arith, m.kept_place, ap (λ (c : Control). reclaims c.phase) kept.is_control)
+  place_kept m = omega (arith, m.leaves.kept_place, ap (λ (c : Control). reclaims c.phase) kept.is_control)
 
   pub state_is : (spare : ℕ) → state_at (record { opening = k.opening; history = h; spare = spare; slot = slot }) ≡ kept.state
   state_is spare = ap (λ o. unwrap_or o (opening_state k.opening)) kept.replays
@@ -467,7 +439,7 @@ makes_more kept m spare spare' =
     let more = kept_more kept m in
     let is = state_is more spare' in
     record {
-      same_opening = m.same_opening ∙ ap (λ (c : Control). c.opening) kept.is_control;
+      same_opening = m.leaves.same_opening ∙ ap (λ (c : Control). c.opening) kept.is_control;
       longer = refl;
       steps = rw (state_is kept spare, is) m.steps;
       legal = rw is more.replays;
