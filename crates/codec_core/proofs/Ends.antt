@@ -36,7 +36,7 @@ serves_asked id config h = asked_id id (coder_id_of config) (and_parts (is_suppo
 -- a supported config asks for some id, so a box that is not missing serves it
 none_missing : (supported serving : Bool) (wanted : Option CoderId) → cond (supported && not serving) wanted None ≡ None → supported ≡ true → is_some wanted ≡ true → serving ≡ true
 none_missing supported true wanted h s w = refl
-none_missing true false wanted h s w = absurd (let none : is_some wanted ≡ is_some {A = CoderId} None = ap is_some h in cc)
+none_missing true false wanted h s w = absurd (let some = rw h at w in cc)
 none_missing false false wanted h s w = absurd cc
 
 pub serves_there : (id : CoderId) (config : Config) → cond (is_supported config && not (serves id config)) (coder_id_of config) None ≡ None → is_supported config ≡ true → serves id config ≡ true
@@ -44,7 +44,7 @@ serves_there id config h s =
     let front = and_parts (is_valid config && is_some (coder_id_of config)) (is_within config) s in
     none_missing (is_supported config) (serves id config) (coder_id_of config) h s (and_parts (is_valid config) (is_some (coder_id_of config)) front.0).1
 
-some_is : {X : Type 0} (o : Option X) → is_some o ≡ true → (x : X) × (o ≡ Some x)
+pub some_is : {X : Type 0} (o : Option X) → is_some o ≡ true → (x : X) × (o ≡ Some x)
 some_is None h = absurd cc
 some_is (Some x) h = (x, refl)
 

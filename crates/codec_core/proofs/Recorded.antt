@@ -39,10 +39,16 @@ use Rattle.codec_core.proofs.Owning.{own_more}
 
 -- ---- the outputs that wait after one more entry
 
-wait_more : (xs : List Shown) (x : Shown) (waiting : List media.Unit) (taken : ℕ) → taken ≤ length (units_shown xs) → waiting ≡ drop taken (units_shown xs) → waiting ++ units_in x.events ≡ drop taken (units_shown (xs ++ x ∷ []))
-wait_more xs x waiting taken few is =
-    ap (λ us. us ++ units_in x.events) is
-    ∙ (sym (drop-append-le taken (units_shown xs) (units_in x.events) few) ∙ ap (drop taken) (sym (outputs_more xs x)))
+-- so many of those that waited were taken, and the entry's own come behind them
+outputs_go : (xs : List Shown) (waiting : List media.Unit) (k k' : Control) (x : Shown) (n : ℕ) → OutputsWait xs waiting k → k'.shown ≡ k.shown + length (units_in x.events) → k'.taken ≡ k.taken + n → k.taken + n ≤ k.shown → OutputsWait (xs ++ x ∷ []) (drop n waiting ++ units_in x.events) k'
+outputs_go xs waiting k k' x n outputs shown taken some = record {
+  counted = omega (arith, outputs.counted, shown, ap length (outputs_more xs x), length-append (units_shown xs) (units_in x.events));
+  took = omega (arith, shown, taken, some);
+  others =
+      ap (λ us. us ++ units_in x.events) (ap (drop n) outputs.others ∙ drop-drop n k.taken (units_shown xs))
+      ∙ (sym (drop-append-le (k.taken + n) (units_shown xs) (units_in x.events) (omega (arith, some, outputs.counted)))
+      ∙ (ap (drop (k.taken + n)) (sym (outputs_more xs x)) ∙ ap (λ m. drop m (units_shown (xs ++ x ∷ []))) (sym taken)));
+}
 
 -- ---- one more entry
 
@@ -66,19 +72,9 @@ module _ {t : TraceValue} {slot : Option Lent} {k : Control} {spare : ℕ} (is :
   -- an entry that takes no output adds its own to those that wait
   outputs_kept : takes e ≡ false → OutputsWait (t.shown ++ x ∷ []) (t.waiting ++ units_in x.events) k'
   outputs_kept none =
-      let xs = t.shown in
-      let more = step_counts e is.kept.state m.after m.steps in
-      let was = ap (λ (c : Control). c.shown) is.kept.is_control in
       let now = ap (λ (c : Control). c.shown) m.is_control in
       let own : length (units_in x.events) ≡ length (units_in (events_of e is.kept.state)) = ap (λ (y : Shown). length (units_in y.events)) shows in
-      let long = ap length (outputs_more xs x) ∙ length-append (units_shown xs) (units_in x.events) in
-      let counted : k'.shown ≡ length (units_shown (xs ++ x ∷ [])) = omega (arith, more, was, now, own, is.outputs.counted, long) in
-      let taken : k'.taken ≡ k.taken = m.leaves.taken none ∙ ap (λ (c : Control). c.taken) is.kept.is_control in
-      record {
-        counted = counted;
-        took = omega (arith, counted, taken, long, is.outputs.counted, is.outputs.took);
-        others = wait_more xs x t.waiting k.taken (omega (arith, is.outputs.counted, is.outputs.took)) is.outputs.others ∙ ap (λ n. drop n (units_shown (xs ++ x ∷ []))) (sym taken);
-      }
+      outputs_go t.shown t.waiting k k' x 0 is.outputs (omega (arith, step_counts e is.kept.state m.after m.steps, ap (λ (c : Control). c.shown) is.kept.is_control, now, own)) (omega (arith, m.leaves.taken none, ap (λ (c : Control). c.taken) is.kept.is_control)) (omega (arith, is.outputs.took))
 
   -- the trace with one more entry is that of the codec after it
   pub core_more : takes e ≡ false → HasPlace → IsAskedAt (asked_at k'.opening (t.entries ++ e ∷ [])) next → IsCore (record { entries = t.entries ++ e ∷ []; shown = t.shown ++ x ∷ []; waiting = t.waiting ++ units_in x.events; free = free - 1 }) next k' spare'
@@ -103,28 +99,15 @@ pub none_waits : (xs : List Shown) (waiting : List media.Unit) (k : Control) →
 none_waits xs [] k outputs none = waits xs [] k outputs
 none_waits xs (u ∷ us) k outputs none = absurd cc
 
-taken_parts : (n : ℕ) (k : Control) → may_take n k ≡ true → (n ≡ k.taken) × (k.taken < k.shown)
-taken_parts n k may =
-    let parts = and_parts (eqb n k.taken) (nat_lt n k.shown) may in
-    let same = eqb-true n k.taken parts.0 in
-    (same, grind (arith, nat_tests, same, parts.1))
-
-outputs_taken : (xs : List Shown) (waiting : List media.Unit) (k : Control) (n : ℕ) (x : Shown) → OutputsWait xs waiting k → may_take n k ≡ true → x.events ≡ [] → OutputsWait (xs ++ x ∷ []) (drop 1 waiting ++ units_in x.events) (after_take (at_next_place k))
-outputs_taken xs waiting k n x outputs may none =
-    let some = (taken_parts n k may).1 in
-    let own : length (units_in x.events) ≡ 0 = ap (λ (es : List Event). length (units_in es)) none in
-    record {
-      counted = omega (arith, outputs.counted, own, ap length (outputs_more xs x), length-append (units_shown xs) (units_in x.events));
-      took = omega (arith, some);
-      others = wait_more xs x (drop 1 waiting) (k.taken + 1) (omega (arith, some, outputs.counted)) (ap (drop 1) outputs.others ∙ drop-drop 1 k.taken (units_shown xs));
-    }
-
 -- the trace after a take is that of the codec after it
 pub core_taken : {t : TraceValue} {slot : Option Lent} {k k' : Control} {spare : ℕ} (is : IsCore t slot k spare) (free : ℕ) (who : Who) (n : ℕ) → may_take n k ≡ true → k' ≡ after_take (at_next_place k) → Moved slot (entry.Take who n) is.kept.state k' → left k' + spare + reclaims k'.phase + 1 ≤ free → length t.entries + free < 2 ^ 63
     → IsCore (record { entries = t.entries ++ entry.Take who n ∷ []; shown = t.shown ++ record { turn = None; events = [] } ∷ []; waiting = drop 1 t.waiting ++ []; free = free - 1 }) slot k' spare
-core_taken {t = t} {spare = spare} is free who n may after m place fits =
+core_taken {t = t} {k = k} {k' = k'} {spare = spare} is free who n may after m place fits =
     let x : Shown = record { turn = None; events = [] } in
-    core_by is free spare x m refl (drop 1 t.waiting ++ []) (rw after (outputs_taken t.shown t.waiting _ n x is.outputs may refl)) (place, fits) (own_more is.kept false m refl refl is.own)
+    let parts = and_parts (eqb n k.taken) (nat_lt n k.shown) may in
+    let some : k.taken < k.shown = grind (arith, nat_tests, eqb-true n k.taken parts.0, parts.1) in
+    let outputs = outputs_go t.shown t.waiting k k' x 1 is.outputs (omega (arith, ap (λ (c : Control). c.shown) after)) (ap (λ (c : Control). c.taken) after) (omega (arith, some)) in
+    core_by is free spare x m refl (drop 1 t.waiting ++ []) outputs (place, fits) (own_more is.kept false m refl refl is.own)
 
 -- the output that is taken is the one with its number
 pub taken_is : {t : TraceValue} {slot : Option Lent} {k : Control} {spare : ℕ} (is : IsCore t slot k spare) (n : ℕ) (u : media.Unit) → n ≡ k.taken → front t.waiting ≡ Some u → slice_get (outputs_of (shown k.opening t.entries)) n ≡ Some u

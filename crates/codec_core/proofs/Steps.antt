@@ -31,7 +31,7 @@ use Rattle.codec_model.specs.declared.entry.Task.TheVariants as task
 use Rattle.codec_model.specs.declared.entry.Ended.{Ended}
 use Rattle.codec_model.specs.declared.entry.Ended.TheVariants as ended
 use Rattle.codec_model.specs.Control.{Control, is_decoder, after_message, process, with_message, at_next_place, is_close, turn_closes, run_task, run_front, kind_of, after_done, done_running, after_end, after_turn, after_close, after_removal, may_reclaim, front, may_start, start_item, after_start, after_encode, after_take, may_take}
-use Rattle.codec_model.specs.Replay.{State, Given, missing_coder, opening_state, step, with_control, removed, accepted, after_call, call_error, entry_of, removal_error, removal_entry, remove_or_refuse, is_configured, encode_error}
+use Rattle.codec_model.specs.Replay.{State, Given, missing_coder, opening_state, step, with_control, removed, after_call, call_error, entry_of, removal_error, removal_entry, remove_or_refuse, is_configured, encode_error}
 use Rattle.codec_model.specs.Shown.{handed_error}
 use Rattle.codec_model.specs.ShownLaws.{replay_more}
 use Rattle.codec_model.specs.StepLaws.{by_queue, begun, start_made}
@@ -121,10 +121,11 @@ removed_moved slot e s k phase same le steps home = record {
   });
 }
 
--- a codec that may be removed is not closed
-open_phase : (p : CodecState) → elim p as (λ _. Option DomError) [ Unconfigured ↦ None | Configured ↦ None | Closed ↦ Some dom.InvalidState ] ≡ None → reclaims p ≡ 1
-open_phase Closed e = absurd cc
-open_phase p e = refl
+-- a codec that may be configured, or removed, is not closed
+open_phase : (b : Bool) (p : CodecState) → cond b (elim p as (λ _. Option DomError) [ Unconfigured ↦ None | Configured ↦ None | Closed ↦ Some dom.InvalidState ]) (Some dom.TypeErr) ≡ None → reclaims p ≡ 1
+open_phase true Closed e = absurd cc
+open_phase true p e = refl
+open_phase false p e = absurd cc
 
 pub most_reclaims : (p : CodecState) → reclaims p ≤ 1
 most_reclaims Closed = omega arith
@@ -251,29 +252,6 @@ done_moved slot next s d moment end home next_is =
 
 -- ---- calls
 
--- what a call leaves, but for its phase
-record CallKeeps (c k : Control) : Type 0 where
-  phase : CodecState
-  same : rest_of k ≡ rest_of (record (at_next_place c) { phase = phase })
-  le : reclaims phase ≤ reclaims c.phase
-
-open_config : (b : Bool) (p : CodecState) → cond b (elim p as (λ _. Option DomError) [ Unconfigured ↦ None | Configured ↦ None | Closed ↦ Some dom.InvalidState ]) (Some dom.TypeErr) ≡ None → reclaims p ≡ 1
-open_config true p e = open_phase p e
-open_config false p e = absurd cc
-
-accepted_keeps : (x : Call) (c : Control) → call_error x c ≡ None → CallKeeps c (accepted x c)
-accepted_keeps (call.Configure config) c e = record {
-  phase = Configured;
-  same = queued_keeps c.place (work.Configure config) (record (at_next_place c) { phase = Configured; key_required = is_decoder c.opening.kind || c.key_required });
-  le = omega (arith, open_config _ c.phase e);
-}
-accepted_keeps (call.Decode chunk) c e = record { phase = c.phase; same = queued_keeps c.place (work.Coded (coded.Chunk chunk)) (record (at_next_place c) { key_required = false; size = c.size + 1 }); le = omega arith }
-accepted_keeps call.Flush c e = record { phase = c.phase; same = queued_keeps c.place work.Flush (record (at_next_place c) { key_required = is_decoder c.opening.kind || c.key_required; pending = c.pending ++ c.place ∷ [] }); le = omega arith }
-
-call_keeps : (error : Option DomError) (x : Call) (c : Control) → call_error x c ≡ error → CallKeeps c (after_call error x c)
-call_keeps None x c e = accepted_keeps x c e
-call_keeps (Some error) x c e = record { phase = c.phase; same = refl; le = omega arith }
-
 call_steps : (who : Who) (x : Call) (s : State) → step (entry_of who x) s ≡ Some (with_control (after_call (call_error x s.control) x s.control) s)
 call_steps who call.Flush s = refl
 call_steps who x s = refl
@@ -299,14 +277,24 @@ refusal_steps who false x s e = rw (is_refused (is_configured s.control) x e).0 
 next_moved : (slot : Option Lent) (e : Entry) (s : State) → step e s ≡ Some (with_control (at_next_place s.control) s) → CoderHome slot s → Moved slot e s (at_next_place s.control)
 next_moved slot e s steps home = moved_by slot e s (at_next_place s.control) s.control.phase s.control.taken refl (omega arith) (λ none. refl) steps home
 
+call_moved : (slot : Option Lent) (who : Who) (x : Call) (s : State) (error : Option DomError) → call_error x s.control ≡ error → step (entry_of who x) s ≡ Some (with_control (after_call error x s.control) s) → CoderHome slot s → Moved slot (entry_of who x) s (after_call error x s.control)
+call_moved slot who (call.Configure config) s None e steps home =
+    let c = s.control in
+    let same = queued_keeps c.place (work.Configure config) (record (at_next_place c) { phase = Configured; key_required = is_decoder c.opening.kind || c.key_required }) in
+    moved_by slot (entry.Configure who config) s _ Configured c.taken same (omega (arith, open_phase _ c.phase e)) (λ none. refl) steps home
+call_moved slot who (call.Decode chunk) s None e steps home =
+    let same = queued_keeps s.control.place (work.Coded (coded.Chunk chunk)) (record (at_next_place s.control) { key_required = false; size = s.control.size + 1 }) in
+    moved_by slot (entry.Decode who chunk) s _ s.control.phase s.control.taken same (omega arith) (λ none. refl) steps home
+call_moved slot who call.Flush s None e steps home =
+    let c = s.control in
+    let same = queued_keeps c.place work.Flush (record (at_next_place c) { key_required = is_decoder c.opening.kind || c.key_required; pending = c.pending ++ c.place ∷ [] }) in
+    moved_by slot (entry.Flush who) s _ c.phase c.taken same (omega arith) (λ none. refl) steps home
+call_moved slot who x s (Some error) e steps home = next_moved slot (entry_of who x) s steps home
+
 -- what became of the data tells the error
 pub refusal_told : (detached : Bool) (x : DomError) (c : Control) → encode_error detached c ≡ Some x → handed_error (refused_as detached) ≡ Some x
 refusal_told true x c e = e
 refusal_told false x c e = ap (λ (y : DomError). Some y) (sym (is_refused (is_configured c) x e).1)
-
-pub some_error : (o : Option DomError) → is_some o ≡ true → (x : DomError) × (o ≡ Some x)
-some_error None e = absurd cc
-some_error (Some x) e = (x, refl)
 
 -- ---- removals
 
@@ -327,7 +315,7 @@ removal_moved : (slot : Option Lent) (who : Who) (r : Removal) (s : State) (erro
 removal_moved slot who r s error e home = by r error e (removal_steps who r s ∙ ap (λ (o : Option DomError). Some (remove_or_refuse o r s)) e)
   where
     by : (r : Removal) (o : Option DomError) → removal_error s.control ≡ o → step (removal_entry who r) s ≡ Some (remove_or_refuse o r s) → Moved (kept_box (is_some o) slot) (removal_entry who r) s (removal_of o r s.control)
-    by removal.Reset None e steps = removed_moved slot (entry.Reset who) s _ Unconfigured refl (omega (arith, open_phase s.control.phase e)) steps home
+    by removal.Reset None e steps = removed_moved slot (entry.Reset who) s _ Unconfigured refl (omega (arith, open_phase true s.control.phase e)) steps home
     by removal.Close None e steps = removed_moved slot (entry.Close who) s _ Closed refl (omega arith) steps home
     by r (Some error) e steps = next_moved slot (removal_entry who r) s steps home
 
@@ -402,9 +390,7 @@ module _ {h : List Entry} {slot : Option Lent} {k : Control} (kept : IsKept h sl
 
   pub call_moves : {k' : Control} (who : Who) (x : Call) → k' ≡ after_call (call_error x k) x k → Moved slot (entry_of who x) kept.state k'
   call_moves who x after =
-      let s = kept.state in
-      let c = call_keeps (call_error x s.control) x s.control refl in
-      rw (after, ← kept.is_control) (moved_by slot (entry_of who x) s _ c.phase s.control.taken c.same c.le (λ none. refl) (call_steps who x s) kept.home)
+      let s = kept.state in rw (after, ← kept.is_control) (call_moved slot who x s (call_error x s.control) refl (call_steps who x s) kept.home)
 
   -- an encode is queued like a call
   pub encode_moves : {k' : Control} (who : Who) (x : HeldSound) → encode_error false k ≡ None → k' ≡ after_encode k.place x (at_next_place k) → Moved slot (entry.Encode who (handed.Cloned x)) kept.state k'

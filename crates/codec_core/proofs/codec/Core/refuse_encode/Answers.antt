@@ -3,7 +3,8 @@ use Rattle.wc_base.specs.declared.error.DomError.{DomError}
 use Rattle.codec_model.specs.declared.entry.Entry.TheVariants as entry
 use Rattle.codec_model.specs.Replay.{encode_error}
 use Rattle.codec_core.specs.Codec.{state_at, refused_as}
-use Rattle.codec_core.proofs.Steps.{Moved, refusal_moves, some_error, makes_more, most_reclaims}
+use Rattle.codec_core.proofs.Steps.{Moved, refusal_moves, makes_more, most_reclaims}
+use Rattle.codec_core.proofs.Ends.{some_is}
 use Rattle.codec_core.proofs.Recorded.{core_next, refusal_shows_it}
 use Rattle.codec_core.proofs.Owning.{control_at, keeps_running, asked_stays}
 use Rattle.codec_core.proofs.codec.Core.refuse_encode.Given.{Over}
@@ -11,12 +12,12 @@ use Rattle.codec_core.proofs.codec.Core.refuse_encode.Goals as goal
 
 -- the error with which it is refused
 error : (g : Over) (c : goal.After-push g) → DomError
-error g c = (some_error (encode_error c.args.detached (state_at c.args.self.now).control) c.requires).0
+error g c = (some_is (encode_error c.args.detached (state_at c.args.self.now).control) c.requires).0
 
 error_is : (g : Over) (c : goal.After-push g) → encode_error c.args.detached c.self.inside.machine ≡ Some (error g c)
 unfolding error
 error_is g c =
-    ap (encode_error c.args.detached) (sym (control_at c.self.invariant c.self.view_is)) ∙ (some_error (encode_error c.args.detached (state_at c.args.self.now).control) c.requires).1
+    ap (encode_error c.args.detached) (sym (control_at c.self.invariant c.self.view_is)) ∙ (some_is (encode_error c.args.detached (state_at c.args.self.now).control) c.requires).1
 
 moved : (g : Over) (c : goal.After-push g) → Moved c.self.inside.slot (entry.Encode c.args.who (refused_as c.args.detached)) c.self.invariant.kept.state c.refuse_encode.new.self
 moved g c = refusal_moves c.self.invariant.kept c.args.who c.args.detached (error g c) (error_is g c) c.in-Some.ensures.after
