@@ -1,7 +1,7 @@
 -- The outputs that wait to be taken, as entries are added and outputs are passed.
 use Rattle.std.proofs.Common.{ℕ, zero, suc, ◌≡◌, ◌+◌, ◌-◌, ◌≤◌, ◌<◌, List, [], ◌∷◌, ◌++◌, drop, length, length-append, append-nil, slice_get, Option, Some, None, refl, ap, sym, ◌∙◌, arith}
 use Rattle.std.specs.Prelude.{option_map, unwrap_or}
-use Rattle.std.proofs.lemmas.List.{drop-drop, drop-append-le, drop_all}
+use Rattle.std.proofs.lemmas.List.{drop_at, drop-drop, drop-append-le, drop_all}
 use Rattle.std.proofs.lemmas.List.Concat.{flat_map-append}
 use Rattle.wc_base.specs.declared.error.DomError.{DomError}
 use Rattle.codec_definitions.specs.declared.unit.Unit as media
@@ -62,9 +62,9 @@ within_more entry unit xs x place within =
     omega (arith, within, more, length-append (units_shown (drop entry xs)) (units_in x.events))
 
 drop_past : {X : Type 0} (n : ℕ) (xs ys : List X) → length xs ≤ n → drop n (xs ++ ys) ≡ drop (n - length xs) ys
-drop_past n [] ys le = ap (λ m. drop m ys) (omega arith)
-drop_past zero (x ∷ xs) ys le = absurd (omega (arith, le))
-drop_past (suc n) (x ∷ xs) ys le = drop_past n xs ys (omega (arith, le)) ∙ ap (λ m. drop m ys) (omega arith)
+drop_past n xs ys le =
+    let parts : n ≡ length xs + (n - length xs) = omega (arith, le) in
+    ap (λ m. drop m (xs ++ ys)) parts ∙ (sym (drop-drop (n - length xs) (length xs) (xs ++ ys)) ∙ ap (drop (n - length xs)) (drop_at xs ys (length xs) refl))
 
 -- the entry at a place, and those behind it
 pub drop_next : {X : Type 0} (n : ℕ) (xs : List X) (x : X) → slice_get xs n ≡ Some x → drop n xs ≡ x ∷ drop (n + 1) xs

@@ -18,7 +18,7 @@ use Rattle.codec_model.specs.declared.entry.Task.{Task}
 use Rattle.codec_model.specs.Control.{Control, start_item, turn_closes}
 use Rattle.codec_model.specs.Replay.{State, opening_state, step, replay, entry_of, removal_entry, removal_error}
 use Rattle.codec_model.specs.ShownLaws.{replay_more}
-use Rattle.codec_accounts.specs.Boxes.{Act, Asks, Begins, Ends, Other, Kept, stays, act_of, lets, lacking, start_act, removal_act, acts_of}
+use Rattle.codec_accounts.specs.Boxes.{Act, Ends, Other, Kept, stays, act_of, lets, lacking, start_act, removal_act, acts_of}
 use Rattle.codec_model.specs.Held.{closes_codec}
 use Rattle.codec_accounts.specs.Codec.{is_old}
 use Rattle.codec_accounts.specs.Asked.{Asked, asked_by, asked_in, asked_at}
@@ -193,20 +193,19 @@ back_removed old new who r at coder makes home is same =
 
 -- ---- a start
 
-asks_since : (old new : Codec) (epoch item : ℕ) (o : Option CoderId) → Makes old new (entry.Start epoch item) → act_of (entry.Start epoch item) (state_at old) ≡ start_act o → is_some o ≡ true → asked_of new ≡ Some (length old.history)
-asks_since old new epoch item None makes act some = absurd cc
-asks_since old new epoch item (Some id) makes act some = asked_next old new (entry.Start epoch item) (Asks id) makes act
-
-begins_since : (old new : Codec) (epoch item : ℕ) (o : Option CoderId) → Makes old new (entry.Start epoch item) → act_of (entry.Start epoch item) (state_at old) ≡ start_act o → o ≡ None → asked_of new ≡ asked_of old
-begins_since old new epoch item o makes act none = asked_next old new (entry.Start epoch item) Begins makes (act ∙ ap start_act none)
+-- a start that lacks a box asks for one, and any other keeps the box
+since_start : (o : Option CoderId) (n : ℕ) (x : Asked) (at : Option ℕ) → at ≡ (asked_by (start_act o) n x).since → (is_some o ≡ true → at ≡ Some n) × (o ≡ None → at ≡ x.since)
+since_start None n x at is = (λ some. absurd cc, λ none. is)
+since_start (Some id) n x at is = (λ some. is, λ none. absurd cc)
 
 pub own_start : (old new : Codec) (job : JobValue) → Makes old new (entry.Start job.epoch job.number) → missing_id job ≡ lacking (state_at old).given (start_item (state_at old).control)
     → job.place ≡ length old.history → job.coder ≡ old.slot → IsAskedAt (asked_of old) old.slot → IsOwnJob (asked_of new) job
 own_start old new job makes lacks place coder own =
-    let act = ap start_act (sym lacks) in
+    let e = entry.Start job.epoch job.number in
+    let since = since_start (missing_id job) (length old.history) (asked_in (acts_of old.opening old.history)) (asked_of new) (asked_next old new e (start_act (missing_id job)) makes (ap start_act (sym lacks))) in
     record {
-      asks = λ some. asks_since old new job.epoch job.number (missing_id job) makes act some ∙ ap (λ (n : ℕ). Some n) (sym place);
-      has = λ none. subst (λ (at : Option ℕ). IsAskedAt at job.coder) (sym (begins_since old new job.epoch job.number (missing_id job) makes act none)) (subst (IsAskedAt (asked_of old)) (sym coder) own);
+      asks = λ some. since.0 some ∙ ap (λ (n : ℕ). Some n) (sym place);
+      has = λ none. subst (λ (at : Option ℕ). IsAskedAt at job.coder) (sym (since.1 none)) (subst (IsAskedAt (asked_of old)) (sym coder) own);
     }
 
 goes_start : (o : Option CoderId) (t : State) (a : Act) → a ≡ start_act o → is_some o ≡ true → LetsGo a t

@@ -23,7 +23,7 @@ use Rattle.codec_model.specs.declared.entry.Task.{Task}
 use Rattle.codec_model.specs.declared.entry.Task.TheVariants as task
 use Rattle.codec_model.specs.declared.entry.PromiseEnd.{PromiseEnd}
 use Rattle.codec_model.specs.Control.{Control, carried, left, front, may_take, after_take, at_next_place}
-use Rattle.codec_model.specs.Replay.{State, encode_error, call_error, removal_error, entry_of, removal_entry}
+use Rattle.codec_model.specs.Replay.{State, with_control, encode_error, call_error, removal_error, entry_of, removal_entry}
 use Rattle.codec_model.specs.Facts.{Always, IsNeverStuck, NamesEarlier}
 use Rattle.codec_model.specs.Shown.{shows as events_of, units_in, units_shown, ends_of, refusal, shown, outputs_of, shown_at, call_shows, removal_shows, reclaim_shows, close_shows, rejections, outputs_from, turn_shows, turn_word}
 use Rattle.codec_model.specs.ShownLaws.{each_more}
@@ -52,7 +52,10 @@ outputs_go xs waiting k k' x n outputs shown taken some = record {
 
 -- ---- one more entry
 
-module _ {t : TraceValue} {slot : Option Lent} {k : Control} {spare : ℕ} (is : IsCore t slot k spare) (free spare' : ℕ) {next : Option Lent} {k' : Control} {e : Entry} (x : Shown) (m : Moved next e is.kept.state k') (shows : x ≡ shown_at e is.kept.state) where
+module _ {t : TraceValue} {slot : Option Lent} {k : Control} {spare : ℕ} (is : IsCore t slot k spare) (free spare' : ℕ) {next : Option Lent} {k' : Control} {e : Entry} (x : Shown) (m : Moved next e is.kept.state k') (shows : x ≡ shown_at e (with_control k is.kept.state)) where
+  shown_here : x ≡ shown_at e is.kept.state
+  shown_here = shows ∙ ap (λ (c : Control). shown_at e (with_control c is.kept.state)) (sym is.kept.is_control)
+
   -- there is a place for it
   abbrev HasPlace : Type 0
   HasPlace = (left k' + spare' + reclaims k'.phase + 1 ≤ free) × (length t.entries + free < 2 ^ 63)
@@ -62,7 +65,7 @@ module _ {t : TraceValue} {slot : Option Lent} {k : Control} {spare : ℕ} (is :
       let same : k'.opening ≡ k.opening = m.leaves.same_opening ∙ ap (λ (c : Control). c.opening) is.kept.is_control in
       record {
         kept = kept_more is.kept m;
-        shows = rw (is.shows, shows, same) (sym (each_more k.opening t.entries e is.kept.state is.kept.replays));
+        shows = rw (is.shows, shown_here, same) (sym (each_more k.opening t.entries e is.kept.state is.kept.replays));
         outputs = outputs;
         own = own;
         places = omega (arith, place.0);
@@ -73,7 +76,7 @@ module _ {t : TraceValue} {slot : Option Lent} {k : Control} {spare : ℕ} (is :
   outputs_kept : takes e ≡ false → OutputsWait (t.shown ++ x ∷ []) (t.waiting ++ units_in x.events) k'
   outputs_kept none =
       let now = ap (λ (c : Control). c.shown) m.is_control in
-      let own : length (units_in x.events) ≡ length (units_in (events_of e is.kept.state)) = ap (λ (y : Shown). length (units_in y.events)) shows in
+      let own : length (units_in x.events) ≡ length (units_in (events_of e is.kept.state)) = ap (λ (y : Shown). length (units_in y.events)) shown_here in
       outputs_go t.shown t.waiting k k' x 0 is.outputs (omega (arith, step_counts e is.kept.state m.after m.steps, ap (λ (c : Control). c.shown) is.kept.is_control, now, own)) (omega (arith, m.leaves.taken none, ap (λ (c : Control). c.taken) is.kept.is_control)) (omega (arith, is.outputs.took))
 
   -- the trace with one more entry is that of the codec after it
@@ -121,33 +124,17 @@ next_fits is = omega (arith, is.fits, is.kept.is_place)
 
 -- ---- what entries show, by the control state
 
-call_shown : (who : Who) (x : Call) (s : State) → shown_at (entry_of who x) s ≡ record { turn = None; events = call_shows x s.control.place (call_error x s.control) }
-call_shown who call.Flush s = refl
-call_shown who x s = refl
+pub call_shown : (who : Who) (x : Call) (s : State) (y : Shown) → y ≡ record { turn = None; events = call_shows x s.control.place (call_error x s.control) } → y ≡ shown_at (entry_of who x) s
+call_shown who call.Flush s y is = is
+call_shown who x s y is = is
 
-removal_shown : (who : Who) (r : Removal) (s : State) → shown_at (removal_entry who r) s ≡ record { turn = None; events = removal_shows (removal_error s.control) s.control.pending }
-removal_shown who removal.Reset s = refl
-removal_shown who removal.Close s = refl
+pub removal_shown : (who : Who) (r : Removal) (s : State) (y : Shown) → y ≡ record { turn = None; events = removal_shows (removal_error s.control) s.control.pending } → y ≡ shown_at (removal_entry who r) s
+removal_shown who removal.Reset s y is = is
+removal_shown who removal.Close s y is = is
 
-module _ {h : List Entry} {slot : Option Lent} {k : Control} (kept : IsKept h slot k) where
-  shows_it : (e : Entry) (f : Control → Shown) (y : Shown) → y ≡ f k → f kept.state.control ≡ shown_at e kept.state → y ≡ shown_at e kept.state
-  shows_it e f y is own = is ∙ (ap f (sym kept.is_control) ∙ own)
-
-  pub call_shows_it : (who : Who) (x : Call) (y : Shown) → y ≡ record { turn = None; events = call_shows x k.place (call_error x k) } → y ≡ shown_at (entry_of who x) kept.state
-  call_shows_it who x y is = shows_it (entry_of who x) (λ c. record { turn = None; events = call_shows x c.place (call_error x c) }) y is (sym (call_shown who x kept.state))
-
-  pub removal_shows_it : (who : Who) (r : Removal) (y : Shown) → y ≡ record { turn = None; events = removal_shows (removal_error k) k.pending } → y ≡ shown_at (removal_entry who r) kept.state
-  removal_shows_it who r y is = shows_it (removal_entry who r) (λ c. record { turn = None; events = removal_shows (removal_error c) c.pending }) y is (sym (removal_shown who r kept.state))
-
-  pub reclaim_shows_it : (now : ℕ) (y : Shown) → y ≡ record { turn = None; events = reclaim_shows k.pending } → y ≡ shown_at (entry.Reclaim now) kept.state
-  reclaim_shows_it now y is = shows_it (entry.Reclaim now) (λ c. record { turn = None; events = reclaim_shows c.pending }) y is refl
-
-  pub turn_shows_it : (y : Shown) → y ≡ record { turn = turn_word k.tasks; events = turn_shows k.tasks k } → y ≡ shown_at entry.Turn kept.state
-  turn_shows_it y is = shows_it entry.Turn (λ c. record { turn = turn_word c.tasks; events = turn_shows c.tasks c }) y is refl
-
-  pub refusal_shows_it : (who : Who) (detached : Bool) (error : DomError) (y : Shown) → encode_error detached k ≡ Some error → y ≡ record { turn = None; events = refusal (encode_error detached k) } → y ≡ shown_at (entry.Encode who (refused_as detached)) kept.state
-  refusal_shows_it who detached error y e is =
-      is ∙ ap (λ (o : Option DomError). record { turn = None; events = refusal o }) (e ∙ sym (refusal_told detached error k e))
+pub refusal_shown : (who : Who) (detached : Bool) (error : DomError) (s : State) (y : Shown) → encode_error detached s.control ≡ Some error → y ≡ record { turn = None; events = refusal (encode_error detached s.control) } → y ≡ shown_at (entry.Encode who (refused_as detached)) s
+refusal_shown who detached error s y e is =
+    is ∙ ap (λ (o : Option DomError). record { turn = None; events = refusal o }) (e ∙ sym (refusal_told detached error s.control e))
 
 -- ---- the promises that an entry ends are named by entries up to it
 

@@ -1,7 +1,7 @@
 use Rattle.std.proofs.Common.{◌∙◌, None, true, refl, ap, length, rules, arith}
 use Rattle.codec_model.specs.declared.entry.Entry.TheVariants as entry
 use Rattle.codec_core.proofs.Steps.{Moved, reclaim_moves, makes_more, reclaim_reclaims}
-use Rattle.codec_core.proofs.Recorded.{core_next, next_fits, reclaim_shows_it, reclaim_ends}
+use Rattle.codec_core.proofs.Recorded.{core_next, next_fits, reclaim_ends}
 use Rattle.codec_core.specs.Job.{stopped_box}
 use Rattle.codec_core.specs.Codec.{Codec}
 use Rattle.codec_core.proofs.Owning.{at_home, keeps_running, asked_stays, back_at, back_removal}
@@ -20,7 +20,7 @@ moved g c = reclaim_moves c.self.invariant.kept c.args.now c.in_ok-answer.ensure
 pub invariant_of-self-2 : goal.invariant_of-self-2
 invariant_of-self-2 g c =
     rw (c.push.ensures, c.hand_back-coder.ensures.left)
-    (core_next c.self.invariant _ c.self.inside.spare _ (moved g c) (reclaim_shows_it c.self.invariant.kept c.args.now _ c.in_ok-answer.ensures.answer.is_shown) refl
+    (core_next c.self.invariant _ c.self.inside.spare _ (moved g c) c.in_ok-answer.ensures.answer.is_shown refl
     (omega (arith, c.in_ok-answer.ensures.left, c.self.invariant.places, reclaim_reclaims c.self.inside.machine c.reclaim.new.self c.args.now c.in_ok-answer.ensures.may c.in_ok-answer.ensures.made), c.self.invariant.fits) true refl refl)
 
 pub returns-clause-made : goal.returns-clause-made

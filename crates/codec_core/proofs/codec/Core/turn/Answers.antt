@@ -3,7 +3,7 @@ use Rattle.codec_model.specs.declared.entry.Entry.TheVariants as entry
 use Rattle.codec_model.specs.Control.{Control, turn_closes}
 use Rattle.codec_core.specs.Codec.{Codec, handed_back}
 use Rattle.codec_core.proofs.Steps.{Moved, turn_moves, makes_more, place_kept}
-use Rattle.codec_core.proofs.Recorded.{core_next, next_fits, turn_shows_it, turn_ends}
+use Rattle.codec_core.proofs.Recorded.{core_next, next_fits, turn_ends}
 use Rattle.codec_core.proofs.Owning.{at_home, control_at, turn_act, keeps_running, asked_stays, back_turn}
 use Rattle.codec_core.proofs.codec.Core.turn.Given.{Over}
 use Rattle.codec_core.proofs.codec.Core.turn.Goals as goal
@@ -25,7 +25,7 @@ invariant_of-self-2 g c =
     let kept = c.self.invariant.kept in
     let act = turn_act kept.state c.closes-closes.result (ap (λ (k : Control). turn_closes k.tasks) kept.is_control ∙ closes_is g c) in
     rw c.push.ensures
-    (core_next c.self.invariant _ c.self.inside.spare _ (moved g c) (turn_shows_it kept _ c.in_ok-answer.ensures.answer.is_shown) refl
+    (core_next c.self.invariant _ c.self.inside.spare _ (moved g c) c.in_ok-answer.ensures.answer.is_shown refl
     (omega (arith, c.in_ok-answer.ensures.left, c.self.invariant.places, place_kept kept (moved g c)), c.self.invariant.fits) c.closes-closes.result act c.hand_back-coder.ensures.left)
 
 pub returns-clause-some : goal.returns-clause-some
