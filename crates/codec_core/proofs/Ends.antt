@@ -48,29 +48,23 @@ pub some_is : {X : Type 0} (o : Option X) → is_some o ≡ true → (x : X) × 
 some_is None h = absurd cc
 some_is (Some x) h = (x, refl)
 
--- the answers to a list that has a last command are not empty
-until_some : (o : Option (List media.Unit)) (rest : List (Option (List media.Unit))) → (v : Option (List media.Unit)) × (vs : List (Option (List media.Unit))) × (until_refused o rest ≡ v ∷ vs)
-until_some None rest = (None, [], refl)
-until_some (Some units) rest = (Some units, rest, refl)
+-- a list of answers that is not empty, and whose last is this one
+abbrev HasLast : List (Option (List media.Unit)) → Option (List media.Unit) → Type 0
+HasLast l a = (v : Option (List media.Unit)) × (vs : List (Option (List media.Unit))) × (l ≡ v ∷ vs) × (last_answer (v ∷ vs) ≡ a)
 
-answers_some : (id : CoderId) (c : Config) (before xs : List Command) (x : Command) → (v : Option (List media.Unit)) × (vs : List (Option (List media.Unit))) × (answers_from id c before (xs ++ x ∷ []) ≡ v ∷ vs)
-answers_some id c before [] x = until_some (answer_after id c before x) []
-answers_some id c before (y ∷ ys) x = until_some (answer_after id c before y) (answers_from id c (before ++ y ∷ []) (ys ++ x ∷ []))
-
-last_of_one : (o : Option (List media.Unit)) → last_answer (until_refused o []) ≡ o
-last_of_one None = refl
-last_of_one (Some units) = refl
+last_of_one : (o : Option (List media.Unit)) → HasLast (until_refused o []) o
+last_of_one None = (None, [], refl, refl)
+last_of_one (Some units) = (Some units, [], refl, refl)
 
 -- the last answer is that of the last command after all before it, where none of those was refused
-last_more : (id : CoderId) (c : Config) (before xs : List Command) (x : Command) → none_refused_from id c before xs ≡ true → last_answer (answers_from id c before (xs ++ x ∷ [])) ≡ answer_after id c (before ++ xs) x
-last_more id c before [] x h = last_of_one (answer_after id c before x) ∙ ap (λ b. answer_after id c b x) (sym (append-nil before))
+last_more : (id : CoderId) (c : Config) (before xs : List Command) (x : Command) → none_refused_from id c before xs ≡ true → HasLast (answers_from id c before (xs ++ x ∷ [])) (answer_after id c (before ++ xs) x)
+last_more id c before [] x h = rw (append-nil before) (last_of_one (answer_after id c before x))
 last_more id c before (y ∷ ys) x h =
     let parts = and_parts (is_some (answer_after id c before y)) (none_refused_from id c (before ++ y ∷ []) ys) h in
     let u = some_is (answer_after id c before y) parts.0 in
     let rest = last_more id c (before ++ y ∷ []) ys x parts.1 in
-    let more = answers_some id c (before ++ y ∷ []) ys x in
-    let same : answer_after id c ((before ++ y ∷ []) ++ ys) x ≡ answer_after id c (before ++ y ∷ ys) x = ap (λ b. answer_after id c b x) (append_assoc before (y ∷ []) ys) in
-    rw (u.1, more.2) (rw more.2 at (rest ∙ same))
+    let all = ap (λ o. until_refused o (answers_from id c (before ++ y ∷ []) (ys ++ x ∷ []))) u.1 ∙ ap (λ (l : List (Option (List media.Unit))). Some u.0 ∷ l) rest.2 in
+    (Some u.0, rest.0 ∷ rest.1, all, rest.3 ∙ ap (λ b. answer_after id c b x) (append_assoc before (y ∷ []) ys))
 
 none_refused_more : (id : CoderId) (c : Config) (before xs : List Command) (x : Command) → none_refused_from id c before xs ≡ true → is_some (answer_after id c (before ++ xs) x) ≡ true → none_refused_from id c before (xs ++ x ∷ []) ≡ true
 none_refused_more id c before [] x h s = let here : is_some (answer_after id c before x) ≡ true = ap (λ b. is_some (answer_after id c b x)) (sym (append-nil before)) ∙ s in rw here refl
@@ -84,7 +78,9 @@ abbrev more : Command → Given → Given
 more x g = record g { commands = g.commands ++ x ∷ [] }
 
 answer_is : (old : Lent) (before : Given) (x : Command) → WasGiven old before → last_answer (answers_to (more x before)) ≡ answer_after old.id before.config before.commands x
-answer_is old before x at = rw at.asked (last_more old.id before.config [] before.commands x at.accepted)
+answer_is old before x at =
+    let last = last_more old.id before.config [] before.commands x at.accepted in
+    rw at.asked (ap last_answer last.2 ∙ last.3)
 
 -- an end by the answer is the legal one
 pub legal_end : (k : WorkKind) (g : Given) (e : Ended) → EndsBy (answer_to k g) e → ended_of k g (outcome_of e) ≡ Some e

@@ -1,5 +1,5 @@
 -- Steps of a history, and where the box is after each.
-use Rattle.std.proofs.Common.{ℕ, ◌≡◌, ◌+◌, ◌≤◌, ◌<◌, ◌||◌, not, Bool, true, false, eqb, cond, List, [], ◌∷◌, ◌++◌, length-append, Option, Some, None, is_some, is_none, refl, ap, sym, subst, eq-eqb, ◌∙◌, arith}
+use Rattle.std.proofs.Common.{ℕ, ◌≡◌, ◌+◌, ◌≤◌, ◌<◌, ◌||◌, not, Bool, true, false, eqb, cond, List, [], ◌∷◌, ◌++◌, drop, length-append, Option, Some, None, is_some, is_none, refl, ap, sym, subst, eq-eqb, ◌∙◌, arith}
 use Rattle.std.specs.Prelude.{unwrap_or, max, IfNone, OnSome}
 use Rattle.std.proofs.lemmas.Bool.{and_parts, eqb-true, not-true}
 use Rattle.std.proofs.lemmas.Bool.Decides.{nat_tests}
@@ -143,31 +143,26 @@ turn_moved slot s (t ∷ ts) false e h home =
 
 -- ---- a start
 
--- what a start needs
-record CanStart (c : Control) (i : Item) : Type 0 where
-  rest : List Item
-  may : may_start c ≡ true
-  front_is : c.work ≡ i ∷ rest
+-- what a start needs: a codec that may start, and the item at the front
+abbrev CanStart : Control → Item → Type 0
+CanStart c i = (may_start c ≡ true) × (c.work ≡ i ∷ drop 1 c.work)
+
+front_is : (is : List Item) (i : Item) → front is ≡ Some i → is ≡ i ∷ drop 1 is
+front_is [] i e = absurd cc
+front_is (j ∷ rest) i e = cc
 
 can_start : (c : Control) (i : Item) → start_item c ≡ Some i → CanStart c i
-can_start c i h =
-    let may = cond_is (may_start c) (front c.work) i h in
-    let first = by c.work may.1 in
-    record { rest = first.0; may = may.0; front_is = first.1 }
-  where
-    by : (is : List Item) → front is ≡ Some i → (rest : List Item) × (is ≡ i ∷ rest)
-    by [] e = absurd cc
-    by (j ∷ rest) e = (rest, cc)
+can_start c i h = let k = cond_is (may_start c) (front c.work) i h in (k.0, front_is c.work i k.1)
 
-starts : (s : State) (i : Item) (can : CanStart s.control i) → step (entry.Start s.control.epoch i.number) s ≡ Some (begun (i ∷ can.rest) i s)
-starts s i can = start_made i can.rest s.control.epoch i.number s can.front_is (rw (can.may, eq-eqb s.control.epoch s.control.epoch refl, eq-eqb i.number i.number refl) refl)
+starts : (s : State) (i : Item) (can : CanStart s.control i) → step (entry.Start s.control.epoch i.number) s ≡ Some (begun (i ∷ drop 1 s.control.work) i s)
+starts s i can = start_made i (drop 1 s.control.work) s.control.epoch i.number s can.1 (rw (can.0, eq-eqb s.control.epoch s.control.epoch refl, eq-eqb i.number i.number refl) refl)
 
 start_moved : (s : State) (i : Item) → CanStart s.control i → Moved None (entry.Start s.control.epoch i.number) s (after_start s.control)
 start_moved s i can =
-    let t = begun (i ∷ can.rest) i s in
+    let t = begun (i ∷ drop 1 s.control.work) i s in
     let out : Running = record { epoch = s.control.epoch; number = i.number; place = i.place; kind = kind_of i.work } in
     let is_out : (r : Running) → Some out ≡ Some r → out.epoch ≡ r.epoch = λ r e. ap (λ (x : Running). x.epoch) (some_same out r e) in
-    let after : after_start s.control ≡ t.control = rw (can.may, can.front_is) refl in
+    let after : after_start s.control ≡ t.control = rw (can.0, can.1) refl in
     record {
       after = t;
       steps = starts s i can;
@@ -355,7 +350,7 @@ module _ {h : List Entry} {slot : Option Lent} {k : Control} (kept : IsKept h sl
   can_here i item = can_start kept.state.control i (rw kept.is_control item)
 
   idle_here : (i : Item) → start_item k ≡ Some i → CoderAt slot kept.state.given
-  idle_here i item = home_idle kept.state slot (can_here i item).may kept.home
+  idle_here i item = home_idle kept.state slot (can_here i item).0 kept.home
 
   pub start_moves : {k' : Control} (i : Item) → start_item k ≡ Some i → k' ≡ after_start k → Moved None (entry.Start k.epoch i.number) kept.state k'
   start_moves i item after = let m = start_moved kept.state i (can_here i item) in rw (after, ← kept.is_control) m
@@ -369,7 +364,7 @@ module _ {h : List Entry} {slot : Option Lent} {k : Control} (kept : IsKept h sl
       let can = can_here i item in
       let moved : step (entry.Start s.control.epoch i.number) s ≡ Some t = subst (λ (c : Control). step (entry.Start c.epoch i.number) s ≡ Some t) (sym kept.is_control) steps in
       let job : Control → JobValue = λ c. record { epoch = c.epoch; number = i.number; place = at; work = i.work; coder = slot } in
-      let there : IsJobOf (begun (i ∷ can.rest) i s) (job s.control) = record {
+      let there : IsJobOf (begun (i ∷ drop 1 s.control.work) i s) (job s.control) = record {
         running = record { epoch = s.control.epoch; number = i.number; place = i.place; kind = kind_of i.work };
         is_running = refl;
         same_epoch = refl;

@@ -58,9 +58,7 @@ returns-clause-made g c =
     subst (λ (d : DoneValue). Makes c.args.self.now after (entry.Done d.epoch d.number c.args.moment (outcome_of d.ended))) c.d.view_is here
 
 pub returns-clause-idle : goal.returns-clause-idle
-returns-clause-idle g c =
-    let after : Codec = record { opening = c.done.new.self.opening; history = c.push.new.self.entries; spare = c.self.inside.spare; slot = c.hand_back-back.new.slot } in
-    (act_makes (entry.Done c.args.d.epoch c.args.d.number c.args.moment (outcome_of c.args.d.ended)) (state_at c.args.self.now) (state_at after) (returns-clause-made g c).steps).1
+returns-clause-idle g c = (act_makes (entry.Done c.args.d.epoch c.args.d.number c.args.moment (outcome_of c.args.d.ended)) (state_at c.args.self.now) _ (returns-clause-made g c).steps).1
 
 back : (g : Over) (c : goal.After-push g) → c.hand_back-back.result ≡ handed_back (eqb c.d.inside.epoch c.self.inside.machine.epoch) c.d.inside.coder
 back g c = c.hand_back-back.ensures.taken ∙ ap (λ (n : ℕ). handed_back (eqb c.d.inside.epoch n) c.d.inside.coder) c.epoch.ensures
