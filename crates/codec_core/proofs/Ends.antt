@@ -89,21 +89,18 @@ legal_end k g ended.Refused by = rw by refl
 legal_end k g (ended.NoSlot n) by = absurd by
 legal_end k g ended.NoMemory by = refl
 
-some_units : (o : Option (List media.Unit)) (units : List media.Unit) → o ≡ Some units → is_some o ≡ true
-some_units o units e = rw e refl
-
 -- after a command that ran, the coder was given it too
-still : (end : Ended) (old new : Lent) (before : Given) (x : Command) → EndsCommand old x end new → WasGiven old before → StillAt end (Some new) (more x before)
-still (ended.Ran units) old new before x ends at =
+still : (c : Option AudioDecoderConfig) (end : Ended) (old new : Lent) (before : Given) (x : Command) → EndsCommand old x end new → WasGiven old before → StillAt (labelled_end c end) (Some new) (more x before)
+still c (ended.Ran units) old new before x ends at =
     let same : new.id ≡ old.id = ap (λ (l : Lent). l.id) ends.same in
     let answer = ends.answer before.config before.commands at.asked at.meant in
     record {
       asked = at.asked ∙ ap Some (sym same);
       supported = at.supported;
       meant = subst (λ i. IsAt i before.config (before.commands ++ x ∷ []) new.meaning) (sym same) (ends.goes before.config before.commands at.meant);
-      accepted = rw same (none_refused_more old.id before.config [] before.commands x at.accepted (some_units (answer_after old.id before.config before.commands x) units answer));
+      accepted = rw same (none_refused_more old.id before.config [] before.commands x at.accepted (ap is_some answer));
     }
-still end old new before x ends at = tt
+still c end old new before x ends at = tt
 
 -- ---- the config that outputs carry
 
@@ -122,10 +119,6 @@ answers_labelled c d answer (ended.Ran units) same by = ap (labelled_answer d) b
 answers_labelled c d answer ended.Refused same by = ap (labelled_answer d) by
 answers_labelled c d answer (ended.NoSlot n) same by = absurd by
 answers_labelled c d answer ended.NoMemory same by = tt
-
-still_labelled : (c : Option AudioDecoderConfig) (end : Ended) (coder : Option Lent) (g : Given) → StillAt end coder g → StillAt (labelled_end c end) coder g
-still_labelled c (ended.Ran units) coder g h = h
-still_labelled c end coder g h = tt
 
 -- after a command that ran, the coder's config is the one that was given last
 setup_after : (end : Ended) (old new : Lent) (before : Given) (x : Command) → EndsCommand old x end new → WasGiven old before → (units : List media.Unit) → end ≡ ended.Ran units → setup_of new.meaning ≡ decoder_config before.config
@@ -153,7 +146,7 @@ command_ends w x is old new end e ends by =
           );
       still = λ before for. (
           let at : WasGiven old before = is.given_is (Some old) before for in
-          rw (is.more_is before) (by_wants (λ (y : Ended). StillAt y (Some new) (more x before)) (labelled_end c end) e by (still_labelled c end (Some new) (more x before) (still end old new before x ends at)) tt)
+          rw (is.more_is before) (by_wants (λ (y : Ended). StillAt y (Some new) (more x before)) (labelled_end c end) e by (still c end old new before x ends at) tt)
           );
       same = ap Some ends.same;
     }

@@ -55,11 +55,12 @@ pub removal_is : (who : Who) (r : Removal) (t : State) → act_of (removal_entry
 removal_is who removal.Reset t = refl
 removal_is who removal.Close t = refl
 
-closes_is : (ts : List Task) (b : Bool) → turn_closes ts ≡ Some b → closes_codec ts ≡ b
+closes_is : (ts : List Task) (b : Bool) → turn_closes ts ≡ Some b → closes_codec ts ≡ not (not b)
 closes_is [] b h = absurd cc
-closes_is (x ∷ ts) b h = cc
+closes_is (x ∷ ts) true h = cc
+closes_is (x ∷ ts) false h = cc
 
-pub turn_act : (t : State) (b : Bool) → turn_closes t.control.tasks ≡ Some b → act_of entry.Turn t ≡ removal_act b
+pub turn_act : (t : State) (b : Bool) → turn_closes t.control.tasks ≡ Some b → act_of entry.Turn t ≡ removal_act (not (not b))
 turn_act t b h = ap removal_act (closes_is t.control.tasks b h)
 
 -- ---- one entry more
@@ -85,9 +86,9 @@ asked_stays {old = old} {new = new} {e = e} b makes act = λ runs.
     ∙ removal_since b (is_some (state_at old).control.running) (length old.history) (asked_in (acts_of old.opening old.history)) runs (known old new e makes).runs
 
 -- the box at home after a removal, or an entry that lets no box go
-pub own_removal : (old new : Codec) (e : Entry) (b : Bool) → Makes old new e → act_of e (state_at old) ≡ removal_act b → IsAskedAt (asked_of old) old.slot → IsAskedAt (asked_of new) (kept_box (not b) old.slot)
-own_removal old new e true makes act own = tt
-own_removal old new e false makes act own = subst (λ (at : Option ℕ). IsAskedAt at old.slot) (sym (asked_next old new e Other makes act)) own
+own_removal : (old new : Codec) (e : Entry) (stays : Bool) → Makes old new e → act_of e (state_at old) ≡ removal_act (not stays) → IsAskedAt (asked_of old) old.slot → IsAskedAt (asked_of new) (kept_box stays old.slot)
+own_removal old new e false makes act own = tt
+own_removal old new e true makes act own = subst (λ (at : Option ℕ). IsAskedAt at old.slot) (sym (asked_next old new e Other makes act)) own
 
 place_of : (c : By) (at : Option ℕ) → IsBy c at → (p : ℕ) × (at ≡ Some p) × IsBy c (Some p)
 place_of (by.Codec codec place) at h = (place, h, refl)
@@ -132,10 +133,10 @@ pub record AtHome (c : Codec) : Type 0 where
   pub own : IsAskedAt (asked_of c) c.slot
   pub out : (r : Running) → (state_at c).control.running ≡ Some r → c.slot ≡ None
 
-pub back_removal : (old new : Codec) (e : Entry) (b : Bool) → Makes old new e → act_of e (state_at old) ≡ removal_act b → AtHome old → GoesBack new (length old.history) (handed_back (not b) old.slot)
-back_removal old new e true makes act home =
+pub back_removal : (old new : Codec) (e : Entry) (stays : Bool) → Makes old new e → act_of e (state_at old) ≡ removal_act (not stays) → AtHome old → GoesBack new (length old.history) (handed_back stays old.slot)
+back_removal old new e false makes act home =
     back_stopped old new e old.slot makes (λ some. subst (λ (a : Act). LetsGo a (state_at old)) (sym act) (none_idle old.slot (state_at old).control.running home.out some)) home.own
-back_removal old new e false makes act home = tt
+back_removal old new e true makes act home = tt
 
 -- a removal's answer
 pub back_at : (new : Codec) (at n : ℕ) (x y : Option Lent) → at ≡ n → x ≡ y → GoesBack new n y → GoesBack new at x
@@ -148,7 +149,7 @@ back_if new false at coder x is back = subst (λ (o : Option RemovedValue). IfSo
 pub back_turn : (old new : Codec) (b : Bool) (at : ℕ) (coder : Option Lent) (x : Option RemovedValue) → Makes old new entry.Turn → turn_closes (state_at old).control.tasks ≡ Some b → AtHome old → at ≡ length old.history
     → coder ≡ handed_back (not b) old.slot → x ≡ removed_if b at coder → IfSome x (λ r. GoesBack new r.place r.coder)
 back_turn old new b at coder x makes closes home is same answer =
-    back_if new b at coder x answer (back_at new at (length old.history) coder (handed_back (not b) old.slot) is same (back_removal old new entry.Turn b makes (turn_act (state_at old) b closes) home))
+    back_if new b at coder x answer (back_at new at (length old.history) coder (handed_back (not b) old.slot) is same (back_removal old new entry.Turn (not b) makes (turn_act (state_at old) b closes) home))
 
 -- ---- of what is kept
 
@@ -166,30 +167,20 @@ module _ {t : TraceValue} {slot : Option Lent} {k : Control} {spare : ℕ} (is :
     out = λ r e. is.kept.home.out r (ap (λ (s : State). s.control.running) (sym (state_is is.kept spare)) ∙ e);
   })
 
-not_none : {X : Type 0} (o : Option X) → not (is_none o) ≡ is_some o
-not_none None = refl
-not_none (Some x) = refl
-
 -- the box at home after an entry that moves the history on
-pub own_more : {h : List Entry} {slot next : Option Lent} {k k' : Control} {e : Entry} (kept : IsKept h slot k) (b : Bool) → Moved next e kept.state k' → act_of e kept.state ≡ removal_act b → next ≡ kept_box (not b) slot
+pub own_more : {h : List Entry} {slot next : Option Lent} {k k' : Control} {e : Entry} (kept : IsKept h slot k) (stays : Bool) → Moved next e kept.state k' → act_of e kept.state ≡ removal_act (not stays) → next ≡ kept_box stays slot
     → IsAskedAt (asked_at k.opening h) slot → IsAskedAt (asked_at k'.opening (h ++ e ∷ [])) next
-own_more {h = h} {slot = slot} {next = next} {k = k} {k' = k'} {e = e} kept b moved act is own =
+own_more {h = h} {slot = slot} {next = next} {k = k} {k' = k'} {e = e} kept stays moved act is own =
     let old : Codec = record { opening = k.opening; history = h; spare = 0; slot = slot } in
     let new : Codec = record { opening = k'.opening; history = h ++ e ∷ []; spare = 0; slot = next } in
     let here = ap (act_of e) (state_is kept 0) ∙ act in
-    subst (IsAskedAt (asked_of new)) (sym is) (own_removal old new e b (makes_more kept moved 0 0) here own)
-
--- the box that a reset or close leaves
-pub removal_box : {h : List Entry} {slot : Option Lent} {k : Control} (kept : IsKept h slot k) (next : Option Lent) → next ≡ kept_box (is_some (removal_error k)) slot → next ≡ kept_box (not (is_none (removal_error kept.state.control))) slot
-removal_box {slot = slot} kept next is =
-    is ∙ ap (λ (c : Control). kept_box (is_some (removal_error c)) slot) (sym kept.is_control) ∙ ap (λ (x : Bool). kept_box x slot) (sym (not_none (removal_error kept.state.control)))
+    subst (IsAskedAt (asked_of new)) (sym is) (own_removal old new e stays (makes_more kept moved 0 0) here own)
 
 pub back_removed : (old new : Codec) (who : Who) (r : Removal) (at : ℕ) (coder : Option Lent) → Makes old new (removal_entry who r) → AtHome old → at ≡ length old.history → coder ≡ handed_back (is_some (removal_error (state_at old).control)) old.slot
     → GoesBack new at coder
 back_removed old new who r at coder makes home is same =
-    let b = is_none (removal_error (state_at old).control) in
-    back_at new at (length old.history) coder (handed_back (not b) old.slot) is (same ∙ ap (λ (x : Bool). handed_back x old.slot) (sym (not_none (removal_error (state_at old).control))))
-    (back_removal old new (removal_entry who r) b makes (removal_is who r (state_at old)) home)
+    let stays = is_some (removal_error (state_at old).control) in
+    back_at new at (length old.history) coder (handed_back stays old.slot) is same (back_removal old new (removal_entry who r) stays makes (removal_is who r (state_at old)) home)
 
 -- ---- a start
 

@@ -25,7 +25,7 @@ use Rattle.codec_model.specs.declared.entry.PromiseEnd.{PromiseEnd}
 use Rattle.codec_model.specs.Control.{Control, carried, left, front, may_take, after_take, at_next_place}
 use Rattle.codec_model.specs.Replay.{State, with_control, encode_error, call_error, removal_error, entry_of, removal_entry}
 use Rattle.codec_model.specs.Facts.{Always, IsNeverStuck, NamesEarlier}
-use Rattle.codec_model.specs.Shown.{shows as events_of, units_in, units_shown, ends_of, refusal, shown, outputs_of, shown_at, call_shows, removal_shows, reclaim_shows, close_shows, rejections, outputs_from, turn_shows, turn_word}
+use Rattle.codec_model.specs.Shown.{shows as events_of, units_in, units_shown, ends_of, refusal, shown, outputs_of, shown_at, call_shows, removal_shows, reclaim_shows, close_shows, rejections, turn_shows, turn_word}
 use Rattle.codec_model.specs.ShownLaws.{each_more}
 use Rattle.codec_model.specs.Earlier.{pending_below, resolved_below}
 use Rattle.codec_accounts.specs.Asked.{asked_at}
@@ -33,6 +33,7 @@ use Rattle.codec_accounts.specs.Boxes.{act_of, removal_act}
 use Rattle.history_laws.specs.CountLaws.{step_counts}
 use Rattle.codec_core.specs.Codec.{IsAskedAt, IsKept, IsCore, OutputsWait, kept_box, reclaims, refused_as}
 use Rattle.codec_core.specs.Trace.{TraceValue, EndsBelow}
+use Rattle.codec_core.proofs.Promises.{task_ends}
 use Rattle.codec_core.proofs.Outputs.{outputs_more, outputs_shown, front_drop}
 use Rattle.codec_core.proofs.Steps.{Moved, kept_more, takes, refusal_told}
 use Rattle.codec_core.proofs.Owning.{own_more}
@@ -84,8 +85,8 @@ module _ {t : TraceValue} {slot : Option Lent} {k : Control} {spare : ℕ} (is :
   core_more none place own = core_by (t.waiting ++ units_in x.events) (outputs_kept none) place own
 
   -- and of an entry that is neither the start nor the end of an item
-  pub core_next : takes e ≡ false → HasPlace → (b : Bool) → act_of e is.kept.state ≡ removal_act b → next ≡ kept_box (not b) slot → IsCore (record { entries = t.entries ++ e ∷ []; shown = t.shown ++ x ∷ []; waiting = t.waiting ++ units_in x.events; free = free - 1 }) next k' spare'
-  core_next none place b act box = core_more none place (own_more is.kept b m act box is.own)
+  pub core_next : takes e ≡ false → HasPlace → (stays : Bool) → act_of e is.kept.state ≡ removal_act (not stays) → next ≡ kept_box stays slot → IsCore (record { entries = t.entries ++ e ∷ []; shown = t.shown ++ x ∷ []; waiting = t.waiting ++ units_in x.events; free = free - 1 }) next k' spare'
+  core_next none place stays act box = core_more none place (own_more is.kept stays m act box is.own)
 
 -- ---- a take
 
@@ -110,7 +111,7 @@ core_taken {t = t} {k = k} {k' = k'} {spare = spare} is free who n may after m p
     let parts = and_parts (eqb n k.taken) (nat_lt n k.shown) may in
     let some : k.taken < k.shown = grind (arith, nat_tests, eqb-true n k.taken parts.0, parts.1) in
     let outputs = outputs_go t.shown t.waiting k k' x 1 is.outputs (omega (arith, ap (λ (c : Control). c.shown) after)) (ap (λ (c : Control). c.taken) after) (omega (arith, some)) in
-    core_by is free spare x m refl (drop 1 t.waiting ++ []) outputs (place, fits) (own_more is.kept false m refl refl is.own)
+    core_by is free spare x m refl (drop 1 t.waiting ++ []) outputs (place, fits) (own_more is.kept true m refl refl is.own)
 
 -- the output that is taken is the one with its number
 pub taken_is : {t : TraceValue} {slot : Option Lent} {k : Control} {spare : ℕ} (is : IsCore t slot k spare) (n : ℕ) (u : media.Unit) → n ≡ k.taken → front t.waiting ≡ Some u → slice_get (outputs_of (shown k.opening t.entries)) n ≡ Some u
@@ -142,10 +143,6 @@ rejected_below : (error : DomError) (n : ℕ) (ps : List ℕ) (more : List Event
 rejected_below error n [] more rest h = rest
 rejected_below error n (p ∷ ps) more rest h = (h.0, rejected_below error n ps more rest h.1)
 
-outputs_below : (n first : ℕ) (us : List media.Unit) (more : List Event) → EndsBelow n more → EndsBelow n (outputs_from first us ++ more)
-outputs_below n first [] more rest = rest
-outputs_below n first (u ∷ us) more rest = outputs_below n (first + 1) us more rest
-
 higher : (n m : ℕ) (ends : List PromiseEnd) → n ≤ m → AllByRecursion (λ (e : PromiseEnd). e.promise < n) ends → AllByRecursion (λ (e : PromiseEnd). e.promise < m) ends
 higher n m [] le h = tt
 higher n m (e ∷ es) le h = (omega (arith, h.0, le), higher n m es le h.1)
@@ -158,8 +155,8 @@ close_below : (error : DomError) (n : ℕ) (ps : List ℕ) → AllByRecursion (�
 close_below error n ps h = rejected_below error n ps (event.ErrorCall error ∷ []) tt h
 
 turn_below : (ts : List Task) (k : Control) → k.tasks ≡ ts → NamesEarlier k → EndsBelow k.place (turn_shows ts k)
-turn_below (task.Output units ∷ ts) k is names = rw (← append-nil (outputs_from k.shown (carried k.active units))) (outputs_below k.place k.shown (carried k.active units) [] tt)
-turn_below (task.Flushed p units ∷ ts) k is names = outputs_below k.place k.shown (carried k.active units) (event.Resolve p ∷ []) (resolved_below k p units ts names is, tt)
+turn_below (task.Output units ∷ ts) k is names = rw (task_ends (task.Output (carried k.active units)) k.shown) tt
+turn_below (task.Flushed p units ∷ ts) k is names = rw (task_ends (task.Flushed p (carried k.active units)) k.shown) (resolved_below k p units ts names is, tt)
 turn_below (task.Close x ∷ ts) k is names = close_below x k.place k.pending (pending_below k names)
 turn_below ts k is names = tt
 

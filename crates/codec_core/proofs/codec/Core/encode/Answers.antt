@@ -1,4 +1,4 @@
-use Rattle.std.proofs.Common.{◌∙◌, false, refl, ap, sym, arith}
+use Rattle.std.proofs.Common.{◌∙◌, false, refl, ap, sym, arith, true}
 use Rattle.codec_model.specs.declared.entry.Entry.TheVariants as entry
 use Rattle.codec_model.specs.declared.entry.Handed.TheVariants as handed
 use Rattle.codec_model.specs.declared.entry.HeldSound.{HeldSound}
@@ -22,7 +22,7 @@ invariant_of-self-2 g c =
     (core_next c.self.invariant _ c.self.inside.spare _ (moved g c) c.in_ok-answer.ensures.answer.is_shown refl (
       omega (arith, c.in_ok-answer.ensures.left, c.in_ok-places.ensures, most_reclaims c.encode.new.self.phase),
       rw c.in_ok-reserve.ensures.ok at c.in_ok-reserve.ensures.fits,
-    ) false refl refl)
+    ) true refl refl)
 
 pub returns-clause-made : goal.returns-clause-made
 returns-clause-made g c =

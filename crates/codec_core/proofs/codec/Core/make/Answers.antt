@@ -1,4 +1,4 @@
-use Rattle.std.proofs.Common.{arith, refl, false}
+use Rattle.std.proofs.Common.{arith, refl, false, true}
 use Rattle.codec_model.specs.Replay.{with_control, entry_of}
 use Rattle.codec_core.proofs.Steps.{Moved, call_moves, call_takes, makes_more, most_reclaims}
 use Rattle.codec_core.proofs.Recorded.{core_next, call_shown, call_ends}
@@ -21,7 +21,7 @@ invariant_of-self-2 g c =
     (core_next c.self.invariant _ c.self.inside.spare _ (moved g c) (call_shown c.args.who c.args.call (with_control c.self.inside.machine c.self.invariant.kept.state) _ c.in_ok-answer.ensures.answer.is_shown) (call_takes c.args.who c.args.call) (
       omega (arith, c.in_ok-answer.ensures.left, c.in_ok-places.ensures, most_reclaims c.call-2.new.self.phase),
       rw c.in_ok-reserve.ensures.ok at c.in_ok-reserve.ensures.fits,
-    ) false (call_act c.args.who c.args.call c.self.invariant.kept.state) refl)
+    ) true (call_act c.args.who c.args.call c.self.invariant.kept.state) refl)
 
 pub returns-clause-made : goal.returns-clause-made
 returns-clause-made g c =

@@ -1,11 +1,11 @@
-use Rattle.std.proofs.Common.{◌≡◌, ◌-◌, ◌∙◌, ap, sym, arith, rules, Bool}
-use Rattle.std.specs.Prelude.{is_none, is_some}
+use Rattle.std.proofs.Common.{◌≡◌, ◌-◌, ◌∙◌, ap, sym, arith, rules, Bool, is_some}
+use Rattle.std.specs.Prelude.{is_some}
 use Rattle.codec_model.specs.Control.{Control}
 use Rattle.codec_model.specs.Replay.{with_control, removal_error, removal_entry}
 use Rattle.codec_core.specs.Codec.{Codec, state_at, kept_box, handed_back}
 use Rattle.codec_core.proofs.Steps.{Moved, removal_after, removal_moves, makes_more, place_kept, removal_takes}
 use Rattle.codec_core.proofs.Recorded.{core_next, next_fits, removal_shown, removal_ends}
-use Rattle.codec_core.proofs.Owning.{at_home, control_at, removal_is, removal_box, keeps_running, asked_stays, back_removed}
+use Rattle.codec_core.proofs.Owning.{at_home, control_at, removal_is, keeps_running, asked_stays, back_removed}
 use Rattle.codec_core.proofs.codec.Core.make_removal.Given.{Over}
 use Rattle.codec_core.proofs.codec.Core.make_removal.Goals as goal
 
@@ -29,7 +29,7 @@ invariant_of-self g c =
     rw (c.push.ensures, c.removal_entry-entry.ensures)
     (core_next c.self.invariant _ (c.self.inside.spare - 1) _ (moved g c) (removal_shown c.args.who c.args.removal (with_control c.self.inside.machine kept.state) _ c.remove-answer.ensures.answer.is_shown) (removal_takes c.args.who c.args.removal)
     (omega (arith, c.remove-answer.ensures.left, c.requires, ap (λ (v : Codec). v.spare) c.self.view_is, c.self.invariant.places, place_kept kept (moved g c)), c.self.invariant.fits)
-    (is_none (removal_error kept.state.control)) (removal_is c.args.who c.args.removal kept.state) (removal_box kept c.hand_back-coder.new.slot (left_is g c)))
+    (is_some (removal_error kept.state.control)) (removal_is c.args.who c.args.removal kept.state) (left_is g c ∙ ap (λ (k : Control). kept_box (is_some (removal_error k)) c.self.inside.slot) (sym kept.is_control)))
 
 pub returns-clause-made : goal.returns-clause-made
 returns-clause-made g c =

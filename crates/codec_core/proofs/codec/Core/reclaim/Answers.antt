@@ -1,4 +1,4 @@
-use Rattle.std.proofs.Common.{◌∙◌, None, true, refl, ap, length, rules, arith}
+use Rattle.std.proofs.Common.{◌∙◌, None, true, refl, ap, length, rules, arith, false}
 use Rattle.codec_model.specs.declared.entry.Entry.TheVariants as entry
 use Rattle.codec_core.proofs.Steps.{Moved, reclaim_moves, makes_more, reclaim_reclaims}
 use Rattle.codec_core.proofs.Recorded.{core_next, next_fits, reclaim_ends}
@@ -21,7 +21,7 @@ pub invariant_of-self-2 : goal.invariant_of-self-2
 invariant_of-self-2 g c =
     rw (c.push.ensures, c.hand_back-coder.ensures.left)
     (core_next c.self.invariant _ c.self.inside.spare _ (moved g c) c.in_ok-answer.ensures.answer.is_shown refl
-    (omega (arith, c.in_ok-answer.ensures.left, c.self.invariant.places, reclaim_reclaims c.self.inside.machine c.reclaim.new.self c.args.now c.in_ok-answer.ensures.may c.in_ok-answer.ensures.made), c.self.invariant.fits) true refl refl)
+    (omega (arith, c.in_ok-answer.ensures.left, c.self.invariant.places, reclaim_reclaims c.self.inside.machine c.reclaim.new.self c.args.now c.in_ok-answer.ensures.may c.in_ok-answer.ensures.made), c.self.invariant.fits) false refl refl)
 
 pub returns-clause-made : goal.returns-clause-made
 returns-clause-made g c =
@@ -40,4 +40,4 @@ pub returns-clause-lets : goal.returns-clause-lets
 unfolding new
 returns-clause-lets g c =
     back_at (new g c) c.in_ok-answer.answer.place (length c.args.self.now.history) c.hand_back-coder.result (stopped_box c.args.self.now.slot) (search rules) (c.hand_back-coder.ensures.taken ∙ ap (λ (v : Codec). stopped_box v.slot) c.self.view_is)
-    (back_removal c.args.self.now (new g c) (entry.Reclaim c.args.now) true (returns-clause-made g c) refl (at_home c.self.invariant c.self.view_is))
+    (back_removal c.args.self.now (new g c) (entry.Reclaim c.args.now) false (returns-clause-made g c) refl (at_home c.self.invariant c.self.view_is))

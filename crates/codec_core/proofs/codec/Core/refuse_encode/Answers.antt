@@ -1,4 +1,4 @@
-use Rattle.std.proofs.Common.{◌≡◌, ◌∙◌, Some, false, refl, ap, sym, arith}
+use Rattle.std.proofs.Common.{◌≡◌, ◌∙◌, Some, false, refl, ap, sym, arith, true}
 use Rattle.wc_base.specs.declared.error.DomError.{DomError}
 use Rattle.codec_model.specs.declared.entry.Entry.TheVariants as entry
 use Rattle.codec_model.specs.Replay.{with_control, encode_error}
@@ -28,7 +28,7 @@ invariant_of-self-2 g c =
     (core_next c.self.invariant _ c.self.inside.spare _ (moved g c) (refusal_shown c.args.who c.args.detached (error g c) (with_control c.self.inside.machine c.self.invariant.kept.state) _ (error_is g c) c.in-Some.ensures.answer.is_shown) refl (
       omega (arith, c.in-Some.ensures.left, c.in_ok-places.ensures, most_reclaims c.refuse_encode.new.self.phase),
       rw c.in_ok-reserve.ensures.ok at c.in_ok-reserve.ensures.fits,
-    ) false refl refl)
+    ) true refl refl)
 
 pub returns-clause-made : goal.returns-clause-made
 returns-clause-made g c =

@@ -26,7 +26,7 @@ invariant_of-self-2 g c =
     let act = turn_act kept.state c.closes-closes.result (ap (λ (k : Control). turn_closes k.tasks) kept.is_control ∙ closes_is g c) in
     rw c.push.ensures
     (core_next c.self.invariant _ c.self.inside.spare _ (moved g c) c.in_ok-answer.ensures.answer.is_shown refl
-    (omega (arith, c.in_ok-answer.ensures.left, c.self.invariant.places, place_kept kept (moved g c)), c.self.invariant.fits) c.closes-closes.result act c.hand_back-coder.ensures.left)
+    (omega (arith, c.in_ok-answer.ensures.left, c.self.invariant.places, place_kept kept (moved g c)), c.self.invariant.fits) (not c.closes-closes.result) act c.hand_back-coder.ensures.left)
 
 pub returns-clause-some : goal.returns-clause-some
 returns-clause-some g c = rw (← c.self.view_is, c.push.ensures) (makes_more c.self.invariant.kept (moved g c) c.self.inside.spare c.self.inside.spare)
