@@ -133,14 +133,16 @@ pub record AtHome (c : Codec) : Type 0 where
   pub own : IsAskedAt (asked_of c) c.slot
   pub out : (r : Running) → (state_at c).control.running ≡ Some r → c.slot ≡ None
 
-pub back_removal : (old new : Codec) (e : Entry) (stays : Bool) → Makes old new e → act_of e (state_at old) ≡ removal_act (not stays) → AtHome old → GoesBack new (length old.history) (handed_back stays old.slot)
-back_removal old new e false makes act home =
-    back_stopped old new e old.slot makes (λ some. subst (λ (a : Act). LetsGo a (state_at old)) (sym act) (none_idle old.slot (state_at old).control.running home.out some)) home.own
-back_removal old new e true makes act home = tt
+back_at : (new : Codec) (at n : ℕ) (x y : Option Lent) → at ≡ n → x ≡ y → GoesBack new n y → GoesBack new at x
+back_at new at n x y is same back = rw (is, same) back
 
--- a removal's answer
-pub back_at : (new : Codec) (at n : ℕ) (x y : Option Lent) → at ≡ n → x ≡ y → GoesBack new n y → GoesBack new at x
-back_at new at n x y is same back = subst (λ (m : ℕ). GoesBack new m x) (sym is) (subst (GoesBack new n) (sym same) back)
+-- what a removal, or an entry that lets no box go, hands back
+pub back_removal : (old new : Codec) (e : Entry) (stays : Bool) (at : ℕ) (coder : Option Lent) → Makes old new e → act_of e (state_at old) ≡ removal_act (not stays) → AtHome old → at ≡ length old.history → coder ≡ handed_back stays old.slot → GoesBack new at coder
+back_removal old new e stays at coder makes act home is same = back_at new at (length old.history) coder (handed_back stays old.slot) is same (by stays act)
+  where
+    by : (stays : Bool) → act_of e (state_at old) ≡ removal_act (not stays) → GoesBack new (length old.history) (handed_back stays old.slot)
+    by false act = back_stopped old new e old.slot makes (λ some. subst (λ (a : Act). LetsGo a (state_at old)) (sym act) (none_idle old.slot (state_at old).control.running home.out some)) home.own
+    by true act = tt
 
 back_if : (new : Codec) (b : Bool) (at : ℕ) (coder : Option Lent) (x : Option RemovedValue) → x ≡ removed_if b at coder → GoesBack new at coder → IfSome x (λ r. GoesBack new r.place r.coder)
 back_if new true at coder x is back = subst (λ (o : Option RemovedValue). IfSome o (λ r. GoesBack new r.place r.coder)) (sym is) back
@@ -149,7 +151,7 @@ back_if new false at coder x is back = subst (λ (o : Option RemovedValue). IfSo
 pub back_turn : (old new : Codec) (b : Bool) (at : ℕ) (coder : Option Lent) (x : Option RemovedValue) → Makes old new entry.Turn → turn_closes (state_at old).control.tasks ≡ Some b → AtHome old → at ≡ length old.history
     → coder ≡ handed_back (not b) old.slot → x ≡ removed_if b at coder → IfSome x (λ r. GoesBack new r.place r.coder)
 back_turn old new b at coder x makes closes home is same answer =
-    back_if new b at coder x answer (back_at new at (length old.history) coder (handed_back (not b) old.slot) is same (back_removal old new entry.Turn (not b) makes (turn_act (state_at old) b closes) home))
+    back_if new b at coder x answer (back_removal old new entry.Turn (not b) at coder makes (turn_act (state_at old) b closes) home is same)
 
 -- ---- of what is kept
 
@@ -176,12 +178,6 @@ own_more {h = h} {slot = slot} {next = next} {k = k} {k' = k'} {e = e} kept stay
     let here = ap (act_of e) (state_is kept 0) ∙ act in
     subst (IsAskedAt (asked_of new)) (sym is) (own_removal old new e stays (makes_more kept moved 0 0) here own)
 
-pub back_removed : (old new : Codec) (who : Who) (r : Removal) (at : ℕ) (coder : Option Lent) → Makes old new (removal_entry who r) → AtHome old → at ≡ length old.history → coder ≡ handed_back (is_some (removal_error (state_at old).control)) old.slot
-    → GoesBack new at coder
-back_removed old new who r at coder makes home is same =
-    let stays = is_some (removal_error (state_at old).control) in
-    back_at new at (length old.history) coder (handed_back stays old.slot) is same (back_removal old new (removal_entry who r) stays makes (removal_is who r (state_at old)) home)
-
 -- ---- a start
 
 -- a start that lacks a box asks for one, and any other keeps the box
@@ -207,8 +203,7 @@ pub back_start : (old new : Codec) (job : JobValue) → Makes old new (entry.Sta
     → job.place ≡ length old.history → job.coder ≡ old.slot → IsAskedAt (asked_of old) old.slot → is_some (missing_id job) ≡ true → GoesBack new job.place job.coder
 back_start old new job makes lacks place coder own = λ some.
     let goes = goes_start (missing_id job) (state_at old) (act_of (entry.Start job.epoch job.number) (state_at old)) (ap start_act (sym lacks)) some in
-    let back = back_box old new (entry.Start job.epoch job.number) old.slot makes (λ _. goes) own in
-    subst (λ (n : ℕ). GoesBack new n job.coder) (sym place) (subst (GoesBack new (length old.history)) (sym coder) back)
+    back_at new job.place (length old.history) job.coder old.slot place coder (back_box old new (entry.Start job.epoch job.number) old.slot makes (λ _. goes) own)
 
 -- ---- an end
 
@@ -217,10 +212,13 @@ old_is s d b end is =
     ap (λ (o : Option Running). is_old o s.control.epoch) end.is_running
     ∙ (ap (λ (n : ℕ). not (eqb n s.control.epoch)) end.same_epoch ∙ ap not is)
 
-pub back_done : (old new : Codec) (d : DoneValue) (moment : ℕ) (b : Bool) → Makes old new (entry.Done d.epoch d.number moment (outcome_of d.ended)) → IsEndOf (state_at old) d → eqb d.epoch (state_at old).control.epoch ≡ b
-    → IsAskedAt (asked_of old) d.coder → GoesBack new (length old.history) (handed_back b d.coder)
-back_done old new d moment true makes end is own = tt
-back_done old new d moment false makes end is own = back_stopped old new (entry.Done d.epoch d.number moment (outcome_of d.ended)) d.coder makes (λ _. old_is (state_at old) d false end is) own
+pub back_done : (old new : Codec) (d : DoneValue) (moment : ℕ) (b : Bool) (at : ℕ) (coder : Option Lent) → Makes old new (entry.Done d.epoch d.number moment (outcome_of d.ended)) → IsEndOf (state_at old) d → eqb d.epoch (state_at old).control.epoch ≡ b
+    → IsAskedAt (asked_of old) d.coder → at ≡ length old.history → coder ≡ handed_back b d.coder → GoesBack new at coder
+back_done old new d moment b at coder makes end is own place same = back_at new at (length old.history) coder (handed_back b d.coder) place same (by b is)
+  where
+    by : (b : Bool) → eqb d.epoch (state_at old).control.epoch ≡ b → GoesBack new (length old.history) (handed_back b d.coder)
+    by true is = tt
+    by false is = back_stopped old new (entry.Done d.epoch d.number moment (outcome_of d.ended)) d.coder makes (λ _. old_is (state_at old) d false end is) own
 
 pub own_done : (old new : Codec) (d : DoneValue) (moment : ℕ) (b : Bool) → Makes old new (entry.Done d.epoch d.number moment (outcome_of d.ended)) → IsEndOf (state_at old) d → eqb d.epoch (state_at old).control.epoch ≡ b
     → IsAskedAt (asked_of old) d.coder → IsAskedAt (asked_of new) (kept_box b d.coder)

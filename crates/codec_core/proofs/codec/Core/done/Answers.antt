@@ -1,11 +1,11 @@
-use Rattle.std.proofs.Common.{ℕ, ◌≡◌, ◌∙◌, ◌++◌, ◌∷◌, [], length, ap, sym, subst, eqb, refl, rules, arith}
+use Rattle.std.proofs.Common.{ℕ, ◌≡◌, ◌∙◌, ◌++◌, ◌∷◌, [], ap, sym, subst, eqb, refl, rules, arith}
 use Rattle.codec_model.specs.Control.{Control}
 use Rattle.codec_model.specs.declared.entry.Entry.{Entry}
 use Rattle.codec_model.specs.declared.entry.Entry.TheVariants as entry
 use Rattle.codec_accounts.specs.ActLaws.{act_makes}
 use Rattle.codec_core.specs.Job.{DoneValue, outcome_of, IsEndOf}
 use Rattle.codec_core.specs.Codec.{Codec, Makes, state_at, IsAskedAt, kept_box, handed_back}
-use Rattle.codec_core.specs.Owning.{asked_of, GoesBack}
+use Rattle.codec_core.specs.Owning.{asked_of}
 use Rattle.codec_core.proofs.Steps.{Moved, done_moves, makes_more, place_kept}
 use Rattle.codec_core.proofs.Recorded.{core_more, next_fits}
 use Rattle.codec_core.proofs.Owning.{seen, control_at, own_done, back_done}
@@ -65,7 +65,5 @@ back g c = c.hand_back-back.ensures.taken ∙ ap (λ (n : ℕ). handed_back (eqb
 
 pub returns-clause-lets : goal.returns-clause-lets
 returns-clause-lets g c =
-    let at : c.place-place.result ≡ length c.self.inside.trace.entries = search rules in
-    let lets : GoesBack (new g c) (length c.self.inside.trace.entries) c.hand_back-back.result =
-    subst (GoesBack (new g c) (length c.self.inside.trace.entries)) (sym (back g c)) (back_done (old g c) (new g c) (job g c) c.args.moment (eqb c.d.inside.epoch c.self.inside.machine.epoch) (made g c) (end_is g c) (current g c) (own_is g c)) in
-    rw (c.push.ensures, c.outcome_of_end-outcome.ensures) (subst (λ (n : ℕ). GoesBack (new g c) n c.hand_back-back.result) (sym at) lets)
+    rw (c.push.ensures, c.outcome_of_end-outcome.ensures)
+    (back_done (old g c) (new g c) (job g c) c.args.moment (eqb c.d.inside.epoch c.self.inside.machine.epoch) _ _ (made g c) (end_is g c) (current g c) (own_is g c) (search rules) (back g c))

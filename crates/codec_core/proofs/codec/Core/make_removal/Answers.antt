@@ -5,7 +5,7 @@ use Rattle.codec_model.specs.Replay.{with_control, removal_error, removal_entry}
 use Rattle.codec_core.specs.Codec.{Codec, state_at, kept_box, handed_back}
 use Rattle.codec_core.proofs.Steps.{Moved, removal_after, removal_moves, makes_more, place_kept, removal_takes}
 use Rattle.codec_core.proofs.Recorded.{core_next, next_fits, removal_shown, removal_ends}
-use Rattle.codec_core.proofs.Owning.{at_home, control_at, removal_is, keeps_running, asked_stays, back_removed}
+use Rattle.codec_core.proofs.Owning.{at_home, control_at, removal_is, keeps_running, asked_stays, back_removal}
 use Rattle.codec_core.proofs.codec.Core.make_removal.Given.{Over}
 use Rattle.codec_core.proofs.codec.Core.make_removal.Goals as goal
 
@@ -48,4 +48,5 @@ handed g c =
     ∙ ap (λ (v : Codec). handed_back (is_some (removal_error (state_at c.args.self.now).control)) v.slot) c.self.view_is)
 
 pub returns-clause-lets : goal.returns-clause-lets
-returns-clause-lets g c = back_removed c.args.self.now _ c.args.who c.args.removal _ _ (returns-clause-made g c) (at_home c.self.invariant c.self.view_is) (search rules) (handed g c)
+returns-clause-lets g c =
+    back_removal c.args.self.now _ (removal_entry c.args.who c.args.removal) _ _ _ (returns-clause-made g c) (removal_is c.args.who c.args.removal _) (at_home c.self.invariant c.self.view_is) (search rules) (handed g c)

@@ -1,10 +1,10 @@
-use Rattle.std.proofs.Common.{◌∙◌, None, true, refl, ap, length, rules, arith, false}
+use Rattle.std.proofs.Common.{◌∙◌, None, true, refl, ap, rules, arith, false}
 use Rattle.codec_model.specs.declared.entry.Entry.TheVariants as entry
 use Rattle.codec_core.proofs.Steps.{Moved, reclaim_moves, makes_more, reclaim_reclaims}
 use Rattle.codec_core.proofs.Recorded.{core_next, next_fits, reclaim_ends}
 use Rattle.codec_core.specs.Job.{stopped_box}
 use Rattle.codec_core.specs.Codec.{Codec}
-use Rattle.codec_core.proofs.Owning.{at_home, keeps_running, asked_stays, back_at, back_removal}
+use Rattle.codec_core.proofs.Owning.{at_home, keeps_running, asked_stays, back_removal}
 use Rattle.codec_core.proofs.codec.Core.reclaim.Given.{Over}
 use Rattle.codec_core.proofs.codec.Core.reclaim.Goals as goal
 
@@ -33,11 +33,7 @@ returns-clause-running g c = keeps_running true (returns-clause-made g c) refl
 pub returns-clause-asked : goal.returns-clause-asked
 returns-clause-asked g c = asked_stays true (returns-clause-made g c) refl
 
-new : (g : Over) (c : goal.After-push g) → Codec
-new g c = record { opening = c.reclaim.new.self.opening; history = c.push.new.self.entries; spare = c.self.inside.spare; slot = c.hand_back-coder.new.slot }
-
 pub returns-clause-lets : goal.returns-clause-lets
-unfolding new
 returns-clause-lets g c =
-    back_at (new g c) c.in_ok-answer.answer.place (length c.args.self.now.history) c.hand_back-coder.result (stopped_box c.args.self.now.slot) (search rules) (c.hand_back-coder.ensures.taken ∙ ap (λ (v : Codec). stopped_box v.slot) c.self.view_is)
-    (back_removal c.args.self.now (new g c) (entry.Reclaim c.args.now) false (returns-clause-made g c) refl (at_home c.self.invariant c.self.view_is))
+    back_removal c.args.self.now _ (entry.Reclaim c.args.now) false _ _ (returns-clause-made g c) refl (at_home c.self.invariant c.self.view_is) (search rules)
+    (c.hand_back-coder.ensures.taken ∙ ap (λ (v : Codec). stopped_box v.slot) c.self.view_is)
