@@ -1,22 +1,17 @@
 -- Whose box a codec's box is, entry after entry.
-use Rattle.std.proofs.Common.{ℕ, ◌≡◌, not, Bool, true, false, eqb, cond, List, [], ◌∷◌, ◌++◌, length, Option, Some, None, is_some, is_none, refl, ap, sym, subst, ◌∙◌}
+use Rattle.std.proofs.Common.{ℕ, ◌≡◌, not, Bool, true, false, eqb, cond, List, [], ◌∷◌, ◌++◌, length, Option, Some, None, is_some, refl, ap, sym, subst, ◌∙◌}
 use Rattle.std.specs.Prelude.{unwrap_or, IfSome}
 use Rattle.wc_base.specs.declared.who.By.{By}
 use Rattle.wc_base.specs.declared.who.By.TheVariants as by
-use Rattle.wc_base.specs.declared.who.Who.{Who}
 use Rattle.wc_config.specs.declared.codec.CoderId.{CoderId}
 use Rattle.coder_api.specs.Lent.{Lent}
 use Rattle.codec_model.specs.declared.entry.Opening.{Opening}
 use Rattle.codec_model.specs.declared.entry.Entry.{Entry}
 use Rattle.codec_model.specs.declared.entry.Entry.TheVariants as entry
-use Rattle.codec_model.specs.declared.entry.Call.{Call}
-use Rattle.codec_model.specs.declared.entry.Call.TheVariants as call
-use Rattle.codec_model.specs.declared.entry.Removal.{Removal}
-use Rattle.codec_model.specs.declared.entry.Removal.TheVariants as removal
 use Rattle.codec_model.specs.declared.entry.Running.{Running}
 use Rattle.codec_model.specs.declared.entry.Task.{Task}
 use Rattle.codec_model.specs.Control.{Control, start_item, turn_closes}
-use Rattle.codec_model.specs.Replay.{State, opening_state, step, replay, entry_of, removal_entry, removal_error}
+use Rattle.codec_model.specs.Replay.{State, opening_state, step, replay}
 use Rattle.codec_model.specs.ShownLaws.{replay_more}
 use Rattle.codec_accounts.specs.Boxes.{Act, Ends, Other, Kept, stays, act_of, lets, lacking, start_act, removal_act, acts_of}
 use Rattle.codec_model.specs.Held.{closes_codec}
@@ -46,14 +41,6 @@ keeps_running {old = old} {new = new} {e = e} b makes act = by b (subst (λ (a :
     by false m = record { same_running = m.0.running; same_given = m.0.given }
 
 -- ---- what entries are to the box
-
-pub call_act : (who : Who) (x : Call) (t : State) → act_of (entry_of who x) t ≡ removal_act false
-call_act who call.Flush t = refl
-call_act who x t = refl
-
-pub removal_is : (who : Who) (r : Removal) (t : State) → act_of (removal_entry who r) t ≡ removal_act (is_none (removal_error t.control))
-removal_is who removal.Reset t = refl
-removal_is who removal.Close t = refl
 
 closes_is : (ts : List Task) (b : Bool) → turn_closes ts ≡ Some b → closes_codec ts ≡ not (not b)
 closes_is [] b h = absurd cc

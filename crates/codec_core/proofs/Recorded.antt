@@ -12,8 +12,6 @@ use Rattle.codec_definitions.specs.declared.unit.Unit as media
 use Rattle.coder_api.specs.Lent.{Lent}
 use Rattle.codec_model.specs.declared.entry.Call.{Call}
 use Rattle.codec_model.specs.declared.entry.Call.TheVariants as call
-use Rattle.codec_model.specs.declared.entry.Removal.{Removal}
-use Rattle.codec_model.specs.declared.entry.Removal.TheVariants as removal
 use Rattle.codec_model.specs.declared.entry.Entry.{Entry}
 use Rattle.codec_model.specs.declared.entry.Entry.TheVariants as entry
 use Rattle.codec_model.specs.declared.entry.Event.{Event}
@@ -23,7 +21,7 @@ use Rattle.codec_model.specs.declared.entry.Task.{Task}
 use Rattle.codec_model.specs.declared.entry.Task.TheVariants as task
 use Rattle.codec_model.specs.declared.entry.PromiseEnd.{PromiseEnd}
 use Rattle.codec_model.specs.Control.{Control, carried, left, front, may_take, after_take, at_next_place}
-use Rattle.codec_model.specs.Replay.{State, with_control, encode_error, call_error, removal_error, entry_of, removal_entry}
+use Rattle.codec_model.specs.Replay.{State, with_control, encode_error, call_error, removal_error}
 use Rattle.codec_model.specs.Facts.{Always, IsNeverStuck, NamesEarlier}
 use Rattle.codec_model.specs.Shown.{shows as events_of, units_in, units_shown, ends_of, refusal, shown, outputs_of, shown_at, call_shows, removal_shows, reclaim_shows, close_shows, rejections, turn_shows, turn_word}
 use Rattle.codec_model.specs.ShownLaws.{each_more}
@@ -124,14 +122,6 @@ pub next_fits : {t : TraceValue} {slot : Option Lent} {k : Control} {spare : ℕ
 next_fits is = omega (arith, is.fits, is.kept.is_place)
 
 -- ---- what entries show, by the control state
-
-pub call_shown : (who : Who) (x : Call) (s : State) (y : Shown) → y ≡ record { turn = None; events = call_shows x s.control.place (call_error x s.control) } → y ≡ shown_at (entry_of who x) s
-call_shown who call.Flush s y is = is
-call_shown who x s y is = is
-
-pub removal_shown : (who : Who) (r : Removal) (s : State) (y : Shown) → y ≡ record { turn = None; events = removal_shows (removal_error s.control) s.control.pending } → y ≡ shown_at (removal_entry who r) s
-removal_shown who removal.Reset s y is = is
-removal_shown who removal.Close s y is = is
 
 pub refusal_shown : (who : Who) (detached : Bool) (error : DomError) (s : State) (y : Shown) → encode_error detached s.control ≡ Some error → y ≡ record { turn = None; events = refusal (encode_error detached s.control) } → y ≡ shown_at (entry.Encode who (refused_as detached)) s
 refusal_shown who detached error s y e is =

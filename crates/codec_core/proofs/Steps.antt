@@ -31,8 +31,10 @@ use Rattle.codec_model.specs.declared.entry.Task.TheVariants as task
 use Rattle.codec_model.specs.declared.entry.Ended.{Ended}
 use Rattle.codec_model.specs.declared.entry.Ended.TheVariants as ended
 use Rattle.codec_model.specs.Control.{Control, is_decoder, after_message, process, with_message, at_next_place, is_close, turn_closes, run_task, run_front, kind_of, after_done, done_running, after_end, after_turn, after_close, after_removal, may_reclaim, front, may_start, start_item, after_start, after_encode, after_take, may_take}
-use Rattle.codec_model.specs.Replay.{State, Given, missing_coder, opening_state, step, with_control, removed, after_call, call_error, entry_of, removal_error, removal_entry, remove_or_refuse, is_configured, encode_error}
-use Rattle.codec_model.specs.Shown.{handed_error}
+use Rattle.codec_model.specs.Replay.{State, call_step, removal_step, Given, missing_coder, opening_state, step, with_control, removed, after_call, call_error, entry_of, removal_error, removal_entry, remove_or_refuse, is_configured, encode_error}
+use Rattle.codec_model.specs.declared.entry.Event.{Event}
+use Rattle.codec_model.specs.Shown.{handed_error, shown_at, call_shows, removal_shows}
+use Rattle.codec_accounts.specs.Boxes.{act_of, removal_act}
 use Rattle.codec_model.specs.ShownLaws.{replay_more}
 use Rattle.codec_model.specs.StepLaws.{by_queue, begun, start_made}
 use Rattle.codec_core.specs.Job.{JobValue, DoneValue, missing_for, CoderAt, CoderFor, StillAt, IsEndOf, IsJobOf, outcome_of}
@@ -91,35 +93,28 @@ pub record Moved (slot : Option Lent) (e : Entry) (s : State) (k : Control) : Ty
   pub is_control : after.control ≡ k
   pub leaves : Leaves slot e s after (rest_of k)
 
+moved_to : {slot : Option Lent} {e : Entry} {s : State} (t : State) (r : Rest) → rest_of t.control ≡ r → step e s ≡ Some t → Leaves slot e s t r → Moved slot e s t.control
+moved_to {slot = slot} {e = e} {s = s} t r same steps leaves = record { after = t; steps = steps; is_control = refl; leaves = subst (Leaves slot e s t) (sym same) leaves }
+
 -- an entry at which the running item and the epoch stay, with this phase and so many outputs taken after it
 moved_by : (slot : Option Lent) (e : Entry) (s : State) (k : Control) (phase : CodecState) (taken : ℕ) → rest_of k ≡ rest_of (record (at_next_place s.control) { phase = phase; taken = taken }) → reclaims phase ≤ reclaims s.control.phase → (takes e ≡ false → taken ≡ s.control.taken) → step e s ≡ Some (with_control k s) → CoderHome slot s → Moved slot e s k
-moved_by slot e s k phase taken same le none steps home = record {
-  after = with_control k s;
-  steps = steps;
-  is_control = refl;
-  leaves = subst (Leaves slot e s (with_control k s)) (sym same) (record {
-    home = record { idle = home.idle; out = home.out; busy = home.busy; stale = home.stale; older = home.older };
-    next_place = refl;
-    same_opening = refl;
-    taken = none;
-    kept_place = le;
-  });
-}
+moved_by slot e s k phase taken same le none steps home = moved_to (with_control k s) _ same steps (record {
+  home = record { idle = home.idle; out = home.out; busy = home.busy; stale = home.stale; older = home.older };
+  next_place = refl;
+  same_opening = refl;
+  taken = none;
+  kept_place = le;
+})
 
 -- a removal begins a new epoch, with no box at home
 removed_moved : (slot : Option Lent) (e : Entry) (s : State) (k : Control) (phase : CodecState) → rest_of k ≡ rest_of (record (at_next_place s.control) { epoch = s.control.epoch + 1; halted = false; phase = phase }) → reclaims phase ≤ reclaims s.control.phase → step e s ≡ Some (removed k s) → CoderHome slot s → Moved None e s k
-removed_moved slot e s k phase same le steps home = record {
-  after = removed k s;
-  steps = steps;
-  is_control = refl;
-  leaves = subst (Leaves None e s (removed k s)) (sym same) (record {
-    home = record { idle = λ _ _. refl; out = λ r i. refl; busy = λ r i o. absurd (omega (arith, home.older r i, o)); stale = λ r i l. refl; older = λ r i. omega (arith, home.older r i) };
-    next_place = refl;
-    same_opening = refl;
-    taken = λ none. refl;
-    kept_place = le;
-  });
-}
+removed_moved slot e s k phase same le steps home = moved_to (removed k s) _ same steps (record {
+  home = record { idle = λ _ _. refl; out = λ r i. refl; busy = λ r i o. absurd (omega (arith, home.older r i, o)); stale = λ r i l. refl; older = λ r i. omega (arith, home.older r i) };
+  next_place = refl;
+  same_opening = refl;
+  taken = λ none. refl;
+  kept_place = le;
+})
 
 -- a codec that may be configured, or removed, is not closed
 open_phase : (b : Bool) (p : CodecState) → cond b (elim p as (λ _. Option DomError) [ Unconfigured ↦ None | Configured ↦ None | Closed ↦ Some dom.InvalidState ]) (Some dom.TypeErr) ≡ None → reclaims p ≡ 1
@@ -163,18 +158,13 @@ start_moved s i can =
     let out : Running = record { epoch = s.control.epoch; number = i.number; place = i.place; kind = kind_of i.work } in
     let is_out : (r : Running) → Some out ≡ Some r → out.epoch ≡ r.epoch = λ r e. ap (λ (x : Running). x.epoch) (some_same out r e) in
     let after : after_start s.control ≡ t.control = rw (can.0, can.1) refl in
-    record {
-      after = t;
-      steps = starts s i can;
-      is_control = sym after;
-      leaves = subst (λ (c : Control). Leaves None (entry.Start s.control.epoch i.number) s t (rest_of c)) (sym after) (record {
-        home = record { idle = λ r e. absurd cc; out = λ r e. refl; busy = λ r e o. refl; stale = λ r e l. absurd (omega (arith, is_out r e)); older = λ r e. omega (arith, is_out r e) };
-        next_place = refl;
-        same_opening = refl;
-        taken = λ none. refl;
-        kept_place = omega arith;
-      });
-    }
+    subst (Moved None (entry.Start s.control.epoch i.number) s) (sym after) (moved_to t (rest_of t.control) refl (starts s i can) (record {
+      home = record { idle = λ r e. absurd cc; out = λ r e. refl; busy = λ r e o. refl; stale = λ r e l. absurd (omega (arith, is_out r e)); older = λ r e. omega (arith, is_out r e) };
+      next_place = refl;
+      same_opening = refl;
+      taken = λ none. refl;
+      kept_place = omega arith;
+    }))
 
 -- the box at home of an idle codec was given all that was given
 home_idle : (s : State) (slot : Option Lent) → may_start s.control ≡ true → CoderHome slot s → CoderAt slot s.given
@@ -232,28 +222,31 @@ done_moved slot next s d moment end home next_is =
     let k = done_running end.running d.ended moment (at_next_place s.control) in
     let l = done_leaves end.running d.ended moment (at_next_place s.control) in
     let after : after_done d.ended moment s.control ≡ k = rw end.is_running refl in
-    record {
-      after = with_control k s;
-      steps = done_steps s d moment end ∙ ap (λ (c : Control). Some (with_control c s)) after;
-      is_control = sym after;
-      leaves = subst (λ (c : Control). Leaves next (entry.Done d.epoch d.number moment (outcome_of d.ended)) s (with_control k s) (rest_of c)) (sym after) (subst (Leaves next (entry.Done d.epoch d.number moment (outcome_of d.ended)) s (with_control k s)) (sym l) (record {
-        home = record { idle = λ run fine. idle_after slot next s d moment end home (eqb d.epoch s.control.epoch) refl next_is fine; out = λ r e. absurd cc; busy = λ r e o. absurd cc; stale = λ r e o. absurd cc; older = λ r e. absurd cc };
-        next_place = refl;
-        same_opening = refl;
-        taken = λ none. refl;
-        kept_place = omega arith;
-      }));
-    }
+    let steps = done_steps s d moment end ∙ ap (λ (c : Control). Some (with_control c s)) after in
+    subst (Moved next (entry.Done d.epoch d.number moment (outcome_of d.ended)) s) (sym after) (moved_to (with_control k s) _ l steps (record {
+      home = record { idle = λ run fine. idle_after slot next s d moment end home (eqb d.epoch s.control.epoch) refl next_is fine; out = λ r e. absurd cc; busy = λ r e o. absurd cc; stale = λ r e o. absurd cc; older = λ r e. absurd cc };
+      next_place = refl;
+      same_opening = refl;
+      taken = λ none. refl;
+      kept_place = omega arith;
+    }))
 
 -- ---- calls
 
-call_steps : (who : Who) (x : Call) (s : State) → step (entry_of who x) s ≡ Some (with_control (after_call (call_error x s.control) x s.control) s)
-call_steps who call.Flush s = refl
-call_steps who x s = refl
+-- an entry that takes no output: its step, what it shows, and whether it removes
+pub record EntryIs (e : Entry) (s t : State) (events : List Event) (removes : Bool) : Type 0 where
+  pub steps : step e s ≡ Some t
+  pub takes_none : takes e ≡ false
+  pub shows : shown_at e s ≡ record { turn = None; events = events }
+  pub act : act_of e s ≡ removal_act removes
 
-pub call_takes : (who : Who) (x : Call) → takes (entry_of who x) ≡ false
-call_takes who call.Flush = refl
-call_takes who x = refl
+pub call_is : (who : Who) (x : Call) (s : State) → EntryIs (entry_of who x) s (call_step x s) (call_shows x s.control.place (call_error x s.control)) false
+call_is who call.Flush s = record { steps = refl; takes_none = refl; shows = refl; act = refl }
+call_is who x s = record { steps = refl; takes_none = refl; shows = refl; act = refl }
+
+pub removal_is : (who : Who) (r : Removal) (s : State) → EntryIs (removal_entry who r) s (removal_step r s) (removal_shows (removal_error s.control) s.control.pending) (is_none (removal_error s.control))
+removal_is who removal.Reset s = record { steps = refl; takes_none = refl; shows = refl; act = refl }
+removal_is who removal.Close s = record { steps = refl; takes_none = refl; shows = refl; act = refl }
 
 -- an encode of data that is not detached is refused exactly where the codec is not configured
 not_refused : (b : Bool) → cond b None (Some dom.InvalidState) ≡ None → b ≡ true
@@ -298,16 +291,8 @@ abbrev pub removal_of : Option DomError → Removal → Control → Control
 removal_of None r s = after_removal r (at_next_place s)
 removal_of (Some error) r s = at_next_place s
 
-pub removal_takes : (who : Who) (r : Removal) → takes (removal_entry who r) ≡ false
-removal_takes who removal.Reset = refl
-removal_takes who removal.Close = refl
-
-removal_steps : (who : Who) (r : Removal) (s : State) → step (removal_entry who r) s ≡ Some (remove_or_refuse (removal_error s.control) r s)
-removal_steps who removal.Reset s = refl
-removal_steps who removal.Close s = refl
-
 removal_moved : (slot : Option Lent) (who : Who) (r : Removal) (s : State) (error : Option DomError) → removal_error s.control ≡ error → CoderHome slot s → Moved (kept_box (is_some error) slot) (removal_entry who r) s (removal_of error r s.control)
-removal_moved slot who r s error e home = by r error e (removal_steps who r s ∙ ap (λ (o : Option DomError). Some (remove_or_refuse o r s)) e)
+removal_moved slot who r s error e home = by r error e ((removal_is who r s).steps ∙ ap (λ (o : Option DomError). Some (remove_or_refuse o r s)) e)
   where
     by : (r : Removal) (o : Option DomError) → removal_error s.control ≡ o → step (removal_entry who r) s ≡ Some (remove_or_refuse o r s) → Moved (kept_box (is_some o) slot) (removal_entry who r) s (removal_of o r s.control)
     by removal.Reset None e steps = removed_moved slot (entry.Reset who) s _ Unconfigured refl (omega (arith, open_phase true s.control.phase e)) steps home
@@ -385,7 +370,7 @@ module _ {h : List Entry} {slot : Option Lent} {k : Control} (kept : IsKept h sl
 
   pub call_moves : {k' : Control} (who : Who) (x : Call) → k' ≡ after_call (call_error x k) x k → Moved slot (entry_of who x) kept.state k'
   call_moves who x after =
-      let s = kept.state in rw (after, ← kept.is_control) (call_moved slot who x s (call_error x s.control) refl (call_steps who x s) kept.home)
+      let s = kept.state in rw (after, ← kept.is_control) (call_moved slot who x s (call_error x s.control) refl (call_is who x s).steps kept.home)
 
   -- an encode is queued like a call
   pub encode_moves : {k' : Control} (who : Who) (x : HeldSound) → encode_error false k ≡ None → k' ≡ after_encode k.place x (at_next_place k) → Moved slot (entry.Encode who (handed.Cloned x)) kept.state k'

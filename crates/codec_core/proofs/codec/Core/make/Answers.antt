@@ -1,8 +1,8 @@
-use Rattle.std.proofs.Common.{arith, refl, false, true}
+use Rattle.std.proofs.Common.{arith, refl, false, true, sym, ◌∙◌}
 use Rattle.codec_model.specs.Replay.{with_control, entry_of}
-use Rattle.codec_core.proofs.Steps.{Moved, call_moves, call_takes, makes_more, most_reclaims}
-use Rattle.codec_core.proofs.Recorded.{core_next, call_shown, call_ends}
-use Rattle.codec_core.proofs.Owning.{call_act, keeps_running, asked_stays}
+use Rattle.codec_core.proofs.Steps.{call_is, Moved, call_moves, makes_more, most_reclaims}
+use Rattle.codec_core.proofs.Recorded.{core_next, call_ends}
+use Rattle.codec_core.proofs.Owning.{keeps_running, asked_stays}
 use Rattle.codec_core.proofs.codec.Core.make.Given.{Over}
 use Rattle.codec_core.proofs.codec.Core.make.Goals as goal
 
@@ -18,17 +18,17 @@ moved g c = call_moves c.self.invariant.kept c.args.who c.args.call c.in_ok-answ
 pub invariant_of-self-2 : goal.invariant_of-self-2
 invariant_of-self-2 g c =
     rw (c.push.ensures, c.in_ok-reserve.ensures.ok, c.in_ok-entry.ensures)
-    (core_next c.self.invariant _ c.self.inside.spare _ (moved g c) (call_shown c.args.who c.args.call (with_control c.self.inside.machine c.self.invariant.kept.state) _ c.in_ok-answer.ensures.answer.is_shown) (call_takes c.args.who c.args.call) (
+    (core_next c.self.invariant _ c.self.inside.spare _ (moved g c) (c.in_ok-answer.ensures.answer.is_shown ∙ sym (call_is c.args.who c.args.call (with_control c.self.inside.machine c.self.invariant.kept.state)).shows) (call_is c.args.who c.args.call c.self.invariant.kept.state).takes_none (
       omega (arith, c.in_ok-answer.ensures.left, c.in_ok-places.ensures, most_reclaims c.call-2.new.self.phase),
       rw c.in_ok-reserve.ensures.ok at c.in_ok-reserve.ensures.fits,
-    ) true (call_act c.args.who c.args.call c.self.invariant.kept.state) refl)
+    ) true (call_is c.args.who c.args.call c.self.invariant.kept.state).act refl)
 
 pub returns-clause-made : goal.returns-clause-made
 returns-clause-made g c =
     rw (← c.self.view_is, c.push.ensures, c.in_ok-reserve.ensures.ok, c.in_ok-entry.ensures) (makes_more c.self.invariant.kept (moved g c) c.self.inside.spare c.self.inside.spare)
 
 pub returns-clause-running : goal.returns-clause-running
-returns-clause-running g c = keeps_running false (returns-clause-made g c) (call_act c.args.who c.args.call _)
+returns-clause-running g c = keeps_running false (returns-clause-made g c) (call_is c.args.who c.args.call _).act
 
 pub returns-clause-asked : goal.returns-clause-asked
-returns-clause-asked g c = asked_stays false (returns-clause-made g c) (call_act c.args.who c.args.call _)
+returns-clause-asked g c = asked_stays false (returns-clause-made g c) (call_is c.args.who c.args.call _).act

@@ -3,9 +3,9 @@ use Rattle.std.specs.Prelude.{is_some}
 use Rattle.codec_model.specs.Control.{Control}
 use Rattle.codec_model.specs.Replay.{with_control, removal_error, removal_entry}
 use Rattle.codec_core.specs.Codec.{Codec, state_at, kept_box, handed_back}
-use Rattle.codec_core.proofs.Steps.{Moved, removal_after, removal_moves, makes_more, place_kept, removal_takes}
-use Rattle.codec_core.proofs.Recorded.{core_next, next_fits, removal_shown, removal_ends}
-use Rattle.codec_core.proofs.Owning.{at_home, control_at, removal_is, keeps_running, asked_stays, back_removal}
+use Rattle.codec_core.proofs.Steps.{removal_is, Moved, removal_after, removal_moves, makes_more, place_kept}
+use Rattle.codec_core.proofs.Recorded.{core_next, next_fits, removal_ends}
+use Rattle.codec_core.proofs.Owning.{at_home, control_at, keeps_running, asked_stays, back_removal}
 use Rattle.codec_core.proofs.codec.Core.make_removal.Given.{Over}
 use Rattle.codec_core.proofs.codec.Core.make_removal.Goals as goal
 
@@ -27,19 +27,19 @@ pub invariant_of-self : goal.invariant_of-self
 invariant_of-self g c =
     let kept = c.self.invariant.kept in
     rw (c.push.ensures, c.removal_entry-entry.ensures)
-    (core_next c.self.invariant _ (c.self.inside.spare - 1) _ (moved g c) (removal_shown c.args.who c.args.removal (with_control c.self.inside.machine kept.state) _ c.remove-answer.ensures.answer.is_shown) (removal_takes c.args.who c.args.removal)
+    (core_next c.self.invariant _ (c.self.inside.spare - 1) _ (moved g c) (c.remove-answer.ensures.answer.is_shown ∙ sym (removal_is c.args.who c.args.removal (with_control c.self.inside.machine kept.state)).shows) (removal_is c.args.who c.args.removal kept.state).takes_none
     (omega (arith, c.remove-answer.ensures.left, c.requires, ap (λ (v : Codec). v.spare) c.self.view_is, c.self.invariant.places, place_kept kept (moved g c)), c.self.invariant.fits)
-    (is_some (removal_error kept.state.control)) (removal_is c.args.who c.args.removal kept.state) (left_is g c ∙ ap (λ (k : Control). kept_box (is_some (removal_error k)) c.self.inside.slot) (sym kept.is_control)))
+    (is_some (removal_error kept.state.control)) (removal_is c.args.who c.args.removal kept.state).act (left_is g c ∙ ap (λ (k : Control). kept_box (is_some (removal_error k)) c.self.inside.slot) (sym kept.is_control)))
 
 pub returns-clause-made : goal.returns-clause-made
 returns-clause-made g c =
     rw (← c.self.view_is, c.push.ensures, c.removal_entry-entry.ensures) (makes_more c.self.invariant.kept (moved g c) c.self.inside.spare (c.self.inside.spare - 1))
 
 pub returns-clause-running : goal.returns-clause-running
-returns-clause-running g c = keeps_running _ (returns-clause-made g c) (removal_is c.args.who c.args.removal _)
+returns-clause-running g c = keeps_running _ (returns-clause-made g c) (removal_is c.args.who c.args.removal _).act
 
 pub returns-clause-asked : goal.returns-clause-asked
-returns-clause-asked g c = asked_stays _ (returns-clause-made g c) (removal_is c.args.who c.args.removal _)
+returns-clause-asked g c = asked_stays _ (returns-clause-made g c) (removal_is c.args.who c.args.removal _).act
 
 handed : (g : Over) (c : goal.After-push g) → c.hand_back-coder.result ≡ handed_back (is_some (removal_error (state_at c.args.self.now).control)) c.args.self.now.slot
 handed g c =
@@ -49,4 +49,4 @@ handed g c =
 
 pub returns-clause-lets : goal.returns-clause-lets
 returns-clause-lets g c =
-    back_removal c.args.self.now _ (removal_entry c.args.who c.args.removal) _ _ _ (returns-clause-made g c) (removal_is c.args.who c.args.removal _) (at_home c.self.invariant c.self.view_is) (search rules) (handed g c)
+    back_removal c.args.self.now _ (removal_entry c.args.who c.args.removal) _ _ _ (returns-clause-made g c) (removal_is c.args.who c.args.removal _).act (at_home c.self.invariant c.self.view_is) (search rules) (handed g c)
