@@ -6,7 +6,7 @@ use Rattle.std.proofs.lemmas.Bool.{and_parts, eqb-true}
 use Rattle.std.proofs.lemmas.List.{drop-append-le, drop-drop, length-drop}
 use Rattle.std.proofs.lemmas.Bool.Decides.{nat_tests}
 use Rattle.wc_base.specs.declared.error.DomError.{DomError}
-use Rattle.wc_base.specs.declared.error.DomError.TheVariants.{Abort, QuotaExceeded}
+use Rattle.wc_base.specs.declared.error.DomError.TheVariants.{Abort}
 use Rattle.wc_base.specs.declared.who.Who.{Who}
 use Rattle.codec_definitions.specs.declared.unit.Unit as media
 use Rattle.coder_api.specs.Lent.{Lent}
@@ -21,9 +21,9 @@ use Rattle.codec_model.specs.declared.entry.Task.{Task}
 use Rattle.codec_model.specs.declared.entry.Task.TheVariants as task
 use Rattle.codec_model.specs.declared.entry.PromiseEnd.{PromiseEnd}
 use Rattle.codec_model.specs.Control.{Control, carried, left, front, may_take, after_take, at_next_place}
-use Rattle.codec_model.specs.Replay.{State, with_control, encode_error, call_error, removal_error}
+use Rattle.codec_model.specs.Replay.{State, with_control, encode_error, call_error}
 use Rattle.codec_model.specs.Facts.{Always, IsNeverStuck, NamesEarlier}
-use Rattle.codec_model.specs.Shown.{shows as events_of, units_in, units_shown, ends_of, refusal, shown, outputs_of, shown_at, call_shows, removal_shows, reclaim_shows, close_shows, rejections, turn_shows, turn_word}
+use Rattle.codec_model.specs.Shown.{shows as events_of, units_in, units_shown, ends_of, refusal, shown, outputs_of, shown_at, call_shows, removal_shows, close_shows, rejections, turn_shows}
 use Rattle.codec_model.specs.ShownLaws.{each_more}
 use Rattle.codec_model.specs.Earlier.{pending_below, resolved_below}
 use Rattle.codec_accounts.specs.Asked.{asked_at}
@@ -92,10 +92,7 @@ module _ {t : TraceValue} {slot : Option Lent} {k : Control} {spare : ℕ} (is :
 pub waits : (xs : List Shown) (waiting : List media.Unit) (k : Control) → OutputsWait xs waiting k → may_take k.taken k ≡ nat_lt 0 (length waiting)
 waits xs waiting k outputs =
     let long : length waiting ≡ length (units_shown xs) - k.taken = ap length outputs.others ∙ length-drop k.taken (units_shown xs) in
-    rw (eq-eqb k.taken k.taken refl) (same_test k.taken k.shown (length waiting) (omega (arith, long, outputs.counted)))
-  where
-    same_test : (n m w : ℕ) → w ≡ m - n → nat_lt n m ≡ nat_lt 0 w
-    same_test n m w is = grind (arith, nat_tests, is)
+    rw (eq-eqb k.taken k.taken refl) (grind (arith, nat_tests, long, outputs.counted))
 
 pub none_waits : (xs : List Shown) (waiting : List media.Unit) (k : Control) → OutputsWait xs waiting k → front waiting ≡ None → may_take k.taken k ≡ false
 none_waits xs [] k outputs none = waits xs [] k outputs
@@ -137,35 +134,24 @@ higher : (n m : ℕ) (ends : List PromiseEnd) → n ≤ m → AllByRecursion (λ
 higher n m [] le h = tt
 higher n m (e ∷ es) le h = (omega (arith, h.0, le), higher n m es le h.1)
 
-removal_below : (o : Option DomError) (n : ℕ) (ps : List ℕ) → AllByRecursion (λ p. p < n) ps → EndsBelow n (removal_shows o ps)
-removal_below None n ps h = rw (← append-nil (removal_shows None ps)) (rejected_below Abort n ps [] tt h)
-removal_below (Some error) n ps h = tt
+pub removal_below : (o : Option DomError) (k : Control) → NamesEarlier k → EndsBelow k.place (removal_shows o k.pending)
+removal_below None k names = rw (← append-nil (removal_shows None k.pending)) (rejected_below Abort k.place k.pending [] tt (pending_below k names))
+removal_below (Some error) k names = tt
 
-close_below : (error : DomError) (n : ℕ) (ps : List ℕ) → AllByRecursion (λ p. p < n) ps → EndsBelow n (close_shows error ps)
-close_below error n ps h = rejected_below error n ps (event.ErrorCall error ∷ []) tt h
+pub close_below : (error : DomError) (k : Control) → NamesEarlier k → EndsBelow k.place (close_shows error k.pending)
+close_below error k names = rejected_below error k.place k.pending (event.ErrorCall error ∷ []) tt (pending_below k names)
 
-turn_below : (ts : List Task) (k : Control) → k.tasks ≡ ts → NamesEarlier k → EndsBelow k.place (turn_shows ts k)
+pub turn_below : (ts : List Task) (k : Control) → k.tasks ≡ ts → NamesEarlier k → EndsBelow k.place (turn_shows ts k)
 turn_below (task.Output units ∷ ts) k is names = rw (task_ends (task.Output (carried k.active units)) k.shown) tt
 turn_below (task.Flushed p units ∷ ts) k is names = rw (task_ends (task.Flushed p (carried k.active units)) k.shown) (resolved_below k p units ts names is, tt)
-turn_below (task.Close x ∷ ts) k is names = close_below x k.place k.pending (pending_below k names)
+turn_below (task.Close x ∷ ts) k is names = close_below x k names
 turn_below ts k is names = tt
 
 -- the bound that the history's length gives
-module _ (always : Always IsNeverStuck) {h : List Entry} {slot : Option Lent} {k : Control} (kept : IsKept h slot k) where
-  names : NamesEarlier k
-  names = rw (← kept.is_control) (always k.opening h kept.state kept.some_saturate kept.replays).names
-
-  by_place : (y : Shown) (events : List Event) → y.events ≡ events → EndsBelow k.place events → EndsBelow (length h + 1) y.events
-  by_place y events is below = rw (is, ← kept.is_place) (higher k.place (k.place + 1) (ends_of events) (omega arith) below)
-
-  pub removal_ends : (y : Shown) → y ≡ record { turn = None; events = removal_shows (removal_error k) k.pending } → EndsBelow (length h + 1) y.events
-  removal_ends y is = by_place y (removal_shows (removal_error k) k.pending) (ap (λ (z : Shown). z.events) is) (removal_below (removal_error k) k.place k.pending (pending_below k names))
-
-  pub reclaim_ends : (y : Shown) → y ≡ record { turn = None; events = reclaim_shows k.pending } → EndsBelow (length h + 1) y.events
-  reclaim_ends y is = by_place y (reclaim_shows k.pending) (ap (λ (z : Shown). z.events) is) (close_below QuotaExceeded k.place k.pending (pending_below k names))
-
-  pub turn_ends : (y : Shown) → y ≡ record { turn = turn_word k.tasks; events = turn_shows k.tasks k } → EndsBelow (length h + 1) y.events
-  turn_ends y is = by_place y (turn_shows k.tasks k) (ap (λ (z : Shown). z.events) is) (turn_below k.tasks k refl names)
+pub ends_below : Always IsNeverStuck → {h : List Entry} {slot : Option Lent} {k : Control} (kept : IsKept h slot k) (x y : Shown) → x ≡ y → (NamesEarlier k → EndsBelow k.place y.events) → EndsBelow (length h + 1) x.events
+ends_below always {h = h} {k = k} kept x y is below =
+    let names : NamesEarlier k = rw (← kept.is_control) (always k.opening h kept.state kept.some_saturate kept.replays).names in
+    rw (is, ← kept.is_place) (higher k.place (k.place + 1) (ends_of y.events) (omega arith) (below names))
 
 call_below : (x : Call) (n : ℕ) (o : Option DomError) → EndsBelow (n + 1) (call_shows x n o)
 call_below call.Flush n (Some error) = (omega arith, tt)

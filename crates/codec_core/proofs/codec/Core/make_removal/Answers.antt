@@ -4,7 +4,7 @@ use Rattle.codec_model.specs.Control.{Control}
 use Rattle.codec_model.specs.Replay.{with_control, removal_error, removal_entry}
 use Rattle.codec_core.specs.Codec.{Codec, state_at, kept_box, handed_back}
 use Rattle.codec_core.proofs.Steps.{removal_is, Moved, removal_after, removal_moves, makes_more, place_kept}
-use Rattle.codec_core.proofs.Recorded.{core_next, next_fits, removal_ends}
+use Rattle.codec_core.proofs.Recorded.{removal_below, core_next, next_fits, ends_below}
 use Rattle.codec_core.proofs.Owning.{at_home, control_at, keeps_running, asked_stays, back_removal}
 use Rattle.codec_core.proofs.codec.Core.make_removal.Given.{Over}
 use Rattle.codec_core.proofs.codec.Core.make_removal.Goals as goal
@@ -13,7 +13,7 @@ pub remove-answer-requires : goal.remove-answer-requires
 remove-answer-requires g c = next_fits c.self.invariant
 
 pub push-requires-clause-ends : goal.push-requires-clause-ends
-push-requires-clause-ends g c = removal_ends c.never_stuck.ensures.facts c.self.invariant.kept _ c.remove-answer.ensures.answer.is_shown
+push-requires-clause-ends g c = ends_below c.never_stuck.ensures.facts c.self.invariant.kept _ _ c.remove-answer.ensures.answer.is_shown (removal_below (removal_error c.self.inside.machine) c.self.inside.machine)
 
 left_is : (g : Over) (c : goal.After-push g) → c.hand_back-coder.new.slot ≡ kept_box (is_some (removal_error c.self.inside.machine)) c.self.inside.slot
 left_is g c = c.hand_back-coder.ensures.left ∙ ap (λ (b : Bool). kept_box b c.self.inside.slot) (c.is_some.ensures ∙ ap is_some c.remove-answer.ensures.answer.is_exception)

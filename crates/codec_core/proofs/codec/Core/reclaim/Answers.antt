@@ -1,7 +1,8 @@
+use Rattle.wc_base.specs.declared.error.DomError.TheVariants.{QuotaExceeded}
 use Rattle.std.proofs.Common.{◌∙◌, None, true, refl, ap, rules, arith, false}
 use Rattle.codec_model.specs.declared.entry.Entry.TheVariants as entry
 use Rattle.codec_core.proofs.Steps.{Moved, reclaim_moves, makes_more, reclaim_reclaims}
-use Rattle.codec_core.proofs.Recorded.{core_next, next_fits, reclaim_ends}
+use Rattle.codec_core.proofs.Recorded.{close_below, core_next, next_fits, ends_below}
 use Rattle.codec_core.specs.Job.{stopped_box}
 use Rattle.codec_core.specs.Codec.{Codec}
 use Rattle.codec_core.proofs.Owning.{at_home, keeps_running, asked_stays, back_removal}
@@ -12,7 +13,7 @@ pub reclaim-requires : goal.reclaim-requires
 reclaim-requires g c = next_fits c.self.invariant
 
 pub push-requires-clause-ends : goal.push-requires-clause-ends
-push-requires-clause-ends g c = reclaim_ends c.never_stuck.ensures.facts c.self.invariant.kept _ c.in_ok-answer.ensures.answer.is_shown
+push-requires-clause-ends g c = ends_below c.never_stuck.ensures.facts c.self.invariant.kept _ _ c.in_ok-answer.ensures.answer.is_shown (close_below QuotaExceeded c.self.inside.machine)
 
 moved : (g : Over) (c : goal.After-push g) → Moved None (entry.Reclaim c.args.now) c.self.invariant.kept.state c.reclaim.new.self
 moved g c = reclaim_moves c.self.invariant.kept c.args.now c.in_ok-answer.ensures.may c.in_ok-answer.ensures.made

@@ -3,7 +3,7 @@ use Rattle.codec_model.specs.declared.entry.Entry.TheVariants as entry
 use Rattle.codec_model.specs.Control.{Control, turn_closes}
 use Rattle.codec_core.specs.Codec.{Codec, handed_back}
 use Rattle.codec_core.proofs.Steps.{Moved, turn_moves, makes_more, place_kept}
-use Rattle.codec_core.proofs.Recorded.{core_next, next_fits, turn_ends}
+use Rattle.codec_core.proofs.Recorded.{turn_below, core_next, next_fits, ends_below}
 use Rattle.codec_core.proofs.Owning.{at_home, control_at, turn_act, keeps_running, asked_stays, back_turn}
 use Rattle.codec_core.proofs.codec.Core.turn.Given.{Over}
 use Rattle.codec_core.proofs.codec.Core.turn.Goals as goal
@@ -12,7 +12,7 @@ pub turn-requires : goal.turn-requires
 turn-requires g c = next_fits c.self.invariant
 
 pub push-requires-clause-ends : goal.push-requires-clause-ends
-push-requires-clause-ends g c = turn_ends c.never_stuck.ensures.facts c.self.invariant.kept _ c.in_ok-answer.ensures.answer.is_shown
+push-requires-clause-ends g c = ends_below c.never_stuck.ensures.facts c.self.invariant.kept _ _ c.in_ok-answer.ensures.answer.is_shown (turn_below c.self.inside.machine.tasks c.self.inside.machine refl)
 
 closes_is : (g : Over) (c : goal.After-push g) → turn_closes c.self.inside.machine.tasks ≡ Some c.closes-closes.result
 closes_is g c = sym c.in_ok-answer.ensures.closes ∙ ap (λ (b : Bool). Some b) (sym c.closes-closes.ensures)
