@@ -27,8 +27,7 @@ or_later (promise.Rejected error) s = promise.Rejected error
 
 no_later : (s : PromiseState) → or_later s promise.Pending ≡ s
 no_later promise.Pending = refl
-no_later promise.Resolved = refl
-no_later (promise.Rejected error) = refl
+no_later s = refl
 
 ended_stays : (error : Option DomError) (s : PromiseState) → promise_ended error ≡ or_later (promise_ended error) s
 ended_stays None s = refl

@@ -21,19 +21,19 @@ use Rattle.codec_model.specs.declared.entry.Task.{Task}
 use Rattle.codec_model.specs.declared.entry.Task.TheVariants as task
 use Rattle.codec_model.specs.declared.entry.PromiseEnd.{PromiseEnd}
 use Rattle.codec_model.specs.Control.{Control, carried, left, front, may_take, after_take, at_next_place}
-use Rattle.codec_model.specs.Replay.{State, with_control, encode_error, call_error}
+use Rattle.codec_model.specs.Replay.{with_control, call_error}
 use Rattle.codec_model.specs.Facts.{Always, IsNeverStuck, NamesEarlier}
-use Rattle.codec_model.specs.Shown.{shows as events_of, units_in, units_shown, ends_of, refusal, shown, outputs_of, shown_at, call_shows, removal_shows, close_shows, rejections, turn_shows}
+use Rattle.codec_model.specs.Shown.{shows as events_of, units_in, units_shown, ends_of, shown, outputs_of, shown_at, call_shows, removal_shows, close_shows, rejections, turn_shows}
 use Rattle.codec_model.specs.ShownLaws.{each_more}
 use Rattle.codec_model.specs.Earlier.{pending_below, resolved_below}
 use Rattle.codec_accounts.specs.Asked.{asked_at}
 use Rattle.codec_accounts.specs.Boxes.{act_of, removal_act}
 use Rattle.history_laws.specs.CountLaws.{step_counts}
-use Rattle.codec_core.specs.Codec.{IsAskedAt, IsKept, IsCore, OutputsWait, kept_box, reclaims, refused_as}
+use Rattle.codec_core.specs.Codec.{IsAskedAt, IsKept, IsCore, OutputsWait, kept_box, reclaims}
 use Rattle.codec_core.specs.Trace.{TraceValue, EndsBelow}
 use Rattle.codec_core.proofs.Promises.{task_ends}
 use Rattle.codec_core.proofs.Outputs.{outputs_more, outputs_shown, front_drop}
-use Rattle.codec_core.proofs.Steps.{Moved, kept_more, takes, refusal_told}
+use Rattle.codec_core.proofs.Steps.{Moved, kept_more, takes}
 use Rattle.codec_core.proofs.Owning.{own_more}
 
 -- ---- the outputs that wait after one more entry
@@ -117,12 +117,6 @@ taken_is {t = t} {k = k} is n u same found =
 
 pub next_fits : {t : TraceValue} {slot : Option Lent} {k : Control} {spare : ℕ} → IsCore t slot k spare → k.place + 1 < 2 ^ 64
 next_fits is = omega (arith, is.fits, is.kept.is_place)
-
--- ---- what entries show, by the control state
-
-pub refusal_shown : (who : Who) (detached : Bool) (error : DomError) (s : State) (y : Shown) → encode_error detached s.control ≡ Some error → y ≡ record { turn = None; events = refusal (encode_error detached s.control) } → y ≡ shown_at (entry.Encode who (refused_as detached)) s
-refusal_shown who detached error s y e is =
-    is ∙ ap (λ (o : Option DomError). record { turn = None; events = refusal o }) (e ∙ sym (refusal_told detached error s.control e))
 
 -- ---- the promises that an entry ends are named by entries up to it
 

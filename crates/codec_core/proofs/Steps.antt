@@ -33,7 +33,7 @@ use Rattle.codec_model.specs.declared.entry.Ended.TheVariants as ended
 use Rattle.codec_model.specs.Control.{Control, is_decoder, after_message, process, with_message, at_next_place, is_close, turn_closes, run_task, run_front, kind_of, after_done, done_running, after_end, after_turn, after_close, after_removal, may_reclaim, front, may_start, start_item, after_start, after_encode, after_take, may_take}
 use Rattle.codec_model.specs.Replay.{State, call_step, removal_step, Given, missing_coder, opening_state, step, with_control, removed, after_call, call_error, entry_of, removal_error, removal_entry, remove_or_refuse, is_configured, encode_error}
 use Rattle.codec_model.specs.declared.entry.Event.{Event}
-use Rattle.codec_model.specs.Shown.{handed_error, shown_at, call_shows, removal_shows}
+use Rattle.codec_model.specs.Shown.{refusal, shown_at, call_shows, removal_shows}
 use Rattle.codec_accounts.specs.Boxes.{act_of, removal_act}
 use Rattle.codec_model.specs.ShownLaws.{replay_more}
 use Rattle.codec_model.specs.StepLaws.{by_queue, begun, start_made}
@@ -253,13 +253,13 @@ not_refused : (b : Bool) → cond b None (Some dom.InvalidState) ≡ None → b 
 not_refused true e = refl
 not_refused false e = absurd cc
 
-is_refused : (b : Bool) (x : DomError) → cond b None (Some dom.InvalidState) ≡ Some x → (b ≡ false) × (x ≡ dom.InvalidState)
+is_refused : (b : Bool) (x : DomError) → cond b None (Some dom.InvalidState) ≡ Some x → b ≡ false
 is_refused true x e = absurd cc
-is_refused false x e = (refl, cc)
+is_refused false x e = refl
 
-refusal_steps : (who : Who) (detached : Bool) (x : DomError) (s : State) → encode_error detached s.control ≡ Some x → step (entry.Encode who (refused_as detached)) s ≡ Some (with_control (at_next_place s.control) s)
-refusal_steps who true x s e = refl
-refusal_steps who false x s e = rw (is_refused (is_configured s.control) x e).0 refl
+pub refusal_is : (who : Who) (detached : Bool) (x : DomError) (s : State) → encode_error detached s.control ≡ Some x → EntryIs (entry.Encode who (refused_as detached)) s (with_control (at_next_place s.control) s) (refusal (encode_error detached s.control)) false
+refusal_is who true x s e = record { steps = refl; takes_none = refl; shows = refl; act = refl }
+refusal_is who false x s e = let off = is_refused (is_configured s.control) x e in record { steps = rw off refl; takes_none = refl; shows = rw off refl; act = refl }
 
 -- an entry that moves on to the next place and does nothing else
 next_moved : (slot : Option Lent) (e : Entry) (s : State) → step e s ≡ Some (with_control (at_next_place s.control) s) → CoderHome slot s → Moved slot e s (at_next_place s.control)
@@ -278,11 +278,6 @@ call_moved slot who call.Flush s None e steps home =
     let same = queued_keeps c.place work.Flush (record (at_next_place c) { key_required = is_decoder c.opening.kind || c.key_required; pending = c.pending ++ c.place ∷ [] }) in
     moved_by slot (entry.Flush who) s _ c.phase c.taken same (omega arith) (λ none. refl) steps home
 call_moved slot who x s (Some error) e steps home = next_moved slot (entry_of who x) s steps home
-
--- what became of the data tells the error
-pub refusal_told : (detached : Bool) (x : DomError) (c : Control) → encode_error detached c ≡ Some x → handed_error (refused_as detached) ≡ Some x
-refusal_told true x c e = e
-refusal_told false x c e = ap (λ (y : DomError). Some y) (sym (is_refused (is_configured c) x e).1)
 
 -- ---- removals
 
@@ -382,7 +377,7 @@ module _ {h : List Entry} {slot : Option Lent} {k : Control} (kept : IsKept h sl
 
   pub refusal_moves : {k' : Control} (who : Who) (detached : Bool) (x : DomError) → encode_error detached k ≡ Some x → k' ≡ at_next_place k → Moved slot (entry.Encode who (refused_as detached)) kept.state k'
   refusal_moves who detached x e after =
-      rw (after, ← kept.is_control) (next_moved slot (entry.Encode who (refused_as detached)) kept.state (refusal_steps who detached x kept.state (ap (encode_error detached) kept.is_control ∙ e)) kept.home)
+      rw (after, ← kept.is_control) (next_moved slot (entry.Encode who (refused_as detached)) kept.state (refusal_is who detached x kept.state (ap (encode_error detached) kept.is_control ∙ e)).steps kept.home)
 
   pub take_moves : {k' : Control} (who : Who) (n : ℕ) → may_take n k ≡ true → k' ≡ after_take (at_next_place k) → Moved slot (entry.Take who n) kept.state k'
   take_moves who n may after =

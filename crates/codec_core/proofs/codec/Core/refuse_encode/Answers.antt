@@ -3,9 +3,9 @@ use Rattle.wc_base.specs.declared.error.DomError.{DomError}
 use Rattle.codec_model.specs.declared.entry.Entry.TheVariants as entry
 use Rattle.codec_model.specs.Replay.{with_control, encode_error}
 use Rattle.codec_core.specs.Codec.{state_at, refused_as}
-use Rattle.codec_core.proofs.Steps.{Moved, refusal_moves, makes_more, most_reclaims}
+use Rattle.codec_core.proofs.Steps.{refusal_is, Moved, refusal_moves, makes_more, most_reclaims}
 use Rattle.codec_core.proofs.Ends.{some_is}
-use Rattle.codec_core.proofs.Recorded.{core_next, refusal_shown}
+use Rattle.codec_core.proofs.Recorded.{core_next}
 use Rattle.codec_core.proofs.Owning.{control_at, keeps_running, asked_stays}
 use Rattle.codec_core.proofs.codec.Core.refuse_encode.Given.{Over}
 use Rattle.codec_core.proofs.codec.Core.refuse_encode.Goals as goal
@@ -25,7 +25,7 @@ moved g c = refusal_moves c.self.invariant.kept c.args.who c.args.detached (erro
 pub invariant_of-self-2 : goal.invariant_of-self-2
 invariant_of-self-2 g c =
     rw (c.push.ensures, c.in_ok-reserve.ensures.ok, c.refused_as-handed.ensures)
-    (core_next c.self.invariant _ c.self.inside.spare _ (moved g c) (refusal_shown c.args.who c.args.detached (error g c) (with_control c.self.inside.machine c.self.invariant.kept.state) _ (error_is g c) c.in-Some.ensures.answer.is_shown) refl (
+    (core_next c.self.invariant _ c.self.inside.spare _ (moved g c) (c.in-Some.ensures.answer.is_shown ∙ sym (refusal_is c.args.who c.args.detached (error g c) (with_control c.self.inside.machine c.self.invariant.kept.state) (error_is g c)).shows) refl (
       omega (arith, c.in-Some.ensures.left, c.in_ok-places.ensures, most_reclaims c.refuse_encode.new.self.phase),
       rw c.in_ok-reserve.ensures.ok at c.in_ok-reserve.ensures.fits,
     ) true refl refl)
