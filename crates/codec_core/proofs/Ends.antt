@@ -1,26 +1,15 @@
 -- The end of an item is the last answer to the whole list of what was given.
 use Rattle.std.proofs.Common.{◌≡◌, ◌&&◌, not, Bool, true, false, cond, List, [], ◌∷◌, ◌++◌, length, Option, Some, None, is_some, Result, Ok, Err, refl, ap, sym, subst, eq-eqb, ◌∙◌, append_assoc, append-nil}
 use Rattle.std.proofs.lemmas.Bool.{and_parts}
-use Rattle.wc_config.specs.declared.codec.CoderId.{CoderId}
-use Rattle.wc_config.specs.declared.config.AudioDecoderConfig.{AudioDecoderConfig}
-use Rattle.wc_config.specs.declared.config.Config.{Config}
-use Rattle.wc_config.specs.declared.config.Config.TheVariants as config_of
+use Rattle.wc_config.specs.declared.{codec.CoderId.CoderId, config.AudioDecoderConfig.AudioDecoderConfig, config.Config.Config}
 use Rattle.wc_config.specs.Configs.{is_valid, is_within, is_supported, coder_id_of}
 use Rattle.codec_definitions.specs.declared.unit.Unit as media
 use Rattle.codec_definitions.specs.declared.command.Command.{Command}
-use Rattle.codec_definitions.specs.declared.command.Command.TheVariants as command
-use Rattle.coder_api.specs.declared.coder.CoderFault.{CoderFault}
-use Rattle.coder_api.specs.declared.coder.CoderFault.TheVariants as fault
+use Rattle.coder_api.specs.{declared.coder.CoderFault.CoderFault, Lent.Lent, Lent.stopped_lent}
 use Rattle.codec_definitions.specs.Answers.{answer_after, answers_from, until_refused, last_answer}
 use Rattle.coder_api.specs.Meaning.{CoderState, Configured, Takes, IsAt, serves, setup_of, asks_for}
-use Rattle.coder_api.specs.Lent.{Lent, stopped_lent}
 use Rattle.slot_registry.specs.IdLaws.{id_is}
-use Rattle.codec_model.specs.declared.entry.Coded.{Coded}
-use Rattle.codec_model.specs.declared.entry.Work.{Work}
-use Rattle.codec_model.specs.declared.entry.Work.TheVariants as work
-use Rattle.codec_model.specs.declared.entry.WorkKind.{WorkKind}
-use Rattle.codec_model.specs.declared.entry.Ended.{Ended}
-use Rattle.codec_model.specs.declared.entry.Ended.TheVariants as ended
+use Rattle.codec_model.specs.declared.entry.{Coded.Coded, Work.Work, WorkKind.WorkKind, Ended.Ended}
 use Rattle.codec_model.specs.Control.{kind_of}
 use Rattle.codec_model.specs.Replay.{Given, State, given_more, answer_to, answers_to, ended_of, command_of, decoder_config, labelled, labelled_answer}
 use Rattle.codec_core.specs.Job.{JobValue, DoneValue, IsJob, IsJobOf, IsEnd, IsEndOf, none_refused_from, WasGiven, CoderAt, CoderFor, StillAt, StaysAt, EndsBy, EndsCommand, EndsWork, IsOrWants, labelled_end, end_by, outcome_of}
@@ -84,14 +73,14 @@ answer_is old before x at =
 
 -- an end by the answer is the legal one
 pub legal_end : (k : WorkKind) (g : Given) (e : Ended) → EndsBy (answer_to k g) e → ended_of k g (outcome_of e) ≡ Some e
-legal_end k g (ended.Ran units) by = rw (by, eq-eqb (length units) (length units) refl) refl
-legal_end k g ended.Refused by = rw by refl
-legal_end k g (ended.NoSlot n) by = absurd by
-legal_end k g ended.NoMemory by = refl
+legal_end k g (Ended.Ran units) by = rw (by, eq-eqb (length units) (length units) refl) refl
+legal_end k g Ended.Refused by = rw by refl
+legal_end k g (Ended.NoSlot n) by = absurd by
+legal_end k g Ended.NoMemory by = refl
 
 -- after a command that ran, the coder was given it too
 still : (c : Option AudioDecoderConfig) (end : Ended) (old new : Lent) (before : Given) (x : Command) → EndsCommand old x end new → WasGiven old before → StillAt (labelled_end c end) (Some new) (more x before)
-still c (ended.Ran units) old new before x ends at =
+still c (Ended.Ran units) old new before x ends at =
     let same : new.id ≡ old.id = ap (λ (l : Lent). l.id) ends.same in
     let answer = ends.answer before.config before.commands at.asked at.meant in
     record {
@@ -105,23 +94,23 @@ still c end old new before x ends at = tt
 -- ---- the config that outputs carry
 
 -- the end that was meant, or want of memory
-by_wants : (P : Ended → Type 0) (end e : Ended) → IsOrWants end e → P end → P ended.NoMemory → P e
-by_wants P end ended.NoMemory is p wants = wants
+by_wants : (P : Ended → Type 0) (end e : Ended) → IsOrWants end e → P end → P Ended.NoMemory → P e
+by_wants P end Ended.NoMemory is p wants = wants
 by_wants P end e is p wants = subst P (sym is) p
 
 -- what a coder keeps tells nothing of its decoder's config
 setup_is : (c : Config) (state : CoderState) → setup_of (Configured c state) ≡ decoder_config c
-setup_is config_of.Bad state = refl
+setup_is Config.Bad state = refl
 setup_is c state = refl
 
-answers_labelled : (c d : Option AudioDecoderConfig) (answer : Option (List media.Unit)) (end : Ended) → ((units : List media.Unit) → end ≡ ended.Ran units → c ≡ d) → EndsBy answer end → EndsBy (labelled_answer d answer) (labelled_end c end)
-answers_labelled c d answer (ended.Ran units) same by = ap (labelled_answer d) by ∙ ap (λ (x : Option AudioDecoderConfig). Some (labelled x units)) (sym (same units refl))
-answers_labelled c d answer ended.Refused same by = ap (labelled_answer d) by
-answers_labelled c d answer (ended.NoSlot n) same by = absurd by
-answers_labelled c d answer ended.NoMemory same by = tt
+answers_labelled : (c d : Option AudioDecoderConfig) (answer : Option (List media.Unit)) (end : Ended) → ((units : List media.Unit) → end ≡ Ended.Ran units → c ≡ d) → EndsBy answer end → EndsBy (labelled_answer d answer) (labelled_end c end)
+answers_labelled c d answer (Ended.Ran units) same by = ap (labelled_answer d) by ∙ ap (λ (x : Option AudioDecoderConfig). Some (labelled x units)) (sym (same units refl))
+answers_labelled c d answer Ended.Refused same by = ap (labelled_answer d) by
+answers_labelled c d answer (Ended.NoSlot n) same by = absurd by
+answers_labelled c d answer Ended.NoMemory same by = tt
 
 -- after a command that ran, the coder's config is the one that was given last
-setup_after : (end : Ended) (old new : Lent) (before : Given) (x : Command) → EndsCommand old x end new → WasGiven old before → (units : List media.Unit) → end ≡ ended.Ran units → setup_of new.meaning ≡ decoder_config before.config
+setup_after : (end : Ended) (old new : Lent) (before : Given) (x : Command) → EndsCommand old x end new → WasGiven old before → (units : List media.Unit) → end ≡ Ended.Ran units → setup_of new.meaning ≡ decoder_config before.config
 setup_after end old new before x ends at units ran =
     let goes = subst (λ (e : Ended). StaysAt e old.id before.config (before.commands ++ x ∷ []) new) ran (ends.goes before.config before.commands at.meant) in
     ap setup_of goes ∙ setup_is before.config _
@@ -151,11 +140,11 @@ command_ends w x is old new end e ends by =
       same = ap Some ends.same;
     }
 
-pub coded_ends : (old new : Lent) (end e : Ended) (input : Coded) → EndsCommand old (command_of input) end new → IsOrWants (labelled_end (setup_of new.meaning) end) e → EndsWork (Some old) (work.Coded input) e (Some new)
-coded_ends old new end e input ends by = command_ends (work.Coded input) (command_of input) (record { more_is = λ before. refl; answer_by = λ g. refl; given_is = λ coder before at. at }) old new end e ends by
+pub coded_ends : (old new : Lent) (end e : Ended) (input : Coded) → EndsCommand old (command_of input) end new → IsOrWants (labelled_end (setup_of new.meaning) end) e → EndsWork (Some old) (Work.Coded input) e (Some new)
+coded_ends old new end e input ends by = command_ends (Work.Coded input) (command_of input) (record { more_is = λ before. refl; answer_by = λ g. refl; given_is = λ coder before at. at }) old new end e ends by
 
-pub flush_ends : (old new : Lent) (end e : Ended) → EndsCommand old command.Drain end new → IsOrWants (labelled_end (setup_of new.meaning) end) e → EndsWork (Some old) work.Flush e (Some new)
-flush_ends old new end e ends by = command_ends work.Flush command.Drain (record { more_is = λ before. refl; answer_by = λ g. refl; given_is = λ coder before at. at }) old new end e ends by
+pub flush_ends : (old new : Lent) (end e : Ended) → EndsCommand old Command.Drain end new → IsOrWants (labelled_end (setup_of new.meaning) end) e → EndsWork (Some old) Work.Flush e (Some new)
+flush_ends old new end e ends by = command_ends Work.Flush Command.Drain (record { more_is = λ before. refl; answer_by = λ g. refl; given_is = λ coder before at. at }) old new end e ends by
 
 -- where memory is wanted for a copy of the config, the item ends so
 pub ends_or_wants : (old new : Option Lent) (w : Work) (end e : Ended) → EndsWork old w end new → IsOrWants end e → EndsWork old w e new
@@ -165,7 +154,7 @@ ends_or_wants old new w end e ends by = record {
   same = ends.same;
 }
 
-pub configure_ends : (old new : Lent) (config : Config) (units : List media.Unit) → units ≡ [] → is_supported config ≡ true → serves old.id config ≡ true → IsAt old.id config [] new.meaning → stopped_lent new ≡ stopped_lent old → EndsWork (Some old) (work.Configure config) (ended.Ran units) (Some new)
+pub configure_ends : (old new : Lent) (config : Config) (units : List media.Unit) → units ≡ [] → is_supported config ≡ true → serves old.id config ≡ true → IsAt old.id config [] new.meaning → stopped_lent new ≡ stopped_lent old → EndsWork (Some old) (Work.Configure config) (Ended.Ran units) (Some new)
 configure_ends old new config units none supported serving meant same =
     let id : new.id ≡ old.id = ap (λ (l : Lent). l.id) same in
     record {
@@ -187,8 +176,8 @@ taken old new x (Ok t) us same takes = record {
   ready = takes.ready;
   same = same;
 }
-taken old new x (Err fault.Refused) us same takes = record { answer = λ c before asked meant. (takes.answer c before meant).0; goes = λ c before meant. tt; ready = tt; same = same }
-taken old new x (Err fault.NoMemory) us same takes = record { answer = λ c before asked meant. tt; goes = λ c before meant. tt; ready = tt; same = same }
+taken old new x (Err CoderFault.Refused) us same takes = record { answer = λ c before asked meant. (takes.answer c before meant).0; goes = λ c before meant. tt; ready = tt; same = same }
+taken old new x (Err CoderFault.NoMemory) us same takes = record { answer = λ c before asked meant. tt; goes = λ c before meant. tt; ready = tt; same = same }
 
 -- the end of a job by its box is the end of the running item
 pub job_ends : (s : State) (job : JobValue) (d : DoneValue) → IsJobOf s job → d.epoch ≡ job.epoch → d.number ≡ job.number → d.kind ≡ kind_of job.work → EndsWork job.coder job.work d.ended d.coder → IsEndOf s d

@@ -5,13 +5,7 @@ use Rattle.std.proofs.lemmas.List.{drop_at, drop-drop, drop-append-le, drop_all}
 use Rattle.std.proofs.lemmas.List.Concat.{flat_map-append}
 use Rattle.wc_base.specs.declared.error.DomError.{DomError}
 use Rattle.codec_definitions.specs.declared.unit.Unit as media
-use Rattle.codec_model.specs.declared.entry.Opening.{Opening}
-use Rattle.codec_model.specs.declared.entry.Entry.{Entry}
-use Rattle.codec_model.specs.declared.entry.Shown.{Shown}
-use Rattle.codec_model.specs.declared.entry.Event.{Event}
-use Rattle.codec_model.specs.declared.entry.Event.TheVariants as event
-use Rattle.codec_model.specs.declared.entry.Task.{Task}
-use Rattle.codec_model.specs.declared.entry.Task.TheVariants as task
+use Rattle.codec_model.specs.declared.entry.{Opening.Opening, Entry.Entry, Shown.Shown, Event.Event, Task.Task}
 use Rattle.codec_model.specs.Control.{front}
 use Rattle.codec_model.specs.Replay.{State, step, opening_state}
 use Rattle.codec_model.specs.Shown.{shows, shown, shown_from, each_shown, each_shown_from, outputs_of, units_in, units_shown, rejections, close_shows, outputs_from, task_shows}
@@ -43,15 +37,15 @@ pub none_rejected : (error : DomError) (ps : List ℕ) → units_in (rejections 
 none_rejected error ps = ap units_in (sym (append-nil (rejections error ps))) ∙ rejected_outputs error ps []
 
 pub none_closed : (error : DomError) (ps : List ℕ) → units_in (close_shows error ps) ≡ []
-none_closed error ps = rejected_outputs error ps (event.ErrorCall error ∷ [])
+none_closed error ps = rejected_outputs error ps (Event.ErrorCall error ∷ [])
 
 numbered : (n : ℕ) (us : List media.Unit) (more : List Event) → units_in more ≡ [] → units_in (outputs_from n us ++ more) ≡ us
 numbered n [] more none = none
 numbered n (u ∷ us) more none = ap (λ vs. u ∷ vs) (numbered (n + 1) us more none)
 
 pub task_shown : (t : Task) (n : ℕ) → units_in (task_shows t n []) ≡ task_outputs t
-task_shown (task.Output us) n = ap units_in (sym (append-nil (outputs_from n us))) ∙ numbered n us [] refl
-task_shown (task.Flushed p us) n = numbered n us (event.Resolve p ∷ []) refl
+task_shown (Task.Output us) n = ap units_in (sym (append-nil (outputs_from n us))) ∙ numbered n us [] refl
+task_shown (Task.Flushed p us) n = numbered n us (Event.Resolve p ∷ []) refl
 task_shown t n = refl
 
 -- ---- the outputs from a place on

@@ -2,22 +2,15 @@
 use Rattle.std.proofs.Common.{ℕ, ◌≡◌, not, Bool, true, false, eqb, cond, List, [], ◌∷◌, ◌++◌, length, Option, Some, None, is_some, refl, ap, sym, subst, ◌∙◌}
 use Rattle.std.specs.Prelude.{unwrap_or, IfSome}
 use Rattle.wc_base.specs.declared.who.By.{By}
-use Rattle.wc_base.specs.declared.who.By.TheVariants as by
 use Rattle.wc_config.specs.declared.codec.CoderId.{CoderId}
 use Rattle.coder_api.specs.Lent.{Lent}
-use Rattle.codec_model.specs.declared.entry.Opening.{Opening}
-use Rattle.codec_model.specs.declared.entry.Entry.{Entry}
-use Rattle.codec_model.specs.declared.entry.Entry.TheVariants as entry
-use Rattle.codec_model.specs.declared.entry.Running.{Running}
-use Rattle.codec_model.specs.declared.entry.Task.{Task}
+use Rattle.codec_model.specs.declared.entry.{Opening.Opening, Entry.Entry, Running.Running, Task.Task}
 use Rattle.codec_model.specs.Control.{Control, start_item, turn_closes}
 use Rattle.codec_model.specs.Replay.{State, opening_state, step, replay}
-use Rattle.codec_model.specs.ShownLaws.{replay_more}
+use Rattle.codec_model.specs.{ShownLaws.replay_more, Held.closes_codec}
 use Rattle.codec_accounts.specs.Boxes.{Act, Ends, Other, Kept, stays, act_of, lets, lacking, start_act, removal_act, acts_of}
-use Rattle.codec_model.specs.Held.{closes_codec}
-use Rattle.codec_accounts.specs.Codec.{is_old}
+use Rattle.codec_accounts.specs.{Codec.is_old, ActLaws.ActMakes, ActLaws.act_makes}
 use Rattle.codec_accounts.specs.Asked.{Asked, asked_by, asked_in, asked_at}
-use Rattle.codec_accounts.specs.ActLaws.{ActMakes, act_makes}
 use Rattle.codec_accounts.specs.AskedLaws.{IsAsked, step_of, asked_is, asked_more, lets_now, LetsGo}
 use Rattle.codec_core.specs.Job.{JobValue, DoneValue, missing_id, stopped_box, IsEndOf, outcome_of}
 use Rattle.codec_core.specs.Codec.{Codec, state_at, Makes, KeepsRunning, IsBy, IsAskedAt, IsKept, IsCore, RemovedValue, kept_box, handed_back, removed_if}
@@ -47,7 +40,7 @@ closes_is [] b h = absurd cc
 closes_is (x ∷ ts) true h = cc
 closes_is (x ∷ ts) false h = cc
 
-pub turn_act : (t : State) (b : Bool) → turn_closes t.control.tasks ≡ Some b → act_of entry.Turn t ≡ removal_act (not (not b))
+pub turn_act : (t : State) (b : Bool) → turn_closes t.control.tasks ≡ Some b → act_of Entry.Turn t ≡ removal_act (not (not b))
 turn_act t b h = ap removal_act (closes_is t.control.tasks b h)
 
 -- ---- one entry more
@@ -78,8 +71,8 @@ own_removal old new e false makes act own = tt
 own_removal old new e true makes act own = subst (λ (at : Option ℕ). IsAskedAt at old.slot) (sym (asked_next old new e Other makes act)) own
 
 place_of : (c : By) (at : Option ℕ) → IsBy c at → (p : ℕ) × (at ≡ Some p) × IsBy c (Some p)
-place_of (by.Codec codec place) at h = (place, h, refl)
-place_of (by.Caller who) at h = elim h [ ]
+place_of (By.Codec codec place) at h = (place, h, refl)
+place_of (By.Caller who) at h = elim h [ ]
 
 -- an entry that lets a box go hands it back
 back_by : (old new : Codec) (e : Entry) (lent : Lent) → Makes old new e → LetsGo (act_of e (state_at old)) (state_at old) → IsBy lent.by (asked_of old) → GoesBack new (length old.history) (Some lent)
@@ -135,10 +128,10 @@ back_if : (new : Codec) (b : Bool) (at : ℕ) (coder : Option Lent) (x : Option 
 back_if new true at coder x is back = subst (λ (o : Option RemovedValue). IfSome o (λ r. GoesBack new r.place r.coder)) (sym is) back
 back_if new false at coder x is back = subst (λ (o : Option RemovedValue). IfSome o (λ r. GoesBack new r.place r.coder)) (sym is) tt
 
-pub back_turn : (old new : Codec) (b : Bool) (at : ℕ) (coder : Option Lent) (x : Option RemovedValue) → Makes old new entry.Turn → turn_closes (state_at old).control.tasks ≡ Some b → AtHome old → at ≡ length old.history
+pub back_turn : (old new : Codec) (b : Bool) (at : ℕ) (coder : Option Lent) (x : Option RemovedValue) → Makes old new Entry.Turn → turn_closes (state_at old).control.tasks ≡ Some b → AtHome old → at ≡ length old.history
     → coder ≡ handed_back (not b) old.slot → x ≡ removed_if b at coder → IfSome x (λ r. GoesBack new r.place r.coder)
 back_turn old new b at coder x makes closes home is same answer =
-    back_if new b at coder x answer (back_removal old new entry.Turn (not b) at coder makes (turn_act (state_at old) b closes) home is same)
+    back_if new b at coder x answer (back_removal old new Entry.Turn (not b) at coder makes (turn_act (state_at old) b closes) home is same)
 
 -- ---- of what is kept
 
@@ -172,10 +165,10 @@ since_start : (o : Option CoderId) (n : ℕ) (x : Asked) (at : Option ℕ) → a
 since_start None n x at is = (λ some. absurd cc, λ none. is)
 since_start (Some id) n x at is = (λ some. is, λ none. absurd cc)
 
-pub own_start : (old new : Codec) (job : JobValue) → Makes old new (entry.Start job.epoch job.number) → missing_id job ≡ lacking (state_at old).given (start_item (state_at old).control)
+pub own_start : (old new : Codec) (job : JobValue) → Makes old new (Entry.Start job.epoch job.number) → missing_id job ≡ lacking (state_at old).given (start_item (state_at old).control)
     → job.place ≡ length old.history → job.coder ≡ old.slot → IsAskedAt (asked_of old) old.slot → IsOwnJob (asked_of new) job
 own_start old new job makes lacks place coder own =
-    let e = entry.Start job.epoch job.number in
+    let e = Entry.Start job.epoch job.number in
     let since = since_start (missing_id job) (length old.history) (asked_in (acts_of old.opening old.history)) (asked_of new) (asked_next old new e (start_act (missing_id job)) makes (ap start_act (sym lacks))) in
     record {
       asks = λ some. since.0 some ∙ ap (λ (n : ℕ). Some n) (sym place);
@@ -186,11 +179,11 @@ goes_start : (o : Option CoderId) (t : State) (a : Act) → a ≡ start_act o �
 goes_start None t a is some = absurd cc
 goes_start (Some id) t a is some = subst (λ (x : Act). LetsGo x t) (sym is) tt
 
-pub back_start : (old new : Codec) (job : JobValue) → Makes old new (entry.Start job.epoch job.number) → missing_id job ≡ lacking (state_at old).given (start_item (state_at old).control)
+pub back_start : (old new : Codec) (job : JobValue) → Makes old new (Entry.Start job.epoch job.number) → missing_id job ≡ lacking (state_at old).given (start_item (state_at old).control)
     → job.place ≡ length old.history → job.coder ≡ old.slot → IsAskedAt (asked_of old) old.slot → is_some (missing_id job) ≡ true → GoesBack new job.place job.coder
 back_start old new job makes lacks place coder own = λ some.
-    let goes = goes_start (missing_id job) (state_at old) (act_of (entry.Start job.epoch job.number) (state_at old)) (ap start_act (sym lacks)) some in
-    back_at new job.place (length old.history) job.coder old.slot place coder (back_box old new (entry.Start job.epoch job.number) old.slot makes (λ _. goes) own)
+    let goes = goes_start (missing_id job) (state_at old) (act_of (Entry.Start job.epoch job.number) (state_at old)) (ap start_act (sym lacks)) some in
+    back_at new job.place (length old.history) job.coder old.slot place coder (back_box old new (Entry.Start job.epoch job.number) old.slot makes (λ _. goes) own)
 
 -- ---- an end
 
@@ -199,19 +192,19 @@ old_is s d b end is =
     ap (λ (o : Option Running). is_old o s.control.epoch) end.is_running
     ∙ (ap (λ (n : ℕ). not (eqb n s.control.epoch)) end.same_epoch ∙ ap not is)
 
-pub back_done : (old new : Codec) (d : DoneValue) (moment : ℕ) (b : Bool) (at : ℕ) (coder : Option Lent) → Makes old new (entry.Done d.epoch d.number moment (outcome_of d.ended)) → IsEndOf (state_at old) d → eqb d.epoch (state_at old).control.epoch ≡ b
+pub back_done : (old new : Codec) (d : DoneValue) (moment : ℕ) (b : Bool) (at : ℕ) (coder : Option Lent) → Makes old new (Entry.Done d.epoch d.number moment (outcome_of d.ended)) → IsEndOf (state_at old) d → eqb d.epoch (state_at old).control.epoch ≡ b
     → IsAskedAt (asked_of old) d.coder → at ≡ length old.history → coder ≡ handed_back b d.coder → GoesBack new at coder
 back_done old new d moment b at coder makes end is own place same = back_at new at (length old.history) coder (handed_back b d.coder) place same (by b is)
   where
     by : (b : Bool) → eqb d.epoch (state_at old).control.epoch ≡ b → GoesBack new (length old.history) (handed_back b d.coder)
     by true is = tt
-    by false is = back_stopped old new (entry.Done d.epoch d.number moment (outcome_of d.ended)) d.coder makes (λ _. old_is (state_at old) d false end is) own
+    by false is = back_stopped old new (Entry.Done d.epoch d.number moment (outcome_of d.ended)) d.coder makes (λ _. old_is (state_at old) d false end is) own
 
-pub own_done : (old new : Codec) (d : DoneValue) (moment : ℕ) (b : Bool) → Makes old new (entry.Done d.epoch d.number moment (outcome_of d.ended)) → IsEndOf (state_at old) d → eqb d.epoch (state_at old).control.epoch ≡ b
+pub own_done : (old new : Codec) (d : DoneValue) (moment : ℕ) (b : Bool) → Makes old new (Entry.Done d.epoch d.number moment (outcome_of d.ended)) → IsEndOf (state_at old) d → eqb d.epoch (state_at old).control.epoch ≡ b
     → IsAskedAt (asked_of old) d.coder → IsAskedAt (asked_of new) (kept_box b d.coder)
 own_done old new d moment false makes end is own = tt
 own_done old new d moment true makes end is own =
-    let e = entry.Done d.epoch d.number moment (outcome_of d.ended) in
+    let e = Entry.Done d.epoch d.number moment (outcome_of d.ended) in
     let x = asked_in (acts_of old.opening old.history) in
     let fresh : x.old ≡ false = (known old new e makes).old ∙ old_is (state_at old) d true end is in
     let since = asked_next old new e Ends makes refl ∙ ap (λ (q : Bool). cond q None x.since) fresh in

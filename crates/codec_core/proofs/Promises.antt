@@ -7,26 +7,19 @@ use Rattle.std.proofs.lemmas.List.{get_or-set_same, get_or-set_other, get_or_app
 use Rattle.std.proofs.lemmas.List.Elements.{All-from_recursion}
 use Rattle.wc_base.specs.declared.error.DomError.{DomError}
 use Rattle.codec_definitions.specs.declared.unit.Unit as media
-use Rattle.codec_model.specs.declared.entry.Event.{Event}
-use Rattle.codec_model.specs.declared.entry.Event.TheVariants as event
-use Rattle.codec_model.specs.declared.entry.Task.{Task}
-use Rattle.codec_model.specs.declared.entry.Task.TheVariants as task
-use Rattle.codec_model.specs.declared.entry.Shown.{Shown}
-use Rattle.codec_model.specs.declared.entry.PromiseEnd.{PromiseEnd}
-use Rattle.codec_model.specs.declared.entry.PromiseState.{PromiseState}
-use Rattle.codec_model.specs.declared.entry.PromiseState.TheVariants as promise
+use Rattle.codec_model.specs.declared.entry.{Event.Event, Task.Task, Shown.Shown, PromiseEnd.PromiseEnd, PromiseState.PromiseState}
 use Rattle.codec_model.specs.Shown.{promise_state, promise_ended, event_ends, ends_of, ends_shown, rejections, outputs_from, task_shows}
 use Rattle.codec_core.specs.Trace.{AreStates, rejected, resolved_by}
 
 -- ---- the first end counts
 
 abbrev pub or_later : PromiseState → PromiseState → PromiseState
-or_later promise.Pending s = s
-or_later promise.Resolved s = promise.Resolved
-or_later (promise.Rejected error) s = promise.Rejected error
+or_later PromiseState.Pending s = s
+or_later PromiseState.Resolved s = PromiseState.Resolved
+or_later (PromiseState.Rejected error) s = PromiseState.Rejected error
 
-no_later : (s : PromiseState) → or_later s promise.Pending ≡ s
-no_later promise.Pending = refl
+no_later : (s : PromiseState) → or_later s PromiseState.Pending ≡ s
+no_later PromiseState.Pending = refl
 no_later s = refl
 
 ended_stays : (error : Option DomError) (s : PromiseState) → promise_ended error ≡ or_later (promise_ended error) s
@@ -43,13 +36,13 @@ first_counts (x ∷ xs) e p = elim (eqb x.promise p) as (λ b. cond b (promise_e
 own_end : (p : ℕ) (error : Option DomError) → promise_state (record { promise = p; error = error } ∷ []) p ≡ promise_ended error
 own_end p error = rw (eq-eqb p p refl) refl
 
-other_end : (p q : ℕ) (error : Option DomError) → p ≢ q → promise_state (record { promise = p; error = error } ∷ []) q ≡ promise.Pending
+other_end : (p q : ℕ) (error : Option DomError) → p ≢ q → promise_state (record { promise = p; error = error } ∷ []) q ≡ PromiseState.Pending
 other_end p q error other = let apart : eqb p q ≡ false = grind (arith, nat_tests, other) in rw apart refl
 
 -- ---- the table of states
 
 -- one more end is of this promise alone
-more_ends : (states next : List PromiseState) (ends : List PromiseEnd) (p : ℕ) (error : Option DomError) → get_or next p promise.Pending ≡ or_later (get_or states p promise.Pending) (promise_ended error) → ((q : ℕ) → q ≢ p → get_or next q promise.Pending ≡ get_or states q promise.Pending) → AreStates states ends → AreStates next (ends ++ record { promise = p; error = error } ∷ [])
+more_ends : (states next : List PromiseState) (ends : List PromiseEnd) (p : ℕ) (error : Option DomError) → get_or next p PromiseState.Pending ≡ or_later (get_or states p PromiseState.Pending) (promise_ended error) → ((q : ℕ) → q ≢ p → get_or next q PromiseState.Pending ≡ get_or states q PromiseState.Pending) → AreStates states ends → AreStates next (ends ++ record { promise = p; error = error } ∷ [])
 more_ends states next ends p error own others h = record {
   each = λ q. elim (cases_eq q p) [
     | inl same ↦
@@ -59,26 +52,26 @@ more_ends states next ends p error own others h = record {
   ];
 }
 
-pub end_set : (states : List PromiseState) (ends : List PromiseEnd) (p : ℕ) (error : Option DomError) → p < length states → get_or states p promise.Pending ≡ promise.Pending → AreStates states ends → AreStates (set states p (promise_ended error)) (ends ++ record { promise = p; error = error } ∷ [])
-end_set states ends p error low pending = more_ends states (set states p (promise_ended error)) ends p error (get_or-set_same states p (promise_ended error) promise.Pending low ∙ sym (ap (λ s. or_later s (promise_ended error)) pending)) (λ q other. get_or-set_other states p q (promise_ended error) promise.Pending other)
+pub end_set : (states : List PromiseState) (ends : List PromiseEnd) (p : ℕ) (error : Option DomError) → p < length states → get_or states p PromiseState.Pending ≡ PromiseState.Pending → AreStates states ends → AreStates (set states p (promise_ended error)) (ends ++ record { promise = p; error = error } ∷ [])
+end_set states ends p error low pending = more_ends states (set states p (promise_ended error)) ends p error (get_or-set_same states p (promise_ended error) PromiseState.Pending low ∙ sym (ap (λ s. or_later s (promise_ended error)) pending)) (λ q other. get_or-set_other states p q (promise_ended error) PromiseState.Pending other)
 
 -- a promise that has ended stays as it is
-pub resolved_kept : (states : List PromiseState) (ends : List PromiseEnd) (p : ℕ) (error : Option DomError) → get_or states p promise.Pending ≡ promise.Resolved → AreStates states ends → AreStates states (ends ++ record { promise = p; error = error } ∷ [])
+pub resolved_kept : (states : List PromiseState) (ends : List PromiseEnd) (p : ℕ) (error : Option DomError) → get_or states p PromiseState.Pending ≡ PromiseState.Resolved → AreStates states ends → AreStates states (ends ++ record { promise = p; error = error } ∷ [])
 resolved_kept states ends p error is = more_ends states states ends p error (is ∙ sym (ap (λ s. or_later s (promise_ended error)) is)) (λ q other. refl)
 
-pub rejected_kept : (states : List PromiseState) (ends : List PromiseEnd) (p : ℕ) (error : Option DomError) (x : DomError) → get_or states p promise.Pending ≡ promise.Rejected x → AreStates states ends → AreStates states (ends ++ record { promise = p; error = error } ∷ [])
+pub rejected_kept : (states : List PromiseState) (ends : List PromiseEnd) (p : ℕ) (error : Option DomError) (x : DomError) → get_or states p PromiseState.Pending ≡ PromiseState.Rejected x → AreStates states ends → AreStates states (ends ++ record { promise = p; error = error } ∷ [])
 rejected_kept states ends p error x is = more_ends states states ends p error (is ∙ sym (ap (λ s. or_later s (promise_ended error)) is)) (λ q other. refl)
 
 -- one more entry has a promise that is pending
-pub one_pending : (states : List PromiseState) (ends : List PromiseEnd) → AreStates states ends → AreStates (states ++ promise.Pending ∷ []) ends
+pub one_pending : (states : List PromiseState) (ends : List PromiseEnd) → AreStates states ends → AreStates (states ++ PromiseState.Pending ∷ []) ends
 one_pending states ends h = record { each = λ p. same states p ∙ h.each p }
   where
-    same : (xs : List PromiseState) (p : ℕ) → get_or (xs ++ promise.Pending ∷ []) p promise.Pending ≡ get_or xs p promise.Pending
+    same : (xs : List PromiseState) (p : ℕ) → get_or (xs ++ PromiseState.Pending ∷ []) p PromiseState.Pending ≡ get_or xs p PromiseState.Pending
     same xs p = elim (cases_lt p (length xs)) [
-      | inl low ↦ get_or_append_left xs (promise.Pending ∷ []) promise.Pending p low
+      | inl low ↦ get_or_append_left xs (PromiseState.Pending ∷ []) PromiseState.Pending p low
       | inr high ↦ elim (cases_eq (length xs) p) [
-        | inl last ↦ get_or_push xs promise.Pending promise.Pending p last ∙ sym (get_or_past xs p promise.Pending high)
-        | inr past ↦ get_or_past (xs ++ promise.Pending ∷ []) p promise.Pending (let long = length-append xs (promise.Pending ∷ []) in grind (arith, long, high, past)) ∙ sym (get_or_past xs p promise.Pending high)
+        | inl last ↦ get_or_push xs PromiseState.Pending PromiseState.Pending p last ∙ sym (get_or_past xs p PromiseState.Pending high)
+        | inr past ↦ get_or_past (xs ++ PromiseState.Pending ∷ []) p PromiseState.Pending (let long = length-append xs (PromiseState.Pending ∷ []) in grind (arith, long, high, past)) ∙ sym (get_or_past xs p PromiseState.Pending high)
       ]
     ]
 
@@ -93,16 +86,16 @@ rejection_ends error [] = refl
 rejection_ends error (p ∷ ps) = ap (λ es. rejected error p ∷ es) (rejection_ends error ps)
 
 -- with an error call after them
-pub close_ends : (error : DomError) (ps : List ℕ) → ends_of (rejections error ps ++ event.ErrorCall error ∷ []) ≡ map (rejected error) ps
-close_ends error ps = ends_append (rejections error ps) (event.ErrorCall error ∷ []) ∙ (append-nil (ends_of (rejections error ps)) ∙ rejection_ends error ps)
+pub close_ends : (error : DomError) (ps : List ℕ) → ends_of (rejections error ps ++ Event.ErrorCall error ∷ []) ≡ map (rejected error) ps
+close_ends error ps = ends_append (rejections error ps) (Event.ErrorCall error ∷ []) ∙ (append-nil (ends_of (rejections error ps)) ∙ rejection_ends error ps)
 
 output_ends : (n : ℕ) (us : List media.Unit) → ends_of (outputs_from n us) ≡ []
 output_ends n [] = refl
 output_ends n (u ∷ us) = output_ends (n + 1) us
 
 pub task_ends : (t : Task) (n : ℕ) → ends_of (task_shows t n []) ≡ resolved_by t
-task_ends (task.Output us) n = output_ends n us
-task_ends (task.Flushed p us) n = ends_append (outputs_from n us) (event.Resolve p ∷ []) ∙ rw (output_ends n us) refl
+task_ends (Task.Output us) n = output_ends n us
+task_ends (Task.Flushed p us) n = ends_append (outputs_from n us) (Event.Resolve p ∷ []) ∙ rw (output_ends n us) refl
 task_ends t n = refl
 
 below_at : (error : DomError) (n : ℕ) (ps : List ℕ) → AllByRecursion (λ (e : PromiseEnd). e.promise < n) (map (rejected error) ps) → AllByRecursion (λ p. p < n) ps

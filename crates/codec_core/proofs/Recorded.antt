@@ -5,36 +5,21 @@ use Rattle.std.specs.List.{AllByRecursion}
 use Rattle.std.proofs.lemmas.Bool.{and_parts, eqb-true}
 use Rattle.std.proofs.lemmas.List.{drop-append-le, drop-drop, length-drop}
 use Rattle.std.proofs.lemmas.Bool.Decides.{nat_tests}
-use Rattle.wc_base.specs.declared.error.DomError.{DomError}
-use Rattle.wc_base.specs.declared.error.DomError.TheVariants.{Abort}
-use Rattle.wc_base.specs.declared.who.Who.{Who}
+use Rattle.wc_base.specs.declared.{error.DomError.DomError, error.DomError.TheVariants.Abort, who.Who.Who}
 use Rattle.codec_definitions.specs.declared.unit.Unit as media
 use Rattle.coder_api.specs.Lent.{Lent}
-use Rattle.codec_model.specs.declared.entry.Call.{Call}
-use Rattle.codec_model.specs.declared.entry.Call.TheVariants as call
-use Rattle.codec_model.specs.declared.entry.Entry.{Entry}
-use Rattle.codec_model.specs.declared.entry.Entry.TheVariants as entry
-use Rattle.codec_model.specs.declared.entry.Event.{Event}
-use Rattle.codec_model.specs.declared.entry.Event.TheVariants as event
-use Rattle.codec_model.specs.declared.entry.Shown.{Shown}
-use Rattle.codec_model.specs.declared.entry.Task.{Task}
-use Rattle.codec_model.specs.declared.entry.Task.TheVariants as task
-use Rattle.codec_model.specs.declared.entry.PromiseEnd.{PromiseEnd}
+use Rattle.codec_model.specs.declared.entry.{Call.Call, Entry.Entry, Event.Event, Shown.Shown, Task.Task, PromiseEnd.PromiseEnd}
 use Rattle.codec_model.specs.Control.{Control, carried, left, front, may_take, after_take, at_next_place}
-use Rattle.codec_model.specs.Replay.{with_control, call_error}
+use Rattle.codec_model.specs.{Replay.with_control, Replay.call_error, ShownLaws.each_more, Earlier.pending_below, Earlier.resolved_below}
 use Rattle.codec_model.specs.Facts.{Always, IsNeverStuck, NamesEarlier}
 use Rattle.codec_model.specs.Shown.{shows as events_of, units_in, units_shown, ends_of, shown, outputs_of, shown_at, call_shows, removal_shows, close_shows, rejections, turn_shows}
-use Rattle.codec_model.specs.ShownLaws.{each_more}
-use Rattle.codec_model.specs.Earlier.{pending_below, resolved_below}
-use Rattle.codec_accounts.specs.Asked.{asked_at}
-use Rattle.codec_accounts.specs.Boxes.{act_of, removal_act}
+use Rattle.codec_accounts.specs.{Asked.asked_at, Boxes.act_of, Boxes.removal_act}
 use Rattle.history_laws.specs.CountLaws.{step_counts}
 use Rattle.codec_core.specs.Codec.{IsAskedAt, IsKept, IsCore, OutputsWait, kept_box, reclaims}
 use Rattle.codec_core.specs.Trace.{TraceValue, EndsBelow}
-use Rattle.codec_core.proofs.Promises.{task_ends}
+use Rattle.codec_core.proofs.{Promises.task_ends, Owning.own_more}
 use Rattle.codec_core.proofs.Outputs.{outputs_more, outputs_shown, front_drop}
 use Rattle.codec_core.proofs.Steps.{Moved, kept_more, takes}
-use Rattle.codec_core.proofs.Owning.{own_more}
 
 -- ---- the outputs that wait after one more entry
 
@@ -99,8 +84,8 @@ none_waits xs [] k outputs none = waits xs [] k outputs
 none_waits xs (u ∷ us) k outputs none = absurd cc
 
 -- the trace after a take is that of the codec after it
-pub core_taken : {t : TraceValue} {slot : Option Lent} {k k' : Control} {spare : ℕ} (is : IsCore t slot k spare) (free : ℕ) (who : Who) (n : ℕ) → may_take n k ≡ true → k' ≡ after_take (at_next_place k) → Moved slot (entry.Take who n) is.kept.state k' → left k' + spare + reclaims k'.phase + 1 ≤ free → length t.entries + free < 2 ^ 63
-    → IsCore (record { entries = t.entries ++ entry.Take who n ∷ []; shown = t.shown ++ record { turn = None; events = [] } ∷ []; waiting = drop 1 t.waiting ++ []; free = free - 1 }) slot k' spare
+pub core_taken : {t : TraceValue} {slot : Option Lent} {k k' : Control} {spare : ℕ} (is : IsCore t slot k spare) (free : ℕ) (who : Who) (n : ℕ) → may_take n k ≡ true → k' ≡ after_take (at_next_place k) → Moved slot (Entry.Take who n) is.kept.state k' → left k' + spare + reclaims k'.phase + 1 ≤ free → length t.entries + free < 2 ^ 63
+    → IsCore (record { entries = t.entries ++ Entry.Take who n ∷ []; shown = t.shown ++ record { turn = None; events = [] } ∷ []; waiting = drop 1 t.waiting ++ []; free = free - 1 }) slot k' spare
 core_taken {t = t} {k = k} {k' = k'} {spare = spare} is free who n may after m place fits =
     let x : Shown = record { turn = None; events = [] } in
     let parts = and_parts (eqb n k.taken) (nat_lt n k.shown) may in
@@ -133,12 +118,12 @@ removal_below None k names = rw (← append-nil (removal_shows None k.pending)) 
 removal_below (Some error) k names = tt
 
 pub close_below : (error : DomError) (k : Control) → NamesEarlier k → EndsBelow k.place (close_shows error k.pending)
-close_below error k names = rejected_below error k.place k.pending (event.ErrorCall error ∷ []) tt (pending_below k names)
+close_below error k names = rejected_below error k.place k.pending (Event.ErrorCall error ∷ []) tt (pending_below k names)
 
 pub turn_below : (ts : List Task) (k : Control) → k.tasks ≡ ts → NamesEarlier k → EndsBelow k.place (turn_shows ts k)
-turn_below (task.Output units ∷ ts) k is names = rw (task_ends (task.Output (carried k.active units)) k.shown) tt
-turn_below (task.Flushed p units ∷ ts) k is names = rw (task_ends (task.Flushed p (carried k.active units)) k.shown) (resolved_below k p units ts names is, tt)
-turn_below (task.Close x ∷ ts) k is names = close_below x k names
+turn_below (Task.Output units ∷ ts) k is names = rw (task_ends (Task.Output (carried k.active units)) k.shown) tt
+turn_below (Task.Flushed p units ∷ ts) k is names = rw (task_ends (Task.Flushed p (carried k.active units)) k.shown) (resolved_below k p units ts names is, tt)
+turn_below (Task.Close x ∷ ts) k is names = close_below x k names
 turn_below ts k is names = tt
 
 -- the bound that the history's length gives
@@ -148,8 +133,8 @@ ends_below always {h = h} {k = k} kept x y is below =
     rw (is, ← kept.is_place) (higher k.place (k.place + 1) (ends_of y.events) (omega arith) (below names))
 
 call_below : (x : Call) (n : ℕ) (o : Option DomError) → EndsBelow (n + 1) (call_shows x n o)
-call_below call.Flush n (Some error) = (omega arith, tt)
-call_below call.Flush n None = tt
+call_below Call.Flush n (Some error) = (omega arith, tt)
+call_below Call.Flush n None = tt
 call_below x n (Some error) = tt
 call_below x n None = tt
 

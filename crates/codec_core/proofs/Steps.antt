@@ -3,39 +3,17 @@ use Rattle.std.proofs.Common.{ℕ, ◌≡◌, ◌+◌, ◌≤◌, ◌<◌, ◌||
 use Rattle.std.specs.Prelude.{unwrap_or, max, IfNone, OnSome}
 use Rattle.std.proofs.lemmas.Bool.{and_parts, eqb-true, not-true}
 use Rattle.std.proofs.lemmas.Bool.Decides.{nat_tests}
-use Rattle.wc_base.specs.Options.{cond_is, some_same}
-use Rattle.wc_base.specs.declared.error.DomError.{DomError}
-use Rattle.wc_base.specs.declared.error.DomError.TheVariants as dom
-use Rattle.wc_base.specs.declared.who.Who.{Who}
+use Rattle.wc_base.specs.{Options.cond_is, Options.some_same, declared.error.DomError.DomError, declared.who.Who.Who}
 use Rattle.codec_definitions.specs.declared.unit.Unit as media
 use Rattle.coder_api.specs.Lent.{Lent}
-use Rattle.codec_model.specs.declared.entry.CodecState.{CodecState}
+use Rattle.codec_model.specs.declared.entry.{CodecState.CodecState, Opening.Opening, Removal.Removal, Call.Call, Entry.Entry, HeldSound.HeldSound}
 use Rattle.codec_model.specs.declared.entry.CodecState.TheVariants.{Unconfigured, Configured, Closed}
-use Rattle.codec_model.specs.declared.entry.Opening.{Opening}
-use Rattle.codec_model.specs.declared.entry.Removal.{Removal}
-use Rattle.codec_model.specs.declared.entry.Removal.TheVariants as removal
-use Rattle.codec_model.specs.declared.entry.Call.{Call}
-use Rattle.codec_model.specs.declared.entry.Call.TheVariants as call
-use Rattle.codec_model.specs.declared.entry.Entry.{Entry}
-use Rattle.codec_model.specs.declared.entry.Entry.TheVariants as entry
-use Rattle.codec_model.specs.declared.entry.HeldSound.{HeldSound}
-use Rattle.codec_model.specs.declared.entry.Handed.TheVariants as handed
-use Rattle.codec_model.specs.declared.entry.Coded.TheVariants as coded
-use Rattle.codec_model.specs.declared.entry.Work.{Work}
-use Rattle.codec_model.specs.declared.entry.Work.TheVariants as work
-use Rattle.codec_model.specs.declared.entry.Message.{Message}
-use Rattle.codec_model.specs.declared.entry.Item.{Item}
-use Rattle.codec_model.specs.declared.entry.Running.{Running}
-use Rattle.codec_model.specs.declared.entry.Task.{Task}
-use Rattle.codec_model.specs.declared.entry.Task.TheVariants as task
-use Rattle.codec_model.specs.declared.entry.Ended.{Ended}
-use Rattle.codec_model.specs.declared.entry.Ended.TheVariants as ended
+use Rattle.codec_model.specs.declared.entry.{Handed.Handed, Coded.Coded, Work.Work, Message.Message, Item.Item, Running.Running, Task.Task}
+use Rattle.codec_model.specs.{declared.entry.Ended.Ended, declared.entry.Event.Event, ShownLaws.replay_more}
 use Rattle.codec_model.specs.Control.{Control, is_decoder, after_message, process, with_message, at_next_place, is_close, turn_closes, run_task, run_front, kind_of, after_done, done_running, after_end, after_turn, after_close, after_removal, may_reclaim, front, may_start, start_item, after_start, after_encode, after_take, may_take}
 use Rattle.codec_model.specs.Replay.{State, call_step, removal_step, Given, missing_coder, opening_state, step, with_control, removed, after_call, call_error, entry_of, removal_error, removal_entry, remove_or_refuse, is_configured, encode_error}
-use Rattle.codec_model.specs.declared.entry.Event.{Event}
 use Rattle.codec_model.specs.Shown.{refusal, shown_at, call_shows, removal_shows}
 use Rattle.codec_accounts.specs.Boxes.{act_of, removal_act}
-use Rattle.codec_model.specs.ShownLaws.{replay_more}
 use Rattle.codec_model.specs.StepLaws.{by_queue, begun, start_made}
 use Rattle.codec_core.specs.Job.{JobValue, DoneValue, missing_for, CoderAt, CoderFor, StillAt, IsEndOf, IsJobOf, outcome_of}
 use Rattle.codec_core.specs.Codec.{state_at, Makes, CoderHome, IsKept, kept_box, reclaims, refused_as}
@@ -54,7 +32,7 @@ abbrev pub rest_of : Control → Rest
 rest_of c = record { running = c.running; halted = c.halted; epoch = c.epoch; place = c.place; opening = c.opening; phase = c.phase; taken = c.taken }
 
 message_keeps : (w : Work) (place : ℕ) (ms : List Message) (s : Control) → rest_of (record (after_message (record { place = place; work = w }) s) { messages = ms }) ≡ rest_of s
-message_keeps (work.Coded input) place ms s = refl
+message_keeps (Work.Coded input) place ms s = refl
 message_keeps w place ms s = refl
 
 process_keeps : (s : Control) → rest_of (process s) ≡ rest_of s
@@ -64,14 +42,14 @@ queued_keeps : (place : ℕ) (w : Work) (s : Control) → rest_of (with_message 
 queued_keeps place w s = process_keeps (record s { messages = s.messages ++ record { place = place; work = w } ∷ [] })
 
 run_keeps : (t : Task) (s : Control) → is_close t ≡ false → rest_of (run_task t s) ≡ rest_of s
-run_keeps task.Process s h = process_keeps s
-run_keeps task.Desaturate s h = process_keeps (record s { saturated = false })
-run_keeps (task.Close x) s h = absurd cc
+run_keeps Task.Process s h = process_keeps s
+run_keeps Task.Desaturate s h = process_keeps (record s { saturated = false })
+run_keeps (Task.Close x) s h = absurd cc
 run_keeps _ s h = refl
 
 -- an entry takes an output
 abbrev pub takes : Entry → Bool
-takes (entry.Take who unit) = true
+takes (Entry.Take who unit) = true
 takes _ = false
 
 -- the control state with this of it
@@ -117,7 +95,7 @@ removed_moved slot e s k phase same le steps home = moved_to (removed k s) _ sam
 })
 
 -- a codec that may be configured, or removed, is not closed
-open_phase : (b : Bool) (p : CodecState) → cond b (elim p as (λ _. Option DomError) [ Unconfigured ↦ None | Configured ↦ None | Closed ↦ Some dom.InvalidState ]) (Some dom.TypeErr) ≡ None → reclaims p ≡ 1
+open_phase : (b : Bool) (p : CodecState) → cond b (elim p as (λ _. Option DomError) [ Unconfigured ↦ None | Configured ↦ None | Closed ↦ Some DomError.InvalidState ]) (Some DomError.TypeErr) ≡ None → reclaims p ≡ 1
 open_phase true Closed e = absurd cc
 open_phase true p e = refl
 open_phase false p e = absurd cc
@@ -126,15 +104,15 @@ pub most_reclaims : (p : CodecState) → reclaims p ≤ 1
 most_reclaims Closed = omega arith
 most_reclaims p = omega arith
 
-turn_moved : (slot : Option Lent) (s : State) (ts : List Task) (b : Bool) → s.control.tasks ≡ ts → turn_closes ts ≡ Some b → CoderHome slot s → Moved (kept_box (not b) slot) entry.Turn s (after_turn s.control)
+turn_moved : (slot : Option Lent) (s : State) (ts : List Task) (b : Bool) → s.control.tasks ≡ ts → turn_closes ts ≡ Some b → CoderHome slot s → Moved (kept_box (not b) slot) Entry.Turn s (after_turn s.control)
 turn_moved slot s [] b e h home = absurd cc
-turn_moved slot s (task.Close x ∷ ts) true e h home =
-    let m = removed_moved slot entry.Turn s (run_front (at_next_place s.control)) Closed (rw e refl) (omega arith) (rw e refl) home in
+turn_moved slot s (Task.Close x ∷ ts) true e h home =
+    let m = removed_moved slot Entry.Turn s (run_front (at_next_place s.control)) Closed (rw e refl) (omega arith) (rw e refl) home in
     rw e (rw e at m)
-turn_moved slot s (task.Close x ∷ ts) false e h home = absurd cc
+turn_moved slot s (Task.Close x ∷ ts) false e h home = absurd cc
 turn_moved slot s (t ∷ ts) true e h home = absurd cc
 turn_moved slot s (t ∷ ts) false e h home =
-    moved_by slot entry.Turn s (after_turn s.control) s.control.phase s.control.taken (rw e (run_keeps t (record (at_next_place s.control) { tasks = ts }) refl)) (omega arith) (λ none. refl) (rw e refl) home
+    moved_by slot Entry.Turn s (after_turn s.control) s.control.phase s.control.taken (rw e (run_keeps t (record (at_next_place s.control) { tasks = ts }) refl)) (omega arith) (λ none. refl) (rw e refl) home
 
 -- ---- a start
 
@@ -149,16 +127,16 @@ front_is (j ∷ rest) i e = cc
 can_start : (c : Control) (i : Item) → start_item c ≡ Some i → CanStart c i
 can_start c i h = let k = cond_is (may_start c) (front c.work) i h in (k.0, front_is c.work i k.1)
 
-starts : (s : State) (i : Item) (can : CanStart s.control i) → step (entry.Start s.control.epoch i.number) s ≡ Some (begun (i ∷ drop 1 s.control.work) i s)
+starts : (s : State) (i : Item) (can : CanStart s.control i) → step (Entry.Start s.control.epoch i.number) s ≡ Some (begun (i ∷ drop 1 s.control.work) i s)
 starts s i can = start_made i (drop 1 s.control.work) s.control.epoch i.number s can.1 (rw (can.0, eq-eqb s.control.epoch s.control.epoch refl, eq-eqb i.number i.number refl) refl)
 
-start_moved : (s : State) (i : Item) → CanStart s.control i → Moved None (entry.Start s.control.epoch i.number) s (after_start s.control)
+start_moved : (s : State) (i : Item) → CanStart s.control i → Moved None (Entry.Start s.control.epoch i.number) s (after_start s.control)
 start_moved s i can =
     let t = begun (i ∷ drop 1 s.control.work) i s in
     let out : Running = record { epoch = s.control.epoch; number = i.number; place = i.place; kind = kind_of i.work } in
     let is_out : (r : Running) → Some out ≡ Some r → out.epoch ≡ r.epoch = λ r e. ap (λ (x : Running). x.epoch) (some_same out r e) in
     let after : after_start s.control ≡ t.control = rw (can.0, can.1) refl in
-    subst (Moved None (entry.Start s.control.epoch i.number) s) (sym after) (moved_to t (rest_of t.control) refl (starts s i can) (record {
+    subst (Moved None (Entry.Start s.control.epoch i.number) s) (sym after) (moved_to t (rest_of t.control) refl (starts s i can) (record {
       home = record { idle = λ r e. absurd cc; out = λ r e. refl; busy = λ r e o. refl; stale = λ r e l. absurd (omega (arith, is_out r e)); older = λ r e. omega (arith, is_out r e) };
       next_place = refl;
       same_opening = refl;
@@ -178,18 +156,18 @@ home_idle s slot may home =
 
 -- the box at home is missing for an item exactly where the coder that was given all does not serve it
 lacks_at : (w : Work) (slot : Option Lent) (g : Given) → CoderAt slot g → missing_for w slot ≡ missing_coder g w
-lacks_at (work.Configure config) None g at = rw at refl
-lacks_at (work.Configure config) (Some lent) g at = rw at.asked refl
-lacks_at (work.Coded input) slot g at = refl
+lacks_at (Work.Configure config) None g at = rw at refl
+lacks_at (Work.Configure config) (Some lent) g at = rw at.asked refl
+lacks_at (Work.Coded input) slot g at = refl
 lacks_at w slot g at = refl
 
 coder_for : (w : Work) (slot : Option Lent) (before : Given) → CoderAt slot before → CoderFor w slot before
-coder_for (work.Configure config) slot before at = tt
+coder_for (Work.Configure config) slot before at = tt
 coder_for w slot before at = at
 
 -- ---- an end
 
-done_steps : (s : State) (d : DoneValue) (moment : ℕ) (end : IsEndOf s d) → step (entry.Done d.epoch d.number moment (outcome_of d.ended)) s ≡ Some (with_control (after_done d.ended moment s.control) s)
+done_steps : (s : State) (d : DoneValue) (moment : ℕ) (end : IsEndOf s d) → step (Entry.Done d.epoch d.number moment (outcome_of d.ended)) s ≡ Some (with_control (after_done d.ended moment s.control) s)
 done_steps s d moment end = rw (end.is_running, eq-eqb end.running.epoch d.epoch end.same_epoch, eq-eqb end.running.number d.number end.same_number, end.same_kind, end.end.legal) refl
 
 -- what the end of an item leaves, but for whether the codec is halted
@@ -200,8 +178,8 @@ done_leaves r e moment s =
     elim (eqb r.epoch s.epoch) as (λ b. rest_of (end b) ≡ record (rest_of s) { running = None; halted = (end b).halted }) [ true ↦ refl | false ↦ refl ]
 
 -- a codec that is not halted by it was told units
-done_fine : (r : Running) (e : Ended) (moment : ℕ) (s : Control) → r.epoch ≡ s.epoch → (done_running r e moment s).halted ≡ false → (units : List media.Unit) × (e ≡ ended.Ran units)
-done_fine r (ended.Ran units) moment s o h = (units, refl)
+done_fine : (r : Running) (e : Ended) (moment : ℕ) (s : Control) → r.epoch ≡ s.epoch → (done_running r e moment s).halted ≡ false → (units : List media.Unit) × (e ≡ Ended.Ran units)
+done_fine r (Ended.Ran units) moment s o h = (units, refl)
 done_fine r e moment s o h = absurd (let g = rw (eq-eqb r.epoch s.epoch o) at h in cc)
 
 -- the box that comes home was given all that this epoch was
@@ -209,7 +187,7 @@ idle_after : (slot next : Option Lent) (s : State) (d : DoneValue) (moment : ℕ
 idle_after slot next s d moment end home true same next_is fine =
     let o : end.running.epoch ≡ s.control.epoch = end.same_epoch ∙ eqb-true d.epoch s.control.epoch same in
     let ran = done_fine end.running d.ended moment (at_next_place s.control) o fine in
-    let still : StillAt (ended.Ran ran.0) d.coder s.running_given = rw ran.1 at end.end.box in
+    let still : StillAt (Ended.Ran ran.0) d.coder s.running_given = rw ran.1 at end.end.box in
     rw (next_is, ← home.busy end.running end.is_running o) still
 idle_after slot next s d moment end home false other next_is fine =
     let le = home.older end.running end.is_running in
@@ -217,13 +195,13 @@ idle_after slot next s d moment end home false other next_is fine =
     rw next_is (home.stale end.running end.is_running lt)
 
 -- the box comes home, if its epoch is not over
-done_moved : (slot next : Option Lent) (s : State) (d : DoneValue) (moment : ℕ) (end : IsEndOf s d) → CoderHome slot s → next ≡ kept_box (eqb d.epoch s.control.epoch) d.coder → Moved next (entry.Done d.epoch d.number moment (outcome_of d.ended)) s (after_done d.ended moment s.control)
+done_moved : (slot next : Option Lent) (s : State) (d : DoneValue) (moment : ℕ) (end : IsEndOf s d) → CoderHome slot s → next ≡ kept_box (eqb d.epoch s.control.epoch) d.coder → Moved next (Entry.Done d.epoch d.number moment (outcome_of d.ended)) s (after_done d.ended moment s.control)
 done_moved slot next s d moment end home next_is =
     let k = done_running end.running d.ended moment (at_next_place s.control) in
     let l = done_leaves end.running d.ended moment (at_next_place s.control) in
     let after : after_done d.ended moment s.control ≡ k = rw end.is_running refl in
     let steps = done_steps s d moment end ∙ ap (λ (c : Control). Some (with_control c s)) after in
-    subst (Moved next (entry.Done d.epoch d.number moment (outcome_of d.ended)) s) (sym after) (moved_to (with_control k s) _ l steps (record {
+    subst (Moved next (Entry.Done d.epoch d.number moment (outcome_of d.ended)) s) (sym after) (moved_to (with_control k s) _ l steps (record {
       home = record { idle = λ run fine. idle_after slot next s d moment end home (eqb d.epoch s.control.epoch) refl next_is fine; out = λ r e. absurd cc; busy = λ r e o. absurd cc; stale = λ r e o. absurd cc; older = λ r e. absurd cc };
       next_place = refl;
       same_opening = refl;
@@ -241,23 +219,23 @@ pub record EntryIs (e : Entry) (s t : State) (events : List Event) (removes : Bo
   pub act : act_of e s ≡ removal_act removes
 
 pub call_is : (who : Who) (x : Call) (s : State) → EntryIs (entry_of who x) s (call_step x s) (call_shows x s.control.place (call_error x s.control)) false
-call_is who call.Flush s = record { steps = refl; takes_none = refl; shows = refl; act = refl }
+call_is who Call.Flush s = record { steps = refl; takes_none = refl; shows = refl; act = refl }
 call_is who x s = record { steps = refl; takes_none = refl; shows = refl; act = refl }
 
 pub removal_is : (who : Who) (r : Removal) (s : State) → EntryIs (removal_entry who r) s (removal_step r s) (removal_shows (removal_error s.control) s.control.pending) (is_none (removal_error s.control))
-removal_is who removal.Reset s = record { steps = refl; takes_none = refl; shows = refl; act = refl }
-removal_is who removal.Close s = record { steps = refl; takes_none = refl; shows = refl; act = refl }
+removal_is who Removal.Reset s = record { steps = refl; takes_none = refl; shows = refl; act = refl }
+removal_is who Removal.Close s = record { steps = refl; takes_none = refl; shows = refl; act = refl }
 
 -- an encode of data that is not detached is refused exactly where the codec is not configured
-not_refused : (b : Bool) → cond b None (Some dom.InvalidState) ≡ None → b ≡ true
+not_refused : (b : Bool) → cond b None (Some DomError.InvalidState) ≡ None → b ≡ true
 not_refused true e = refl
 not_refused false e = absurd cc
 
-is_refused : (b : Bool) (x : DomError) → cond b None (Some dom.InvalidState) ≡ Some x → b ≡ false
+is_refused : (b : Bool) (x : DomError) → cond b None (Some DomError.InvalidState) ≡ Some x → b ≡ false
 is_refused true x e = absurd cc
 is_refused false x e = refl
 
-pub refusal_is : (who : Who) (detached : Bool) (x : DomError) (s : State) → encode_error detached s.control ≡ Some x → EntryIs (entry.Encode who (refused_as detached)) s (with_control (at_next_place s.control) s) (refusal (encode_error detached s.control)) false
+pub refusal_is : (who : Who) (detached : Bool) (x : DomError) (s : State) → encode_error detached s.control ≡ Some x → EntryIs (Entry.Encode who (refused_as detached)) s (with_control (at_next_place s.control) s) (refusal (encode_error detached s.control)) false
 refusal_is who true x s e = record { steps = refl; takes_none = refl; shows = refl; act = refl }
 refusal_is who false x s e = let off = is_refused (is_configured s.control) x e in record { steps = rw off refl; takes_none = refl; shows = rw off refl; act = refl }
 
@@ -266,17 +244,17 @@ next_moved : (slot : Option Lent) (e : Entry) (s : State) → step e s ≡ Some 
 next_moved slot e s steps home = moved_by slot e s (at_next_place s.control) s.control.phase s.control.taken refl (omega arith) (λ none. refl) steps home
 
 call_moved : (slot : Option Lent) (who : Who) (x : Call) (s : State) (error : Option DomError) → call_error x s.control ≡ error → step (entry_of who x) s ≡ Some (with_control (after_call error x s.control) s) → CoderHome slot s → Moved slot (entry_of who x) s (after_call error x s.control)
-call_moved slot who (call.Configure config) s None e steps home =
+call_moved slot who (Call.Configure config) s None e steps home =
     let c = s.control in
-    let same = queued_keeps c.place (work.Configure config) (record (at_next_place c) { phase = Configured; key_required = is_decoder c.opening.kind || c.key_required }) in
-    moved_by slot (entry.Configure who config) s _ Configured c.taken same (omega (arith, open_phase _ c.phase e)) (λ none. refl) steps home
-call_moved slot who (call.Decode chunk) s None e steps home =
-    let same = queued_keeps s.control.place (work.Coded (coded.Chunk chunk)) (record (at_next_place s.control) { key_required = false; size = s.control.size + 1 }) in
-    moved_by slot (entry.Decode who chunk) s _ s.control.phase s.control.taken same (omega arith) (λ none. refl) steps home
-call_moved slot who call.Flush s None e steps home =
+    let same = queued_keeps c.place (Work.Configure config) (record (at_next_place c) { phase = Configured; key_required = is_decoder c.opening.kind || c.key_required }) in
+    moved_by slot (Entry.Configure who config) s _ Configured c.taken same (omega (arith, open_phase _ c.phase e)) (λ none. refl) steps home
+call_moved slot who (Call.Decode chunk) s None e steps home =
+    let same = queued_keeps s.control.place (Work.Coded (Coded.Chunk chunk)) (record (at_next_place s.control) { key_required = false; size = s.control.size + 1 }) in
+    moved_by slot (Entry.Decode who chunk) s _ s.control.phase s.control.taken same (omega arith) (λ none. refl) steps home
+call_moved slot who Call.Flush s None e steps home =
     let c = s.control in
-    let same = queued_keeps c.place work.Flush (record (at_next_place c) { key_required = is_decoder c.opening.kind || c.key_required; pending = c.pending ++ c.place ∷ [] }) in
-    moved_by slot (entry.Flush who) s _ c.phase c.taken same (omega arith) (λ none. refl) steps home
+    let same = queued_keeps c.place Work.Flush (record (at_next_place c) { key_required = is_decoder c.opening.kind || c.key_required; pending = c.pending ++ c.place ∷ [] }) in
+    moved_by slot (Entry.Flush who) s _ c.phase c.taken same (omega arith) (λ none. refl) steps home
 call_moved slot who x s (Some error) e steps home = next_moved slot (entry_of who x) s steps home
 
 -- ---- removals
@@ -290,8 +268,8 @@ removal_moved : (slot : Option Lent) (who : Who) (r : Removal) (s : State) (erro
 removal_moved slot who r s error e home = by r error e ((removal_is who r s).steps ∙ ap (λ (o : Option DomError). Some (remove_or_refuse o r s)) e)
   where
     by : (r : Removal) (o : Option DomError) → removal_error s.control ≡ o → step (removal_entry who r) s ≡ Some (remove_or_refuse o r s) → Moved (kept_box (is_some o) slot) (removal_entry who r) s (removal_of o r s.control)
-    by removal.Reset None e steps = removed_moved slot (entry.Reset who) s _ Unconfigured refl (omega (arith, open_phase true s.control.phase e)) steps home
-    by removal.Close None e steps = removed_moved slot (entry.Close who) s _ Closed refl (omega arith) steps home
+    by Removal.Reset None e steps = removed_moved slot (Entry.Reset who) s _ Unconfigured refl (omega (arith, open_phase true s.control.phase e)) steps home
+    by Removal.Close None e steps = removed_moved slot (Entry.Close who) s _ Closed refl (omega arith) steps home
     by r (Some error) e steps = next_moved slot (removal_entry who r) s steps home
 
 reclaimed_phase : (p : CodecState) (b : Bool) → elim p as (λ _. Bool) [ Unconfigured ↦ false | Configured ↦ b | Closed ↦ false ] ≡ true → reclaims p ≡ 1
@@ -332,17 +310,17 @@ module _ {h : List Entry} {slot : Option Lent} {k : Control} (kept : IsKept h sl
   idle_here : (i : Item) → start_item k ≡ Some i → CoderAt slot kept.state.given
   idle_here i item = home_idle kept.state slot (can_here i item).0 kept.home
 
-  pub start_moves : {k' : Control} (i : Item) → start_item k ≡ Some i → k' ≡ after_start k → Moved None (entry.Start k.epoch i.number) kept.state k'
+  pub start_moves : {k' : Control} (i : Item) → start_item k ≡ Some i → k' ≡ after_start k → Moved None (Entry.Start k.epoch i.number) kept.state k'
   start_moves i item after = let m = start_moved kept.state i (can_here i item) in rw (after, ← kept.is_control) m
 
   pub start_lacks : (i : Item) → start_item k ≡ Some i → missing_for i.work slot ≡ missing_coder kept.state.given i.work
   start_lacks i item = lacks_at i.work slot kept.state.given (idle_here i item)
 
-  pub start_job : (i : Item) (t : State) (at : ℕ) → start_item k ≡ Some i → step (entry.Start k.epoch i.number) kept.state ≡ Some t → IsJobOf t (record { epoch = k.epoch; number = i.number; place = at; work = i.work; coder = slot })
+  pub start_job : (i : Item) (t : State) (at : ℕ) → start_item k ≡ Some i → step (Entry.Start k.epoch i.number) kept.state ≡ Some t → IsJobOf t (record { epoch = k.epoch; number = i.number; place = at; work = i.work; coder = slot })
   start_job i t at item steps =
       let s = kept.state in
       let can = can_here i item in
-      let moved : step (entry.Start s.control.epoch i.number) s ≡ Some t = subst (λ (c : Control). step (entry.Start c.epoch i.number) s ≡ Some t) (sym kept.is_control) steps in
+      let moved : step (Entry.Start s.control.epoch i.number) s ≡ Some t = subst (λ (c : Control). step (Entry.Start c.epoch i.number) s ≡ Some t) (sym kept.is_control) steps in
       let job : Control → JobValue = λ c. record { epoch = c.epoch; number = i.number; place = at; work = i.work; coder = slot } in
       let there : IsJobOf (begun (i ∷ drop 1 s.control.work) i s) (job s.control) = record {
         running = record { epoch = s.control.epoch; number = i.number; place = i.place; kind = kind_of i.work };
@@ -354,12 +332,12 @@ module _ {h : List Entry} {slot : Option Lent} {k : Control} (kept : IsKept h sl
       } in
       subst (λ (c : Control). IsJobOf t (job c)) kept.is_control (subst (λ (x : State). IsJobOf x (job s.control)) (some_same _ t (sym (starts s i can) ∙ moved)) there)
 
-  pub done_moves : {next : Option Lent} {k' : Control} (d : DoneValue) (moment spare : ℕ) → IsEndOf (state_at (record { opening = k.opening; history = h; spare = spare; slot = slot })) d → next ≡ kept_box (eqb d.epoch k.epoch) d.coder → k' ≡ after_done d.ended moment k → Moved next (entry.Done d.epoch d.number moment (outcome_of d.ended)) kept.state k'
+  pub done_moves : {next : Option Lent} {k' : Control} (d : DoneValue) (moment spare : ℕ) → IsEndOf (state_at (record { opening = k.opening; history = h; spare = spare; slot = slot })) d → next ≡ kept_box (eqb d.epoch k.epoch) d.coder → k' ≡ after_done d.ended moment k → Moved next (Entry.Done d.epoch d.number moment (outcome_of d.ended)) kept.state k'
   done_moves {next = next} d moment spare end slot_is after =
       let here : IsEndOf kept.state d = subst (λ (s : State). IsEndOf s d) (state_is spare) end in
       rw (after, ← kept.is_control) (done_moved slot next kept.state d moment here kept.home (slot_is ∙ ap (λ (c : Control). kept_box (eqb d.epoch c.epoch) d.coder) (sym kept.is_control)))
 
-  pub turn_moves : {next : Option Lent} {k' : Control} (b : Bool) → turn_closes k.tasks ≡ Some b → next ≡ kept_box (not b) slot → k' ≡ after_turn k → Moved next entry.Turn kept.state k'
+  pub turn_moves : {next : Option Lent} {k' : Control} (b : Bool) → turn_closes k.tasks ≡ Some b → next ≡ kept_box (not b) slot → k' ≡ after_turn k → Moved next Entry.Turn kept.state k'
   turn_moves b closes slot_is after =
       rw (slot_is, after, ← kept.is_control) (turn_moved slot kept.state k.tasks b (ap (λ (c : Control). c.tasks) kept.is_control) closes kept.home)
 
@@ -368,31 +346,31 @@ module _ {h : List Entry} {slot : Option Lent} {k : Control} (kept : IsKept h sl
       let s = kept.state in rw (after, ← kept.is_control) (call_moved slot who x s (call_error x s.control) refl (call_is who x s).steps kept.home)
 
   -- an encode is queued like a call
-  pub encode_moves : {k' : Control} (who : Who) (x : HeldSound) → encode_error false k ≡ None → k' ≡ after_encode k.place x (at_next_place k) → Moved slot (entry.Encode who (handed.Cloned x)) kept.state k'
+  pub encode_moves : {k' : Control} (who : Who) (x : HeldSound) → encode_error false k ≡ None → k' ≡ after_encode k.place x (at_next_place k) → Moved slot (Entry.Encode who (Handed.Cloned x)) kept.state k'
   encode_moves who x e after =
       let s = kept.state in
       let fine = not_refused (is_configured s.control) (ap (encode_error false) kept.is_control ∙ e) in
-      let same = queued_keeps s.control.place (work.Coded (coded.Sound x)) (record (at_next_place s.control) { size = s.control.size + 1 }) in
-      rw (after, ← kept.is_control) (moved_by slot (entry.Encode who (handed.Cloned x)) s (after_encode s.control.place x (at_next_place s.control)) s.control.phase s.control.taken same (omega arith) (λ none. refl) (rw fine refl) kept.home)
+      let same = queued_keeps s.control.place (Work.Coded (Coded.Sound x)) (record (at_next_place s.control) { size = s.control.size + 1 }) in
+      rw (after, ← kept.is_control) (moved_by slot (Entry.Encode who (Handed.Cloned x)) s (after_encode s.control.place x (at_next_place s.control)) s.control.phase s.control.taken same (omega arith) (λ none. refl) (rw fine refl) kept.home)
 
-  pub refusal_moves : {k' : Control} (who : Who) (detached : Bool) (x : DomError) → encode_error detached k ≡ Some x → k' ≡ at_next_place k → Moved slot (entry.Encode who (refused_as detached)) kept.state k'
+  pub refusal_moves : {k' : Control} (who : Who) (detached : Bool) (x : DomError) → encode_error detached k ≡ Some x → k' ≡ at_next_place k → Moved slot (Entry.Encode who (refused_as detached)) kept.state k'
   refusal_moves who detached x e after =
-      rw (after, ← kept.is_control) (next_moved slot (entry.Encode who (refused_as detached)) kept.state (refusal_is who detached x kept.state (ap (encode_error detached) kept.is_control ∙ e)).steps kept.home)
+      rw (after, ← kept.is_control) (next_moved slot (Entry.Encode who (refused_as detached)) kept.state (refusal_is who detached x kept.state (ap (encode_error detached) kept.is_control ∙ e)).steps kept.home)
 
-  pub take_moves : {k' : Control} (who : Who) (n : ℕ) → may_take n k ≡ true → k' ≡ after_take (at_next_place k) → Moved slot (entry.Take who n) kept.state k'
+  pub take_moves : {k' : Control} (who : Who) (n : ℕ) → may_take n k ≡ true → k' ≡ after_take (at_next_place k) → Moved slot (Entry.Take who n) kept.state k'
   take_moves who n may after =
       let s = kept.state in
       let here : may_take n s.control ≡ true = ap (may_take n) kept.is_control ∙ may in
-      rw (after, ← kept.is_control) (moved_by slot (entry.Take who n) s (after_take (at_next_place s.control)) s.control.phase (s.control.taken + 1) refl (omega arith) (λ none. absurd cc) (rw here refl) kept.home)
+      rw (after, ← kept.is_control) (moved_by slot (Entry.Take who n) s (after_take (at_next_place s.control)) s.control.phase (s.control.taken + 1) refl (omega arith) (λ none. absurd cc) (rw here refl) kept.home)
 
   pub removal_moves : {next : Option Lent} {k' : Control} (who : Who) (r : Removal) → next ≡ kept_box (is_some (removal_error k)) slot → k' ≡ removal_of (removal_error k) r k → Moved next (removal_entry who r) kept.state k'
   removal_moves who r slot_is after =
       rw (slot_is, after, ← kept.is_control) (removal_moved slot who r kept.state (removal_error kept.state.control) refl kept.home)
 
-  pub reclaim_moves : {k' : Control} (now : ℕ) → may_reclaim now k ≡ true → k' ≡ after_close (at_next_place k) → Moved None (entry.Reclaim now) kept.state k'
+  pub reclaim_moves : {k' : Control} (now : ℕ) → may_reclaim now k ≡ true → k' ≡ after_close (at_next_place k) → Moved None (Entry.Reclaim now) kept.state k'
   reclaim_moves now may after =
       let here : may_reclaim now kept.state.control ≡ true = rw kept.is_control may in
-      rw (after, ← kept.is_control) (removed_moved slot (entry.Reclaim now) kept.state (after_close (at_next_place kept.state.control)) Closed refl (omega arith) (rw here refl) kept.home)
+      rw (after, ← kept.is_control) (removed_moved slot (Entry.Reclaim now) kept.state (after_close (at_next_place kept.state.control)) Closed refl (omega arith) (rw here refl) kept.home)
 
 pub makes_more : {h : List Entry} {slot next : Option Lent} {k k' : Control} {e : Entry} (kept : IsKept h slot k) (m : Moved next e kept.state k') (spare spare' : ℕ) → Makes (record { opening = k.opening; history = h; spare = spare; slot = slot }) (record { opening = k'.opening; history = h ++ e ∷ []; spare = spare'; slot = next }) e
 unfolding kept_more

@@ -3,8 +3,7 @@ use Rattle.std.specs.Prelude.{Option, option_map, IfOk, IfSome}
 use Rattle.std.proofs.lemmas.List.{length-map}
 use Rattle.std.proofs.lemmas.Option.{slice_get-map, slice_get_read}
 use Rattle.codec_definitions.specs.declared.unit.Unit as media
-use Rattle.codec_model.specs.declared.entry.Showing.{Showing}
-use Rattle.codec_model.specs.Shown.{shown_of, units_in}
+use Rattle.codec_model.specs.{declared.entry.Showing.Showing, Shown.shown_of, Shown.units_in}
 use Rattle.codec_core.proofs.Outputs.{front_at, front_past}
 use Rattle.codec_core.proofs.trace.output_at.Goals as goal
 

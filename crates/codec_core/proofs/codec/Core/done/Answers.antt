@@ -1,15 +1,12 @@
 use Rattle.std.proofs.Common.{ℕ, ◌≡◌, ◌∙◌, ◌++◌, ◌∷◌, [], ap, sym, subst, eqb, refl, rules, arith}
-use Rattle.codec_model.specs.Control.{Control}
-use Rattle.codec_model.specs.declared.entry.Entry.{Entry}
-use Rattle.codec_model.specs.declared.entry.Entry.TheVariants as entry
+use Rattle.codec_model.specs.{Control.Control, declared.entry.Entry.Entry}
 use Rattle.codec_accounts.specs.ActLaws.{act_makes}
 use Rattle.codec_core.specs.Job.{DoneValue, outcome_of, IsEndOf}
 use Rattle.codec_core.specs.Codec.{Codec, Makes, state_at, IsAskedAt, kept_box, handed_back}
 use Rattle.codec_core.specs.Owning.{asked_of}
 use Rattle.codec_core.proofs.Steps.{Moved, done_moves, makes_more, place_kept}
-use Rattle.codec_core.proofs.Recorded.{core_more, next_fits}
+use Rattle.codec_core.proofs.{Recorded.core_more, Recorded.next_fits, codec.Core.done.Given.Over}
 use Rattle.codec_core.proofs.Owning.{seen, control_at, own_done, back_done}
-use Rattle.codec_core.proofs.codec.Core.done.Given.{Over}
 use Rattle.codec_core.proofs.codec.Core.done.Goals as goal
 
 pub done-requires-clause-place : goal.done-requires-clause-place
@@ -19,7 +16,7 @@ abbrev job : (g : Over) (c : goal.After-push g) → DoneValue
 job g c = record { epoch = c.d.inside.epoch; number = c.d.inside.number; kind = c.d.inside.kind; ended = c.d.inside.ended; coder = c.d.inside.coder }
 
 abbrev made_entry : (g : Over) (c : goal.After-push g) → Entry
-made_entry g c = entry.Done c.d.inside.epoch c.d.inside.number c.args.moment (outcome_of c.d.inside.ended)
+made_entry g c = Entry.Done c.d.inside.epoch c.d.inside.number c.args.moment (outcome_of c.d.inside.ended)
 
 abbrev old : (g : Over) (c : goal.After-push g) → Codec
 old g c = seen c.self.invariant
@@ -55,10 +52,10 @@ pub returns-clause-made : goal.returns-clause-made
 returns-clause-made g c =
     let after : Codec = record { opening = c.done.new.self.opening; history = c.push.new.self.entries; spare = c.self.inside.spare; slot = c.hand_back-back.new.slot } in
     let here : Makes c.args.self.now after (made_entry g c) = rw (← c.self.view_is, c.push.ensures, c.outcome_of_end-outcome.ensures) (made g c) in
-    subst (λ (d : DoneValue). Makes c.args.self.now after (entry.Done d.epoch d.number c.args.moment (outcome_of d.ended))) c.d.view_is here
+    subst (λ (d : DoneValue). Makes c.args.self.now after (Entry.Done d.epoch d.number c.args.moment (outcome_of d.ended))) c.d.view_is here
 
 pub returns-clause-idle : goal.returns-clause-idle
-returns-clause-idle g c = (act_makes (entry.Done c.args.d.epoch c.args.d.number c.args.moment (outcome_of c.args.d.ended)) (state_at c.args.self.now) _ (returns-clause-made g c).steps).1
+returns-clause-idle g c = (act_makes (Entry.Done c.args.d.epoch c.args.d.number c.args.moment (outcome_of c.args.d.ended)) (state_at c.args.self.now) _ (returns-clause-made g c).steps).1
 
 back : (g : Over) (c : goal.After-push g) → c.hand_back-back.result ≡ handed_back (eqb c.d.inside.epoch c.self.inside.machine.epoch) c.d.inside.coder
 back g c = c.hand_back-back.ensures.taken ∙ ap (λ (n : ℕ). handed_back (eqb c.d.inside.epoch n) c.d.inside.coder) c.epoch.ensures

@@ -1,16 +1,12 @@
 use Rattle.std.proofs.Common.{◌∙◌, false, refl, ap, sym, arith, true}
-use Rattle.codec_model.specs.declared.entry.Entry.TheVariants as entry
-use Rattle.codec_model.specs.declared.entry.Handed.TheVariants as handed
-use Rattle.codec_model.specs.declared.entry.HeldSound.{HeldSound}
-use Rattle.codec_model.specs.Control.{at_next_place, after_encode}
-use Rattle.codec_model.specs.Replay.{encode_error}
+use Rattle.codec_model.specs.declared.entry.{Entry.Entry, Handed.Handed, HeldSound.HeldSound}
+use Rattle.codec_model.specs.{Control.at_next_place, Control.after_encode, Replay.encode_error}
 use Rattle.codec_core.proofs.Steps.{Moved, encode_moves, makes_more, most_reclaims}
-use Rattle.codec_core.proofs.Recorded.{core_next}
+use Rattle.codec_core.proofs.{Recorded.core_next, codec.Core.encode.Given.Over}
 use Rattle.codec_core.proofs.Owning.{control_at, keeps_running, asked_stays}
-use Rattle.codec_core.proofs.codec.Core.encode.Given.{Over}
 use Rattle.codec_core.proofs.codec.Core.encode.Goals as goal
 
-moved : (g : Over) (c : goal.After-push g) → Moved c.self.inside.slot (entry.Encode c.args.who (handed.Cloned c.args.sound)) c.self.invariant.kept.state c.encode.new.self
+moved : (g : Over) (c : goal.After-push g) → Moved c.self.inside.slot (Entry.Encode c.args.who (Handed.Cloned c.args.sound)) c.self.invariant.kept.state c.encode.new.self
 moved g c =
     let k = c.self.inside.machine in
     encode_moves c.self.invariant.kept c.args.who c.args.sound (ap (encode_error false) (sym (control_at c.self.invariant c.self.view_is)) ∙ c.requires)

@@ -1,6 +1,5 @@
 use Rattle.std.proofs.Common.{◌∙◌, ap, sym}
-use Rattle.codec_model.specs.Shown.{promise_state, ends_shown}
-use Rattle.codec_model.specs.ShownLaws.{ends_each}
+use Rattle.codec_model.specs.{Shown.promise_state, Shown.ends_shown, ShownLaws.ends_each}
 use Rattle.codec_core.proofs.codec.Core.end_of.Goals as goal
 
 pub returns : goal.returns

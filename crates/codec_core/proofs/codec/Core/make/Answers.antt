@@ -1,9 +1,7 @@
 use Rattle.std.proofs.Common.{arith, refl, false, true, sym, ◌∙◌}
 use Rattle.codec_model.specs.Replay.{with_control, entry_of}
 use Rattle.codec_core.proofs.Steps.{call_is, Moved, call_moves, makes_more, most_reclaims}
-use Rattle.codec_core.proofs.Recorded.{core_next, call_ends}
-use Rattle.codec_core.proofs.Owning.{keeps_running, asked_stays}
-use Rattle.codec_core.proofs.codec.Core.make.Given.{Over}
+use Rattle.codec_core.proofs.{Recorded.core_next, Recorded.call_ends, Owning.keeps_running, Owning.asked_stays, codec.Core.make.Given.Over}
 use Rattle.codec_core.proofs.codec.Core.make.Goals as goal
 
 pub call-requires : goal.call-requires

@@ -1,10 +1,9 @@
 use Rattle.wc_base.specs.declared.error.DomError.TheVariants.{QuotaExceeded}
 use Rattle.std.proofs.Common.{◌∙◌, None, true, refl, ap, rules, arith, false}
-use Rattle.codec_model.specs.declared.entry.Entry.TheVariants as entry
+use Rattle.codec_model.specs.declared.entry.Entry.{Entry}
 use Rattle.codec_core.proofs.Steps.{Moved, reclaim_moves, makes_more, reclaim_reclaims}
 use Rattle.codec_core.proofs.Recorded.{close_below, core_next, next_fits, ends_below}
-use Rattle.codec_core.specs.Job.{stopped_box}
-use Rattle.codec_core.specs.Codec.{Codec}
+use Rattle.codec_core.specs.{Job.stopped_box, Codec.Codec}
 use Rattle.codec_core.proofs.Owning.{at_home, keeps_running, asked_stays, back_removal}
 use Rattle.codec_core.proofs.codec.Core.reclaim.Given.{Over}
 use Rattle.codec_core.proofs.codec.Core.reclaim.Goals as goal
@@ -15,7 +14,7 @@ reclaim-requires g c = next_fits c.self.invariant
 pub push-requires-clause-ends : goal.push-requires-clause-ends
 push-requires-clause-ends g c = ends_below c.never_stuck.ensures.facts c.self.invariant.kept _ _ c.in_ok-answer.ensures.answer.is_shown (close_below QuotaExceeded c.self.inside.machine)
 
-moved : (g : Over) (c : goal.After-push g) → Moved None (entry.Reclaim c.args.now) c.self.invariant.kept.state c.reclaim.new.self
+moved : (g : Over) (c : goal.After-push g) → Moved None (Entry.Reclaim c.args.now) c.self.invariant.kept.state c.reclaim.new.self
 moved g c = reclaim_moves c.self.invariant.kept c.args.now c.in_ok-answer.ensures.may c.in_ok-answer.ensures.made
 
 pub invariant_of-self-2 : goal.invariant_of-self-2
@@ -36,5 +35,5 @@ returns-clause-asked g c = asked_stays true (returns-clause-made g c) refl
 
 pub returns-clause-lets : goal.returns-clause-lets
 returns-clause-lets g c =
-    back_removal c.args.self.now _ (entry.Reclaim c.args.now) false _ _ (returns-clause-made g c) refl (at_home c.self.invariant c.self.view_is) (search rules)
+    back_removal c.args.self.now _ (Entry.Reclaim c.args.now) false _ _ (returns-clause-made g c) refl (at_home c.self.invariant c.self.view_is) (search rules)
     (c.hand_back-coder.ensures.taken ∙ ap (λ (v : Codec). stopped_box v.slot) c.self.view_is)

@@ -1,13 +1,10 @@
 use Rattle.std.proofs.Common.{◌≡◌, ◌∙◌, Some, false, refl, ap, sym, arith, true}
 use Rattle.wc_base.specs.declared.error.DomError.{DomError}
-use Rattle.codec_model.specs.declared.entry.Entry.TheVariants as entry
-use Rattle.codec_model.specs.Replay.{with_control, encode_error}
+use Rattle.codec_model.specs.{declared.entry.Entry.Entry, Replay.with_control, Replay.encode_error}
 use Rattle.codec_core.specs.Codec.{state_at, refused_as}
 use Rattle.codec_core.proofs.Steps.{refusal_is, Moved, refusal_moves, makes_more, most_reclaims}
-use Rattle.codec_core.proofs.Ends.{some_is}
-use Rattle.codec_core.proofs.Recorded.{core_next}
+use Rattle.codec_core.proofs.{Ends.some_is, Recorded.core_next, codec.Core.refuse_encode.Given.Over}
 use Rattle.codec_core.proofs.Owning.{control_at, keeps_running, asked_stays}
-use Rattle.codec_core.proofs.codec.Core.refuse_encode.Given.{Over}
 use Rattle.codec_core.proofs.codec.Core.refuse_encode.Goals as goal
 
 -- the error with which it is refused
@@ -19,7 +16,7 @@ unfolding error
 error_is g c =
     ap (encode_error c.args.detached) (sym (control_at c.self.invariant c.self.view_is)) ∙ (some_is (encode_error c.args.detached (state_at c.args.self.now).control) c.requires).1
 
-moved : (g : Over) (c : goal.After-push g) → Moved c.self.inside.slot (entry.Encode c.args.who (refused_as c.args.detached)) c.self.invariant.kept.state c.refuse_encode.new.self
+moved : (g : Over) (c : goal.After-push g) → Moved c.self.inside.slot (Entry.Encode c.args.who (refused_as c.args.detached)) c.self.invariant.kept.state c.refuse_encode.new.self
 moved g c = refusal_moves c.self.invariant.kept c.args.who c.args.detached (error g c) (error_is g c) c.in-Some.ensures.after
 
 pub invariant_of-self-2 : goal.invariant_of-self-2

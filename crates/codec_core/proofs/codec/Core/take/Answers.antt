@@ -1,7 +1,5 @@
 use Rattle.std.proofs.Common.{◌≡◌, ◌∙◌, Some, true, false, refl, ap, sym, subst, is_some, slice_get, arith}
-use Rattle.codec_model.specs.declared.entry.Entry.TheVariants as entry
-use Rattle.codec_model.specs.Control.{Control, may_take}
-use Rattle.codec_model.specs.Shown.{shown, outputs_of}
+use Rattle.codec_model.specs.{declared.entry.Entry.Entry, Control.Control, Control.may_take, Shown.shown, Shown.outputs_of}
 use Rattle.codec_core.specs.Codec.{Codec}
 use Rattle.codec_core.proofs.Steps.{Moved, take_moves, makes_more, most_reclaims}
 use Rattle.codec_core.proofs.Recorded.{core_taken, none_waits, taken_is}
@@ -17,7 +15,7 @@ returns-in-None-clause-may g c =
 may : (g : Over) (c : goal.After-push g) → may_take c.in-Some-take.number c.self.inside.machine ≡ true
 may g c = ap (λ n. may_take n c.self.inside.machine) c.in-Some-take.ensures.unit ∙ (sym c.take.ensures.may ∙ ap is_some c.in-Some-take.is)
 
-moved : (g : Over) (c : goal.After-push g) → Moved c.self.inside.slot (entry.Take c.args.who c.in-Some-take.number) c.self.invariant.kept.state c.take.new.self
+moved : (g : Over) (c : goal.After-push g) → Moved c.self.inside.slot (Entry.Take c.args.who c.in-Some-take.number) c.self.invariant.kept.state c.take.new.self
 moved g c = take_moves c.self.invariant.kept c.args.who c.in-Some-take.number (may g c) c.in-Some-take.ensures.after
 
 pub invariant_of-self-2 : goal.invariant_of-self-2

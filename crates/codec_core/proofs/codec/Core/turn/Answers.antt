@@ -1,6 +1,5 @@
 use Rattle.std.proofs.Common.{◌≡◌, ◌∙◌, Some, refl, ap, sym, rules, arith, Bool, not}
-use Rattle.codec_model.specs.declared.entry.Entry.TheVariants as entry
-use Rattle.codec_model.specs.Control.{Control, turn_closes}
+use Rattle.codec_model.specs.{declared.entry.Entry.Entry, Control.Control, Control.turn_closes}
 use Rattle.codec_core.specs.Codec.{Codec, handed_back}
 use Rattle.codec_core.proofs.Steps.{Moved, turn_moves, makes_more, place_kept}
 use Rattle.codec_core.proofs.Recorded.{turn_below, core_next, next_fits, ends_below}
@@ -17,7 +16,7 @@ push-requires-clause-ends g c = ends_below c.never_stuck.ensures.facts c.self.in
 closes_is : (g : Over) (c : goal.After-push g) → turn_closes c.self.inside.machine.tasks ≡ Some c.closes-closes.result
 closes_is g c = sym c.in_ok-answer.ensures.closes ∙ ap (λ (b : Bool). Some b) (sym c.closes-closes.ensures)
 
-moved : (g : Over) (c : goal.After-push g) → Moved c.hand_back-coder.new.slot entry.Turn c.self.invariant.kept.state c.turn.new.self
+moved : (g : Over) (c : goal.After-push g) → Moved c.hand_back-coder.new.slot Entry.Turn c.self.invariant.kept.state c.turn.new.self
 moved g c = turn_moves c.self.invariant.kept c.closes-closes.result (closes_is g c) c.hand_back-coder.ensures.left c.turn.ensures.after
 
 pub invariant_of-self-2 : goal.invariant_of-self-2

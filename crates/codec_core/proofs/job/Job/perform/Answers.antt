@@ -1,10 +1,8 @@
 use Rattle.std.proofs.Common.{◌∙◌, ap, refl, sym, subst}
-use Rattle.codec_model.specs.Control.{kind_of}
-use Rattle.codec_model.specs.Replay.{answer_to}
+use Rattle.codec_model.specs.{Control.kind_of, Replay.answer_to}
 use Rattle.codec_core.specs.Job.{JobValue, IsJob, IsJobOf, EndsBy, EndsWork, stopped_box}
-use Rattle.codec_core.proofs.Owning.{job_same}
+use Rattle.codec_core.proofs.{Owning.job_same, job.Job.perform.Given.Over}
 use Rattle.codec_core.proofs.Ends.{ends_or_wants, job_ends, job_answers}
-use Rattle.codec_core.proofs.job.Job.perform.Given.{Over}
 use Rattle.codec_core.proofs.job.Job.perform.Goals as goal
 
 ends : (g : Over) (c : goal.Joined-work g) → EndsWork c.self.inside.coder c.self.inside.work c.with_label-ended.result.0 c.work_end-end.new.coder

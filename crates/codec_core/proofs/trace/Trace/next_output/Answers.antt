@@ -1,8 +1,7 @@
 use Rattle.std.proofs.Common.{◌≡◌, ◌∙◌, List, map, ap, subst}
 use Rattle.std.specs.Prelude.{IfOk}
 use Rattle.codec_definitions.specs.declared.unit.Unit as media
-use Rattle.codec_model.specs.Control.{front}
-use Rattle.codec_model.specs.Shown.{shown_of}
+use Rattle.codec_model.specs.{Control.front, Shown.shown_of}
 use Rattle.codec_core.specs.Trace.{TraceValue, outputs_behind}
 use Rattle.codec_core.proofs.trace.Trace.next_output.Goals as goal
 

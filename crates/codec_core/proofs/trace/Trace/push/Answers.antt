@@ -1,8 +1,7 @@
 use Rattle.std.proofs.Common.{rules, arith, ◌≤◌, ◌∷◌, [], length, map}
 use Rattle.std.proofs.lemmas.List.{map-append, length-map}
 use Rattle.codec_model.specs.Shown.{shown_of, ends_shown}
-use Rattle.codec_core.proofs.Outputs.{within_more}
-use Rattle.codec_core.proofs.Promises.{one_pending, ends_more}
+use Rattle.codec_core.proofs.{Outputs.within_more, Promises.one_pending, Promises.ends_more}
 use Rattle.codec_core.proofs.trace.Trace.push.Goals as goal
 
 low : (c : goal.After-push_reserved-3) → c.self.inside.next_entry ≤ length (map shown_of c.self.inside.shown.items)
