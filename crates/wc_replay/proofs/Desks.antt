@@ -1,9 +1,7 @@
 -- What a desk keeps as its codec's history grows, and what becomes of its box.
-use Rattle.std.proofs.Common.{ℕ, ◌≡◌, Bool, true, false, not, cond, List, [], ◌∷◌, ◌++◌, length, Option, Some, None, is_some, is_none, refl, ap, sym, subst, ◌∙◌, option_map, append-nil}
+use Rattle.std.proofs.Common.{ℕ, ◌≡◌, Bool, true, false, not, cond, List, [], ◌∷◌, ◌++◌, length, Option, Some, None, is_some, refl, ap, sym, subst, ◌∙◌, option_map, append-nil}
 use Rattle.std.specs.Prelude.{◌==◌, ◌||◌}
 use Rattle.wc_base.specs.Options.{some_same, cond_is}
-use Rattle.wc_base.specs.declared.error.DomError.{DomError}
-use Rattle.wc_base.specs.declared.who.Who.{Who}
 use Rattle.wc_base.specs.declared.who.By.{By}
 use Rattle.wc_base.specs.declared.who.By.TheVariants as by
 use Rattle.wc_config.specs.declared.codec.CoderId.{CoderId}
@@ -11,45 +9,36 @@ use Rattle.coder_api.specs.Lent.{Lent}
 use Rattle.codec_definitions.specs.declared.unit.Unit as media
 use Rattle.coder_api.specs.declared.slot.SlotEntry.{SlotEntry}
 use Rattle.slot_registry.specs.Slots.{SlotsValue, acquired}
-use Rattle.codec_model.specs.declared.entry.Call.{Call}
-use Rattle.codec_model.specs.declared.entry.Call.TheVariants as call
 use Rattle.codec_model.specs.declared.entry.Ended.{Ended}
 use Rattle.codec_model.specs.declared.entry.Ended.TheVariants as ended
 use Rattle.codec_model.specs.declared.entry.Entry.{Entry}
 use Rattle.codec_model.specs.declared.entry.Entry.TheVariants as entry
 use Rattle.codec_model.specs.declared.entry.Item.{Item}
-use Rattle.codec_model.specs.declared.entry.Opening.{Opening}
-use Rattle.codec_model.specs.declared.entry.Removal.{Removal}
-use Rattle.codec_model.specs.declared.entry.Removal.TheVariants as removal
-use Rattle.codec_model.specs.declared.entry.Running.{Running}
 use Rattle.codec_model.specs.declared.entry.Task.{Task}
 use Rattle.codec_model.specs.declared.entry.Work.{Work}
-use Rattle.codec_model.specs.Control.{Control, kind_of, front, start_item, may_start, may_reclaim}
-use Rattle.codec_model.specs.Replay.{State, missing_coder, entry_of, removal_entry, removal_error, answer_to, turn_step}
+use Rattle.codec_model.specs.Control.{Control, kind_of, front, start_item, may_start}
+use Rattle.codec_model.specs.Replay.{State, missing_coder, answer_to, turn_step}
 use Rattle.codec_core.specs.Codec.{Codec, item_parts, state_at, Makes, KeepsRunning, kept_box, handed_back, closes_now}
 use Rattle.codec_core.specs.Owning.{IsOwnJob, KeepsAsked}
 use Rattle.codec_core.specs.Job.{JobValue, DoneValue, IsJobOf, EndsBy, outcome_of, stopped_box, missing_id}
-use Rattle.codec_accounts.specs.Boxes.{Act, Other, act_of, start_act, removal_act}
+use Rattle.codec_accounts.specs.Boxes.{Act, act_of, start_act, removal_act}
 use Rattle.codec_model.specs.declared.entry.Pair.{Pair}
 use Rattle.codec_model.specs.Held.{running_pairs}
 use Rattle.media_variables.specs.Variables.{Media}
 use Rattle.codec_accounts.specs.Registry.{BoxOut}
 use Rattle.codec_accounts.specs.Codec.{Holding, CodecValue, state_of, next_by, BoxStep, Keep, Give, Renew, box_step, after_give, slots_after, holding_after, step_by, after_entry, slots_by, IsGivable}
-use Rattle.trace_text.specs.Follow.{outcome_for, start_entry, end_of, done_entry, turn_on, turn_entry, reclaim_entry, media_by}
+use Rattle.trace_text.specs.Follow.{outcome_for, start_entry, done_entry, turn_on, turn_entry, media_by}
 use Rattle.wc_replay.specs.Desk as desk
 use Rattle.wc_replay.specs.Desk.{box_out, holding_with, box_of, holding_of, JobMatches, LacksBox, IsRefused, OwnsJob, IsDesk, more, renewal, codec_by, registry_by, media_by_option, media_without}
-use Rattle.wc_replay.proofs.Lent.{closes_same, start_media, ended_media}
+use Rattle.wc_replay.proofs.Lent.{closes_same, media_same, ended_media}
 
 -- what contracts see
 abbrev pub seen : Codec → Option JobValue → Option ℕ → CodecValue
 seen core job refusal = record { opening = core.opening; history = core.history; holding = holding_of core.slot job refusal }
 
-same_codec : (o p : Opening) (h i : List Entry) (x y : Holding) → o ≡ p → h ≡ i → x ≡ y → ◌≡◌ {A = CodecValue} (record { opening = o; history = h; holding = x }) (record { opening = p; history = i; holding = y })
-same_codec o p h i x y a b c = cc
-
 -- one more entry
 pub seen_more : (old new : Codec) (e : Entry) (job job' : Option JobValue) (refusal refusal' : Option ℕ) (h : Holding) → Makes old new e → holding_of new.slot job' refusal' ≡ h → seen new job' refusal' ≡ record { opening = old.opening; history = old.history ++ e ∷ []; holding = h }
-seen_more old new e job job' refusal refusal' h made is = same_codec _ _ _ _ _ _ made.same_opening made.longer is
+seen_more old new e job job' refusal refusal' h made is = λ i. record { opening = made.same_opening i; history = made.longer i; holding = is i }
 
 job_stays : (s t : State) (job : JobValue) → KeepsRunning s t → IsJobOf s job → IsJobOf t job
 job_stays s t job keeps is = record {
@@ -83,14 +72,6 @@ desk_stays old new e job refusal stays d made keeps asked slot = record {
   away = λ out. slot ∙ kept_away stays old.slot job d.away out;
 }
 
--- places for more calls change nothing that a desk speaks of
-pub desk_reserved : (old mid : Codec) (n : ℕ) (job : Option JobValue) (refusal : Option ℕ) → mid ≡ record old { spare = n } → IsDesk old job refusal → IsDesk mid job refusal
-desk_reserved old mid n job refusal is d = subst (λ (c : Codec). IsDesk c job refusal) (sym is) (record { legal = d.legal; matches = d.matches; refused = d.refused; own = owned job d.own; away = d.away })
-  where
-    owned : (j : Option JobValue) → OwnsJob old j → OwnsJob (record old { spare = n }) j
-    owned None own = own
-    owned (Some j) own = own
-
 pub seen_reserved : (old mid : Codec) (n : ℕ) (job : Option JobValue) (refusal : Option ℕ) → mid ≡ record old { spare = n } → seen mid job refusal ≡ seen old job refusal
 seen_reserved old mid n job refusal is = ap (λ (c : Codec). seen c job refusal) is
 
@@ -120,13 +101,13 @@ part_box true slot None refusal s matches away = rw matches (stopped_out slot)
 part_box true slot (Some job) refusal s matches away = rw (matches.is_running, away refl) refl
 
 -- a step that asks for nothing lets go what it gives
+never : (b : Bool) (p q : BoxStep) (id : CoderId) → (p ≡ Renew id → ⊥) → (q ≡ Renew id → ⊥) → cond b p q ≡ Renew id → ⊥
+never true p q id one other is = one is
+never false p q id one other is = other is
+
 no_ask : (goes : Bool) (c : Control) (refusal : Option ℕ) (id : CoderId) → box_step (removal_act goes) c refusal ≡ Renew id → ⊥
 no_ask false c refusal id is = absurd cc
-no_ask true c refusal id is = by_run (is_some c.running) is
-  where
-    by_run : (b : Bool) → cond b Keep Give ≡ Renew id → ⊥
-    by_run true h = absurd cc
-    by_run false h = absurd cc
+no_ask true c refusal id is = never (is_some c.running) Keep Give id (λ h. absurd cc) (λ h. absurd cc) is
 
 gave : (b : BoxStep) (cause : By) (box : Option BoxOut) (s : SlotsValue) → ((id : CoderId) → b ≡ Renew id → ⊥) → after_give cause (given_by b box) s ≡ slots_after cause b box s
 gave Keep cause box s none = ap (λ (l : List SlotEntry). record s { history = l }) (append-nil s.history)
@@ -162,31 +143,8 @@ parts_of k e old new job refusal goes d made keeps asked act slot =
 
 -- ---- which entries are removals
 
-pub call_act : (who : Who) (x : Call) (t : State) → act_of (entry_of who x) t ≡ Other
-call_act who call.Flush t = refl
-call_act who x t = refl
-
-pub removal_goes : (who : Who) (r : Removal) (t : State) → act_of (removal_entry who r) t ≡ removal_act (is_none (removal_error t.control))
-removal_goes who removal.Reset t = refl
-removal_goes who removal.Close t = refl
-
-none_some : {X : Type 0} (o : Option X) → is_some o ≡ not (is_none o)
-none_some None = refl
-none_some (Some x) = refl
-
-pub removal_keeps : (o : Option DomError) (slot : Option Lent) → kept_box (is_some o) slot ≡ kept_box (not (is_none o)) slot
-removal_keeps o slot = ap (λ (b : Bool). kept_box b slot) (none_some o)
-
-pub removal_hands : (o : Option DomError) (slot : Option Lent) → handed_back (is_some o) slot ≡ handed_back (not (is_none o)) slot
-removal_hands o slot = ap (λ (b : Bool). handed_back b slot) (none_some o)
-
 pub turn_goes : (t : State) → act_of entry.Turn t ≡ removal_act (closes_now t.control)
 turn_goes t = ap removal_act (sym (closes_same t.control.tasks t refl))
-
--- a call leaves the codec's box alone
-pub call_keeps : (k : ℕ) (who : Who) (x : Call) (s : SlotsValue) (d : CodecValue) → (after_entry k (entry_of who x) s d ≡ more (entry_of who x) d) × (slots_by k (entry_of who x) s d ≡ s)
-call_keeps k who call.Flush s d = (refl, refl)
-call_keeps k who x s d = (refl, refl)
 
 -- ---- what is done where there is nothing to do
 
@@ -199,18 +157,6 @@ turn_there old new job refusal made = by_tasks (state_at old).control.tasks refl
     by_tasks : (ts : List Task) → (state_at old).control.tasks ≡ ts → turn_entry (seen old job refusal) ≡ Some entry.Turn
     by_tasks [] is = absurd (let bad = sym (ap (λ (l : List Task). turn_step l (state_at old)) is) ∙ made.steps in cc)
     by_tasks (t ∷ ts) is = ap turn_on is
-
-pub no_reclaim : (d : CodecValue) (moment : ℕ) → may_reclaim moment (state_of d).control ≡ false → reclaim_entry moment d ≡ None
-no_reclaim d moment is = ap (λ (b : Bool). cond b (Some (entry.Reclaim moment)) None) is
-
-pub reclaim_there : (old new : Codec) (moment : ℕ) (job : Option JobValue) (refusal : Option ℕ) → Makes old new (entry.Reclaim moment) → reclaim_entry moment (seen old job refusal) ≡ Some (entry.Reclaim moment)
-reclaim_there old new moment job refusal made = ap (λ (b : Bool). cond b (Some (entry.Reclaim moment)) None) (cond_is (may_reclaim moment (state_at old).control) _ (state_at new) made.steps).0
-
-pub no_start : (d : CodecValue) → start_item (state_of d).control ≡ None → start_entry d ≡ None
-no_start d is = ap (λ o. option_map (λ (i : Item). entry.Start (state_of d).control.epoch i.number) o) is
-
-pub no_done : (wants : Bool) (moment : ℕ) (d : CodecValue) → (state_of d).control.running ≡ None → done_entry wants moment d ≡ None
-no_done wants moment d is = ap (λ o. option_map (end_of wants moment d.holding.refusal (state_of d).running_given) o) is
 
 -- nothing was made
 pub makes_none : (k : ℕ) (o : Option Entry) (s : SlotsValue) (m : Media) (d new : CodecValue) → o ≡ None → new ≡ d → desk.Makes k o s s m m d new
@@ -248,13 +194,6 @@ end_box false refusal coder job is lacks = stopped_out coder ∙ is
 end_box true None coder job is lacks = refl
 end_box true (Some n) coder job is lacks = sym (ap (option_map box_out) lacks.1)
 
-not_end : (b : Bool) (refusal : Option ℕ) (id : CoderId) → cond (not b || is_some refusal) Give Keep ≡ Renew id → ⊥
-not_end b refusal id is = by_bool (not b || is_some refusal) is
-  where
-    by_bool : (c : Bool) → cond c Give Keep ≡ Renew id → ⊥
-    by_bool true h = absurd cc
-    by_bool false h = absurd cc
-
 -- the end of the running item
 pub ended_makes : (k : ℕ) (old new : Codec) (job : JobValue) (d : DoneValue) (refusal : Option ℕ) (moment : ℕ) (wants : Bool) (s next : SlotsValue) (m after : Media) (ps : List Pair) (place : ℕ) (back : Option Lent) → IsDesk old (Some job) refusal → d.epoch ≡ job.epoch → d.number ≡ job.number
     → outcome_of d.ended ≡ outcome_for wants refusal (answer_to (kind_of job.work) (state_at old).running_given) → option_map box_out d.coder ≡ option_map box_out job.coder → Makes old new (entry.Done d.epoch d.number moment (outcome_of d.ended))
@@ -272,17 +211,15 @@ ended_makes k old new job d refusal moment wants s next m after ps place back is
     let codec : seen new None None ≡ after_entry k e s v =
     seen_more old new e (Some job) None refusal None (holding_after (next_by k v) (step_by e v) v.holding s) made
     (rw (slot, step) (end_holding b refusal old.slot d.coder job (next_by k v) s box is.refused)) in
-    let registry : next ≡ slots_by k e s v = rw (gave_back, at, handed, end_box b refusal d.coder job box is.refused, step) (gave (cond (not b || is_some refusal) Give Keep) (next_by k v) v.holding.box s (not_end b refusal)) in
+    let registry : next ≡ slots_by k e s v = rw (gave_back, at, handed, end_box b refusal d.coder job box is.refused, step) (gave (cond (not b || is_some refusal) Give Keep) (next_by k v) v.holding.box s (λ id. never (not b || is_some refusal) Give Keep id (λ h. absurd cc) (λ h. absurd cc))) in
     makes_some k (done_entry wants moment v) e s next m after v (seen new None None) entry_is codec registry (ended ∙ ended_media k e v place ps m refl at pairs)
 
 -- ---- starts
 
 idle_job : (s : State) (job : Option JobValue) (i : Item) → JobMatches s job → start_item s.control ≡ Some i → job ≡ None
 idle_job s None i matches is = refl
-idle_job s (Some job) i matches is = absurd (busy s.control matches.running matches.is_running (cond_is (may_start s.control) (front s.control.work) i is).0)
-  where
-    busy : (c : Control) (r : Running) → c.running ≡ Some r → may_start c ≡ true → ⊥
-    busy c r is may = let no : false ≡ true = sym (rw is refl) ∙ may in absurd cc
+idle_job s (Some job) i matches is =
+    let busy : may_start s.control ≡ false = rw matches.is_running refl in absurd (let no = sym busy ∙ (cond_is (may_start s.control) (front s.control.work) i is).0 in cc)
 
 -- what a start's job is, as its codec tells
 pub record IsStarted (old : Codec) (job : JobValue) : Type 0 where
@@ -314,7 +251,7 @@ started_makes k old new job0 refusal r job job' place s next m is st at made hol
     let step : step_by e v ≡ renewal (missing_id job) = rw (i.1, i.3, st.lacks) (start_step_is (missing_coder t.given job.work) t.control refusal) in
     let holding_is : holding_with job'.coder r ≡ holding_after (next_by k v) (step_by e v) v.holding s = rw (step, none, idle, sym st.coder, sym (at ∙ st.place)) holding in
     let slots_are : next ≡ slots_by k e s v = rw (step, idle, sym st.coder, sym (at ∙ st.place)) slots in
-    makes_some k (start_entry v) e s next m m v (seen new (Some job') r) entry_is (seen_more old new e job0 (Some job') refusal r _ made holding_is) slots_are (sym (start_media k job.epoch job.number v m))
+    makes_some k (start_entry v) e s next m m v (seen new (Some job') r) entry_is (seen_more old new e job0 (Some job') refusal r _ made holding_is) slots_are (sym (media_same m))
 
 -- an item that lacked a box: the older one went back, and the registry was asked for one
 pub renewed : (s t u : SlotsValue) (cause : By) (id : CoderId) (missing : Option CoderId) (box handed : Option BoxOut) → missing ≡ Some id → handed ≡ box → t ≡ after_give cause handed s → u ≡ acquired cause id t → u ≡ slots_after cause (renewal missing) box s

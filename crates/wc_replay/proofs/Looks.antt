@@ -1,6 +1,6 @@
 -- One codec among all: what looks show of it, and what becomes of it by an item.
 use Rattle.std.proofs.Common.{ℕ, zero, suc, ◌≡◌, ◌≤◌, ◌<◌, List, [], ◌∷◌, length, get_or, Option, Some, None, refl, ap, sym, ◌∙◌}
-use Rattle.std.specs.Prelude.{slice_get, slice_set}
+use Rattle.std.specs.Prelude.{slice_set}
 use Rattle.std.proofs.lemmas.Option.{slice_get_read, slice_get_past, some_pair_parts}
 use Rattle.slot_registry.specs.Slots.{SlotsValue}
 use Rattle.codec_model.specs.declared.entry.Entry.{Entry}
@@ -16,9 +16,7 @@ use Rattle.wc_replay.specs.Player.{call_in}
 
 -- the codec with this number is the one that was read there
 pub codec_is : (k : ℕ) (ds : List CodecValue) (d : CodecValue) → k < length ds → d ≡ get_or ds k d → codec_at k ds ≡ d
-codec_is k ds d lt is =
-    let there : slice_get ds k ≡ Some d = slice_get_read ds (length ds) k d refl lt is in
-    rw there refl
+codec_is k ds d lt is = rw (slice_get_read ds (length ds) k d refl lt is) refl
 
 -- what a look shows of a codec
 abbrev look_at : List CodecValue → ℕ → ℕ → StepResult
@@ -44,12 +42,8 @@ set_same [] k = refl
 set_same (d ∷ ds) zero = refl
 set_same (d ∷ ds) (suc k) = ap (λ (l : List CodecValue). d ∷ l) (set_same ds k)
 
--- two courses whose parts are the same
-pub same_course : (a b : List (List StepResult)) (c d : List CodecValue) (m n : Media) (s t : SlotsValue) → a ≡ b → c ≡ d → m ≡ n → s ≡ t → ◌≡◌ {A = Course} (record { callers = a; codecs = c; media = m; slots = s }) (record { callers = b; codecs = d; media = n; slots = t })
-same_course a b c d m n s t e f g h = cc
-
 -- an entry of one codec, or none, is the move that it makes
 pub advance_is : (v : Course) (k : ℕ) (o : Option Entry) (codecs : List CodecValue) (m : Media) (slots : SlotsValue) → codecs ≡ slice_set v.codecs k (codec_by k o v.slots (codec_at k v.codecs)) → slots ≡ registry_by k o v.slots (codec_at k v.codecs)
     → m ≡ media_by_option k o (codec_at k v.codecs) v.media → ◌≡◌ {A = Course} (record { callers = v.callers; codecs = codecs; media = m; slots = slots }) (after_move (advance k o) v)
-advance_is v k None codecs m slots is went left = same_course _ _ _ _ _ _ _ _ refl (is ∙ set_same v.codecs k) left went
-advance_is v k (Some e) codecs m slots is went left = same_course _ _ _ _ _ _ _ _ refl is left went
+advance_is v k None codecs m slots is went left = λ i. record { callers = v.callers; codecs = (is ∙ set_same v.codecs k) i; media = left i; slots = went i }
+advance_is v k (Some e) codecs m slots is went left = λ i. record { callers = v.callers; codecs = is i; media = left i; slots = went i }

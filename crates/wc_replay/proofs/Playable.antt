@@ -19,11 +19,6 @@ use Rattle.trace_text.specs.Fits.{step_in}
 use Rattle.order_laws.specs.SoundSteps.{stands_in, sound_step, sound_of}
 use Rattle.wc_replay.specs.Player.{IsPlayable, IsInRange, NamesInRange, is_openable}
 
-few_before : (s : ScriptData) (c j : ℕ) (x : Step) → is_sound s ≡ true → step_in s c j ≡ Some x → j < 4294967296
-few_before s c j x h is =
-    let there = stands_in s.callers c j x is in
-    omega (arith, few_steps s c there.caller h there.is_caller, slice_get_within there.caller.steps j x there.is_step)
-
 -- a caller that has a step is one of the script's
 pub caller_within : (s : ScriptData) (c j : ℕ) (x : Step) → step_in s c j ≡ Some x → c < length s.callers
 caller_within s c j x is = let there = stands_in s.callers c j x is in slice_get_within s.callers c there.caller there.is_caller
@@ -60,7 +55,7 @@ playable_of s h = record {
   sound = sound_of s h;
   faultless = h;
   names = λ c j x is. names_within s.codecs (take j (steps_of s c)) x (sound_step s c j x h is);
-  few = λ c j x is. few_before s c j x h is;
+  few = λ c j x is. (let there = stands_in s.callers c j x is in omega (arith, few_steps s c there.caller h there.is_caller, slice_get_within there.caller.steps j x there.is_step));
   items = λ i x at. items_within s s.order i x h refl at;
 }
 

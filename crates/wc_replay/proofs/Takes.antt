@@ -1,9 +1,9 @@
 -- What a take of a caller finds and makes, and the move of a step on media.
-use Rattle.std.proofs.Common.{ℕ, zero, suc, ◌≡◌, ◌∙◌, ◌&&◌, ◌<◌, ◌≤◌, Bool, true, false, eq-eqb, Option, Some, None, is_some, List, [], ◌∷◌, length, refl, ap, sym, subst, arith}
+use Rattle.std.proofs.Common.{ℕ, zero, suc, ◌≡◌, ◌∙◌, ◌&&◌, ◌≤◌, Bool, true, false, eq-eqb, Option, Some, None, is_some, List, [], ◌∷◌, length, refl, ap, sym, subst, arith}
 use Rattle.std.specs.Prelude.{slice_get, slice_set, IfSome, IfNone, IfOk, Result, Ok, Err, option_map, nat_lt, ◌==◌}
 use Rattle.std.specs.List.{AllByRecursion}
 use Rattle.std.proofs.lemmas.Bool.{ltb-false}
-use Rattle.std.proofs.lemmas.Option.{slice_get_past, some_pair_parts}
+use Rattle.std.proofs.lemmas.Option.{slice_get_past}
 use Rattle.wc_base.specs.Options.{some_same}
 use Rattle.wc_base.specs.declared.error.NoMemory.{NoMemory}
 use Rattle.report_text.specs.declared.result.StepResult.{StepResult}
@@ -23,50 +23,13 @@ use Rattle.history_laws.specs.WholeLaws.{outputs_are_whole}
 use Rattle.media_variables.specs.Held.{IsEnoughUnit}
 use Rattle.wc_replay.specs.Desk.{holding_of, IsDesk, Takes, Received, more}
 use Rattle.wc_replay.proofs.Desks.{seen, seen_more}
-use Rattle.wc_replay.proofs.Lent.{take_media}
-use Rattle.wc_replay.proofs.Looks.{set_same, same_course}
+use Rattle.wc_replay.proofs.Lent.{media_same}
+use Rattle.wc_replay.proofs.Looks.{set_same}
 use Rattle.wc_base.specs.declared.who.Who.{Who}
-use Rattle.wc_chunk.specs.declared.chunk.Chunk.{Chunk}
-use Rattle.script_types.specs.declared.script.ScriptData.{ScriptData}
-use Rattle.script_types.specs.declared.steps.Step.TheVariants as step
-use Rattle.script_types.specs.declared.steps.MediaStep.{MediaStep}
-use Rattle.script_types.specs.declared.steps.MediaStep.TheVariants as on_media
 use Rattle.codec_accounts.specs.Codec.{CodecValue, codec_at, state_of}
 use Rattle.media_variables.specs.Variables as variables
 use Rattle.media_variables.specs.Variables.{Media, Came, IsCome, media_came, sound_at, taken_came, unit_came, after_came, variables_of}
-use Rattle.trace_text.specs.Follow.{Course, after_move, encode_move, media_by, media_move, take_move, found_at, handle_move, copied_chunk, steps_of}
-use Rattle.trace_text.specs.Fits.{taken_from}
-use Rattle.wc_replay.specs.Player.{NamesInRange, encode_of}
-
-pub takes : (s : ScriptData) (media : List (List Chunk)) (who : Who) (x : MediaStep) (k : ℕ) (v : Course) → taken_from (step.Media x) ≡ Some k
-    → media_move s media who x v ≡ take_move who k (codec_at k v.codecs) (taken_came v.media.pool who.step (found_at k (codec_at k v.codecs)) (variables_of who.caller v.media.variables))
-takes s media who (on_media.Take on bind kind) k v is =
-    ap (λ (n : ℕ). take_move who n (codec_at n v.codecs) (taken_came v.media.pool who.step (found_at n (codec_at n v.codecs)) (variables_of who.caller v.media.variables))) (some_same on k is)
-takes s media who x k v is = absurd cc
-
-pub encodes : (s : ScriptData) (media : List (List Chunk)) (who : Who) (x : MediaStep) (k j : ℕ) (v : Course) → encode_of x ≡ Some (k, j)
-    → media_move s media who x v ≡ encode_move who k v.media.pool (sound_at (variables_of who.caller v.media.variables) j) (codec_at k v.codecs)
-encodes s media who (on_media.Encode on content) k j v is =
-    let parts = some_pair_parts on k content.step j is in
-    ap (λ (n : ℕ). encode_move who n v.media.pool (sound_at (variables_of who.caller v.media.variables) content.step) (codec_at n v.codecs)) parts.0
-    ∙ ap (λ (i : ℕ). encode_move who k v.media.pool (sound_at (variables_of who.caller v.media.variables) i) (codec_at k v.codecs)) parts.1
-encodes s media who x k j v is = absurd cc
-
--- a codec that an encode names is one of so many
-pub encodes_on : (n : ℕ) (x : MediaStep) (k j : ℕ) → encode_of x ≡ Some (k, j) → NamesInRange n (step.Media x) → k < n
-encodes_on n (on_media.Encode on content) k j is h = subst (λ (i : ℕ). i < n) (some_pair_parts on k content.step j is).0 h
-encodes_on n x k j is h = absurd cc
-
-pub handles : (s : ScriptData) (media : List (List Chunk)) (who : Who) (x : MediaStep) (v : Course) → taken_from (step.Media x) ≡ None → encode_of x ≡ None
-    → media_move s media who x v ≡ handle_move who (media_came v.media.pool who (record { chunk = copied_chunk media (steps_of s who.caller) x; taken = None }) x (variables_of who.caller v.media.variables))
-handles s media who (on_media.Take on bind kind) v is none = absurd cc
-handles s media who (on_media.Encode on content) v is none = absurd cc
-handles s media who x v is none = refl
-
--- and so is one that a take names
-pub named_within : (n : ℕ) (x : MediaStep) (k : ℕ) → taken_from (step.Media x) ≡ Some k → NamesInRange n (step.Media x) → k < n
-named_within n (on_media.Take on bind kind) k is h = subst (λ (i : ℕ). i < n) (some_same on k is) h
-named_within n x k is h = absurd cc
+use Rattle.trace_text.specs.Follow.{Course, after_move, media_by, take_move, found_at}
 
 -- ---- a codec's next output
 
@@ -132,9 +95,11 @@ took v who k t new callers codecs m r is set come noted =
     let y : Came = unit_came v.media.pool who.step (result.Unit k t.place t.number) t.unit (variables_of who.caller v.media.variables) in
     let answer : r ≡ y.answer = some_same r y.answer come.0 in
     let entry_is : new ≡ more (entry.Take who (state_of d).control.taken) d = is.made ∙ ap (λ (n : ℕ). more (entry.Take who n) d) is.number in
-    let stays : media_by k (entry.Take who (state_of d).control.taken) d v.media ≡ v.media = take_media k who (state_of d).control.taken d v.media in
-    same_course _ _ _ _ _ _ _ _
-    (noted ∙ ap (λ (x : StepResult). append_at who.caller x v.callers) answer) (set ∙ ap (λ (x : CodecValue). slice_set v.codecs k x) entry_is) (come.1 ∙ ap (λ (z : Media). after_came who y z) (sym stays)) refl
+    let stays : media_by k (entry.Take who (state_of d).control.taken) d v.media ≡ v.media = media_same v.media in
+    let results = noted ∙ ap (λ (x : StepResult). append_at who.caller x v.callers) answer in
+    let codecs_are = set ∙ ap (λ (x : CodecValue). slice_set v.codecs k x) entry_is in
+    let media_is = come.1 ∙ ap (λ (z : Media). after_came who y z) (sym stays) in
+    (λ i. record { callers = results i; codecs = codecs_are i; media = media_is i; slots = v.slots })
     ∙ ap (λ (o : Option variables.Taken). after_move (take_move who k d (taken_came v.media.pool who.step o (variables_of who.caller v.media.variables))) v) (sym (found k d who new t is))
 
 -- a take that found none is a look
@@ -144,7 +109,7 @@ pub found_none : (v : Course) (who : Who) (k : ℕ) (new : CodecValue) (callers 
 found_none v who k new callers codecs r is set came noted =
     let d = codec_at k v.codecs in
     let none : found_at k d ≡ None = ap (λ (o : Option media.Unit). option_map (λ u. record { unit = u; answer = result.Unit k (length d.history) (state_of d).control.taken }) o) is.0 in
-    same_course _ _ _ _ _ _ _ _
-    (noted ∙ ap (λ (x : StepResult). append_at who.caller x v.callers) (came ∙ ap (λ (x : CodecValue). result.NoUnit k (length x.history)) is.1))
-    (set ∙ (ap (λ (x : CodecValue). slice_set v.codecs k x) is.1 ∙ set_same v.codecs k)) refl refl
+    let results = noted ∙ ap (λ (x : StepResult). append_at who.caller x v.callers) (came ∙ ap (λ (x : CodecValue). result.NoUnit k (length x.history)) is.1) in
+    let codecs_are = set ∙ (ap (λ (x : CodecValue). slice_set v.codecs k x) is.1 ∙ set_same v.codecs k) in
+    (λ i. record { callers = results i; codecs = codecs_are i; media = v.media; slots = v.slots })
     ∙ ap (λ (o : Option variables.Taken). after_move (take_move who k d (taken_came v.media.pool who.step o (variables_of who.caller v.media.variables))) v) (sym none)

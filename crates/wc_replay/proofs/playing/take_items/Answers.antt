@@ -1,4 +1,4 @@
-use Rattle.std.proofs.Common.{ℕ, ◌≤◌, List, take, length, sym, subst}
+use Rattle.std.proofs.Common.{ℕ, ◌≤◌, List, take, length, sym, subst, rules}
 use Rattle.std.specs.Prelude.{slice_index_or}
 use Rattle.script_types.specs.declared.script.OrderItem.{OrderItem}
 use Rattle.script_types.specs.declared.script.OrderItem.TheVariants as item
@@ -8,29 +8,14 @@ use Rattle.wc_replay.proofs.Ends.{item_at}
 use Rattle.wc_replay.proofs.Orders.{follows_to, follows_all}
 use Rattle.wc_replay.proofs.playing.take_items.Goals as goal
 
-pub take-requires-clause-codecs : goal.take-requires-clause-codecs
-take-requires-clause-codecs g c κs within =
-    (c.following_stands.ensures c.args.script.now c.args.media.now c.args.player.now.slots.made (take c.loop-item.item-index (order_items c.args.script.now)) c.loop-item.player c.requires.playable.faultless c.loop-item.invariant).codecs
-
-pub take-requires-clause-callers : goal.take-requires-clause-callers
-take-requires-clause-callers g c κs within =
-    (c.following_stands.ensures c.args.script.now c.args.media.now c.args.player.now.slots.made (take c.loop-item.item-index (order_items c.args.script.now)) c.loop-item.player c.requires.playable.faultless c.loop-item.invariant).media
-
-pub take-requires-clause-range : goal.take-requires-clause-range
-take-requires-clause-range g c κs within =
+pub take-requires : goal.take-requires
+take-requires g c =
     let s = c.args.script.now in
     let i = c.loop-item.item-index in
     let x = slice_index_or c.items_of-item-items.result.now i (item.Caller 0) in
     let course = c.following_stands.ensures s c.args.media.now c.args.player.now.slots.made (take i (order_items s)) c.loop-item.player c.requires.playable.faultless c.loop-item.invariant in
-    subst (λ (n : ℕ). IsInRange n x) (sym course.codecs) (c.requires.playable.items i x (item_at (order_items s) c.items_of-item-items.result.now i (item.Caller 0) c.items_of-item-items.ensures c.loop-item-test.true))
-
-pub take-requires-clause-givable : goal.take-requires-clause-givable
-take-requires-clause-givable g c κs within =
-    (c.following_stands.ensures c.args.script.now c.args.media.now c.args.player.now.slots.made (take c.loop-item.item-index (order_items c.args.script.now)) c.loop-item.player c.requires.playable.faultless c.loop-item.invariant).givable
-
-pub take-requires-clause-lent : goal.take-requires-clause-lent
-take-requires-clause-lent g c κs within =
-    (c.following_stands.ensures c.args.script.now c.args.media.now c.args.player.now.slots.made (take c.loop-item.item-index (order_items c.args.script.now)) c.loop-item.player c.requires.playable.faultless c.loop-item.invariant).lent
+    let range = subst (λ (n : ℕ). IsInRange n x) (sym course.codecs) (c.requires.playable.items i x (item_at (order_items s) c.items_of-item-items.result.now i (item.Caller 0) c.items_of-item-items.ensures c.loop-item-test.true)) in
+    (search rules, (course.codecs, (course.media, (c.requires.playable, (range, (course.givable, course.lent))))))
 
 pub loop-item-preserved : goal.loop-item-preserved
 loop-item-preserved g c =

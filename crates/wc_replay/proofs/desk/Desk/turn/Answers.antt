@@ -1,11 +1,9 @@
-use Rattle.std.proofs.Common.{refl, sym, ◌∙◌, ap, subst, option_map}
-use Rattle.slot_registry.specs.Slots.{SlotsValue}
+use Rattle.std.proofs.Common.{refl, ◌∙◌, ap, option_map}
 use Rattle.codec_model.specs.declared.entry.Entry.TheVariants as entry
 use Rattle.codec_core.specs.Codec.{Codec, state_at, closes_now}
 use Rattle.media_variables.specs.Variables.{Media}
 use Rattle.trace_text.specs.Follow.{turn_entry}
 use Rattle.codec_accounts.specs.Codec.{CodecValue}
-use Rattle.wc_replay.specs.Desk as desk
 use Rattle.wc_replay.specs.Desk.{box_out, box_in, pairs_in}
 use Rattle.wc_replay.proofs.Desks.{seen, makes_seen, makes_none, makes_some, parts_of, turn_goes, turn_there, no_turn}
 use Rattle.wc_replay.proofs.Lent.{apart_waiting, ended_media, turn_lets}
@@ -32,7 +30,5 @@ returns g c =
           (w.slots-is ∙ (w.let_go.ensures.slots ∙ parts.registry c.args.slots.now w.in-Some.place (option_map box_out (box_in w.in-Some.removed)) w.in-Some.ensures.place (ap (option_map box_out) w.in-Some.ensures.handed)))
           (w.media-is ∙ (w.let_go.ensures.media ∙ ended_media c.args.codec entry.Turn old w.in-Some.place (pairs_in w.in-Some.removed) m refl w.in-Some.ensures.place (w.in-Some.ensures.gone ∙ turn_lets t)))
           )
-      | in_default w ↦ subst (λ (n : Media). desk.Makes c.args.codec (turn_entry old) c.args.slots.now c.match-run_task.slots m n old new) (sym w.media-is)
-          (subst (λ (s : SlotsValue). desk.Makes c.args.codec (turn_entry old) c.args.slots.now s m m old new) (sym w.slots-is)
-          (makes_none c.args.codec (turn_entry old) c.args.slots.now m old new (no_turn old w.in_default.ensures.none) (ap (λ (core : Codec). seen core d.job d.refusal) w.in_default.ensures.same)))
+      | in_default w ↦ rw (w.media-is, w.slots-is) (makes_none c.args.codec (turn_entry old) c.args.slots.now m old new (no_turn old w.in_default.ensures.none) (ap (λ (core : Codec). seen core d.job d.refusal) w.in_default.ensures.same))
     ])
