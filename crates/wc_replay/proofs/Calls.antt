@@ -1,5 +1,5 @@
 -- What the calls of callers make: their entry, its effect on the callers' media, and their answer.
-use Rattle.std.proofs.Common.{ℕ, ◌≡◌, ◌∙◌, ◌++◌, ◌∷◌, [], Bool, true, false, List, length, Option, Some, None, is_some, refl, ap, sym}
+use Rattle.std.proofs.Common.{ℕ, ◌≡◌, ◌∙◌, ◌++◌, ◌∷◌, [], Bool, true, false, List, length, Option, Some, None, is_some, refl, ap}
 use Rattle.std.specs.Prelude.{slice_set, IfSome, if◌then◌else◌}
 use Rattle.wc_base.specs.declared.error.DomError.{DomError}
 use Rattle.wc_base.specs.declared.error.DomError.TheVariants as dom
@@ -8,7 +8,6 @@ use Rattle.wc_pool.specs.declared.entry.PoolEntry.{PoolEntry}
 use Rattle.wc_pool.specs.declared.reference.MediaRef.{MediaRef}
 use Rattle.wc_pool.specs.Bag.{references_made}
 use Rattle.wc_audio.specs.Sound.{Sound}
-use Rattle.codec_model.specs.declared.entry.Entry.{Entry}
 use Rattle.codec_model.specs.declared.entry.Entry.TheVariants as entry
 use Rattle.codec_model.specs.declared.entry.Handed.{Handed}
 use Rattle.codec_model.specs.declared.entry.Handed.TheVariants as handed
@@ -16,24 +15,14 @@ use Rattle.codec_model.specs.declared.entry.HeldSound.{HeldSound}
 use Rattle.codec_model.specs.Replay.{encode_error, is_configured}
 use Rattle.codec_core.specs.Codec.{refused_as}
 use Rattle.codec_accounts.specs.Owed.{append_at}
-use Rattle.codec_accounts.specs.Codec.{CodecValue, codec_at, state_of, next_by, after_entry, slots_by}
+use Rattle.codec_accounts.specs.Codec.{CodecValue, codec_at, state_of, next_by}
 use Rattle.report_text.specs.declared.result.StepResult.{StepResult}
 use Rattle.report_text.specs.declared.result.StepResult.TheVariants as result
 use Rattle.media_variables.specs.declared.lending.SoundFound.TheVariants as found
 use Rattle.media_variables.specs.Variables.{Medium, Media, handed_of}
 use Rattle.media_variables.specs.Held.{clones_of, sound_found}
-use Rattle.trace_text.specs.Follow.{Course, Ask, after_move, encode_move, hand_move, media_by}
+use Rattle.trace_text.specs.Follow.{Course, after_move, encode_move, hand_move, media_by}
 use Rattle.wc_replay.specs.Desk.{more}
-
--- an entry that leaves its codec's box alone, and what its caller is answered
-asked : (v : Course) (c k place : ℕ) (e : Entry) (error shows : Option DomError) (callers : List (List StepResult)) (codecs : List CodecValue) (m : Media)
-    → after_entry k e v.slots (codec_at k v.codecs) ≡ more e (codec_at k v.codecs) → slots_by k e v.slots (codec_at k v.codecs) ≡ v.slots
-    → codecs ≡ slice_set v.codecs k (more e (codec_at k v.codecs)) → place ≡ length (codec_at k v.codecs).history → error ≡ shows
-    → callers ≡ append_at c (result.Call k place error) v.callers → m ≡ media_by k e (codec_at k v.codecs) v.media
-    → ◌≡◌ {A = Course} (record { callers = callers; codecs = codecs; media = m; slots = v.slots }) (after_move (Ask c k e shows) v)
-asked v c k place e error shows callers codecs m keeps stays made at shown noted media_is =
-    let told : callers ≡ append_at c (result.Call k (length (codec_at k v.codecs).history) shows) v.callers = rw (noted, at, shown) refl in
-    λ i. record { callers = told i; codecs = (made ∙ ap (λ (d : CodecValue). slice_set v.codecs k d) (sym keeps)) i; media = media_is i; slots = sym stays i }
 
 -- an encode that is accepted
 pub accepts : (v : Course) (who : Who) (k place : ℕ) (x : HeldSound) (error : Option DomError) (callers : List (List StepResult)) (codecs : List CodecValue) (m : Media)
@@ -42,8 +31,9 @@ pub accepts : (v : Course) (who : Who) (k place : ℕ) (x : HeldSound) (error : 
     → m.variables ≡ v.media.variables → m.pool ≡ v.media.pool ++ clones_of (next_by k (codec_at k v.codecs)) (x.pair ∷ [])
     → ◌≡◌ {A = Course} (record { callers = callers; codecs = codecs; media = m; slots = v.slots }) (after_move (hand_move who k (handed.Cloned x) (codec_at k v.codecs)) v)
 accepts v who k place x error callers codecs m made at shown noted same lent =
-    asked v who.caller k place (entry.Encode who (handed.Cloned x)) error (encode_error false (state_of (codec_at k v.codecs)).control) callers codecs m refl refl made at shown noted
-    (ap (λ (vs : List (List (Option Medium))). record m { variables = vs }) same ∙ ap (λ (l : List PoolEntry). record v.media { pool = l }) lent)
+    let told : callers ≡ append_at who.caller (result.Call k (length (codec_at k v.codecs).history) (encode_error false (state_of (codec_at k v.codecs)).control)) v.callers = rw (noted, at, shown) refl in
+    let media_is : m ≡ media_by k (entry.Encode who (handed.Cloned x)) (codec_at k v.codecs) v.media = ap (λ (vs : List (List (Option Medium))). record m { variables = vs }) same ∙ ap (λ (l : List PoolEntry). record v.media { pool = l }) lent in
+    λ i. record { callers = told i; codecs = made i; media = media_is i; slots = v.slots }
 
 -- ---- what is handed
 

@@ -18,15 +18,14 @@ use Rattle.codec_model.specs.declared.entry.Task.{Task}
 use Rattle.codec_model.specs.declared.entry.Work.{Work}
 use Rattle.codec_model.specs.Control.{Control, kind_of, front, start_item, may_start}
 use Rattle.codec_model.specs.Replay.{State, missing_coder, answer_to, turn_step}
-use Rattle.codec_core.specs.Codec.{Codec, item_parts, state_at, Makes, KeepsRunning, kept_box, handed_back, closes_now}
-use Rattle.codec_core.specs.Owning.{IsOwnJob, KeepsAsked}
-use Rattle.codec_core.specs.Job.{JobValue, DoneValue, IsJobOf, EndsBy, outcome_of, stopped_box, missing_id}
+use Rattle.codec_core.specs.Codec.{Codec, item_parts, state_at, Makes, kept_box, handed_back, closes_now}
+use Rattle.codec_core.specs.Job.{JobValue, DoneValue, EndsBy, outcome_of, stopped_box, missing_id}
 use Rattle.codec_accounts.specs.Boxes.{Act, act_of, start_act, removal_act}
 use Rattle.codec_model.specs.declared.entry.Pair.{Pair}
 use Rattle.codec_model.specs.Held.{running_pairs}
 use Rattle.media_variables.specs.Variables.{Media}
 use Rattle.codec_accounts.specs.Registry.{BoxOut}
-use Rattle.codec_accounts.specs.Codec.{Holding, CodecValue, state_of, next_by, BoxStep, Keep, Give, Renew, box_step, after_give, slots_after, holding_after, step_by, after_entry, slots_by, IsGivable}
+use Rattle.codec_accounts.specs.Codec.{Holding, CodecValue, next_by, Keep, Give, box_step, after_give, slots_after, holding_after, step_by, after_entry, slots_by}
 use Rattle.trace_text.specs.Follow.{outcome_for, start_entry, done_entry, turn_on, turn_entry, media_by}
 use Rattle.wc_replay.specs.Desk as desk
 use Rattle.wc_replay.specs.Desk.{box_out, holding_with, box_of, holding_of, JobMatches, LacksBox, IsRefused, OwnsJob, IsDesk, more, renewal, codec_by, registry_by, media_by_option, media_without}
@@ -40,38 +39,6 @@ seen core job refusal = record { opening = core.opening; history = core.history;
 pub seen_more : (old new : Codec) (e : Entry) (job job' : Option JobValue) (refusal refusal' : Option ℕ) (h : Holding) → Makes old new e → holding_of new.slot job' refusal' ≡ h → seen new job' refusal' ≡ record { opening = old.opening; history = old.history ++ e ∷ []; holding = h }
 seen_more old new e job job' refusal refusal' h made is = λ i. record { opening = made.same_opening i; history = made.longer i; holding = is i }
 
-job_stays : (s t : State) (job : JobValue) → KeepsRunning s t → IsJobOf s job → IsJobOf t job
-job_stays s t job keeps is = record {
-  running = is.running;
-  is_running = keeps.same_running ∙ is.is_running;
-  same_epoch = is.same_epoch;
-  same_number = is.same_number;
-  same_kind = is.same_kind;
-  given = rw keeps.same_given is.given;
-}
-
-job_matches : (s t : State) (job : Option JobValue) → KeepsRunning s t → JobMatches s job → JobMatches t job
-job_matches s t None keeps matches = keeps.same_running ∙ matches
-job_matches s t (Some job) keeps matches = job_stays s t job keeps matches
-
-kept_away : (stays : Bool) (slot : Option Lent) (job : Option JobValue) → (is_some job ≡ true → slot ≡ None) → is_some job ≡ true → kept_box stays slot ≡ None
-kept_away true slot job away out = away out
-kept_away false slot job away out = refl
-
-job_owned : (old new : Codec) (job : Option JobValue) → KeepsAsked old new → JobMatches (state_at old) job → OwnsJob old job → OwnsJob new job
-job_owned old new None keeps matches own = own
-job_owned old new (Some job) keeps matches own = subst (λ (at : Option ℕ). IsOwnJob at job) (sym (keeps (ap is_some matches.is_running))) own
-
--- an entry that keeps the running item keeps a desk
-pub desk_stays : (old new : Codec) (e : Entry) (job : Option JobValue) (refusal : Option ℕ) (stays : Bool) → IsDesk old job refusal → Makes old new e → KeepsRunning (state_at old) (state_at new) → KeepsAsked old new → new.slot ≡ kept_box stays old.slot → IsDesk new job refusal
-desk_stays old new e job refusal stays d made keeps asked slot = record {
-  legal = made.legal;
-  matches = job_matches (state_at old) (state_at new) job keeps d.matches;
-  refused = d.refused;
-  own = job_owned old new job asked d.matches d.own;
-  away = λ out. slot ∙ kept_away stays old.slot job d.away out;
-}
-
 pub seen_reserved : (old mid : Codec) (n : ℕ) (job : Option JobValue) (refusal : Option ℕ) → mid ≡ record old { spare = n } → seen mid job refusal ≡ seen old job refusal
 seen_reserved old mid n job refusal is = ap (λ (c : Codec). seen c job refusal) is
 
@@ -81,11 +48,9 @@ stopped_out : (slot : Option Lent) → option_map box_out (stopped_box slot) ≡
 stopped_out None = refl
 stopped_out (Some lent) = refl
 
--- the box that a step without an acquire lets go
-abbrev pub given_by : BoxStep → Option BoxOut → Option BoxOut
-given_by Keep box = None
-given_by Give box = box
-given_by (Renew id) box = box
+-- a box that stays where it is makes no entry
+none_given : (cause : By) (s : SlotsValue) → after_give cause None s ≡ s
+none_given cause s = ap (λ (l : List SlotEntry). record s { history = l }) (append-nil s.history)
 
 -- a removal, where it is one
 part_holding : (goes : Bool) (slot : Option Lent) (job : Option JobValue) (refusal : Option ℕ) (s : State) (cause : By) (slots : SlotsValue) → JobMatches s job → IsRefused job refusal
@@ -94,52 +59,21 @@ part_holding false slot job refusal s cause slots matches refused = refl
 part_holding true slot None refusal s cause slots matches refused = rw (matches, refused) refl
 part_holding true slot (Some job) refusal s cause slots matches refused = rw matches.is_running refl
 
-part_box : (goes : Bool) (slot : Option Lent) (job : Option JobValue) (refusal : Option ℕ) (s : State) → JobMatches s job → (is_some job ≡ true → slot ≡ None)
-    → option_map box_out (handed_back (not goes) slot) ≡ given_by (box_step (removal_act goes) s.control refusal) (box_of slot job)
-part_box false slot job refusal s matches away = refl
-part_box true slot None refusal s matches away = rw matches (stopped_out slot)
-part_box true slot (Some job) refusal s matches away = rw (matches.is_running, away refl) refl
+part_slots : (goes : Bool) (slot : Option Lent) (job : Option JobValue) (refusal : Option ℕ) (s : State) (cause : By) (slots : SlotsValue) → JobMatches s job → (is_some job ≡ true → slot ≡ None)
+    → after_give cause (option_map box_out (handed_back (not goes) slot)) slots ≡ slots_after cause (box_step (removal_act goes) s.control refusal) (box_of slot job) slots
+part_slots false slot job refusal s cause slots matches away = none_given cause slots
+part_slots true slot None refusal s cause slots matches away = rw (matches, stopped_out slot) refl
+part_slots true slot (Some job) refusal s cause slots matches away = rw (matches.is_running, away refl) (none_given cause slots)
 
--- a step that asks for nothing lets go what it gives
-never : (b : Bool) (p q : BoxStep) (id : CoderId) → (p ≡ Renew id → ⊥) → (q ≡ Renew id → ⊥) → cond b p q ≡ Renew id → ⊥
-never true p q id one other is = one is
-never false p q id one other is = other is
-
-no_ask : (goes : Bool) (c : Control) (refusal : Option ℕ) (id : CoderId) → box_step (removal_act goes) c refusal ≡ Renew id → ⊥
-no_ask false c refusal id is = absurd cc
-no_ask true c refusal id is = never (is_some c.running) Keep Give id (λ h. absurd cc) (λ h. absurd cc) is
-
-gave : (b : BoxStep) (cause : By) (box : Option BoxOut) (s : SlotsValue) → ((id : CoderId) → b ≡ Renew id → ⊥) → after_give cause (given_by b box) s ≡ slots_after cause b box s
-gave Keep cause box s none = ap (λ (l : List SlotEntry). record s { history = l }) (append-nil s.history)
-gave Give cause box s none = refl
-gave (Renew id) cause box s none = absurd (none id refl)
-
-givable_part : (b : BoxStep) (history : List SlotEntry) (cause : By) (box : Option BoxOut) → IsGivable history cause box → IsGivable history cause (given_by b box)
-givable_part Keep history cause box is = tt
-givable_part Give history cause box is = is
-givable_part (Renew id) history cause box is = is
-
--- What becomes of a codec by an entry that is a removal or leaves its box alone.
-pub record Parts (k : ℕ) (e : Entry) (old new : Codec) (job : Option JobValue) (refusal : Option ℕ) (goes : Bool) : Type 0 where
-  pub desk : IsDesk new job refusal
-  pub codec : (s : SlotsValue) → seen new job refusal ≡ after_entry k e s (seen old job refusal)
-  pub givable : (history : List SlotEntry) (place : ℕ) (box : Option BoxOut) → place ≡ length old.history → box ≡ option_map box_out (handed_back (not goes) old.slot) → IsGivable history (next_by k (seen old job refusal)) (seen old job refusal).holding.box → IsGivable history (by.Codec k place) box
-  pub registry : (s : SlotsValue) (place : ℕ) (box : Option BoxOut) → place ≡ length old.history → box ≡ option_map box_out (handed_back (not goes) old.slot) → after_give (by.Codec k place) box s ≡ slots_by k e s (seen old job refusal)
-
-pub parts_of : (k : ℕ) (e : Entry) (old new : Codec) (job : Option JobValue) (refusal : Option ℕ) (goes : Bool) → IsDesk old job refusal → Makes old new e → KeepsRunning (state_at old) (state_at new) → KeepsAsked old new → act_of e (state_at old) ≡ removal_act goes → new.slot ≡ kept_box (not goes) old.slot
-    → Parts k e old new job refusal goes
-parts_of k e old new job refusal goes d made keeps asked act slot =
+-- what becomes of a codec and of the registry by an entry that is a removal or leaves its box alone
+pub parts_of : (k : ℕ) (e : Entry) (old new : Codec) (job : Option JobValue) (refusal : Option ℕ) (goes : Bool) (s : SlotsValue) (place : ℕ) (box : Option BoxOut) → IsDesk old job refusal → Makes old new e → act_of e (state_at old) ≡ removal_act goes → new.slot ≡ kept_box (not goes) old.slot
+    → place ≡ length old.history → box ≡ option_map box_out (handed_back (not goes) old.slot) → (seen new job refusal ≡ after_entry k e s (seen old job refusal)) × (after_give (by.Codec k place) box s ≡ slots_by k e s (seen old job refusal))
+parts_of k e old new job refusal goes s place box d made act slot at is =
     let t = state_at old in
-    let h = holding_of old.slot job refusal in
-    let step : step_by e (seen old job refusal) ≡ box_step (removal_act goes) t.control refusal = ap (λ (a : Act). box_step a t.control refusal) act in
-    let lets : option_map box_out (handed_back (not goes) old.slot) ≡ given_by (box_step (removal_act goes) t.control refusal) h.box = part_box goes old.slot job refusal t d.matches d.away in
-    record {
-      desk = desk_stays old new e job refusal (not goes) d made keeps asked slot;
-      codec = λ s. seen_more old new e job job refusal refusal (holding_after (next_by k (seen old job refusal)) (step_by e (seen old job refusal)) h s) made
-          (rw (slot, step) (part_holding goes old.slot job refusal t (next_by k (seen old job refusal)) s d.matches d.refused));
-      givable = λ history place box at is may. rw (at, is ∙ lets) (givable_part (box_step (removal_act goes) t.control refusal) history (next_by k (seen old job refusal)) h.box may);
-      registry = λ s place box at is. rw (at, is ∙ lets, step) (gave (box_step (removal_act goes) t.control refusal) (next_by k (seen old job refusal)) h.box s (no_ask goes t.control refusal));
-    }
+    let v = seen old job refusal in
+    let step : step_by e v ≡ box_step (removal_act goes) t.control refusal = ap (λ (a : Act). box_step a t.control refusal) act in
+    let holding : holding_of new.slot job refusal ≡ holding_after (next_by k v) (step_by e v) v.holding s = rw (slot, step) (part_holding goes old.slot job refusal t (next_by k v) s d.matches d.refused) in
+    (seen_more old new e job job refusal refusal _ made holding, rw (at, is, step) (part_slots goes old.slot job refusal t (next_by k v) s d.matches d.away))
 
 -- ---- which entries are removals
 
@@ -147,9 +81,6 @@ pub turn_goes : (t : State) → act_of entry.Turn t ≡ removal_act (closes_now 
 turn_goes t = ap removal_act (sym (closes_same t.control.tasks t refl))
 
 -- ---- what is done where there is nothing to do
-
-pub no_turn : (d : CodecValue) → (state_of d).control.tasks ≡ [] → turn_entry d ≡ None
-no_turn d is = ap turn_on is
 
 pub turn_there : (old new : Codec) (job : Option JobValue) (refusal : Option ℕ) → Makes old new entry.Turn → turn_entry (seen old job refusal) ≡ Some entry.Turn
 turn_there old new job refusal made = by_tasks (state_at old).control.tasks refl
@@ -188,11 +119,11 @@ end_holding false refusal slot coder job cause s is lacks = refl
 end_holding true None slot coder job cause s is lacks = ap with_box is
 end_holding true (Some n) slot coder job cause s is lacks = ap with_box (is ∙ ap (option_map box_out) lacks.1)
 
-end_box : (b : Bool) (refusal : Option ℕ) (coder : Option Lent) (job : JobValue) → option_map box_out coder ≡ option_map box_out job.coder → LacksBox job refusal
-    → option_map box_out (handed_back b coder) ≡ given_by (cond (not b || is_some refusal) Give Keep) (option_map box_out job.coder)
-end_box false refusal coder job is lacks = stopped_out coder ∙ is
-end_box true None coder job is lacks = refl
-end_box true (Some n) coder job is lacks = sym (ap (option_map box_out) lacks.1)
+end_slots : (b : Bool) (refusal : Option ℕ) (coder : Option Lent) (job : JobValue) (cause : By) (s : SlotsValue) → option_map box_out coder ≡ option_map box_out job.coder → LacksBox job refusal
+    → after_give cause (option_map box_out (handed_back b coder)) s ≡ slots_after cause (cond (not b || is_some refusal) Give Keep) (option_map box_out job.coder) s
+end_slots false refusal coder job cause s is lacks = rw (stopped_out coder, is) refl
+end_slots true None coder job cause s is lacks = none_given cause s
+end_slots true (Some n) coder job cause s is lacks = rw lacks.1 refl
 
 -- the end of the running item
 pub ended_makes : (k : ℕ) (old new : Codec) (job : JobValue) (d : DoneValue) (refusal : Option ℕ) (moment : ℕ) (wants : Bool) (s next : SlotsValue) (m after : Media) (ps : List Pair) (place : ℕ) (back : Option Lent) → IsDesk old (Some job) refusal → d.epoch ≡ job.epoch → d.number ≡ job.number
@@ -211,7 +142,7 @@ ended_makes k old new job d refusal moment wants s next m after ps place back is
     let codec : seen new None None ≡ after_entry k e s v =
     seen_more old new e (Some job) None refusal None (holding_after (next_by k v) (step_by e v) v.holding s) made
     (rw (slot, step) (end_holding b refusal old.slot d.coder job (next_by k v) s box is.refused)) in
-    let registry : next ≡ slots_by k e s v = rw (gave_back, at, handed, end_box b refusal d.coder job box is.refused, step) (gave (cond (not b || is_some refusal) Give Keep) (next_by k v) v.holding.box s (λ id. never (not b || is_some refusal) Give Keep id (λ h. absurd cc) (λ h. absurd cc))) in
+    let registry : next ≡ slots_by k e s v = rw (gave_back, at, handed, step) (end_slots b refusal d.coder job (next_by k v) s box is.refused) in
     makes_some k (done_entry wants moment v) e s next m after v (seen new None None) entry_is codec registry (ended ∙ ended_media k e v place ps m refl at pairs)
 
 -- ---- starts
@@ -221,14 +152,6 @@ idle_job s None i matches is = refl
 idle_job s (Some job) i matches is =
     let busy : may_start s.control ≡ false = rw matches.is_running refl in absurd (let no = sym busy ∙ (cond_is (may_start s.control) (front s.control.work) i is).0 in cc)
 
--- what a start's job is, as its codec tells
-pub record IsStarted (old : Codec) (job : JobValue) : Type 0 where
-  pub epoch : job.epoch ≡ (state_at old).control.epoch
-  pub place : job.place ≡ length old.history
-  pub item : option_map item_parts (start_item (state_at old).control) ≡ Some (job.number, job.work)
-  pub coder : job.coder ≡ old.slot
-  pub lacks : missing_id job ≡ missing_coder (state_at old).given job.work
-
 some_item : (o : Option Item) (n : ℕ) (w : Work) → option_map item_parts o ≡ Some (n, w) → (i : Item) × (o ≡ Some i) × (i.number ≡ n) × (i.work ≡ w)
 some_item None n w is = absurd cc
 some_item (Some i) n w is = let same = some_same (item_parts i) (n, w) is in (i, refl, ap (λ x. x.0) same, ap (λ x. x.1) same)
@@ -237,20 +160,21 @@ start_step_is : (o : Option CoderId) (c : Control) (refusal : Option ℕ) → bo
 start_step_is None c refusal = refl
 start_step_is (Some id) c refusal = refl
 
-pub started_makes : (k : ℕ) (old new : Codec) (job0 : Option JobValue) (refusal r : Option ℕ) (job job' : JobValue) (place : ℕ) (s next : SlotsValue) (m : Media) → IsDesk old job0 refusal → IsStarted old job → place ≡ job.place → Makes old new (entry.Start job.epoch job.number)
+pub started_makes : (k : ℕ) (old new : Codec) (job0 : Option JobValue) (refusal r : Option ℕ) (job job' : JobValue) (place : ℕ) (s next : SlotsValue) (m : Media) → IsDesk old job0 refusal → job.epoch ≡ (state_at old).control.epoch → job.place ≡ length old.history
+    → option_map item_parts (start_item (state_at old).control) ≡ Some (job.number, job.work) → job.coder ≡ old.slot → missing_id job ≡ missing_coder (state_at old).given job.work → place ≡ job.place → Makes old new (entry.Start job.epoch job.number)
     → holding_with job'.coder r ≡ holding_after (by.Codec k place) (renewal (missing_id job)) (holding_with job.coder None) s → next ≡ slots_after (by.Codec k place) (renewal (missing_id job)) (option_map box_out job.coder) s
     → desk.Makes k (start_entry (seen old job0 refusal)) s next m m (seen old job0 refusal) (seen new (Some job') r)
-started_makes k old new job0 refusal r job job' place s next m is st at made holding slots =
+started_makes k old new job0 refusal r job job' place s next m is epoch started item coder lacks at made holding slots =
     let t = state_at old in
     let v = seen old job0 refusal in
-    let i = some_item (start_item t.control) job.number job.work st.item in
+    let i = some_item (start_item t.control) job.number job.work item in
     let idle : job0 ≡ None = idle_job t job0 i.0 is.matches i.1 in
     let none : refusal ≡ None = subst (λ (o : Option JobValue). IsRefused o refusal) idle is.refused in
     let e = entry.Start job.epoch job.number in
-    let entry_is : start_entry v ≡ Some e = rw (i.1, i.2, st.epoch) refl in
-    let step : step_by e v ≡ renewal (missing_id job) = rw (i.1, i.3, st.lacks) (start_step_is (missing_coder t.given job.work) t.control refusal) in
-    let holding_is : holding_with job'.coder r ≡ holding_after (next_by k v) (step_by e v) v.holding s = rw (step, none, idle, sym st.coder, sym (at ∙ st.place)) holding in
-    let slots_are : next ≡ slots_by k e s v = rw (step, idle, sym st.coder, sym (at ∙ st.place)) slots in
+    let entry_is : start_entry v ≡ Some e = rw (i.1, i.2, epoch) refl in
+    let step : step_by e v ≡ renewal (missing_id job) = rw (i.1, i.3, lacks) (start_step_is (missing_coder t.given job.work) t.control refusal) in
+    let holding_is : holding_with job'.coder r ≡ holding_after (next_by k v) (step_by e v) v.holding s = rw (step, none, idle, sym coder, sym (at ∙ started)) holding in
+    let slots_are : next ≡ slots_by k e s v = rw (step, idle, sym coder, sym (at ∙ started)) slots in
     makes_some k (start_entry v) e s next m m v (seen new (Some job') r) entry_is (seen_more old new e job0 (Some job') refusal r _ made holding_is) slots_are (sym (media_same m))
 
 -- an item that lacked a box: the older one went back, and the registry was asked for one

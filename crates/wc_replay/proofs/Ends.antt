@@ -1,7 +1,7 @@
 -- The beginning and the end of a replay.
-use Rattle.std.proofs.Common.{ℕ, ◌≡◌, ◌+◌, ◌<◌, ◌≤◌, List, [], ◌∷◌, ◌++◌, map, length, get_or, append_assoc, append-nil, refl, ap, sym, ◌∙◌, arith}
+use Rattle.std.proofs.Common.{ℕ, ◌≡◌, ◌+◌, ◌<◌, List, [], ◌∷◌, ◌++◌, map, length, get_or, append_assoc, append-nil, refl, ap, sym, ◌∙◌, arith}
 use Rattle.std.specs.Prelude.{take, slice_get, Some}
-use Rattle.std.proofs.lemmas.List.{map_more, take_all}
+use Rattle.std.proofs.lemmas.List.{map_more}
 use Rattle.std.proofs.lemmas.Option.{slice_get-get_or}
 
 -- ---- lists that are made one after another
@@ -17,9 +17,6 @@ all_made f made left all before is = sym (append-nil made) ∙ (ap (λ (l : List
 pub next_made : {X Y : Type 0} (f : X → Y) (xs : List X) (i : ℕ) (x : X) (made new : List Y) → i < length xs → x ≡ get_or xs i x → made ≡ map f (take i xs) → new ≡ made ++ f x ∷ [] → new ≡ map f (take (i + 1) xs)
 next_made f xs i x made new lt at is more =
     more ∙ (ap (λ (l : List _). l ++ f x ∷ []) is ∙ (ap (λ (y : _). map f (take i xs) ++ f y ∷ []) at ∙ sym (map_more f xs i x lt)))
-
-pub whole_made : {X Y : Type 0} (f : X → Y) (xs : List X) (i : ℕ) (made : List Y) → length xs ≤ i → made ≡ map f (take i xs) → made ≡ map f xs
-whole_made f xs i made beyond is = is ∙ ap (λ (l : List _). map f l) (take_all i xs beyond)
 
 -- ---- the items of an order
 

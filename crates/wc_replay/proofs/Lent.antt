@@ -59,12 +59,9 @@ apart_running m v d ps same is h =
     rw (is, same) (apart_part m.pool m.variables (held_in (state_of d)) (running_pairs (state_of d)) (λ i. i) (λ i j e. e) (get_kept (running_pairs (state_of d)) (waiting_held (state_of d).control)) h)
 
 -- those that wait, where they are let go
-apart_if : (m : Media) (s : State) (goes : Bool) → AreApart m.pool m.variables (held_in s) → AreApart m.pool m.variables (waiting_if goes s)
-apart_if m s true h =
-    let xs = running_pairs s in
-    let ys = waiting_held s.control in
-    apart_part m.pool m.variables (xs ++ ys) ys (λ i. length xs + i) (λ i j e. omega (arith, e)) (λ i p at. get_behind xs ys i (length xs + i) refl ∙ at) h
-apart_if m s false h = apart_part m.pool m.variables (held_in s) [] (λ i. i) (λ i j e. e) (λ i p at. absurd cc) h
-
 pub apart_waiting : (m : Media) (v d : CodecValue) (goes : Bool) (ps : List Pair) → v ≡ d → ps ≡ waiting_if goes (state_of v) → AreApart m.pool m.variables (held_in (state_of d)) → AreApart m.pool m.variables ps
-apart_waiting m v d goes ps same is h = rw (is, same) (apart_if m (state_of d) goes h)
+apart_waiting m v d true ps same is h =
+    let xs = running_pairs (state_of d) in
+    let ys = waiting_held (state_of d).control in
+    rw (is, same) (apart_part m.pool m.variables (xs ++ ys) ys (λ i. length xs + i) (λ i j e. omega (arith, e)) (λ i p at. get_behind xs ys i (length xs + i) refl ∙ at) h)
+apart_waiting m v d false ps same is h = rw is (apart_part m.pool m.variables (held_in (state_of d)) [] (λ i. i) (λ i j e. e) (λ i p at. absurd cc) h)

@@ -1,7 +1,7 @@
 -- Items of an order, followed one after another.
-use Rattle.std.proofs.Common.{ℕ, ◌≡◌, ◌≤◌, ◌+◌, Bool, List, [], ◌∷◌, ◌++◌, take, length, Some, ap, subst}
+use Rattle.std.proofs.Common.{ℕ, ◌≡◌, ◌+◌, Bool, List, [], ◌∷◌, ◌++◌, take, Some, ap}
 use Rattle.std.specs.Prelude.{slice_get}
-use Rattle.std.proofs.lemmas.List.{take_all, take_more}
+use Rattle.std.proofs.lemmas.List.{take_more}
 use Rattle.std.proofs.lemmas.Option.{slice_get_within, get_or_from_slice_get}
 use Rattle.wc_chunk.specs.declared.chunk.Chunk.{Chunk}
 use Rattle.script_types.specs.declared.script.OrderItem.{OrderItem}
@@ -17,7 +17,3 @@ follows_more s media (y ∷ ys) x wants v u follows = (follows.0, follows_more s
 pub follows_to : (s : ScriptData) (media : List (List Chunk)) (i : ℕ) (x : OrderItem) (wants : Bool) (v u next : Course) → slice_get (order_items s) i ≡ Some x → Follows s media (take i (order_items s)) v u → next ≡ follow_item s media wants x u → Follows s media (take (i + 1) (order_items s)) v next
 follows_to s media i x wants v u next h follows is =
     rw (is, take_more (order_items s) i x (slice_get_within (order_items s) i x h), get_or_from_slice_get (order_items s) i x x h) (follows_more s media (take i (order_items s)) x wants v u follows)
-
--- all items are followed
-pub follows_all : (s : ScriptData) (media : List (List Chunk)) (i : ℕ) (v u : Course) → length (order_items s) ≤ i → Follows s media (take i (order_items s)) v u → Follows s media (order_items s) v u
-follows_all s media i v u all follows = subst (λ (xs : List OrderItem). Follows s media xs v u) (take_all i (order_items s) all) follows

@@ -3,7 +3,7 @@ use Rattle.std.proofs.lemmas.Option.{slice_get_read}
 use Rattle.codec_accounts.specs.Codec.{CodecValue}
 use Rattle.wc_replay.specs.Player.{is_openable, new_desk}
 use Rattle.script_types.specs.SoundLaws.{all_at}
-use Rattle.wc_replay.proofs.Ends.{next_made, whole_made}
+use Rattle.wc_replay.proofs.Ends.{next_made}
 use Rattle.wc_replay.proofs.playing.open_desks.Goals as goal
 
 pub open_desk-requires-after_bounds : goal.open_desk-requires-after_bounds
@@ -17,6 +17,3 @@ loop-codec-preserved g c =
     let made = c.loop-codec.desks.items in
     next_made new_desk c.args.codecs.now c.loop-codec.codec-index c.codec-item.result made c.try_push.new.items.items c.loop-codec-test.true c.codec-item.is c.loop-codec.invariant
     (c.in_ok-try_push.ensures.ok ∙ ap (λ (d : CodecValue). made ++ d ∷ []) c.in_ok-desk.ensures)
-
-pub returns : goal.returns
-returns g c = whole_made new_desk c.args.codecs.now c.loop-codec.codec-index c.loop-codec.desks.items c.loop-codec-test.false c.loop-codec.invariant

@@ -1,11 +1,10 @@
-use Rattle.std.proofs.Common.{ℕ, ◌≤◌, List, take, length, sym, subst, rules}
+use Rattle.std.proofs.Common.{ℕ, take, sym, subst, rules}
 use Rattle.std.specs.Prelude.{slice_index_or}
-use Rattle.script_types.specs.declared.script.OrderItem.{OrderItem}
 use Rattle.script_types.specs.declared.script.OrderItem.TheVariants as item
-use Rattle.trace_text.specs.Follow.{order_items, Course, Follows, nothing_yet}
+use Rattle.trace_text.specs.Follow.{order_items, nothing_yet}
 use Rattle.wc_replay.specs.Player.{IsInRange}
 use Rattle.wc_replay.proofs.Ends.{item_at}
-use Rattle.wc_replay.proofs.Orders.{follows_to, follows_all}
+use Rattle.wc_replay.proofs.Orders.{follows_to}
 use Rattle.wc_replay.proofs.playing.take_items.Goals as goal
 
 pub take-requires : goal.take-requires
@@ -25,10 +24,3 @@ loop-item-preserved g c =
     let made = c.in_ok-take.ensures in
     follows_to s c.args.media.now i x made.0 (nothing_yet s c.args.player.now.slots.made) c.loop-item.player c.take.new.self
     (item_at (order_items s) c.items_of-item-items.result.now i (item.Caller 0) c.items_of-item-items.ensures c.loop-item-test.true) c.loop-item.invariant made.1
-
-pub returns : goal.returns
-returns g c =
-    let s = c.args.script.now in
-    let beyond = subst (λ (l : List OrderItem). length l ≤ c.loop-item.item-index) c.items_of-item-items.ensures c.loop-item-test.false in
-    subst (λ (v : Course). Follows s c.args.media.now (order_items s) v c.loop-item.player) (sym c.requires.nothing)
-    (follows_all s c.args.media.now c.loop-item.item-index (nothing_yet s c.args.player.now.slots.made) c.loop-item.player beyond c.loop-item.invariant)

@@ -2,10 +2,10 @@ use Rattle.std.proofs.Common.{refl, ◌∙◌, ap, option_map}
 use Rattle.codec_model.specs.declared.entry.Entry.TheVariants as entry
 use Rattle.codec_core.specs.Codec.{Codec, state_at, closes_now}
 use Rattle.media_variables.specs.Variables.{Media}
-use Rattle.trace_text.specs.Follow.{turn_entry}
+use Rattle.trace_text.specs.Follow.{turn_on, turn_entry}
 use Rattle.codec_accounts.specs.Codec.{CodecValue}
 use Rattle.wc_replay.specs.Desk.{box_out, box_in, pairs_in}
-use Rattle.wc_replay.proofs.Desks.{seen, makes_seen, makes_none, makes_some, parts_of, turn_goes, turn_there, no_turn}
+use Rattle.wc_replay.proofs.Desks.{seen, makes_seen, makes_none, makes_some, parts_of, turn_goes, turn_there}
 use Rattle.wc_replay.proofs.Lent.{apart_waiting, ended_media, turn_lets}
 use Rattle.wc_replay.proofs.desk.Desk.turn.Goals as goal
 use Rattle.wc_replay.proofs.desk.Desk.turn.Goals.{in-Some, in_default}
@@ -25,10 +25,9 @@ returns g c =
     makes_seen c.args.codec (λ v. turn_entry v) c.args.slots.now c.match-run_task.slots m c.match-run_task.media old c.args.self.now new c.self.view_is
     (elim c.match-run_task.branch [
       | in-Some w ↦ (
-          let parts = parts_of c.args.codec entry.Turn d.core.codec c.run_task.new.core.codec d.job d.refusal (closes_now t.control) c.self.invariant w.in-Some.ensures.made w.in-Some.ensures.running w.in-Some.ensures.asked (turn_goes t) w.in-Some.ensures.slot in
-          makes_some c.args.codec (turn_entry old) entry.Turn c.args.slots.now c.match-run_task.slots m c.match-run_task.media old new (turn_there d.core.codec c.run_task.new.core.codec d.job d.refusal w.in-Some.ensures.made) (parts.codec c.args.slots.now)
-          (w.slots-is ∙ (w.let_go.ensures.slots ∙ parts.registry c.args.slots.now w.in-Some.place (option_map box_out (box_in w.in-Some.removed)) w.in-Some.ensures.place (ap (option_map box_out) w.in-Some.ensures.handed)))
+          let parts = parts_of c.args.codec entry.Turn d.core.codec c.run_task.new.core.codec d.job d.refusal (closes_now t.control) c.args.slots.now w.in-Some.place (option_map box_out (box_in w.in-Some.removed)) c.self.invariant w.in-Some.ensures.made (turn_goes t) w.in-Some.ensures.slot w.in-Some.ensures.place (ap (option_map box_out) w.in-Some.ensures.handed) in
+          makes_some c.args.codec (turn_entry old) entry.Turn c.args.slots.now c.match-run_task.slots m c.match-run_task.media old new (turn_there d.core.codec c.run_task.new.core.codec d.job d.refusal w.in-Some.ensures.made) parts.0 (w.slots-is ∙ (w.let_go.ensures.slots ∙ parts.1))
           (w.media-is ∙ (w.let_go.ensures.media ∙ ended_media c.args.codec entry.Turn old w.in-Some.place (pairs_in w.in-Some.removed) m refl w.in-Some.ensures.place (w.in-Some.ensures.gone ∙ turn_lets t)))
           )
-      | in_default w ↦ rw (w.media-is, w.slots-is) (makes_none c.args.codec (turn_entry old) c.args.slots.now m old new (no_turn old w.in_default.ensures.none) (ap (λ (core : Codec). seen core d.job d.refusal) w.in_default.ensures.same))
+      | in_default w ↦ rw (w.media-is, w.slots-is) (makes_none c.args.codec (turn_entry old) c.args.slots.now m old new (ap turn_on w.in_default.ensures.none) (ap (λ (core : Codec). seen core d.job d.refusal) w.in_default.ensures.same))
     ])
