@@ -1,5 +1,5 @@
 -- What the calls of callers make: their entry, its effect on the callers' media, and their answer.
-use Rattle.std.proofs.Common.{ℕ, ◌≡◌, ◌∙◌, ◌++◌, ◌∷◌, [], Bool, true, false, List, length, Option, Some, None, is_some, refl, ap}
+use Rattle.std.proofs.Common.{ℕ, ◌≡◌, ◌∙◌, Bool, true, false, List, length, Option, Some, None, is_some, refl, ap, sym}
 use Rattle.std.specs.Prelude.{slice_set, IfSome, if◌then◌else◌}
 use Rattle.wc_base.specs.declared.error.DomError.{DomError}
 use Rattle.wc_base.specs.declared.error.DomError.TheVariants as dom
@@ -8,32 +8,32 @@ use Rattle.wc_pool.specs.declared.entry.PoolEntry.{PoolEntry}
 use Rattle.wc_pool.specs.declared.reference.MediaRef.{MediaRef}
 use Rattle.wc_pool.specs.Bag.{references_made}
 use Rattle.wc_audio.specs.Sound.{Sound}
-use Rattle.codec_model.specs.declared.entry.Entry.TheVariants as entry
+use Rattle.codec_model.specs.declared.entry.Entry.{Entry}
 use Rattle.codec_model.specs.declared.entry.Handed.{Handed}
 use Rattle.codec_model.specs.declared.entry.Handed.TheVariants as handed
 use Rattle.codec_model.specs.declared.entry.HeldSound.{HeldSound}
 use Rattle.codec_model.specs.Replay.{encode_error, is_configured}
 use Rattle.codec_core.specs.Codec.{refused_as}
 use Rattle.codec_accounts.specs.Owed.{append_at}
-use Rattle.codec_accounts.specs.Codec.{CodecValue, codec_at, state_of, next_by}
+use Rattle.codec_accounts.specs.Codec.{CodecValue, codec_at, state_of, after_entry, slots_by}
 use Rattle.report_text.specs.declared.result.StepResult.{StepResult}
 use Rattle.report_text.specs.declared.result.StepResult.TheVariants as result
 use Rattle.media_variables.specs.declared.lending.SoundFound.TheVariants as found
-use Rattle.media_variables.specs.Variables.{Medium, Media, handed_of}
-use Rattle.media_variables.specs.Held.{clones_of, sound_found}
-use Rattle.trace_text.specs.Follow.{Course, after_move, encode_move, hand_move, media_by}
+use Rattle.media_variables.specs.Variables.{Media, handed_of}
+use Rattle.media_variables.specs.Held.{sound_found}
+use Rattle.trace_text.specs.Follow.{Course, Ask, after_move, encode_move, hand_move, media_by}
 use Rattle.wc_replay.specs.Desk.{more}
 
--- an encode that is accepted
-pub accepts : (v : Course) (who : Who) (k place : ℕ) (x : HeldSound) (error : Option DomError) (callers : List (List StepResult)) (codecs : List CodecValue) (m : Media)
-    → codecs ≡ slice_set v.codecs k (more (entry.Encode who (handed.Cloned x)) (codec_at k v.codecs)) → place ≡ length (codec_at k v.codecs).history
-    → error ≡ encode_error false (state_of (codec_at k v.codecs)).control → callers ≡ append_at who.caller (result.Call k place error) v.callers
-    → m.variables ≡ v.media.variables → m.pool ≡ v.media.pool ++ clones_of (next_by k (codec_at k v.codecs)) (x.pair ∷ [])
-    → ◌≡◌ {A = Course} (record { callers = callers; codecs = codecs; media = m; slots = v.slots }) (after_move (hand_move who k (handed.Cloned x) (codec_at k v.codecs)) v)
-accepts v who k place x error callers codecs m made at shown noted same lent =
-    let told : callers ≡ append_at who.caller (result.Call k (length (codec_at k v.codecs).history) (encode_error false (state_of (codec_at k v.codecs)).control)) v.callers = rw (noted, at, shown) refl in
-    let media_is : m ≡ media_by k (entry.Encode who (handed.Cloned x)) (codec_at k v.codecs) v.media = ap (λ (vs : List (List (Option Medium))). record m { variables = vs }) same ∙ ap (λ (l : List PoolEntry). record v.media { pool = l }) lent in
-    λ i. record { callers = told i; codecs = made i; media = media_is i; slots = v.slots }
+-- an entry that leaves its codec's box alone, what it makes of the callers' media, and what its caller is answered
+pub asked : (v : Course) (c k place : ℕ) (e : Entry) (pool : List PoolEntry) (error shows : Option DomError) (callers : List (List StepResult)) (codecs : List CodecValue) (m : Media)
+    → after_entry k e v.slots (codec_at k v.codecs) ≡ more e (codec_at k v.codecs) → slots_by k e v.slots (codec_at k v.codecs) ≡ v.slots → media_by k e (codec_at k v.codecs) v.media ≡ record v.media { pool = pool }
+    → codecs ≡ slice_set v.codecs k (more e (codec_at k v.codecs)) → place ≡ length (codec_at k v.codecs).history → error ≡ shows
+    → callers ≡ append_at c (result.Call k place error) v.callers → m.variables ≡ v.media.variables → m.pool ≡ pool
+    → ◌≡◌ {A = Course} (record { callers = callers; codecs = codecs; media = m; slots = v.slots }) (after_move (Ask c k e shows) v)
+asked v c k place e pool error shows callers codecs m keeps stays adds made at shown noted same lent =
+    let told : callers ≡ append_at c (result.Call k (length (codec_at k v.codecs).history) shows) v.callers = rw (noted, at, shown) refl in
+    let media_is : m ≡ record v.media { pool = pool } = λ i. record { variables = same i; pool = lent i } in
+    λ i. record { callers = told i; codecs = (made ∙ ap (λ (d : CodecValue). slice_set v.codecs k d) (sym keeps)) i; media = (media_is ∙ sym adds) i; slots = sym stays i }
 
 -- ---- what is handed
 

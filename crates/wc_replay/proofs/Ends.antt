@@ -1,13 +1,10 @@
 -- The beginning and the end of a replay.
-use Rattle.std.proofs.Common.{ℕ, ◌≡◌, ◌+◌, ◌<◌, List, [], ◌∷◌, ◌++◌, map, length, get_or, append_assoc, append-nil, refl, ap, sym, ◌∙◌, arith}
+use Rattle.std.proofs.Common.{ℕ, ◌≡◌, ◌+◌, ◌<◌, List, [], ◌∷◌, ◌++◌, map, length, get_or, append-nil, refl, ap, sym, ◌∙◌, arith}
 use Rattle.std.specs.Prelude.{take, slice_get, Some}
 use Rattle.std.proofs.lemmas.List.{map_more}
 use Rattle.std.proofs.lemmas.Option.{slice_get-get_or}
 
 -- ---- lists that are made one after another
-
-pub one_more : {X Y : Type 0} (f : X → Y) (made new : List Y) (x : X) (rest left all : List X) → made ++ map f left ≡ map f all → left ≡ x ∷ rest → new ≡ made ++ f x ∷ [] → new ++ map f rest ≡ map f all
-one_more f made new x rest left all before is more = rw more (append_assoc made (f x ∷ []) (map f rest) ∙ (ap (λ (l : List _). made ++ map f l) (sym is) ∙ before))
 
 pub all_made : {X Y : Type 0} (f : X → Y) (made : List Y) (left all : List X) → made ++ map f left ≡ map f all → left ≡ [] → made ≡ map f all
 all_made f made left all before is = sym (append-nil made) ∙ (ap (λ (l : List _). made ++ map f l) (sym is) ∙ before)

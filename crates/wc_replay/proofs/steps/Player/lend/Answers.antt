@@ -1,4 +1,4 @@
-use Rattle.std.proofs.Common.{ℕ, ◌≡◌, ◌++◌, ◌∷◌, [], false, None, ap, sym, subst, ◌∙◌}
+use Rattle.std.proofs.Common.{ℕ, ◌≡◌, ◌++◌, ◌∷◌, [], false, None, refl, ap, sym, subst, ◌∙◌}
 use Rattle.std.proofs.lemmas.Result.{on_ok_weaker}
 use Rattle.wc_base.specs.declared.who.By.TheVariants as by
 use Rattle.codec_accounts.specs.Codec.{codec_at, state_of}
@@ -10,7 +10,7 @@ use Rattle.media_variables.specs.Held.{clones_of, pair_of, sound_found}
 use Rattle.media_variables.specs.Variables.{sound_at, variables_of}
 use Rattle.report_text.specs.declared.result.StepResult.{StepResult}
 use Rattle.trace_text.specs.Follow.{Course, Move, after_move, encode_move}
-use Rattle.wc_replay.proofs.Calls.{accepts, hands_clone}
+use Rattle.wc_replay.proofs.Calls.{asked, hands_clone}
 use Rattle.wc_replay.proofs.steps.Player.lend.Goals as goal
 
 pub returns : goal.returns
@@ -28,12 +28,9 @@ returns g c =
     let lent = c.in_ok-samples.ensures.lent in
     let history = lent.history ∙ ap (λ (n : ℕ). v.media.pool ++ clones_of (by.Codec k n) (pair_of r ∷ [])) (rw c.deref.ensures.value at c.place_at-place.ensures) in
     on_ok_weaker c.note.result
-    (λ noted. accepts v who k c.in_ok-answer.answer.place x c.in_ok-answer.answer.error c.note.new.callers.items c.encode_at.new.desks.items c.lend.new.self
+    (λ noted. asked v who.caller k c.in_ok-answer.answer.place _ _ c.in_ok-answer.answer.error _ c.note.new.callers.items c.encode_at.new.desks.items c.lend.new.self refl refl refl
     c.in_ok-answer.ensures.made c.in_ok-answer.ensures.place (c.in_ok-answer.ensures.error ∙ sym accepted)
     (noted ∙ ap (λ (a : StepResult). append_at who.caller a v.callers) c.call_result.ensures) c.in_ok-samples.ensures.same history
-    ∙ (after_same (sym (hands_clone v who k o x there accepted lent.handed)) v
+    ∙ (ap (λ (m : Move). after_move m v) (sym (hands_clone v who k o x there accepted lent.handed))
     ∙ ap (λ (u : Course). after_move (encode_move who k u.media.pool (sound_at (variables_of who.caller u.media.variables) c.args.content) (codec_at k u.codecs)) u) c.self.view_is))
     c.note.ensures
-  where
-    after_same : {a b : Move} → a ≡ b → (v : Course) → after_move a v ≡ after_move b v
-    after_same h v = ap (λ (m : Move). after_move m v) h
