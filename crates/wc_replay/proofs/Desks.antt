@@ -75,12 +75,10 @@ parts_of k e old new job refusal goes s place box d made act slot at is =
     let holding : holding_of new.slot job refusal ≡ holding_after (next_by k v) (step_by e v) v.holding s = rw (slot, step) (part_holding goes old.slot job refusal t (next_by k v) s d.matches d.refused) in
     (seen_more old new e job job refusal refusal _ made holding, rw (at, is, step) (part_slots goes old.slot job refusal t (next_by k v) s d.matches d.away))
 
--- ---- which entries are removals
+-- ---- turns
 
 pub turn_goes : (t : State) → act_of entry.Turn t ≡ removal_act (closes_now t.control)
 turn_goes t = ap removal_act (sym (closes_same t.control.tasks t refl))
-
--- ---- what is done where there is nothing to do
 
 pub turn_there : (old new : Codec) (job : Option JobValue) (refusal : Option ℕ) → Makes old new entry.Turn → turn_entry (seen old job refusal) ≡ Some entry.Turn
 turn_there old new job refusal made = by_tasks (state_at old).control.tasks refl
@@ -88,6 +86,8 @@ turn_there old new job refusal made = by_tasks (state_at old).control.tasks refl
     by_tasks : (ts : List Task) → (state_at old).control.tasks ≡ ts → turn_entry (seen old job refusal) ≡ Some entry.Turn
     by_tasks [] is = absurd (let bad = sym (ap (λ (l : List Task). turn_step l (state_at old)) is) ∙ made.steps in cc)
     by_tasks (t ∷ ts) is = ap turn_on is
+
+-- ---- what a desk made
 
 -- nothing was made
 pub makes_none : (k : ℕ) (o : Option Entry) (s : SlotsValue) (m : Media) (d new : CodecValue) → o ≡ None → new ≡ d → desk.Makes k o s s m m d new

@@ -17,8 +17,7 @@ use Rattle.media_variables.specs.Held.{AreApart, clones_of, ends_behind}
 use Rattle.trace_text.specs.Follow.{media_by}
 use Rattle.wc_replay.specs.Desk.{media_without, waiting_if}
 
--- ---- entries that let nothing go
-
+-- an entry that calls for nothing leaves the callers' media
 pub media_same : (m : Media) → record m { pool = m.pool ++ [] } ≡ m
 media_same m = ap (λ (l : List PoolEntry). record m { pool = l }) (append-nil m.pool)
 

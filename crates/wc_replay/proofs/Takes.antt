@@ -1,6 +1,6 @@
 -- What a take of a caller finds and makes, and the move of a step on media.
-use Rattle.std.proofs.Common.{ℕ, zero, suc, ◌≡◌, ◌∙◌, ◌&&◌, ◌≤◌, Bool, true, false, eq-eqb, Option, Some, None, is_some, List, [], ◌∷◌, length, refl, ap, sym, subst, arith}
-use Rattle.std.specs.Prelude.{slice_get, slice_set, IfSome, IfNone, IfOk, Result, Ok, Err, option_map, nat_lt, ◌==◌}
+use Rattle.std.proofs.Common.{ℕ, zero, suc, ◌≡◌, ◌∙◌, ◌≤◌, false, eq-eqb, Option, Some, None, is_some, List, [], ◌∷◌, length, refl, ap, sym, subst, arith}
+use Rattle.std.specs.Prelude.{slice_get, slice_set, IfSome, IfNone, IfOk, Result, Ok, Err, option_map}
 use Rattle.std.specs.List.{AllByRecursion}
 use Rattle.std.proofs.lemmas.Bool.{ltb-false}
 use Rattle.std.proofs.lemmas.Option.{slice_get_past}
@@ -16,6 +16,7 @@ use Rattle.codec_model.specs.Control.{may_take}
 use Rattle.codec_model.specs.Shown.{shown, outputs_of}
 use Rattle.codec_core.specs.declared.reply.Taken.{Taken}
 use Rattle.codec_core.specs.Codec.{Codec, state_at, Makes}
+use Rattle.codec_media.specs.Holding.{Holding}
 use Rattle.codec_core.specs.Job.{JobValue}
 use Rattle.history_laws.specs.Outputs.{IsWholeUnit}
 use Rattle.history_laws.specs.CountLaws.{shown_counted}
@@ -43,40 +44,30 @@ enough (unit.Sound s) h = omega (arith, h)
 enough (unit.Image p) h = omega (arith, h)
 enough (unit.Coded chunk config) h = tt
 
-second_false : (a b : Bool) → a ≡ true → false ≡ (a && b) → b ≡ false
-second_false true b a h = sym h
-second_false false b a h = absurd cc
-
 -- where no output may be taken none is left
 none_left : (old : Codec) (job : Option JobValue) (refusal : Option ℕ) → IsDesk old job refusal → false ≡ may_take (state_at old).control.taken (state_at old).control → slice_get (outputs_of (shown old.opening old.history)) (state_at old).control.taken ≡ None
 none_left old job refusal d may =
     let c = (state_at old).control in
-    let less : c.shown ≤ c.taken = ltb-false c.taken c.shown (second_false (c.taken == c.taken) (nat_lt c.taken c.shown) (eq-eqb c.taken c.taken refl) may) in
+    let less : c.shown ≤ c.taken = ltb-false c.taken c.shown (sym (rw (eq-eqb c.taken c.taken refl) at may)) in
     let count = shown_counted old.opening old.history (state_at old) d.legal in
     slice_get_past (outputs_of (shown old.opening old.history)) c.taken (omega (arith, less, count))
 
-pub received : (who : Who) (old new : Codec) (job : Option JobValue) (refusal : Option ℕ) (o : Option Taken) → IsDesk old job refusal
-    → is_some o ≡ may_take (state_at old).control.taken (state_at old).control
-    → IfSome o (λ t. Makes old new (entry.Take who t.number)) → IfSome o (λ t. t.place ≡ length old.history) → IfSome o (λ t. t.number ≡ (state_at old).control.taken)
-    → IfSome o (λ t. slice_get (outputs_of (shown old.opening old.history)) t.number ≡ Some t.unit)
-    → IfNone o (new ≡ old) → new.slot ≡ old.slot → Received who (seen old job refusal) (seen new job refusal) o
-received who old new job refusal None d may made place number unit none slot = (none_left old job refusal d may, ap (λ (c : Codec). seen c job refusal) none)
-received who old new job refusal (Some t) d may made place number unit none slot = record {
-  next = ap (λ (n : ℕ). slice_get (outputs_of (shown old.opening old.history)) n) (sym number) ∙ unit;
+-- what a take of a core answers, as contracts see it
+pub received : (r : Result (Option Taken) NoMemory) (who : Who) (old new : Holding) (job : Option JobValue) (refusal : Option ℕ) (v : CodecValue) → IsDesk old.codec job refusal → seen old.codec job refusal ≡ v
+    → IfOk r (λ o. is_some o ≡ may_take (state_at old.codec).control.taken (state_at old.codec).control)
+    → IfOk r (λ o. IfSome o (λ t. Makes old.codec new.codec (entry.Take who t.number))) → IfOk r (λ o. IfSome o (λ t. t.place ≡ length old.codec.history)) → IfOk r (λ o. IfSome o (λ t. t.number ≡ (state_at old.codec).control.taken))
+    → IfOk r (λ o. IfSome o (λ t. slice_get (outputs_of (shown old.codec.opening old.codec.history)) t.number ≡ Some t.unit))
+    → IfOk r (λ o. IfNone o (new ≡ old)) → new.codec.slot ≡ old.codec.slot → IfOk r (Received who v (seen new.codec job refusal))
+received (Ok None) who old new job refusal v d is may made place number unit none slot =
+    subst (λ (x : CodecValue). Received who x (seen new.codec job refusal) None) is (none_left old.codec job refusal d may, ap (λ (c : Holding). seen c.codec job refusal) none)
+received (Ok (Some t)) who old new job refusal v d is may made place number unit none slot = subst (λ (x : CodecValue). Takes who x (seen new.codec job refusal) t) is (record {
+  next = ap (λ (n : ℕ). slice_get (outputs_of (shown old.codec.opening old.codec.history)) n) (sym number) ∙ unit;
   place = place;
   number = number;
-  made = seen_more old new (entry.Take who t.number) job job refusal refusal (holding_of old.slot job refusal) made (ap (λ s. holding_of s job refusal) slot);
-  enough = enough t.unit (at_each IsWholeUnit (outputs_of (shown old.opening old.history)) t.number t.unit (outputs_are_whole old.opening old.history) unit);
-}
-
--- the same, as a call on a core answers it
-pub receives : (r : Result (Option Taken) NoMemory) (who : Who) (old new : Codec) (job : Option JobValue) (refusal : Option ℕ) (v : CodecValue) → IsDesk old job refusal → seen old job refusal ≡ v
-    → IfOk r (λ o. is_some o ≡ may_take (state_at old).control.taken (state_at old).control)
-    → IfOk r (λ o. IfSome o (λ t. Makes old new (entry.Take who t.number))) → IfOk r (λ o. IfSome o (λ t. t.place ≡ length old.history)) → IfOk r (λ o. IfSome o (λ t. t.number ≡ (state_at old).control.taken))
-    → IfOk r (λ o. IfSome o (λ t. slice_get (outputs_of (shown old.opening old.history)) t.number ≡ Some t.unit))
-    → IfOk r (λ o. IfNone o (new ≡ old)) → new.slot ≡ old.slot → IfOk r (Received who v (seen new job refusal))
-receives (Ok o) who old new job refusal v d is may made place number unit none slot = subst (λ (x : CodecValue). Received who x (seen new job refusal) o) is (received who old new job refusal o d may made place number unit none slot)
-receives (Err e) who old new job refusal v d is may made place number unit none slot = tt
+  made = seen_more old.codec new.codec (entry.Take who t.number) job job refusal refusal (holding_of old.codec.slot job refusal) made (ap (λ s. holding_of s job refusal) slot);
+  enough = enough t.unit (at_each IsWholeUnit (outputs_of (shown old.codec.opening old.codec.history)) t.number t.unit (outputs_are_whole old.codec.opening old.codec.history) unit);
+})
+received (Err e) who old new job refusal v d is may made place number unit none slot = tt
 
 -- ---- the move of a take
 
