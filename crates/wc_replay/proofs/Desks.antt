@@ -26,7 +26,7 @@ use Rattle.codec_model.specs.Held.{running_pairs}
 use Rattle.media_variables.specs.Variables.{Media}
 use Rattle.codec_accounts.specs.Registry.{BoxOut}
 use Rattle.codec_accounts.specs.Codec.{Holding, CodecValue, next_by, Keep, Give, box_step, after_give, slots_after, holding_after, step_by, after_entry, slots_by}
-use Rattle.trace_text.specs.Follow.{outcome_for, start_entry, done_entry, turn_on, turn_entry, media_by}
+use Rattle.trace_text.specs.Follow.{outcome_for, start_entry, done_entry, turn_on, media_by}
 use Rattle.wc_replay.specs.Desk as desk
 use Rattle.wc_replay.specs.Desk.{box_out, holding_with, box_of, holding_of, JobMatches, LacksBox, IsRefused, OwnsJob, IsDesk, more, renewal, codec_by, registry_by, media_by_option, media_without}
 use Rattle.wc_replay.proofs.Lent.{closes_same, media_same, ended_media}
@@ -78,14 +78,12 @@ parts_of k e old new job refusal goes s place box d made act slot at is =
 -- ---- turns
 
 pub turn_goes : (t : State) → act_of entry.Turn t ≡ removal_act (closes_now t.control)
-turn_goes t = ap removal_act (sym (closes_same t.control.tasks t refl))
+turn_goes t = ap removal_act (sym (closes_same t.control))
 
-pub turn_there : (old new : Codec) (job : Option JobValue) (refusal : Option ℕ) → Makes old new entry.Turn → turn_entry (seen old job refusal) ≡ Some entry.Turn
-turn_there old new job refusal made = by_tasks (state_at old).control.tasks refl
-  where
-    by_tasks : (ts : List Task) → (state_at old).control.tasks ≡ ts → turn_entry (seen old job refusal) ≡ Some entry.Turn
-    by_tasks [] is = absurd (let bad = sym (ap (λ (l : List Task). turn_step l (state_at old)) is) ∙ made.steps in cc)
-    by_tasks (t ∷ ts) is = ap turn_on is
+-- a turn that was made is of a task
+pub turn_there : (ts : List Task) (s t : State) → turn_step ts s ≡ Some t → turn_on ts ≡ Some entry.Turn
+turn_there [] s t is = absurd cc
+turn_there (x ∷ ts) s t is = refl
 
 -- ---- what a desk made
 

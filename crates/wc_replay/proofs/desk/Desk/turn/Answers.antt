@@ -26,7 +26,7 @@ returns g c =
     (elim c.match-run_task.branch [
       | in-Some w ↦ (
           let parts = parts_of c.args.codec entry.Turn d.core.codec c.run_task.new.core.codec d.job d.refusal (closes_now t.control) c.args.slots.now w.in-Some.place (option_map box_out (box_in w.in-Some.removed)) c.self.invariant w.in-Some.ensures.made (turn_goes t) w.in-Some.ensures.slot w.in-Some.ensures.place (ap (option_map box_out) w.in-Some.ensures.handed) in
-          makes_some c.args.codec (turn_entry old) entry.Turn c.args.slots.now c.match-run_task.slots m c.match-run_task.media old new (turn_there d.core.codec c.run_task.new.core.codec d.job d.refusal w.in-Some.ensures.made) parts.0
+          makes_some c.args.codec (turn_entry old) entry.Turn c.args.slots.now c.match-run_task.slots m c.match-run_task.media old new (turn_there t.control.tasks t (state_at c.run_task.new.core.codec) w.in-Some.ensures.made.steps) parts.0
           (w.slots-is ∙ (w.let_go.ensures.slots ∙ parts.1))
           (w.media-is ∙ (w.let_go.ensures.media ∙ ended_media c.args.codec entry.Turn old w.in-Some.place (pairs_in w.in-Some.removed) m refl w.in-Some.ensures.place (w.in-Some.ensures.gone ∙ turn_lets t)))
           )
