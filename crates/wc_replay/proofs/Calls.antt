@@ -1,26 +1,16 @@
 -- What the calls of callers make: their entry, its effect on the callers' media, and their answer.
 use Rattle.std.proofs.Common.{ℕ, ◌≡◌, ◌∙◌, Bool, true, false, List, length, Option, Some, None, is_some, refl, ap, sym}
 use Rattle.std.specs.Prelude.{slice_set, IfSome, if◌then◌else◌}
-use Rattle.wc_base.specs.declared.error.DomError.{DomError}
-use Rattle.wc_base.specs.declared.error.DomError.TheVariants as dom
-use Rattle.wc_base.specs.declared.who.Who.{Who}
-use Rattle.wc_pool.specs.declared.entry.PoolEntry.{PoolEntry}
-use Rattle.wc_pool.specs.declared.reference.MediaRef.{MediaRef}
-use Rattle.wc_pool.specs.Bag.{references_made}
+use Rattle.wc_base.specs.declared.{error.DomError.DomError, who.Who.Who}
+use Rattle.wc_pool.specs.{declared.entry.PoolEntry.PoolEntry, declared.reference.MediaRef.MediaRef, Bag.references_made}
 use Rattle.wc_audio.specs.Sound.{Sound}
-use Rattle.codec_model.specs.declared.entry.Entry.{Entry}
-use Rattle.codec_model.specs.declared.entry.Handed.{Handed}
-use Rattle.codec_model.specs.declared.entry.Handed.TheVariants as handed
-use Rattle.codec_model.specs.declared.entry.HeldSound.{HeldSound}
+use Rattle.codec_model.specs.declared.entry.{Entry.Entry, Handed.Handed, HeldSound.HeldSound}
 use Rattle.codec_model.specs.Replay.{encode_error, is_configured}
 use Rattle.codec_core.specs.Codec.{refused_as}
 use Rattle.codec_accounts.specs.Owed.{append_at}
 use Rattle.codec_accounts.specs.Codec.{CodecValue, codec_at, state_of, after_entry, slots_by}
 use Rattle.report_text.specs.declared.result.StepResult.{StepResult}
-use Rattle.report_text.specs.declared.result.StepResult.TheVariants as result
-use Rattle.media_variables.specs.declared.lending.SoundFound.TheVariants as found
-use Rattle.media_variables.specs.Variables.{Media, handed_of}
-use Rattle.media_variables.specs.Held.{sound_found}
+use Rattle.media_variables.specs.{declared.lending.SoundFound.SoundFound, Variables.Media, Variables.handed_of, Held.sound_found}
 use Rattle.trace_text.specs.Follow.{Course, Ask, after_move, encode_move, hand_move, media_by}
 use Rattle.wc_replay.specs.Desk.{more}
 
@@ -28,21 +18,21 @@ use Rattle.wc_replay.specs.Desk.{more}
 pub asked : (v : Course) (c k place : ℕ) (e : Entry) (pool : List PoolEntry) (error shows : Option DomError) (callers : List (List StepResult)) (codecs : List CodecValue) (m : Media)
     → after_entry k e v.slots (codec_at k v.codecs) ≡ more e (codec_at k v.codecs) → slots_by k e v.slots (codec_at k v.codecs) ≡ v.slots → media_by k e (codec_at k v.codecs) v.media ≡ record v.media { pool = pool }
     → codecs ≡ slice_set v.codecs k (more e (codec_at k v.codecs)) → place ≡ length (codec_at k v.codecs).history → error ≡ shows
-    → callers ≡ append_at c (result.Call k place error) v.callers → m.variables ≡ v.media.variables → m.pool ≡ pool
+    → callers ≡ append_at c (StepResult.Call k place error) v.callers → m.variables ≡ v.media.variables → m.pool ≡ pool
     → ◌≡◌ {A = Course} (record { callers = callers; codecs = codecs; media = m; slots = v.slots }) (after_move (Ask c k e shows) v)
 asked v c k place e pool error shows callers codecs m keeps stays adds made at shown noted same lent =
-    let told : callers ≡ append_at c (result.Call k (length (codec_at k v.codecs).history) shows) v.callers = rw (noted, at, shown) refl in
+    let told : callers ≡ append_at c (StepResult.Call k (length (codec_at k v.codecs).history) shows) v.callers = rw (noted, at, shown) refl in
     let media_is : m ≡ record v.media { pool = pool } = λ i. record { variables = same i; pool = lent i } in
     λ i. record { callers = told i; codecs = (made ∙ ap (λ (d : CodecValue). slice_set v.codecs k d) (sym keeps)) i; media = (media_is ∙ sym adds) i; slots = sym stays i }
 
 -- ---- what is handed
 
-pub hands_kept : (v : Course) (who : Who) (k : ℕ) (o : Option Sound) → sound_found o ≡ found.Open → is_some (encode_error false (state_of (codec_at k v.codecs)).control) ≡ true
+pub hands_kept : (v : Course) (who : Who) (k : ℕ) (o : Option Sound) → sound_found o ≡ SoundFound.Open → is_some (encode_error false (state_of (codec_at k v.codecs)).control) ≡ true
     → encode_move who k v.media.pool o (codec_at k v.codecs) ≡ hand_move who k (refused_as false) (codec_at k v.codecs)
 hands_kept v who k None is refused = absurd cc
 hands_kept v who k (Some s) is refused = by s.held refl
   where
-    off : (b : Bool) → is_some (if b then None else Some dom.InvalidState) ≡ true → b ≡ false
+    off : (b : Bool) → is_some (if b then None else Some DomError.InvalidState) ≡ true → b ≡ false
     off true h = absurd cc
     off false h = refl
 
@@ -50,14 +40,14 @@ hands_kept v who k (Some s) is refused = by s.held refl
     by None none = absurd (let was = rw none at is in cc)
     by (Some r) some = let closed = off (is_configured (state_of (codec_at k v.codecs)).control) refused in rw (some, closed) refl
 
-pub hands_clone : (v : Course) (who : Who) (k : ℕ) (o : Option Sound) (x : HeldSound) → sound_found o ≡ found.Open → encode_error false (state_of (codec_at k v.codecs)).control ≡ None
-    → IfSome o (λ s. handed_of (references_made v.media.pool) true s ≡ handed.Cloned x)
-    → encode_move who k v.media.pool o (codec_at k v.codecs) ≡ hand_move who k (handed.Cloned x) (codec_at k v.codecs)
+pub hands_clone : (v : Course) (who : Who) (k : ℕ) (o : Option Sound) (x : HeldSound) → sound_found o ≡ SoundFound.Open → encode_error false (state_of (codec_at k v.codecs)).control ≡ None
+    → IfSome o (λ s. handed_of (references_made v.media.pool) true s ≡ Handed.Cloned x)
+    → encode_move who k v.media.pool o (codec_at k v.codecs) ≡ hand_move who k (Handed.Cloned x) (codec_at k v.codecs)
 hands_clone v who k None x is accepted clones = absurd cc
 hands_clone v who k (Some s) x is accepted clones =
     ap (λ (b : Bool). hand_move who k (handed_of (references_made v.media.pool) b s) (codec_at k v.codecs)) (on (is_configured (state_of (codec_at k v.codecs)).control) accepted)
     ∙ ap (λ (h : Handed). hand_move who k h (codec_at k v.codecs)) clones
   where
-    on : (b : Bool) → ◌≡◌ {A = Option DomError} (if b then None else Some dom.InvalidState) None → b ≡ true
+    on : (b : Bool) → ◌≡◌ {A = Option DomError} (if b then None else Some DomError.InvalidState) None → b ≡ true
     on true h = refl
     on false h = absurd cc

@@ -1,27 +1,17 @@
 -- What a desk keeps as its codec's history grows, and what becomes of its box.
 use Rattle.std.proofs.Common.{ℕ, ◌≡◌, Bool, true, false, not, cond, List, [], ◌∷◌, ◌++◌, length, Option, Some, None, is_some, refl, ap, sym, subst, ◌∙◌, option_map, append-nil}
 use Rattle.std.specs.Prelude.{◌==◌, ◌||◌}
-use Rattle.wc_base.specs.Options.{some_same, cond_is}
-use Rattle.wc_base.specs.declared.who.By.{By}
-use Rattle.wc_base.specs.declared.who.By.TheVariants as by
+use Rattle.wc_base.specs.{Options.some_same, Options.cond_is, declared.who.By.By}
 use Rattle.wc_config.specs.declared.codec.CoderId.{CoderId}
-use Rattle.coder_api.specs.Lent.{Lent}
+use Rattle.coder_api.specs.{Lent.Lent, declared.slot.SlotEntry.SlotEntry}
 use Rattle.codec_definitions.specs.declared.unit.Unit as media
-use Rattle.coder_api.specs.declared.slot.SlotEntry.{SlotEntry}
 use Rattle.slot_registry.specs.Slots.{SlotsValue, acquired}
-use Rattle.codec_model.specs.declared.entry.Ended.{Ended}
-use Rattle.codec_model.specs.declared.entry.Ended.TheVariants as ended
-use Rattle.codec_model.specs.declared.entry.Entry.{Entry}
-use Rattle.codec_model.specs.declared.entry.Entry.TheVariants as entry
-use Rattle.codec_model.specs.declared.entry.Item.{Item}
-use Rattle.codec_model.specs.declared.entry.Task.{Task}
-use Rattle.codec_model.specs.declared.entry.Work.{Work}
+use Rattle.codec_model.specs.declared.entry.{Ended.Ended, Entry.Entry, Item.Item, Task.Task, Work.Work, Pair.Pair}
 use Rattle.codec_model.specs.Control.{Control, kind_of, front, start_item, may_start}
 use Rattle.codec_model.specs.Replay.{State, missing_coder, answer_to, turn_step}
 use Rattle.codec_core.specs.Codec.{Codec, item_parts, state_at, Makes, kept_box, handed_back, closes_now}
 use Rattle.codec_core.specs.Job.{JobValue, DoneValue, EndsBy, outcome_of, stopped_box, missing_id}
 use Rattle.codec_accounts.specs.Boxes.{Act, act_of, start_act, removal_act}
-use Rattle.codec_model.specs.declared.entry.Pair.{Pair}
 use Rattle.codec_model.specs.Held.{running_pairs}
 use Rattle.media_variables.specs.Variables.{Media}
 use Rattle.codec_accounts.specs.Registry.{BoxOut}
@@ -67,7 +57,7 @@ part_slots true slot (Some job) refusal s cause slots matches away = rw (matches
 
 -- what becomes of a codec and of the registry by an entry that is a removal or leaves its box alone
 pub parts_of : (k : ℕ) (e : Entry) (old new : Codec) (job : Option JobValue) (refusal : Option ℕ) (goes : Bool) (s : SlotsValue) (place : ℕ) (box : Option BoxOut) → IsDesk old job refusal → Makes old new e → act_of e (state_at old) ≡ removal_act goes → new.slot ≡ kept_box (not goes) old.slot
-    → place ≡ length old.history → box ≡ option_map box_out (handed_back (not goes) old.slot) → (seen new job refusal ≡ after_entry k e s (seen old job refusal)) × (after_give (by.Codec k place) box s ≡ slots_by k e s (seen old job refusal))
+    → place ≡ length old.history → box ≡ option_map box_out (handed_back (not goes) old.slot) → (seen new job refusal ≡ after_entry k e s (seen old job refusal)) × (after_give (By.Codec k place) box s ≡ slots_by k e s (seen old job refusal))
 parts_of k e old new job refusal goes s place box d made act slot at is =
     let t = state_at old in
     let v = seen old job refusal in
@@ -77,11 +67,11 @@ parts_of k e old new job refusal goes s place box d made act slot at is =
 
 -- ---- turns
 
-pub turn_goes : (t : State) → act_of entry.Turn t ≡ removal_act (closes_now t.control)
+pub turn_goes : (t : State) → act_of Entry.Turn t ≡ removal_act (closes_now t.control)
 turn_goes t = ap removal_act (sym (closes_same t.control))
 
 -- a turn that was made is of a task
-pub turn_there : (ts : List Task) (s t : State) → turn_step ts s ≡ Some t → turn_on ts ≡ Some entry.Turn
+pub turn_there : (ts : List Task) (s t : State) → turn_step ts s ≡ Some t → turn_on ts ≡ Some Entry.Turn
 turn_there [] s t is = absurd cc
 turn_there (x ∷ ts) s t is = refl
 
@@ -102,10 +92,10 @@ makes_seen k o s next m after c d new is made = subst (λ (x : CodecValue). desk
 
 -- an end by the definition's answer is the outcome of that answer, or memory was wanted
 pub outcome_is : (answer : Option (List media.Unit)) (e : Ended) → EndsBy answer e → (wants : Bool) × (outcome_of e ≡ outcome_for wants None answer)
-outcome_is answer (ended.Ran units) is = (false, rw is refl)
-outcome_is answer ended.Refused is = (false, rw is refl)
-outcome_is answer (ended.NoSlot entry) is = absurd is
-outcome_is answer ended.NoMemory is = (true, refl)
+outcome_is answer (Ended.Ran units) is = (false, rw is refl)
+outcome_is answer Ended.Refused is = (false, rw is refl)
+outcome_is answer (Ended.NoSlot entry) is = absurd is
+outcome_is answer Ended.NoMemory is = (true, refl)
 
 abbrev with_box : Option BoxOut → Holding
 with_box x = record { box = x; refusal = None }
@@ -125,15 +115,15 @@ end_slots true (Some n) coder job cause s is lacks = rw lacks.1 refl
 
 -- the end of the running item
 pub ended_makes : (k : ℕ) (old new : Codec) (job : JobValue) (d : DoneValue) (refusal : Option ℕ) (moment : ℕ) (wants : Bool) (s next : SlotsValue) (m after : Media) (ps : List Pair) (place : ℕ) (back : Option Lent) → IsDesk old (Some job) refusal → d.epoch ≡ job.epoch → d.number ≡ job.number
-    → outcome_of d.ended ≡ outcome_for wants refusal (answer_to (kind_of job.work) (state_at old).running_given) → option_map box_out d.coder ≡ option_map box_out job.coder → Makes old new (entry.Done d.epoch d.number moment (outcome_of d.ended))
-    → new.slot ≡ kept_box (d.epoch == (state_at old).control.epoch) d.coder → place ≡ length old.history → back ≡ handed_back (d.epoch == (state_at old).control.epoch) d.coder → next ≡ after_give (by.Codec k place) (option_map box_out back) s
-    → ps ≡ running_pairs (state_at old) → after ≡ media_without (by.Codec k place) ps m
+    → outcome_of d.ended ≡ outcome_for wants refusal (answer_to (kind_of job.work) (state_at old).running_given) → option_map box_out d.coder ≡ option_map box_out job.coder → Makes old new (Entry.Done d.epoch d.number moment (outcome_of d.ended))
+    → new.slot ≡ kept_box (d.epoch == (state_at old).control.epoch) d.coder → place ≡ length old.history → back ≡ handed_back (d.epoch == (state_at old).control.epoch) d.coder → next ≡ after_give (By.Codec k place) (option_map box_out back) s
+    → ps ≡ running_pairs (state_at old) → after ≡ media_without (By.Codec k place) ps m
     → desk.Makes k (done_entry wants moment (seen old (Some job) refusal)) s next m after (seen old (Some job) refusal) (seen new None None)
 ended_makes k old new job d refusal moment wants s next m after ps place back is epoch number ends box made slot at handed gave_back pairs ended =
     let t = state_at old in
     let v = seen old (Some job) refusal in
     let b = d.epoch == t.control.epoch in
-    let e = entry.Done d.epoch d.number moment (outcome_of d.ended) in
+    let e = Entry.Done d.epoch d.number moment (outcome_of d.ended) in
     let runs = is.matches in
     let entry_is : done_entry wants moment v ≡ Some e = rw (runs.is_running, runs.same_epoch, runs.same_number, runs.same_kind, epoch, number, ends) refl in
     let step : step_by e v ≡ cond (not b || is_some refusal) Give Keep = rw (runs.is_running, runs.same_epoch, epoch) refl in
@@ -159,8 +149,8 @@ start_step_is None c refusal = refl
 start_step_is (Some id) c refusal = refl
 
 pub started_makes : (k : ℕ) (old new : Codec) (job0 : Option JobValue) (refusal r : Option ℕ) (job job' : JobValue) (place : ℕ) (s next : SlotsValue) (m : Media) → IsDesk old job0 refusal → job.epoch ≡ (state_at old).control.epoch → job.place ≡ length old.history
-    → option_map item_parts (start_item (state_at old).control) ≡ Some (job.number, job.work) → job.coder ≡ old.slot → missing_id job ≡ missing_coder (state_at old).given job.work → place ≡ job.place → Makes old new (entry.Start job.epoch job.number)
-    → holding_with job'.coder r ≡ holding_after (by.Codec k place) (renewal (missing_id job)) (holding_with job.coder None) s → next ≡ slots_after (by.Codec k place) (renewal (missing_id job)) (option_map box_out job.coder) s
+    → option_map item_parts (start_item (state_at old).control) ≡ Some (job.number, job.work) → job.coder ≡ old.slot → missing_id job ≡ missing_coder (state_at old).given job.work → place ≡ job.place → Makes old new (Entry.Start job.epoch job.number)
+    → holding_with job'.coder r ≡ holding_after (By.Codec k place) (renewal (missing_id job)) (holding_with job.coder None) s → next ≡ slots_after (By.Codec k place) (renewal (missing_id job)) (option_map box_out job.coder) s
     → desk.Makes k (start_entry (seen old job0 refusal)) s next m m (seen old job0 refusal) (seen new (Some job') r)
 started_makes k old new job0 refusal r job job' place s next m is epoch started item coder lacks at made holding slots =
     let t = state_at old in
@@ -168,7 +158,7 @@ started_makes k old new job0 refusal r job job' place s next m is epoch started 
     let i = some_item (start_item t.control) job.number job.work item in
     let idle : job0 ≡ None = idle_job t job0 i.0 is.matches i.1 in
     let none : refusal ≡ None = subst (λ (o : Option JobValue). IsRefused o refusal) idle is.refused in
-    let e = entry.Start job.epoch job.number in
+    let e = Entry.Start job.epoch job.number in
     let entry_is : start_entry v ≡ Some e = rw (i.1, i.2, epoch) refl in
     let step : step_by e v ≡ renewal (missing_id job) = rw (i.1, i.3, lacks) (start_step_is (missing_coder t.given job.work) t.control refusal) in
     let holding_is : holding_with job'.coder r ≡ holding_after (next_by k v) (step_by e v) v.holding s = rw (step, none, idle, sym coder, sym (at ∙ started)) holding in

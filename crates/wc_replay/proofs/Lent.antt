@@ -1,20 +1,14 @@
 -- What codecs' entries make of the callers' media.
 use Rattle.std.proofs.Common.{ℕ, zero, suc, ◌+◌, ◌≡◌, Bool, true, false, List, [], ◌∷◌, ◌++◌, length, Option, Some, refl, ap, ◌∙◌, append-nil, arith}
 use Rattle.std.specs.Prelude.{slice_get, unwrap_or}
-use Rattle.codec_model.specs.Control.{Control, turn_closes}
-use Rattle.wc_base.specs.declared.who.By.TheVariants as by
+use Rattle.codec_model.specs.{Control.Control, Control.turn_closes, declared.entry.Entry.Entry, declared.entry.Pair.Pair, declared.entry.Task.Task}
+use Rattle.wc_base.specs.declared.who.By.{By}
 use Rattle.wc_pool.specs.declared.entry.PoolEntry.{PoolEntry}
-use Rattle.codec_model.specs.declared.entry.Entry.{Entry}
-use Rattle.codec_model.specs.declared.entry.Entry.TheVariants as entry
-use Rattle.codec_model.specs.declared.entry.Pair.{Pair}
-use Rattle.codec_model.specs.declared.entry.Task.{Task}
 use Rattle.codec_model.specs.Replay.{State}
 use Rattle.codec_model.specs.Held.{held_in, running_pairs, waiting_held, adds_held, lets_go, closes_codec}
 use Rattle.codec_core.specs.Codec.{closes_now}
-use Rattle.codec_accounts.specs.Codec.{CodecValue, state_of}
-use Rattle.codec_accounts.specs.ListLaws.{get_kept}
-use Rattle.media_variables.specs.Variables.{Medium, Media}
-use Rattle.media_variables.specs.Held.{AreApart}
+use Rattle.codec_accounts.specs.{Codec.CodecValue, Codec.state_of, ListLaws.get_kept}
+use Rattle.media_variables.specs.{Variables.Medium, Variables.Media, Held.AreApart}
 use Rattle.trace_text.specs.Follow.{media_by}
 use Rattle.wc_replay.specs.Desk.{media_without, waiting_if}
 
@@ -25,13 +19,13 @@ media_same m = ap (λ (l : List PoolEntry). record m { pool = l }) (append-nil m
 -- ---- what is let go
 
 -- what an entry lets go ends, where it adds nothing
-pub ended_media : (k : ℕ) (e : Entry) (d : CodecValue) (place : ℕ) (ps : List Pair) (m : Media) → adds_held e ≡ [] → place ≡ length d.history → ps ≡ lets_go e (state_of d) → media_without (by.Codec k place) ps m ≡ media_by k e d m
+pub ended_media : (k : ℕ) (e : Entry) (d : CodecValue) (place : ℕ) (ps : List Pair) (m : Media) → adds_held e ≡ [] → place ≡ length d.history → ps ≡ lets_go e (state_of d) → media_without (By.Codec k place) ps m ≡ media_by k e d m
 ended_media k e d place ps m adds at is = rw (at, is, adds) refl
 
 pub closes_same : (c : Control) → closes_now c ≡ closes_codec c.tasks
 closes_same c = elim (c.tasks) as (λ (ts : List Task). unwrap_or (turn_closes ts) false ≡ closes_codec ts) [ [] ↦ refl | t ∷ ts ↦ refl ]
 
-pub turn_lets : (s : State) → waiting_if (closes_now s.control) s ≡ lets_go entry.Turn s
+pub turn_lets : (s : State) → waiting_if (closes_now s.control) s ≡ lets_go Entry.Turn s
 turn_lets s = ap (λ (b : Bool). waiting_if b s) (closes_same s.control)
 
 -- ---- the references of a codec are live and apart, and so are those of a part of them

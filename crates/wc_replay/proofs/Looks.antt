@@ -3,13 +3,10 @@ use Rattle.std.proofs.Common.{ℕ, zero, suc, ◌≡◌, ◌≤◌, ◌<◌, Lis
 use Rattle.std.specs.Prelude.{slice_set}
 use Rattle.std.proofs.lemmas.Option.{slice_get_read, slice_get_past, some_pair_parts}
 use Rattle.slot_registry.specs.Slots.{SlotsValue}
-use Rattle.codec_model.specs.declared.entry.Entry.{Entry}
-use Rattle.codec_model.specs.declared.entry.PromiseState.{PromiseState}
-use Rattle.codec_model.specs.declared.entry.PromiseState.TheVariants.{Pending}
+use Rattle.codec_model.specs.declared.entry.{Entry.Entry, PromiseState.PromiseState, PromiseState.TheVariants.Pending}
 use Rattle.codec_accounts.specs.Codec.{CodecValue, codec_at}
 use Rattle.media_variables.specs.Variables.{Media}
 use Rattle.report_text.specs.declared.result.StepResult.{StepResult}
-use Rattle.report_text.specs.declared.result.StepResult.TheVariants as result
 use Rattle.trace_text.specs.Follow.{Course, after_move, advance, look_of_flush, promise_after}
 use Rattle.wc_replay.specs.Desk.{codec_by, registry_by, media_by_option}
 use Rattle.wc_replay.specs.Player.{call_in}
@@ -20,21 +17,21 @@ codec_is k ds d lt is = rw (slice_get_read ds (length ds) k d refl lt is) refl
 
 -- what a look shows of a codec
 abbrev look_at : List CodecValue → ℕ → ℕ → StepResult
-look_at ds k place = let d = codec_at k ds in result.Look k (length d.history) (promise_after d.opening d.history place)
+look_at ds k place = let d = codec_at k ds in StepResult.Look k (length d.history) (promise_after d.opening d.history place)
 
 pub look_of_call : (ds : List CodecValue) (flush : Option StepResult) (k place : ℕ) → call_in flush ≡ Some (k, place) → look_at ds k place ≡ look_of_flush ds flush
 look_of_call ds None k place is = absurd cc
-look_of_call ds (Some (result.Call n p error)) k place is =
+look_of_call ds (Some (StepResult.Call n p error)) k place is =
     let parts = some_pair_parts n k p place is in
     sym (ap (λ (m : ℕ). look_at ds m p) parts.0 ∙ ap (λ (q : ℕ). look_at ds k q) parts.1)
 look_of_call ds (Some r) k place is = absurd cc
 
 -- a codec that was read, looked at
-pub look_read : (ds : List CodecValue) (k place n : ℕ) (d : CodecValue) (end : PromiseState) → codec_at k ds ≡ d → n ≡ length d.history → end ≡ promise_after d.opening d.history place → result.Look k n end ≡ look_at ds k place
+pub look_read : (ds : List CodecValue) (k place n : ℕ) (d : CodecValue) (end : PromiseState) → codec_at k ds ≡ d → n ≡ length d.history → end ≡ promise_after d.opening d.history place → StepResult.Look k n end ≡ look_at ds k place
 look_read ds k place n d end is at_end ends = rw (at_end, ends, is) refl
 
 -- a codec that is not there has no entry
-pub look_past : (ds : List CodecValue) (k place : ℕ) → length ds ≤ k → result.Look k 0 Pending ≡ look_at ds k place
+pub look_past : (ds : List CodecValue) (k place : ℕ) → length ds ≤ k → StepResult.Look k 0 Pending ≡ look_at ds k place
 look_past ds k place beyond = rw (slice_get_past ds k beyond) refl
 
 pub set_same : (ds : List CodecValue) (k : ℕ) → slice_set ds k (codec_at k ds) ≡ ds

@@ -4,18 +4,11 @@ use Rattle.std.specs.Prelude.{length, slice_get, unwrap_or}
 use Rattle.std.specs.List.{list_all}
 use Rattle.std.proofs.lemmas.Bool.{and_parts, and_from, ltb-true}
 use Rattle.std.proofs.lemmas.Option.{slice_get_within}
-use Rattle.script_types.specs.declared.script.CodecItem.{CodecItem}
-use Rattle.script_types.specs.declared.script.OrderItem.{OrderItem}
-use Rattle.script_types.specs.declared.script.OrderItem.TheVariants as item
-use Rattle.script_types.specs.declared.script.ScriptData.{ScriptData}
-use Rattle.script_types.specs.declared.steps.Step.{Step}
-use Rattle.script_types.specs.declared.steps.Step.TheVariants as step
-use Rattle.script_types.specs.declared.steps.MediaStep.TheVariants as on_media
-use Rattle.script_types.specs.Names.{decodes}
+use Rattle.script_types.specs.declared.{script.CodecItem.CodecItem, script.OrderItem.OrderItem, script.ScriptData.ScriptData, steps.Step.Step}
+use Rattle.script_types.specs.{declared.steps.MediaStep.MediaStep, Names.decodes}
 use Rattle.script_types.specs.Sound.{is_sound, are_sound_codecs, is_sound_step, is_sound_item, any_kind, suits, encodes, gives}
 use Rattle.script_types.specs.SoundLaws.{parts_of, codec_within, few_steps, item_at}
-use Rattle.trace_text.specs.Follow.{steps_of}
-use Rattle.trace_text.specs.Fits.{step_in}
+use Rattle.trace_text.specs.{Follow.steps_of, Fits.step_in}
 use Rattle.order_laws.specs.SoundSteps.{stands_in, sound_step, sound_of}
 use Rattle.wc_replay.specs.Player.{IsPlayable, IsInRange, NamesInRange, is_openable}
 
@@ -26,25 +19,25 @@ caller_within s c j x is = let there = stands_in s.callers c j x is in slice_get
 -- ---- what steps name
 
 names_within : (codecs : List CodecItem) (before : List Step) (x : Step) → is_sound_step codecs before x ≡ true → NamesInRange (length codecs) x
-names_within codecs before (step.Configure on config) h = codec_within codecs (suits config) on h
-names_within codecs before (step.Decode on chunk) h = codec_within codecs decodes on (and_parts _ _ h).0
-names_within codecs before (step.Flush on bind) h = codec_within codecs any_kind on (and_parts _ _ h).0
-names_within codecs before (step.Reset on) h = codec_within codecs any_kind on h
-names_within codecs before (step.Close on) h = codec_within codecs any_kind on h
-names_within codecs before (step.State on) h = codec_within codecs any_kind on h
-names_within codecs before (step.Media (on_media.Encode on content)) h = codec_within codecs encodes on (and_parts _ _ h).0
-names_within codecs before (step.Media (on_media.Take on bind kind)) h = codec_within codecs (gives kind) on (and_parts _ _ h).0
-names_within codecs before (step.Media x) h = tt
+names_within codecs before (Step.Configure on config) h = codec_within codecs (suits config) on h
+names_within codecs before (Step.Decode on chunk) h = codec_within codecs decodes on (and_parts _ _ h).0
+names_within codecs before (Step.Flush on bind) h = codec_within codecs any_kind on (and_parts _ _ h).0
+names_within codecs before (Step.Reset on) h = codec_within codecs any_kind on h
+names_within codecs before (Step.Close on) h = codec_within codecs any_kind on h
+names_within codecs before (Step.State on) h = codec_within codecs any_kind on h
+names_within codecs before (Step.Media (MediaStep.Encode on content)) h = codec_within codecs encodes on (and_parts _ _ h).0
+names_within codecs before (Step.Media (MediaStep.Take on bind kind)) h = codec_within codecs (gives kind) on (and_parts _ _ h).0
+names_within codecs before (Step.Media x) h = tt
 names_within codecs before x h = tt
 
 -- ---- the order
 
 item_within : (n m : ℕ) (x : OrderItem) → is_sound_item n m x ≡ true → IsInRange n x
-item_within n m (item.Caller c) h = tt
-item_within n m (item.Start k) h = ltb-true k n h
-item_within n m (item.Done k moment) h = ltb-true k n h
-item_within n m (item.Turn k) h = ltb-true k n h
-item_within n m (item.Reclaim k moment) h = ltb-true k n h
+item_within n m (OrderItem.Caller c) h = tt
+item_within n m (OrderItem.Start k) h = ltb-true k n h
+item_within n m (OrderItem.Done k moment) h = ltb-true k n h
+item_within n m (OrderItem.Turn k) h = ltb-true k n h
+item_within n m (OrderItem.Reclaim k moment) h = ltb-true k n h
 
 items_within : (s : ScriptData) (o : Option (List OrderItem)) (i : ℕ) (x : OrderItem) → is_sound s ≡ true → s.order ≡ o → slice_get (unwrap_or o []) i ≡ Some x → IsInRange (length s.codecs) x
 items_within s None i x h is at = absurd cc

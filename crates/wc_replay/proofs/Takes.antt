@@ -4,29 +4,19 @@ use Rattle.std.specs.Prelude.{slice_get, slice_set, IfSome, IfNone, IfOk, Result
 use Rattle.std.specs.List.{AllByRecursion}
 use Rattle.std.proofs.lemmas.Bool.{ltb-false}
 use Rattle.std.proofs.lemmas.Option.{slice_get_past}
-use Rattle.wc_base.specs.Options.{some_same}
-use Rattle.wc_base.specs.declared.error.NoMemory.{NoMemory}
+use Rattle.wc_base.specs.{Options.some_same, declared.error.NoMemory.NoMemory, declared.who.Who.Who}
 use Rattle.report_text.specs.declared.result.StepResult.{StepResult}
-use Rattle.report_text.specs.declared.result.StepResult.TheVariants as result
 use Rattle.codec_accounts.specs.Owed.{append_at}
 use Rattle.codec_definitions.specs.declared.unit.Unit as media
 use Rattle.codec_definitions.specs.declared.unit.Unit.TheVariants as unit
-use Rattle.codec_model.specs.declared.entry.Entry.TheVariants as entry
-use Rattle.codec_model.specs.Control.{may_take}
-use Rattle.codec_model.specs.Shown.{shown, outputs_of}
-use Rattle.codec_core.specs.declared.reply.Taken.{Taken}
+use Rattle.codec_model.specs.{declared.entry.Entry.Entry, Control.may_take, Shown.shown, Shown.outputs_of}
+use Rattle.codec_core.specs.{declared.reply.Taken.Taken, Job.JobValue}
 use Rattle.codec_core.specs.Codec.{Codec, state_at, Makes}
 use Rattle.codec_media.specs.Holding.{Holding}
-use Rattle.codec_core.specs.Job.{JobValue}
-use Rattle.history_laws.specs.Outputs.{IsWholeUnit}
-use Rattle.history_laws.specs.CountLaws.{shown_counted}
-use Rattle.history_laws.specs.WholeLaws.{outputs_are_whole}
+use Rattle.history_laws.specs.{Outputs.IsWholeUnit, CountLaws.shown_counted, WholeLaws.outputs_are_whole}
 use Rattle.media_variables.specs.Held.{IsEnoughUnit}
 use Rattle.wc_replay.specs.Desk.{holding_of, IsDesk, Takes, Received, more}
-use Rattle.wc_replay.proofs.Desks.{seen, seen_more}
-use Rattle.wc_replay.proofs.Lent.{media_same}
-use Rattle.wc_replay.proofs.Looks.{set_same}
-use Rattle.wc_base.specs.declared.who.Who.{Who}
+use Rattle.wc_replay.proofs.{Desks.seen, Desks.seen_more, Lent.media_same, Looks.set_same}
 use Rattle.codec_accounts.specs.Codec.{CodecValue, codec_at, state_of}
 use Rattle.media_variables.specs.Variables as variables
 use Rattle.media_variables.specs.Variables.{Media, Came, IsCome, media_came, sound_at, taken_came, unit_came, after_came, variables_of}
@@ -55,7 +45,7 @@ none_left old job refusal d may =
 -- what a take of a core answers, as contracts see it
 pub received : (r : Result (Option Taken) NoMemory) (who : Who) (old new : Holding) (job : Option JobValue) (refusal : Option ℕ) (v : CodecValue) → IsDesk old.codec job refusal → seen old.codec job refusal ≡ v
     → IfOk r (λ o. is_some o ≡ may_take (state_at old.codec).control.taken (state_at old.codec).control)
-    → IfOk r (λ o. IfSome o (λ t. Makes old.codec new.codec (entry.Take who t.number))) → IfOk r (λ o. IfSome o (λ t. t.place ≡ length old.codec.history)) → IfOk r (λ o. IfSome o (λ t. t.number ≡ (state_at old.codec).control.taken))
+    → IfOk r (λ o. IfSome o (λ t. Makes old.codec new.codec (Entry.Take who t.number))) → IfOk r (λ o. IfSome o (λ t. t.place ≡ length old.codec.history)) → IfOk r (λ o. IfSome o (λ t. t.number ≡ (state_at old.codec).control.taken))
     → IfOk r (λ o. IfSome o (λ t. slice_get (outputs_of (shown old.codec.opening old.codec.history)) t.number ≡ Some t.unit))
     → IfOk r (λ o. IfNone o (new ≡ old)) → new.codec.slot ≡ old.codec.slot → IfOk r (Received who v (seen new.codec job refusal))
 received (Ok None) who old new job refusal v d is may made place number unit none slot =
@@ -64,7 +54,7 @@ received (Ok (Some t)) who old new job refusal v d is may made place number unit
   next = ap (λ (n : ℕ). slice_get (outputs_of (shown old.codec.opening old.codec.history)) n) (sym number) ∙ unit;
   place = place;
   number = number;
-  made = seen_more old.codec new.codec (entry.Take who t.number) job job refusal refusal (holding_of old.codec.slot job refusal) made (ap (λ s. holding_of s job refusal) slot);
+  made = seen_more old.codec new.codec (Entry.Take who t.number) job job refusal refusal (holding_of old.codec.slot job refusal) made (ap (λ s. holding_of s job refusal) slot);
   enough = enough t.unit (at_each IsWholeUnit (outputs_of (shown old.codec.opening old.codec.history)) t.number t.unit (outputs_are_whole old.codec.opening old.codec.history) unit);
 })
 received (Err e) who old new job refusal v d is may made place number unit none slot = tt
@@ -72,21 +62,21 @@ received (Err e) who old new job refusal v d is may made place number unit none 
 -- ---- the move of a take
 
 -- what a take finds, where the next output is this one
-found : (k : ℕ) (d : CodecValue) (who : Who) (new : CodecValue) (t : Taken) → Takes who d new t → found_at k d ≡ Some (record { unit = t.unit; answer = result.Unit k t.place t.number })
+found : (k : ℕ) (d : CodecValue) (who : Who) (new : CodecValue) (t : Taken) → Takes who d new t → found_at k d ≡ Some (record { unit = t.unit; answer = StepResult.Unit k t.place t.number })
 found k d who new t is = rw (is.place, is.number, is.next) refl
 
 -- a take that found an output is its move
 pub took : (v : Course) (who : Who) (k : ℕ) (t : Taken) (new : CodecValue) (callers : List (List StepResult)) (codecs : List CodecValue) (m : Media) (r : StepResult)
     → Takes who (codec_at k v.codecs) new t → codecs ≡ slice_set v.codecs k new
-    → IsCome v.media m who (taken_came v.media.pool who.step (Some (record { unit = t.unit; answer = result.Unit k t.place t.number })) (variables_of who.caller v.media.variables)) (Some r)
+    → IsCome v.media m who (taken_came v.media.pool who.step (Some (record { unit = t.unit; answer = StepResult.Unit k t.place t.number })) (variables_of who.caller v.media.variables)) (Some r)
     → callers ≡ append_at who.caller r v.callers
     → ◌≡◌ {A = Course} (record { callers = callers; codecs = codecs; media = m; slots = v.slots }) (after_move (take_move who k (codec_at k v.codecs) (taken_came v.media.pool who.step (found_at k (codec_at k v.codecs)) (variables_of who.caller v.media.variables))) v)
 took v who k t new callers codecs m r is set come noted =
     let d = codec_at k v.codecs in
-    let y : Came = unit_came v.media.pool who.step (result.Unit k t.place t.number) t.unit (variables_of who.caller v.media.variables) in
+    let y : Came = unit_came v.media.pool who.step (StepResult.Unit k t.place t.number) t.unit (variables_of who.caller v.media.variables) in
     let answer : r ≡ y.answer = some_same r y.answer come.0 in
-    let entry_is : new ≡ more (entry.Take who (state_of d).control.taken) d = is.made ∙ ap (λ (n : ℕ). more (entry.Take who n) d) is.number in
-    let stays : media_by k (entry.Take who (state_of d).control.taken) d v.media ≡ v.media = media_same v.media in
+    let entry_is : new ≡ more (Entry.Take who (state_of d).control.taken) d = is.made ∙ ap (λ (n : ℕ). more (Entry.Take who n) d) is.number in
+    let stays : media_by k (Entry.Take who (state_of d).control.taken) d v.media ≡ v.media = media_same v.media in
     let results = noted ∙ ap (λ (x : StepResult). append_at who.caller x v.callers) answer in
     let codecs_are = set ∙ ap (λ (x : CodecValue). slice_set v.codecs k x) entry_is in
     let media_is = come.1 ∙ ap (λ (z : Media). after_came who y z) (sym stays) in
@@ -95,12 +85,12 @@ took v who k t new callers codecs m r is set come noted =
 
 -- a take that found none is a look
 pub found_none : (v : Course) (who : Who) (k : ℕ) (new : CodecValue) (callers : List (List StepResult)) (codecs : List CodecValue) (r : StepResult)
-    → Received who (codec_at k v.codecs) new None → codecs ≡ slice_set v.codecs k new → r ≡ result.NoUnit k (length new.history) → callers ≡ append_at who.caller r v.callers
+    → Received who (codec_at k v.codecs) new None → codecs ≡ slice_set v.codecs k new → r ≡ StepResult.NoUnit k (length new.history) → callers ≡ append_at who.caller r v.callers
     → ◌≡◌ {A = Course} (record { callers = callers; codecs = codecs; media = v.media; slots = v.slots }) (after_move (take_move who k (codec_at k v.codecs) (taken_came v.media.pool who.step (found_at k (codec_at k v.codecs)) (variables_of who.caller v.media.variables))) v)
 found_none v who k new callers codecs r is set came noted =
     let d = codec_at k v.codecs in
-    let none : found_at k d ≡ None = ap (λ (o : Option media.Unit). option_map (λ u. record { unit = u; answer = result.Unit k (length d.history) (state_of d).control.taken }) o) is.0 in
-    let results = noted ∙ ap (λ (x : StepResult). append_at who.caller x v.callers) (came ∙ ap (λ (x : CodecValue). result.NoUnit k (length x.history)) is.1) in
+    let none : found_at k d ≡ None = ap (λ (o : Option media.Unit). option_map (λ u. record { unit = u; answer = StepResult.Unit k (length d.history) (state_of d).control.taken }) o) is.0 in
+    let results = noted ∙ ap (λ (x : StepResult). append_at who.caller x v.callers) (came ∙ ap (λ (x : CodecValue). StepResult.NoUnit k (length x.history)) is.1) in
     let codecs_are = set ∙ (ap (λ (x : CodecValue). slice_set v.codecs k x) is.1 ∙ set_same v.codecs k) in
     (λ i. record { callers = results i; codecs = codecs_are i; media = v.media; slots = v.slots })
     ∙ ap (λ (o : Option variables.Taken). after_move (take_move who k d (taken_came v.media.pool who.step o (variables_of who.caller v.media.variables))) v) (sym none)

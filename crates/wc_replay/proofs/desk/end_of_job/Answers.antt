@@ -1,5 +1,4 @@
-use Rattle.codec_model.specs.Control.{kind_of}
-use Rattle.codec_model.specs.Replay.{answer_to}
+use Rattle.codec_model.specs.{Control.kind_of, Replay.answer_to}
 use Rattle.wc_replay.proofs.Desks.{outcome_is}
 use Rattle.wc_replay.proofs.desk.end_of_job.Goals as goal
 

@@ -1,8 +1,6 @@
 use Rattle.std.proofs.Common.{◌≡◌, ap, subst, ◌∙◌, Some, List}
 use Rattle.std.specs.Prelude.{slice_get}
-use Rattle.script_types.specs.declared.script.CallerItem.{CallerItem}
-use Rattle.script_types.specs.declared.script.ScriptData.{ScriptData}
-use Rattle.script_types.specs.SoundLaws.{few_steps}
+use Rattle.script_types.specs.{declared.script.CallerItem.CallerItem, declared.script.ScriptData.ScriptData, SoundLaws.few_steps}
 use Rattle.wc_replay.proofs.missing.missing_chunk.Goals as goal
 
 pub missing_caller-requires-clause-steps : goal.missing_caller-requires-clause-steps

@@ -1,8 +1,7 @@
 use Rattle.std.proofs.Common.{sym, ◌∙◌}
 use Rattle.std.specs.Vec.Iter.{into_iter_items}
-use Rattle.wc_replay.proofs.Ends.{nothing_left}
+use Rattle.wc_replay.proofs.{Ends.nothing_left, Ends.all_made}
 use Rattle.wc_replay.specs.Player.{trace_of}
-use Rattle.wc_replay.proofs.Ends.{all_made}
 use Rattle.wc_replay.proofs.playing.codec_traces.Goals as goal
 
 pub returns : goal.returns

@@ -1,10 +1,8 @@
 use Rattle.std.proofs.Common.{IfOk, map, rules}
 use Rattle.std.proofs.lemmas.Result.{IfOk-weaker}
-use Rattle.trace_text.specs.Fits.{IsLegalRun, Fits}
-use Rattle.trace_text.specs.Follow.{order_items}
+use Rattle.trace_text.specs.{Fits.IsLegalRun, Fits.Fits, Follow.order_items}
 use Rattle.wc_replay.specs.Player.{IsPlayed}
-use Rattle.wc_replay.proofs.Playable.{playable_of, openable_of}
-use Rattle.wc_replay.proofs.Runs.{played_follows, played_legal}
+use Rattle.wc_replay.proofs.{Playable.playable_of, Playable.openable_of, Runs.played_follows, Runs.played_legal}
 use Rattle.wc_replay.proofs.playing.replay.Goals as goal
 
 pub play-requires : goal.play-requires

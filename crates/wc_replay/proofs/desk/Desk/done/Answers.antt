@@ -1,11 +1,8 @@
 use Rattle.std.proofs.Common.{◌≡◌, sym, ◌∙◌, ap, subst, Option, Some, None, ℕ, map}
-use Rattle.codec_model.specs.Control.{kind_of}
-use Rattle.codec_model.specs.Replay.{answer_to}
-use Rattle.codec_core.specs.Codec.{state_at}
-use Rattle.codec_model.specs.Held.{in_order}
+use Rattle.codec_model.specs.{Control.kind_of, Replay.answer_to, Held.in_order}
+use Rattle.codec_core.specs.{Codec.state_at, Job.JobValue}
 use Rattle.codec_media.specs.Holding.{EndedValue}
 use Rattle.media_variables.specs.Held.{pair_of}
-use Rattle.codec_core.specs.Job.{JobValue}
 use Rattle.trace_text.specs.Follow.{outcome_for, done_entry}
 use Rattle.wc_replay.specs.Desk.{IsDesk}
 use Rattle.wc_replay.proofs.Desks.{seen, makes_seen, ended_makes}

@@ -1,7 +1,6 @@
 use Rattle.std.proofs.Common.{map, true}
 use Rattle.media_variables.specs.Held.{pair_of}
-use Rattle.wc_replay.proofs.Desks.{seen}
-use Rattle.wc_replay.proofs.Lent.{apart_waiting}
+use Rattle.wc_replay.proofs.{Desks.seen, Lent.apart_waiting}
 use Rattle.wc_replay.proofs.desk.Desk.reclaim.Goals as goal
 
 pub let_go-requires-clause-lent : goal.let_go-requires-clause-lent

@@ -2,8 +2,7 @@ use Rattle.std.proofs.Common.{◌∙◌, is_none}
 use Rattle.codec_model.specs.Replay.{removal_error}
 use Rattle.codec_core.specs.Codec.{Codec, state_at}
 use Rattle.wc_replay.specs.Desk.{pairs_in}
-use Rattle.wc_replay.proofs.Desks.{seen, seen_reserved}
-use Rattle.wc_replay.proofs.Lent.{apart_waiting}
+use Rattle.wc_replay.proofs.{Desks.seen, Desks.seen_reserved, Lent.apart_waiting}
 use Rattle.wc_replay.proofs.desk.Desk.remove.Goals as goal
 
 pub let_go-requires-clause-lent : goal.let_go-requires-clause-lent

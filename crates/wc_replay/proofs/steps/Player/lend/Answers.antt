@@ -1,13 +1,10 @@
 use Rattle.std.proofs.Common.{ℕ, ◌≡◌, ◌++◌, ◌∷◌, [], false, None, refl, ap, sym, subst, ◌∙◌}
 use Rattle.std.proofs.lemmas.Result.{on_ok_weaker}
-use Rattle.wc_base.specs.declared.who.By.TheVariants as by
-use Rattle.codec_accounts.specs.Codec.{codec_at, state_of}
-use Rattle.codec_accounts.specs.Owed.{append_at}
-use Rattle.codec_model.specs.declared.entry.HeldSound.{HeldSound}
-use Rattle.codec_model.specs.Replay.{encode_error}
-use Rattle.media_variables.specs.declared.lending.SoundFound.TheVariants as found
+use Rattle.wc_base.specs.declared.who.By.{By}
+use Rattle.codec_accounts.specs.{Codec.codec_at, Codec.state_of, Owed.append_at}
+use Rattle.codec_model.specs.{declared.entry.HeldSound.HeldSound, Replay.encode_error}
+use Rattle.media_variables.specs.{declared.lending.SoundFound.SoundFound, Variables.sound_at, Variables.variables_of}
 use Rattle.media_variables.specs.Held.{clones_of, pair_of, sound_found}
-use Rattle.media_variables.specs.Variables.{sound_at, variables_of}
 use Rattle.report_text.specs.declared.result.StepResult.{StepResult}
 use Rattle.trace_text.specs.Follow.{Course, Move, after_move, encode_move}
 use Rattle.wc_replay.proofs.Calls.{asked, hands_clone}
@@ -23,10 +20,10 @@ returns g c =
     let r = c.in_ok-samples.held in
     let x : HeldSound = record { samples = c.in_ok-samples.samples; pair = pair_of r } in
     let o = sound_at (variables_of who.caller v.media.variables) c.args.content in
-    let there = subst (λ (u : Course). sound_found (sound_at (variables_of who.caller u.media.variables) c.args.content) ≡ found.Open) (sym c.self.view_is) c.requires.open in
+    let there = subst (λ (u : Course). sound_found (sound_at (variables_of who.caller u.media.variables) c.args.content) ≡ SoundFound.Open) (sym c.self.view_is) c.requires.open in
     let accepted = subst (λ (u : Course). encode_error false (state_of (codec_at k u.codecs)).control ≡ None) (sym c.self.view_is) c.requires.accepted in
     let lent = c.in_ok-samples.ensures.lent in
-    let history = lent.history ∙ ap (λ (n : ℕ). v.media.pool ++ clones_of (by.Codec k n) (pair_of r ∷ [])) (rw c.deref.ensures.value at c.place_at-place.ensures) in
+    let history = lent.history ∙ ap (λ (n : ℕ). v.media.pool ++ clones_of (By.Codec k n) (pair_of r ∷ [])) (rw c.deref.ensures.value at c.place_at-place.ensures) in
     on_ok_weaker c.note.result
     (λ noted. asked v who.caller k c.in_ok-answer.answer.place _ _ c.in_ok-answer.answer.error _ c.note.new.callers.items c.encode_at.new.desks.items c.lend.new.self refl refl refl
     c.in_ok-answer.ensures.made c.in_ok-answer.ensures.place (c.in_ok-answer.ensures.error ∙ sym accepted)

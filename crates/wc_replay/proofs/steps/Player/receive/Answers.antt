@@ -6,8 +6,7 @@ use Rattle.media_variables.specs.Variables.{IsCome, taken_came, variables_of}
 use Rattle.report_text.specs.declared.result.StepResult.{StepResult}
 use Rattle.trace_text.specs.Follow.{Course, after_move, take_move, found_at}
 use Rattle.wc_replay.specs.Desk.{Takes, Received}
-use Rattle.wc_replay.proofs.Takes.{took, found_none}
-use Rattle.wc_replay.proofs.steps.Player.receive.Goals.{in-Some+in_ok-came-in-Some, in-None}
+use Rattle.wc_replay.proofs.{Takes.took, Takes.found_none, steps.Player.receive.Goals.in-Some+in_ok-came-in-Some, steps.Player.receive.Goals.in-None}
 use Rattle.wc_replay.proofs.steps.Player.receive.Goals as goal
 
 pub returns : goal.returns
