@@ -1,19 +1,14 @@
 -- The run that lines show is written without loss where the lines fit the script and are few.
-use Rattle.std.proofs.Common.{◌≡◌, ℕ, zero, suc, ◌+◌, ◌^◌, ◌<◌, ◌≤◌, Bool, true, false, cond, List, [], ◌∷◌, ◌++◌, length, drop, Option, Some, None, refl, sym, ap, subst, ◌∙◌, arith}
-use Rattle.std.specs.Prelude.{nat_lt, IfSome, flat_map, unwrap_or, option_map, option_to_list}
-use Rattle.std.specs.List.{AllByRecursion, zip, slice_get}
-use Rattle.std.proofs.lemmas.Bool.{and_parts, leb-true, ltb-true}
-use Rattle.wc_base.specs.declared.media.Samples.{Samples}
-use Rattle.wc_config.specs.declared.config.AudioDecoderConfig.{AudioDecoderConfig}
+use Rattle.std.proofs.Common.{◌≡◌, ℕ, zero, suc, ◌+◌, ◌^◌, ◌<◌, ◌≤◌, true, List, [], ◌∷◌, ◌++◌, length, drop, Option, Some, None, sym, ap, subst, ◌∙◌, arith}
+use Rattle.std.specs.Prelude.{IfSome, flat_map, unwrap_or, option_map, option_to_list}
+use Rattle.std.specs.List.{AllByRecursion, zip}
+use Rattle.std.proofs.lemmas.Bool.{and_parts, leb-true}
 use Rattle.wc_chunk.specs.declared.chunk.Chunk.{Chunk}
 use Rattle.wc_pool.specs.declared.entry.PoolEntry.{PoolEntry}
 use Rattle.codec_definitions.specs.declared.unit.Unit as media
-use Rattle.codec_definitions.specs.declared.unit.Unit.TheVariants as unit
 use Rattle.coder_api.specs.declared.slot.SlotEntry.{SlotEntry}
 use Rattle.wc_config.specs.declared.kind.Kind.{Kind}
-use Rattle.wc_config.specs.declared.kind.Kind.TheVariants as kind
 use Rattle.codec_model.specs.declared.entry.Entry.{Entry}
-use Rattle.codec_model.specs.declared.entry.Entry.TheVariants as entry
 use Rattle.codec_model.specs.declared.entry.Event.{Event}
 use Rattle.codec_model.specs.declared.entry.Event.TheVariants as event
 use Rattle.codec_model.specs.declared.entry.Shown.{Shown}
@@ -28,25 +23,21 @@ use Rattle.report_text.specs.declared.result.StepResult.{StepResult}
 use Rattle.trace_text.specs.declared.run.CallerTrace.{CallerTrace}
 use Rattle.trace_text.specs.declared.run.CodecTrace.{CodecTrace}
 use Rattle.trace_text.specs.declared.run.Run.{Run}
-use Rattle.trace_text.specs.Follow.{steps_of}
-use Rattle.report_text.specs.declared.line.CallWord.TheVariants as call
 use Rattle.report_text.specs.declared.line.EntryLine.{EntryLine}
 use Rattle.report_text.specs.declared.line.EntryLine.TheVariants as entry_line
-use Rattle.report_text.specs.declared.line.EventLine.{EventLine}
-use Rattle.report_text.specs.declared.line.EventLine.TheVariants as event_line
 use Rattle.report_text.specs.declared.line.Line.{Line}
 use Rattle.report_text.specs.declared.line.Line.TheVariants as line
-use Rattle.trace_text.specs.Report.{entry_line_of, config_lines, output_lines, event_lines, lines_from, result_lines, caller_lines, entry_lines, codec_lines, pool_lines, slot_lines, end_lines, lines_of, report_of}
-use Rattle.report_lines.specs.Fits.{FitsResult, FitsEntryLine, FitsEventLine, FitsBy, FitsOp, FitsPoolOp, FitsLine}
+use Rattle.trace_text.specs.Report.{entry_line_of, event_lines, lines_from, result_lines, caller_lines, entry_lines, codec_lines, pool_lines, slot_lines, end_lines, lines_of, report_of}
+use Rattle.report_lines.specs.Fits.{FitsResult, FitsEntryLine, FitsBy, FitsOp, FitsPoolOp, FitsLine}
 use Rattle.report_lines.specs.Laws.{LineFits, LineAgain}
 use Rattle.report_reader.specs.declared.forms.Section.{Section}
 use Rattle.report_reader.specs.declared.forms.Section.TheVariants as section
 use Rattle.report_reader.specs.Form.{Reads, AreForms}
 use Rattle.report_reader.specs.declared.known.Known.{Known}
 use Rattle.report_reader.specs.Arguments.{entry_of}
-use Rattle.report_reader.specs.Read.{results_in, behind_results, callers_in, next_of, entry_then, entries_from, entry_lines_in, behind_entries, description_of, config_in, unit_of, outputs_in, opening_of, codec_in, codecs_in, all_outputs_in, pool_in, behind_pool, slots_in, held_in, run_of}
+use Rattle.report_reader.specs.Read.{results_in, behind_results, callers_in, entries_from, entry_lines_in, behind_entries, config_in, unit_of, outputs_in, opening_of, codec_in, codecs_in, all_outputs_in, pool_in, behind_pool, slots_in, held_in, run_of}
 use Rattle.report_reader.specs.Told.{IsPlainTrace, IsWithoutLoss, IsTold}
-use Rattle.codec_follow.specs.Outputs.{is_codec_string, IsPlainDescription, IsPlainConfig, IsOutputOf, empty_output}
+use Rattle.codec_follow.specs.Outputs.{IsOutputOf, empty_output}
 use Rattle.report_reader.specs.Fits.{FitsEvent, FitsShown, FitsTrace}
 use Rattle.report_reader.proofs.KindLaws.{AreFit, FitsUnit, unit_fits, empty_fits}
 use Rattle.report_reader.proofs.RunLaws.{all_left, all_right}
@@ -70,10 +61,51 @@ few_behind : {X : Type 0} (xs : List X) → length (drop 1 xs) ≤ length xs
 few_behind [] = omega arith
 few_behind (x ∷ xs) = omega arith
 
+all_both : {X : Type 0} (P Q : X → Type 0) (xs : List X) → AllByRecursion P xs → AllByRecursion Q xs → AllByRecursion (λ x. P x × Q x) xs
+all_both P Q [] p q = tt
+all_both P Q (x ∷ xs) p q = ((p.0, q.0), all_both P Q xs p.1 q.1)
+
+all_weaker : {X : Type 0} (P Q : X → Type 0) → ((x : X) → P x → Q x) → (xs : List X) → AllByRecursion P xs → AllByRecursion Q xs
+all_weaker P Q f [] p = tt
+all_weaker P Q f (x ∷ xs) p = (f x p.0, all_weaker P Q f xs p.1)
+
+-- ---- lines in front
+
 -- lines that fit, and are no more than some others
 record IsLeft (script : ScriptData) (ls left : List Line) : Type 0 where
   fits : AreFit script left
   few : length left ≤ length ls
+
+further : (script : ScriptData) (ls mid left : List Line) → IsLeft script ls mid → IsLeft script mid left → IsLeft script ls left
+further script ls mid left first then = record { fits = then.fits; few = omega (arith, first.few, then.few) }
+
+-- what is read in front of some lines, each once, and the lines behind
+record AreInFront (script : ScriptData) (X : Type 0) (P : X → Type 0) (ls : List Line) (xs : List X) (left : List Line) : Type 0 where
+  items : AllByRecursion P xs
+  count : length xs ≤ length ls
+  behind : IsLeft script ls left
+
+none_in_front : (script : ScriptData) (X : Type 0) (P : X → Type 0) (ls : List Line) → AreFit script ls → AreInFront script X P ls [] ls
+none_in_front script X P ls fits = record { items = tt; count = omega arith; behind = record { fits = fits; few = omega arith } }
+
+one_passed : (script : ScriptData) (X : Type 0) (P : X → Type 0) (l : Line) (ls left : List Line) (xs : List X) → AreInFront script X P ls xs left → AreInFront script X P (l ∷ ls) xs left
+one_passed script X P l ls left xs r = record { items = r.items; count = omega (arith, r.count); behind = record { fits = r.behind.fits; few = omega (arith, r.behind.few) } }
+
+one_in_front : (script : ScriptData) (X : Type 0) (P : X → Type 0) (l : Line) (ls left : List Line) (x : X) (xs : List X) → P x → AreInFront script X P ls xs left → AreInFront script X P (l ∷ ls) (x ∷ xs) left
+one_in_front script X P l ls left x xs own r = record { items = (own, r.items); count = omega (arith, r.count); behind = record { fits = r.behind.fits; few = omega (arith, r.behind.few) } }
+
+-- behind the line that begins them
+begun : (script : ScriptData) (X : Type 0) (P : X → Type 0) (items : List Line → List X) (behind : List Line → List Line) → ((ls : List Line) → AreFit script ls → AreInFront script X P ls (items ls) (behind ls))
+    → (ls : List Line) → AreFit script ls → AreInFront script X P ls (items (drop 1 ls)) (behind (drop 1 ls))
+begun script X P items behind each [] fits = each [] fits
+begun script X P items behind each (l ∷ ls) fits = one_passed script X P l ls (behind ls) (items ls) (each ls fits.1)
+
+-- the lines of items that fit, numbered up to a bound
+lines_fit : {X : Type 0} (script : ScriptData) (P : X → Type 0) (bound : ℕ) (lines : ℕ → X → List Line) → ((n : ℕ) (x : X) → n < bound → P x → AreFit script (lines n x))
+    → (n : ℕ) (xs : List X) → n + length xs ≤ bound → AllByRecursion P xs → AreFit script (lines_from lines n xs)
+lines_fit script P bound lines each n [] le all = tt
+lines_fit script P bound lines each n (x ∷ xs) le all =
+    all_append (FitsLine script) (lines n x) (lines_from lines (n + 1) xs) (each n x (omega arith) all.0) (lines_fit script P bound lines each (n + 1) xs (omega arith) all.1)
 
 -- ---- lines that are read
 
@@ -85,58 +117,25 @@ reads_fit fits script s bs (l ∷ ls) end left r =
 
 -- ---- callers
 
-results_fit : (script : ScriptData) (ls : List Line) → AreFit script ls → AllByRecursion (FitsResult script) (results_in ls)
-results_fit script (line.Result step found ∷ ls) fits = (fits.0.1, results_fit script ls fits.1)
-results_fit script _ fits = tt
-
-results_few : (ls : List Line) → length (results_in ls) ≤ length ls
-results_few [] = omega arith
-results_few (line.Result step found ∷ ls) = omega (arith, results_few ls)
-results_few (l ∷ ls) = omega arith
-
-behind_results_left : (script : ScriptData) (ls : List Line) → AreFit script ls → IsLeft script ls (behind_results ls)
-behind_results_left script [] fits = record { fits = tt; few = omega arith }
-behind_results_left script (line.Result step found ∷ ls) fits =
-    let more = behind_results_left script ls fits.1 in
-    record { fits = more.fits; few = omega (arith, more.few) }
-behind_results_left script (l ∷ ls) fits = record { fits = fits; few = omega arith }
+results_front : (script : ScriptData) (ls : List Line) → AreFit script ls → AreInFront script StepResult (FitsResult script) ls (results_in ls) (behind_results ls)
+results_front script (line.Result step found ∷ ls) fits = one_in_front script _ _ _ ls _ found _ fits.0.1 (results_front script ls fits.1)
+results_front script ls fits = none_in_front script _ _ ls fits
 
 record FitsCaller (script : ScriptData) (c : CallerTrace) : Type 0 where
   few : length c.results < 2 ^ 64
   fits : AllByRecursion (FitsResult script) c.results
 
--- behind a caller's line and its results
-caller_left : (script : ScriptData) (ls : List Line) → AreFit script ls → IsLeft script ls (behind_results (drop 1 ls))
-caller_left script ls fits =
-    let left = behind_results_left script (drop 1 ls) (all_behind (FitsLine script) ls fits) in
-    record { fits = left.fits; few = omega (arith, left.few, few_behind ls) }
+callers_front : (script : ScriptData) (n : ℕ) (ls : List Line) → length ls < 2 ^ 64 → AreFit script ls → AllByRecursion (FitsCaller script) (callers_in n ls).0 × IsLeft script ls (callers_in n ls).1
+callers_front script zero ls few fits = (tt, record { fits = fits; few = omega arith })
+callers_front script (suc n) ls few fits =
+    let own = begun script _ _ results_in behind_results (results_front script) ls fits in
+    let more = callers_front script n (behind_results (drop 1 ls)) (omega (arith, own.behind.few)) own.behind.fits in
+    ((record { few = omega (arith, own.count); fits = own.items }, more.0), further script ls (behind_results (drop 1 ls)) _ own.behind more.1)
 
-callers_fit : (script : ScriptData) (n : ℕ) (ls : List Line) → length ls < 2 ^ 64 → AreFit script ls → AllByRecursion (FitsCaller script) (callers_in n ls).0
-callers_fit script zero ls few fits = tt
-callers_fit script (suc n) ls few fits =
-    let left = caller_left script ls fits in (
-      record { few = omega (arith, results_few (drop 1 ls), few_behind ls); fits = results_fit script (drop 1 ls) (all_behind (FitsLine script) ls fits) },
-      callers_fit script n (behind_results (drop 1 ls)) (omega (arith, left.few)) left.fits,
-    )
-
-callers_left : (script : ScriptData) (n : ℕ) (ls : List Line) → AreFit script ls → IsLeft script ls (callers_in n ls).1
-callers_left script zero ls fits = record { fits = fits; few = omega arith }
-callers_left script (suc n) ls fits =
-    let left = caller_left script ls fits in
-    let more = callers_left script n (behind_results (drop 1 ls)) left.fits in
-    record { fits = more.fits; few = omega (arith, more.few, left.few) }
-
-result_lines_fit : (script : ScriptData) (n : ℕ) (rs : List StepResult) → n + length rs < 2 ^ 64 → AllByRecursion (FitsResult script) rs → AreFit script (lines_from result_lines n rs)
-result_lines_fit script n [] few fits = tt
-result_lines_fit script n (r ∷ rs) few fits = ((omega arith, fits.0), result_lines_fit script (n + 1) rs (omega arith) fits.1)
-
-caller_lines_fit : (script : ScriptData) (k : ℕ) (cs : List CallerTrace) → k + length cs ≤ length script.callers → length script.callers < 2 ^ 32 → AllByRecursion (FitsCaller script) cs → AreFit script (lines_from caller_lines k cs)
-caller_lines_fit script k [] le small fits = tt
-caller_lines_fit script k (c ∷ cs) le small fits = (
-  (omega arith, omega arith),
-  all_append (FitsLine script) (lines_from result_lines 0 c.results) (lines_from caller_lines (k + 1) cs)
-      (result_lines_fit script 0 c.results (omega (arith, fits.0.few)) fits.0.fits) (caller_lines_fit script (k + 1) cs (omega arith) small fits.1),
-)
+caller_lines_fit : (script : ScriptData) (cs : List CallerTrace) → length cs ≡ length script.callers → length script.callers < 2 ^ 32 → AllByRecursion (FitsCaller script) cs → AreFit script (lines_from caller_lines 0 cs)
+caller_lines_fit script cs le small =
+    lines_fit script (FitsCaller script) (length script.callers) caller_lines
+    (λ n c lt own. ((lt, omega (arith, lt, small)), lines_fit script (FitsResult script) (2 ^ 64) result_lines (λ i r below fits. ((below, fits), tt)) 0 c.results (omega (arith, own.few)) own.fits)) 0 cs (omega (arith, le))
 
 -- ---- outputs
 
@@ -157,40 +156,24 @@ fill_fits k P none (event.Output n u ∷ xs) [] all = let more = fill_fits k P n
 fill_fits k P none (event.Output n u ∷ xs) (v ∷ us) all = let more = fill_fits k P none xs us all.1 in record { shown = (all.0, more.shown); left = more.left }
 fill_fits k P none (x ∷ xs) us all = let more = fill_fits k P none xs us all in record { shown = more.shown; left = more.left }
 
-each_then : (k : Kind) (P : media.Unit → Type 0) → P (empty_output k) → (es : List Entry) (e : Entry) (s : State) (us : List media.Unit) (o : Option State) → AllByRecursion P us
-    → ((t : State) (vs : List media.Unit) → AllByRecursion P vs → AllByRecursion P (units_shown (each_filled_from k es t vs)))
-    → AllByRecursion P (units_shown (unwrap_or (option_map (λ t. filled_at k e s us ∷ each_filled_from k es t (filled k (shows e s) us).1) o) []))
-each_then k P none es e s us None all later = tt
-each_then k P none es e s us (Some t) all later =
-    let here = fill_fits k P none (shows e s) us all in
-    all_append P (units_in (filled k (shows e s) us).0) (units_shown (each_filled_from k es t (filled k (shows e s) us).1)) here.shown (later t (filled k (shows e s) us).1 here.left)
-
 each_fits : (k : Kind) (P : media.Unit → Type 0) → P (empty_output k) → (es : List Entry) (s : State) (us : List media.Unit) → AllByRecursion P us → AllByRecursion P (units_shown (each_filled_from k es s us))
 each_fits k P none [] s us all = tt
-each_fits k P none (e ∷ es) s us all = each_then k P none es e s us (follow_step e s) all (λ t vs more. each_fits k P none es t vs more)
+each_fits k P none (e ∷ es) s us all = by (follow_step e s) (λ t vs more. each_fits k P none es t vs more)
+  where
+    here : AreFilled k P (shows e s) us
+    here = fill_fits k P none (shows e s) us all
+
+    by : (o : Option State) → ((t : State) (vs : List media.Unit) → AllByRecursion P vs → AllByRecursion P (units_shown (each_filled_from k es t vs)))
+        → AllByRecursion P (units_shown (unwrap_or (option_map (λ t. filled_at k e s us ∷ each_filled_from k es t (filled k (shows e s) us).1) o) []))
+    by None later = tt
+    by (Some t) later = all_append P (units_in (filled k (shows e s) us).0) (units_shown (each_filled_from k es t (filled k (shows e s) us).1)) here.shown (later t (filled k (shows e s) us).1 here.left)
 
 -- ---- entries
 
-entry_lines_fit_in : (script : ScriptData) (ls : List Line) → AreFit script ls → AllByRecursion (FitsEntryLine script) (entry_lines_in ls)
-entry_lines_fit_in script (line.Entry place t ∷ ls) fits = (fits.0.1, entry_lines_fit_in script ls fits.1)
-entry_lines_fit_in script (line.Event s ∷ ls) fits = entry_lines_fit_in script ls fits.1
-entry_lines_fit_in script _ fits = tt
-
-entry_lines_few : (ls : List Line) → length (entry_lines_in ls) ≤ length ls
-entry_lines_few [] = omega arith
-entry_lines_few (line.Entry place t ∷ ls) = omega (arith, entry_lines_few ls)
-entry_lines_few (line.Event s ∷ ls) = omega (arith, entry_lines_few ls)
-entry_lines_few (l ∷ ls) = omega arith
-
-behind_entries_left : (script : ScriptData) (ls : List Line) → AreFit script ls → IsLeft script ls (behind_entries ls)
-behind_entries_left script [] fits = record { fits = tt; few = omega arith }
-behind_entries_left script (line.Entry place t ∷ ls) fits =
-    let more = behind_entries_left script ls fits.1 in
-    record { fits = more.fits; few = omega (arith, more.few) }
-behind_entries_left script (line.Event s ∷ ls) fits =
-    let more = behind_entries_left script ls fits.1 in
-    record { fits = more.fits; few = omega (arith, more.few) }
-behind_entries_left script (l ∷ ls) fits = record { fits = fits; few = omega arith }
+entries_front : (script : ScriptData) (ls : List Line) → AreFit script ls → AreInFront script EntryLine (FitsEntryLine script) ls (entry_lines_in ls) (behind_entries ls)
+entries_front script (line.Entry place t ∷ ls) fits = one_in_front script _ _ _ ls _ t _ fits.0.1 (entries_front script ls fits.1)
+entries_front script (line.Event s ∷ ls) fits = one_passed script _ _ _ ls _ _ (entries_front script ls fits.1)
+entries_front script ls fits = none_in_front script _ _ ls fits
 
 -- whatever the entry shows, its line fits
 abbrev FitsEntry : ScriptData → Entry → Type 0
@@ -217,10 +200,7 @@ entries_fit script files known k place (t ∷ ts) s fits =
 event_fits : (script : ScriptData) (k : Kind) (e : Event) → FitsEvent e → AllByRecursion (FitsUnit script k) (event_units e) → AreFit script (event_lines e)
 event_fits script k (event.Refusal x) fits units = tt
 event_fits script k (event.Output n u) fits units = units.0.fits
-event_fits script k (event.Resolve p) fits units = (fits, tt)
-event_fits script k (event.Reject p x) fits units = (fits, tt)
-event_fits script k event.Dequeue fits units = (tt, tt)
-event_fits script k (event.ErrorCall x) fits units = (tt, tt)
+event_fits script k _ fits units = (fits, tt)
 
 events_fit : (script : ScriptData) (k : Kind) (es : List Event) → AllByRecursion FitsEvent es → AllByRecursion (FitsUnit script k) (units_in es) → AreFit script (flat_map event_lines es)
 events_fit script k [] fits units = tt
@@ -250,104 +230,52 @@ opening_fits : (script : ScriptData) (ls : List Line) → AreFit script ls → (
 opening_fits script (line.Codec n opening ∷ ls) fits = fits.0.1
 opening_fits script ls fits = omega arith
 
-codec_left : (script : ScriptData) (ls : List Line) → AreFit script ls → IsLeft script ls (behind_entries (drop 1 ls))
-codec_left script ls fits =
-    let left = behind_entries_left script (drop 1 ls) (all_behind (FitsLine script) ls fits) in
-    record { fits = left.fits; few = omega (arith, left.few, few_behind ls) }
-
-codec_fits : (script : ScriptData) (files : List (List Chunk)) (known : Known) (n : ℕ) (ls : List Line) → length ls < 2 ^ 64 → AreFit script ls → FitsCodec script (codec_in script files known n ls)
-codec_fits script files known n ls few fits =
-    let own = all_behind (FitsLine script) ls fits in
-    let k = (opening_of ls).kind in
+codecs_front : (script : ScriptData) (files : List (List Chunk)) (known : Known) (k n : ℕ) (ls : List Line) → length ls < 2 ^ 64 → AreFit script ls
+    → AllByRecursion (FitsCodec script) (codecs_in script files known k n ls) × IsLeft script ls (all_outputs_in n ls).1
+codecs_front script files known k zero ls few fits = (tt, record { fits = fits; few = omega arith })
+codecs_front script files known k (suc n) ls few fits =
+    let told = begun script _ _ entry_lines_in behind_entries (entries_front script) ls fits in
+    let kind = (opening_of ls).kind in
     let start = opening_state (opening_of ls) in
-    let made = entries_fit script files known n 0 (entry_lines_in (drop 1 ls)) start (entry_lines_fit_in script (drop 1 ls) own) in
-    record {
+    let made = entries_fit script files known k 0 (entry_lines_in (drop 1 ls)) start told.items in
+    let own : FitsCodec script (codec_in script files known k ls) = record {
       opening = opening_fits script ls fits;
-      few = omega (arith, made.few, entry_lines_few (drop 1 ls), few_behind ls);
+      few = omega (arith, made.few, told.count);
       entries = made.fits;
-      units = each_fits k (FitsUnit script k) (empty_fits script k) (entries_from script files known n 0 start (entry_lines_in (drop 1 ls))) start (outputs_in k (drop 1 ls)) (outputs_fit script k (drop 1 ls) own);
-    }
+      units = each_fits kind (FitsUnit script kind) (empty_fits script kind) (entries_from script files known k 0 start (entry_lines_in (drop 1 ls))) start (outputs_in kind (drop 1 ls)) (outputs_fit script kind (drop 1 ls) (all_behind (FitsLine script) ls fits));
+    } in
+    let more = codecs_front script files known (k + 1) n (behind_entries (drop 1 ls)) (omega (arith, told.behind.few)) told.behind.fits in
+    ((own, more.0), further script ls (behind_entries (drop 1 ls)) _ told.behind more.1)
 
-codecs_fit : (script : ScriptData) (files : List (List Chunk)) (known : Known) (k n : ℕ) (ls : List Line) → length ls < 2 ^ 64 → AreFit script ls → AllByRecursion (FitsCodec script) (codecs_in script files known k n ls)
-codecs_fit script files known k zero ls few fits = tt
-codecs_fit script files known k (suc n) ls few fits =
-    let left = codec_left script ls fits in
-    (codec_fits script files known k ls few fits, codecs_fit script files known (k + 1) n (behind_entries (drop 1 ls)) (omega (arith, left.few)) left.fits)
+codec_lines_fit : (script : ScriptData) (cs : List CodecTrace) → length cs ≡ length script.codecs → length script.codecs < 2 ^ 32 → AllByRecursion (λ c. FitsCodec script c × FitsTrace c) cs → AreFit script (lines_from codec_lines 0 cs)
+codec_lines_fit script cs le small =
+    lines_fit script (λ c. FitsCodec script c × FitsTrace c) (length script.codecs) codec_lines
+    (λ n c lt own. (((lt, omega (arith, lt, small)), own.0.opening), entry_lines_fit script c.opening.kind 0 c.entries c.shown (omega (arith, own.0.few)) own.0.entries own.1 own.0.units)) 0 cs (omega (arith, le))
 
-outputs_left : (script : ScriptData) (n : ℕ) (ls : List Line) → AreFit script ls → IsLeft script ls (all_outputs_in n ls).1
-outputs_left script zero ls fits = record { fits = fits; few = omega arith }
-outputs_left script (suc n) ls fits =
-    let left = codec_left script ls fits in
-    let more = outputs_left script n (behind_entries (drop 1 ls)) left.fits in
-    record { fits = more.fits; few = omega (arith, more.few, left.few) }
+codec_plain : (script : ScriptData) (c : CodecTrace) → FitsCodec script c → IsPlainTrace c
+codec_plain script c fits = all_weaker (FitsUnit script c.opening.kind) (IsOutputOf c.opening.kind) (λ u own. own.plain) (units_shown c.shown) fits.units
 
-codec_lines_fit : (script : ScriptData) (k : ℕ) (cs : List CodecTrace) → k + length cs ≤ length script.codecs → length script.codecs < 2 ^ 32 → AllByRecursion (FitsCodec script) cs → AllByRecursion FitsTrace cs
-    → AreFit script (lines_from codec_lines k cs)
-codec_lines_fit script k [] le small fits promises = tt
-codec_lines_fit script k (c ∷ cs) le small fits promises = (
-  ((omega arith, omega arith), fits.0.opening),
-  all_append (FitsLine script) (lines_from entry_lines 0 (zip c.entries c.shown)) (lines_from codec_lines (k + 1) cs)
-      (entry_lines_fit script c.opening.kind 0 c.entries c.shown (omega (arith, fits.0.few)) fits.0.entries promises.0 fits.0.units) (codec_lines_fit script (k + 1) cs (omega arith) small fits.1 promises.1),
-)
+-- ---- the pool of media, and the registry
 
-units_plain : (script : ScriptData) (k : Kind) (us : List media.Unit) → AllByRecursion (FitsUnit script k) us → AllByRecursion (IsOutputOf k) us
-units_plain script k [] fits = tt
-units_plain script k (u ∷ us) fits = (fits.0.plain, units_plain script k us fits.1)
+abbrev FitsReference : ScriptData → PoolEntry → Type 0
+FitsReference script e = FitsBy script e.by × FitsPoolOp e.op
 
-codecs_plain : (script : ScriptData) (cs : List CodecTrace) → AllByRecursion (FitsCodec script) cs → AllByRecursion IsPlainTrace cs
-codecs_plain script [] fits = tt
-codecs_plain script (c ∷ cs) fits = (units_plain script c.opening.kind (units_shown c.shown) fits.0.units, codecs_plain script cs fits.1)
+references_front : (script : ScriptData) (ls : List Line) → AreFit script ls → AreInFront script PoolEntry (FitsReference script) ls (pool_in ls) (behind_pool ls)
+references_front script (line.Reference place e ∷ ls) fits = one_in_front script _ _ _ ls _ e _ (fits.0.1, fits.0.2) (references_front script ls fits.1)
+references_front script ls fits = none_in_front script _ _ ls fits
 
--- ---- the pool of media
+abbrev FitsSlot : ScriptData → SlotEntry → Type 0
+FitsSlot script e = FitsBy script e.by × FitsOp e.op
 
-record FitsReference (script : ScriptData) (e : PoolEntry) : Type 0 where
-  by : FitsBy script e.by
-  op : FitsPoolOp e.op
-
-pool_fit : (script : ScriptData) (ls : List Line) → AreFit script ls → AllByRecursion (FitsReference script) (pool_in ls)
-pool_fit script (line.Reference place e ∷ ls) fits = (record { by = fits.0.1; op = fits.0.2 }, pool_fit script ls fits.1)
-pool_fit script _ fits = tt
-
-pool_few : (ls : List Line) → length (pool_in ls) ≤ length ls
-pool_few [] = omega arith
-pool_few (line.Reference place e ∷ ls) = omega (arith, pool_few ls)
-pool_few (l ∷ ls) = omega arith
-
-behind_pool_left : (script : ScriptData) (ls : List Line) → AreFit script ls → IsLeft script ls (behind_pool ls)
-behind_pool_left script [] fits = record { fits = tt; few = omega arith }
-behind_pool_left script (line.Reference place e ∷ ls) fits =
-    let more = behind_pool_left script ls fits.1 in
-    record { fits = more.fits; few = omega (arith, more.few) }
-behind_pool_left script (l ∷ ls) fits = record { fits = fits; few = omega arith }
-
-pool_lines_fit : (script : ScriptData) (n : ℕ) (es : List PoolEntry) → n + length es < 2 ^ 64 → AllByRecursion (FitsReference script) es → AreFit script (lines_from pool_lines n es)
-pool_lines_fit script n [] few fits = tt
-pool_lines_fit script n (e ∷ es) few fits = ((omega arith, fits.0.by, fits.0.op), pool_lines_fit script (n + 1) es (omega arith) fits.1)
-
--- ---- the registry
-
-record FitsSlot (script : ScriptData) (e : SlotEntry) : Type 0 where
-  by : FitsBy script e.by
-  op : FitsOp e.op
-
-slots_fit : (script : ScriptData) (ls : List Line) → AreFit script ls → AllByRecursion (FitsSlot script) (slots_in ls)
-slots_fit script (line.Slot place e ∷ ls) fits = (record { by = fits.0.1; op = fits.0.2 }, slots_fit script ls fits.1)
-slots_fit script _ fits = tt
-
-slots_few : (ls : List Line) → length (slots_in ls) ≤ length ls
-slots_few [] = omega arith
-slots_few (line.Slot place e ∷ ls) = omega (arith, slots_few ls)
-slots_few (l ∷ ls) = omega arith
+-- whatever lines stand behind, none of them is kept here
+slots_front : (script : ScriptData) (ls : List Line) → AreFit script ls → AreInFront script SlotEntry (FitsSlot script) ls (slots_in ls) []
+slots_front script (line.Slot place e ∷ ls) fits = one_in_front script _ _ _ ls [] e _ (fits.0.1, fits.0.2) (slots_front script ls fits.1)
+slots_front script _ fits = record { items = tt; count = omega arith; behind = record { fits = tt; few = omega arith } }
 
 held_fits : (script : ScriptData) (ls : List Line) → AreFit script ls → held_in ls < 2 ^ 64
-held_fits script [] fits = omega arith
 held_fits script (line.Slot place e ∷ ls) fits = held_fits script ls fits.1
 held_fits script (line.Held n ∷ ls) fits = fits.0
-held_fits script (l ∷ ls) fits = omega arith
-
-slot_lines_fit : (script : ScriptData) (n : ℕ) (es : List SlotEntry) → n + length es < 2 ^ 64 → AllByRecursion (FitsSlot script) es → AreFit script (lines_from slot_lines n es)
-slot_lines_fit script n [] few fits = tt
-slot_lines_fit script n (e ∷ es) few fits = ((omega arith, fits.0.by, fits.0.op), slot_lines_fit script (n + 1) es (omega arith) fits.1)
+held_fits script _ fits = omega arith
 
 -- ---- the run
 
@@ -367,33 +295,30 @@ run_fits : (script : ScriptData) (files : List (List Chunk)) (ls : List Line) �
 unfolding run_of
 run_fits script files ls sound few fits promises =
     let small = few_in script sound in
-    let own = all_behind (FitsLine script) ls fits in
-    let callers = callers_in (length script.callers) (drop 1 ls) in
-    let middle = callers_left script (length script.callers) (drop 1 ls) own in
-    let outputs = all_outputs_in (length script.codecs) callers.1 in
+    let n = length script.callers in
+    let m = length script.codecs in
+    let callers = callers_in n (drop 1 ls) in
+    let outputs = all_outputs_in m callers.1 in
     let pool = drop 1 outputs.1 in
-    let known : Known = record { callers = callers.0; outputs = outputs.0; pool = pool_in pool } in
-    let codecs = codecs_in script files known 0 (length script.codecs) callers.1 in
-    let made = codecs_fit script files known 0 (length script.codecs) callers.1 (omega (arith, middle.few, few_behind ls)) middle.fits in
-    let last = outputs_left script (length script.codecs) callers.1 middle.fits in
-    let own_pool = all_behind (FitsLine script) outputs.1 last.fits in
-    let few_pool : length pool < 2 ^ 64 = omega (arith, middle.few, last.few, few_behind ls, few_behind outputs.1) in
-    let references = pool_lines_fit script 0 (pool_in pool) (omega (arith, pool_few pool)) (pool_fit script pool own_pool) in
-    let left = behind_pool_left script pool own_pool in
     let slots = drop 1 (behind_pool pool) in
-    let end = all_behind (FitsLine script) (behind_pool pool) left.fits in
-    let count : length slots < 2 ^ 64 = omega (arith, few_pool, left.few, few_behind (behind_pool pool)) in
-    let entries = slot_lines_fit script 0 (slots_in slots) (omega (arith, slots_few slots)) (slots_fit script slots end) in
-    let back = all_append (FitsLine script) (lines_from slot_lines 0 (slots_in slots)) (end_lines (held_in slots)) entries (held_fits script slots end, (tt, tt)) in
-    let back_codecs = codec_lines_fit script 0 codecs (omega (arith, codecs_count script files known 0 (length script.codecs) callers.1)) small.codecs made promises in
-    let front = caller_lines_fit script 0 callers.0 (omega (arith, callers_count (length script.callers) (drop 1 ls))) small.callers (callers_fit script (length script.callers) (drop 1 ls) (omega (arith, few_behind ls)) own) in
+    let known : Known = record { callers = callers.0; outputs = outputs.0; pool = pool_in pool } in
+    let codecs = codecs_in script files known 0 m callers.1 in
+    let less = few_behind ls in
+    let front = callers_front script n (drop 1 ls) (omega (arith, less)) (all_behind (FitsLine script) ls fits) in
+    let made = codecs_front script files known 0 m callers.1 (omega (arith, front.1.few, less)) front.1.fits in
+    let references = begun script _ _ pool_in behind_pool (references_front script) outputs.1 made.1.fits in
+    let entries = begun script _ _ slots_in (λ _. []) (slots_front script) (behind_pool pool) references.behind.fits in
+    let end = all_append (FitsLine script) (lines_from slot_lines 0 (slots_in slots)) (end_lines (held_in slots))
+        (lines_fit script (FitsSlot script) (2 ^ 64) slot_lines (λ i e lt own. ((lt, own.0, own.1), tt)) 0 (slots_in slots) (omega (arith, entries.count, references.behind.few, front.1.few, made.1.few, less)) entries.items)
+        (held_fits script slots (all_behind (FitsLine script) (behind_pool pool) references.behind.fits), (tt, tt)) in
+    let back = all_append (FitsLine script) (lines_from pool_lines 0 (pool_in pool)) _
+        (lines_fit script (FitsReference script) (2 ^ 64) pool_lines (λ i e lt own. ((lt, own.0, own.1), tt)) 0 (pool_in pool) (omega (arith, references.count, front.1.few, made.1.few, less)) references.items) (tt, end) in
     record {
-      plain = codecs_plain script codecs made;
+      plain = all_weaker (FitsCodec script) IsPlainTrace (codec_plain script) codecs made.0;
       fits = (
         tt,
-        all_append (FitsLine script) (lines_from caller_lines 0 callers.0) _ front
-            (all_append (FitsLine script) (lines_from codec_lines 0 codecs) _ back_codecs
-            (tt, all_append (FitsLine script) (lines_from pool_lines 0 (pool_in pool)) _ references (tt, back))),
+        all_append (FitsLine script) (lines_from caller_lines 0 callers.0) _ (caller_lines_fit script callers.0 (callers_count n (drop 1 ls)) small.callers front.0)
+            (all_append (FitsLine script) (lines_from codec_lines 0 codecs) _ (codec_lines_fit script codecs (codecs_count script files known 0 m callers.1) small.codecs (all_both (FitsCodec script) FitsTrace codecs made.0 promises)) (tt, back)),
       );
     }
 

@@ -1,61 +1,46 @@
 -- Legal runs that fit their scripts are told.
 use Rattle.std.proofs.Common.{◌≡◌, ℕ, zero, suc, ◌+◌, Bool, true, false, cond, List, [], ◌∷◌, ◌++◌, map, Option, Some, None, refl, sym, ap, subst, ◌∙◌, arith}
 use Rattle.std.specs.Prelude.{take, option_map, option_and_then, unwrap_or}
-use Rattle.std.specs.Option.{option_or, is_none}
+use Rattle.std.specs.Option.{option_or}
 use Rattle.std.specs.List.{zip, slice_get}
-use Rattle.wc_base.specs.declared.error.DomError.TheVariants as dom
-use Rattle.wc_base.specs.declared.media.Samples.{Samples}
-use Rattle.wc_base.specs.declared.media.SoundShape.{SoundShape}
-use Rattle.wc_base.specs.declared.who.Who.{Who}
 use Rattle.wc_config.specs.declared.codec.CoderId.{CoderId}
-use Rattle.wc_config.specs.declared.config.Config.{Config}
 use Rattle.wc_chunk.specs.declared.chunk.Chunk.{Chunk}
 use Rattle.wc_pool.specs.declared.entry.PoolEntry.{PoolEntry}
 use Rattle.wc_pool.specs.declared.entry.PoolOp.{PoolOp}
 use Rattle.wc_pool.specs.declared.entry.PoolOp.TheVariants as op
-use Rattle.wc_pool.specs.declared.reference.MediaRef.{MediaRef}
-use Rattle.wc_audio.specs.Sound.{Sound}
 use Rattle.codec_definitions.specs.declared.unit.Unit as media
 use Rattle.codec_model.specs.declared.entry.Pair.{Pair}
-use Rattle.codec_model.specs.declared.entry.HeldSound.{HeldSound}
-use Rattle.codec_model.specs.declared.entry.Handed.{Handed}
-use Rattle.codec_model.specs.declared.entry.Handed.TheVariants as handed
 use Rattle.codec_model.specs.declared.entry.Entry.{Entry}
-use Rattle.codec_model.specs.declared.entry.Entry.TheVariants as entry
 use Rattle.codec_model.specs.declared.entry.Shown.{Shown}
 use Rattle.codec_model.specs.Replay.{State, opening_state, step as legal_step}
-use Rattle.codec_model.specs.Shown.{refusal, handed_error, shows, units_in, outputs_of, shown, shown_at, shown_from, each_shown_from, units_shown}
-use Rattle.codec_model.specs.Held.{adds_held, lets_go}
+use Rattle.codec_model.specs.Shown.{shows, units_in, outputs_of, shown, shown_at, shown_from, each_shown_from, units_shown}
+use Rattle.codec_model.specs.Held.{lets_go}
 use Rattle.codec_follow.specs.Follow.{each_filled}
 use Rattle.codec_follow.specs.Laws.{LegalFollows, LegalFills, OutputsAreOfKind}
 use Rattle.history_laws.specs.CountLaws.{outputs_tagged}
 use Rattle.codec_accounts.specs.Owed.{at}
-use Rattle.codec_accounts.specs.Calls.{who_of}
 use Rattle.codec_accounts.specs.Codec.{state_after}
 use Rattle.script_types.specs.declared.script.ScriptData.{ScriptData}
 use Rattle.script_types.specs.declared.script.CodecItem.{CodecItem}
 use Rattle.script_types.specs.declared.steps.VariableKind.{VariableKind}
 use Rattle.script_types.specs.declared.steps.MediaStep.TheVariants as on_media
-use Rattle.script_types.specs.declared.steps.Step.{Step}
 use Rattle.script_types.specs.declared.steps.Step.TheVariants as step
 use Rattle.script_types.specs.Sound.{is_sound}
 use Rattle.report_text.specs.declared.result.StepResult.{StepResult}
 use Rattle.report_text.specs.declared.result.StepResult.TheVariants as result
-use Rattle.report_text.specs.declared.line.CallWord.TheVariants as call
-use Rattle.media_variables.specs.Variables.{Medium, Taken, medium_at, sound_at, chunk_in_medium, handed_by, handed_of}
+use Rattle.media_variables.specs.Variables.{Taken, medium_at, chunk_in_medium}
 use Rattle.media_accounts.specs.Accounts.{is_by_entry, ops_where, without_last, ops_of_entry, called_for, called_at}
-use Rattle.media_accounts.specs.Samples.{samples_before, chunk_of_unit, SamplesAreKept, ChunksAreTaken}
+use Rattle.media_accounts.specs.Samples.{chunk_of_unit, SamplesAreKept, ChunksAreTaken}
 use Rattle.trace_text.specs.declared.run.CallerTrace.{CallerTrace}
 use Rattle.trace_text.specs.declared.run.CodecTrace.{CodecTrace}
 use Rattle.trace_text.specs.declared.run.Run.{Run}
-use Rattle.trace_text.specs.Follow.{Recorded, steps_of, opening_in, opening_at, output_at, chunk_at, chunk_for, is_gone}
-use Rattle.trace_text.specs.Fits.{HasArguments, Fits, IsLegalTrace, AreLegalTraces, IsLegalRun, LocalStepsAnswer, recorded_of, entry_in, result_in, taken_by, brought_to, variables_at}
+use Rattle.trace_text.specs.Follow.{Recorded, steps_of, opening_in, opening_at, output_at, chunk_at}
+use Rattle.trace_text.specs.Fits.{Fits, IsLegalTrace, AreLegalTraces, IsLegalRun, LocalStepsAnswer, recorded_of, entry_in, result_in, taken_by, brought_to, variables_at}
 use Rattle.trace_text.specs.FitsLaws.{calls_by_places}
-use Rattle.trace_text.specs.Report.{refusal_in, entry_line_of}
 use Rattle.run_ranges.specs.Counts.{traces_count}
 use Rattle.run_ranges.specs.Ranges.{AreWithin, LegalRunsFit}
 use Rattle.report_reader.specs.declared.known.Known.{Known}
-use Rattle.report_reader.specs.Arguments.{results_of, output_of, taken_in, chunk_found, cloned, pair_for, clone_of, handed_for, is_detached, encode_of, call_of, take_of, entry_of}
+use Rattle.report_reader.specs.Arguments.{results_of, output_of, taken_in, cloned, pair_for}
 use Rattle.report_reader.specs.Told.{known_of, HoldAll, IsToldTrace, AreToldTraces, IsTold}
 use Rattle.report_reader.proofs.RunLaws.{shown_units_of}
 use Rattle.report_reader.proofs.KindLaws.{legal_plain}

@@ -1,7 +1,6 @@
 -- The lines of a run that is told show that run.
-use Rattle.std.proofs.lemmas.Bool.{lt-ltb}
-use Rattle.std.proofs.Common.{◌≡◌, ℕ, zero, suc, ◌+◌, true, List, [], ◌∷◌, ◌++◌, length, map, drop, Option, Some, None, is_some, refl, sym, ap, subst, ◌∙◌, arith, append_assoc}
-use Rattle.std.specs.Prelude.{flat_map, unwrap_or, option_and_then}
+use Rattle.std.proofs.Common.{◌≡◌, ℕ, suc, ◌+◌, true, List, [], ◌∷◌, ◌++◌, length, map, drop, Option, Some, None, is_some, refl, sym, ap, subst, ◌∙◌, arith, append_assoc}
+use Rattle.std.specs.Prelude.{flat_map, option_and_then}
 use Rattle.std.specs.List.{AllByRecursion, zip}
 use Rattle.wc_chunk.specs.declared.chunk.Chunk.{Chunk}
 use Rattle.wc_pool.specs.declared.entry.PoolEntry.{PoolEntry}
@@ -9,7 +8,6 @@ use Rattle.codec_definitions.specs.declared.unit.Unit as media
 use Rattle.codec_definitions.specs.declared.unit.Unit.TheVariants as unit
 use Rattle.coder_api.specs.declared.slot.SlotEntry.{SlotEntry}
 use Rattle.wc_config.specs.declared.kind.Kind.{Kind}
-use Rattle.wc_config.specs.declared.kind.Kind.TheVariants as kind
 use Rattle.codec_model.specs.declared.entry.Entry.{Entry}
 use Rattle.codec_model.specs.declared.entry.Event.{Event}
 use Rattle.codec_model.specs.declared.entry.Event.TheVariants as event
@@ -27,79 +25,68 @@ use Rattle.report_text.specs.declared.line.Line.{Line}
 use Rattle.report_text.specs.declared.line.Line.TheVariants as line
 use Rattle.trace_text.specs.Report.{entry_line_of, event_lines, lines_from, result_lines, caller_lines, entry_lines, codec_lines, pool_lines, slot_lines, end_lines, lines_of}
 use Rattle.report_reader.specs.declared.known.Known.{Known}
-use Rattle.report_reader.specs.Read.{results_in, behind_results, callers_in, entries_from, entry_lines_in, behind_entries, description_of, config_in, outputs_in, trace_of, codecs_in, all_outputs_in, pool_in, behind_pool, slots_in, held_in, run_of}
+use Rattle.report_reader.specs.Read.{results_in, behind_results, callers_in, entries_from, entry_lines_in, behind_entries, config_in, outputs_in, trace_of, codecs_in, all_outputs_in, pool_in, behind_pool, slots_in, held_in, run_of}
 use Rattle.report_reader.specs.Told.{known_of, HoldAll, IsPlainTrace, IsToldTrace, AreToldTraces, IsToldRun}
 use Rattle.codec_follow.specs.Outputs.{IsOutputOf}
 use Rattle.report_reader.proofs.KindLaws.{outputs_events}
 
+-- What is read of the lines of items, in front of others, is what is told by the items, where the lines of each add what it tells.
+read_again : {X Y : Type 0} (read : List Line → Y) (told : List X → Y) (lines : ℕ → X → List Line) (rest : List Line) → ((n : ℕ) (x : X) (xs : List X) (ls : List Line) → read ls ≡ told xs → read (lines n x ++ ls) ≡ told (x ∷ xs))
+    → read rest ≡ told [] → (n : ℕ) (xs : List X) → read (lines_from lines n xs ++ rest) ≡ told xs
+read_again read told lines rest each end n [] = end
+read_again read told lines rest each end n (x ∷ xs) =
+    rw (append_assoc (lines n x) (lines_from lines (n + 1) xs) rest) (each n x xs (lines_from lines (n + 1) xs ++ rest) (read_again read told lines rest each end (n + 1) xs))
+
+-- items, each in a line of its own, and what is read behind them
+abbrev with_item : {X Y : Type 0} → X → List X × Y → List X × Y
+with_item x p = (x ∷ p.0, p.1)
+
 -- ---- callers
+
+abbrev results_read : List Line → List StepResult × List Line
+results_read ls = (results_in ls, behind_results ls)
 
 -- no result stands in front
 abbrev EndsResults : List Line → Type 0
-EndsResults ls = (results_in ls ≡ []) × (behind_results ls ≡ ls)
+EndsResults ls = results_read ls ≡ ([], ls)
 
-results_again : (n : ℕ) (rs : List StepResult) (rest : List Line) → EndsResults rest → results_in (lines_from result_lines n rs ++ rest) ≡ rs
-results_again n [] rest ends = ends.0
-results_again n (r ∷ rs) rest ends = ap (λ (x : List StepResult). r ∷ x) (results_again (n + 1) rs rest ends)
-
-behind_results_again : (n : ℕ) (rs : List StepResult) (rest : List Line) → EndsResults rest → behind_results (lines_from result_lines n rs ++ rest) ≡ rest
-behind_results_again n [] rest ends = ends.1
-behind_results_again n (r ∷ rs) rest ends = behind_results_again (n + 1) rs rest ends
+results_again : (rs : List StepResult) (rest : List Line) → EndsResults rest → results_read (lines_from result_lines 0 rs ++ rest) ≡ (rs, rest)
+results_again rs rest ends = read_again results_read (λ xs. (xs, rest)) result_lines rest (λ n r xs ls same. ap (with_item r) same) ends 0 rs
 
 callers_end : (i : ℕ) (cs : List CallerTrace) (rest : List Line) → EndsResults rest → EndsResults (lines_from caller_lines i cs ++ rest)
 callers_end i [] rest ends = ends
-callers_end i (c ∷ cs) rest ends = (refl, refl)
+callers_end i (c ∷ cs) rest ends = refl
 
-callers_again : (i n : ℕ) (cs : List CallerTrace) (rest : List Line) → length cs ≡ n → EndsResults rest
-    → callers_in n (lines_from caller_lines i cs ++ rest) ≡ (cs, rest)
-callers_again i zero [] rest same ends = refl
-callers_again i zero (c ∷ cs) rest same ends = absurd (omega arith)
-callers_again i (suc n) [] rest same ends = absurd (omega arith)
-callers_again i (suc n) (c ∷ cs) rest same ends =
+callers_again : (i : ℕ) (cs : List CallerTrace) (rest : List Line) → EndsResults rest → callers_in (length cs) (lines_from caller_lines i cs ++ rest) ≡ (cs, rest)
+callers_again i [] rest ends = refl
+callers_again i (c ∷ cs) rest ends =
     let tail = lines_from caller_lines (i + 1) cs in
-    let ends_more : EndsResults (tail ++ rest) = callers_end (i + 1) cs rest ends in
-    rw (
-      append_assoc (lines_from result_lines 0 c.results) tail rest,
-      behind_results_again 0 c.results (tail ++ rest) ends_more,
-      results_again 0 c.results (tail ++ rest) ends_more,
-      callers_again (i + 1) n cs rest (omega arith) ends,
-    ) refl
+    let own = results_again c.results (tail ++ rest) (callers_end (i + 1) cs rest ends) in
+    rw (append_assoc (lines_from result_lines 0 c.results) tail rest, ap (λ (p : List StepResult × List Line). p.1) own, ap (λ (p : List StepResult × List Line). p.0) own, callers_again (i + 1) cs rest ends) refl
 
--- ---- what an entry showed
+-- ---- entries
 
-entry_lines_behind_events : (es : List Event) (ls : List Line) → entry_lines_in (flat_map event_lines es ++ ls) ≡ entry_lines_in ls
-entry_lines_behind_events [] ls = refl
-entry_lines_behind_events (event.Output n (unit.Coded chunk (Some c)) ∷ es) ls = entry_lines_behind_events es ls
-entry_lines_behind_events (e ∷ es) ls = entry_lines_behind_events es ls
+abbrev entries_read : List Line → List EntryLine × List Line
+entries_read ls = (entry_lines_in ls, behind_entries ls)
 
-behind_events : (es : List Event) (ls : List Line) → behind_entries (flat_map event_lines es ++ ls) ≡ behind_entries ls
+-- what an entry showed is passed
+behind_events : (es : List Event) (ls : List Line) → entries_read (flat_map event_lines es ++ ls) ≡ entries_read ls
 behind_events [] ls = refl
 behind_events (event.Output n (unit.Coded chunk (Some c)) ∷ es) ls = behind_events es ls
 behind_events (e ∷ es) ls = behind_events es ls
 
--- ---- entries
-
 -- no entry, and nothing that one showed, stands in front
 pub record EndsEntries (ls : List Line) : Type 0 where
-  pub told : entry_lines_in ls ≡ []
+  pub told : entries_read ls ≡ ([], ls)
   pub outputs : (k : Kind) → outputs_in k ls ≡ []
-  pub behind : behind_entries ls ≡ ls
   pub config : config_in ls ≡ None
 
 abbrev entry_line_of_pair : Entry × Shown → EntryLine
 entry_line_of_pair made = entry_line_of made.0 made.1
 
-entry_lines_again : (n : ℕ) (made : List (Entry × Shown)) (rest : List Line) → EndsEntries rest → entry_lines_in (lines_from entry_lines n made ++ rest) ≡ map entry_line_of_pair made
-entry_lines_again n [] rest ends = ends.told
-entry_lines_again n (m ∷ made) rest ends =
-    let tail = lines_from entry_lines (n + 1) made in
-    rw (append_assoc (flat_map event_lines m.1.events) tail rest, entry_lines_behind_events m.1.events (tail ++ rest), entry_lines_again (n + 1) made rest ends) refl
-
-behind_entries_again : (n : ℕ) (made : List (Entry × Shown)) (rest : List Line) → EndsEntries rest → behind_entries (lines_from entry_lines n made ++ rest) ≡ rest
-behind_entries_again n [] rest ends = ends.behind
-behind_entries_again n (m ∷ made) rest ends =
-    let tail = lines_from entry_lines (n + 1) made in
-    rw (append_assoc (flat_map event_lines m.1.events) tail rest, behind_events m.1.events (tail ++ rest)) (behind_entries_again (n + 1) made rest ends)
+entries_told : (made : List (Entry × Shown)) (rest : List Line) → EndsEntries rest → entries_read (lines_from entry_lines 0 made ++ rest) ≡ (map entry_line_of_pair made, rest)
+entries_told made rest ends =
+    read_again entries_read (λ xs. (map entry_line_of_pair xs, rest)) entry_lines rest (λ n m xs ls same. ap (with_item (entry_line_of_pair m)) (behind_events m.1.events ls ∙ same)) ends.told 0 made
 
 config_entries : (n : ℕ) (made : List (Entry × Shown)) (rest : List Line) → EndsEntries rest → config_in (lines_from entry_lines n made ++ rest) ≡ None
 config_entries n [] rest ends = ends.config
@@ -129,9 +116,8 @@ outputs_again k n (m ∷ made) rest ends plain =
 
 pub shown_again : (es : List Entry) (xs : List Shown) → length xs ≡ length es → map shown_of_pair (zip es xs) ≡ xs
 shown_again [] [] same = refl
-shown_again [] (x ∷ xs) same = absurd (omega arith)
-shown_again (e ∷ es) [] same = absurd (omega arith)
 shown_again (e ∷ es) (x ∷ xs) same = ap (λ (ys : List Shown). x ∷ ys) (shown_again es xs (omega arith))
+shown_again _ _ same = absurd (omega arith)
 
 -- ---- histories
 
@@ -156,27 +142,18 @@ filled_length k (e ∷ es) s us some =
 entries_again : (script : ScriptData) (media_of : List (List Chunk)) (known : Known) (k place : ℕ) (s : State) (es : List Entry) (xs : List Shown) → length xs ≡ length es → HoldAll script media_of known k place (zip es xs) → is_some (follow_from es s) ≡ true
     → entries_from script media_of known k place s (map entry_line_of_pair (zip es xs)) ≡ es
 entries_again script media_of known k place s [] [] same holds some = refl
-entries_again script media_of known k place s [] (x ∷ xs) same holds some = absurd (omega arith)
-entries_again script media_of known k place s (e ∷ es) [] same holds some = absurd (omega arith)
 entries_again script media_of known k place s (e ∷ es) (x ∷ xs) same holds some =
     let next = step_of_followed e es s some in
     rw (holds.0, next.step, entries_again script media_of known k (place + 1) next.state es xs (omega arith) holds.1 next.more) refl
+entries_again script media_of known k place s _ _ same holds some = absurd (omega arith)
 
 -- ---- codecs
-
--- each entry has what it shows
-abbrev pub IsEven : CodecTrace → Type 0
-IsEven c = length c.shown ≡ length c.entries
 
 abbrev pub shown_units_of : CodecTrace → List media.Unit
 shown_units_of c = units_shown c.shown
 
-even_told : (script : ScriptData) (media_of : List (List Chunk)) (known : Known) (k : ℕ) (c : CodecTrace) → IsToldTrace script media_of known k c → IsEven c
+even_told : (script : ScriptData) (media_of : List (List Chunk)) (known : Known) (k : ℕ) (c : CodecTrace) → IsToldTrace script media_of known k c → length c.shown ≡ length c.entries
 even_told script media_of known k c told = ap (λ (xs : List Shown). length xs) told.shows ∙ filled_length c.opening.kind c.entries (opening_state c.opening) (units_shown c.shown) told.follows
-
-pub all_even : (script : ScriptData) (media_of : List (List Chunk)) (known : Known) (k : ℕ) (cs : List CodecTrace) → AreToldTraces script media_of known k cs → AllByRecursion IsEven cs
-all_even script media_of known k [] told = tt
-all_even script media_of known k (c ∷ cs) told = (even_told script media_of known k c told.0, all_even script media_of known (k + 1) cs told.1)
 
 trace_again : (script : ScriptData) (media_of : List (List Chunk)) (known : Known) (k : ℕ) (c : CodecTrace) → IsToldTrace script media_of known k c
     → trace_of script media_of known k c.opening (map entry_line_of_pair (zip c.entries c.shown)) (units_shown (map shown_of_pair (zip c.entries c.shown))) ≡ c
@@ -186,83 +163,58 @@ trace_again script media_of known k c told =
 
 codecs_end : (i : ℕ) (cs : List CodecTrace) (rest : List Line) → EndsEntries rest → EndsEntries (lines_from codec_lines i cs ++ rest)
 codecs_end i [] rest ends = ends
-codecs_end i (c ∷ cs) rest ends = record { told = refl; outputs = λ k. refl; behind = refl; config = refl }
+codecs_end i (c ∷ cs) rest ends = record { told = refl; outputs = λ k. refl; config = refl }
 
-plain_pairs : (c : CodecTrace) → IsEven c → IsPlainTrace c → AllByRecursion (IsOutputOf c.opening.kind) (units_shown (map shown_of_pair (zip c.entries c.shown)))
-plain_pairs c even plain = subst (λ (xs : List Shown). AllByRecursion (IsOutputOf c.opening.kind) (units_shown xs)) (sym (shown_again c.entries c.shown even)) plain
+-- these codecs, and their outputs, are read again, and these lines are left
+record AreAgain (script : ScriptData) (media_of : List (List Chunk)) (known : Known) (i : ℕ) (cs : List CodecTrace) (ls rest : List Line) : Type 0 where
+  codecs : codecs_in script media_of known i (length cs) ls ≡ cs
+  outputs : all_outputs_in (length cs) ls ≡ (map shown_units_of cs, rest)
 
-all_outputs_again : (i n : ℕ) (cs : List CodecTrace) (rest : List Line) → length cs ≡ n → EndsEntries rest → AllByRecursion IsEven cs → AllByRecursion IsPlainTrace cs
-    → all_outputs_in n (lines_from codec_lines i cs ++ rest) ≡ (map shown_units_of cs, rest)
-all_outputs_again i zero [] rest same ends even plain = refl
-all_outputs_again i zero (c ∷ cs) rest same ends even plain = absurd (omega arith)
-all_outputs_again i (suc n) [] rest same ends even plain = absurd (omega arith)
-all_outputs_again i (suc n) (c ∷ cs) rest same ends even plain =
+codecs_again : (script : ScriptData) (media_of : List (List Chunk)) (known : Known) (i : ℕ) (cs : List CodecTrace) (rest : List Line) → EndsEntries rest → AreToldTraces script media_of known i cs → AllByRecursion IsPlainTrace cs
+    → AreAgain script media_of known i cs (lines_from codec_lines i cs ++ rest) rest
+codecs_again script media_of known i [] rest ends told plain = record { codecs = refl; outputs = refl }
+codecs_again script media_of known i (c ∷ cs) rest ends told plain =
     let tail = lines_from codec_lines (i + 1) cs in
-    let ends_more : EndsEntries (tail ++ rest) = codecs_end (i + 1) cs rest ends in
     let made = zip c.entries c.shown in
-    rw (
-      append_assoc (lines_from entry_lines 0 made) tail rest,
-      behind_entries_again 0 made (tail ++ rest) ends_more,
-      outputs_again c.opening.kind 0 made (tail ++ rest) ends_more (plain_pairs c even.0 plain.0),
-      shown_again c.entries c.shown even.0,
-      all_outputs_again (i + 1) n cs rest (omega arith) ends even.1 plain.1,
-    ) refl
-
-codecs_again : (script : ScriptData) (media_of : List (List Chunk)) (known : Known) (i n : ℕ) (cs : List CodecTrace) (rest : List Line) → length cs ≡ n → EndsEntries rest → AreToldTraces script media_of known i cs → AllByRecursion IsPlainTrace cs
-    → codecs_in script media_of known i n (lines_from codec_lines i cs ++ rest) ≡ cs
-codecs_again script media_of known i zero [] rest same ends told plain = refl
-codecs_again script media_of known i zero (c ∷ cs) rest same ends told plain = absurd (omega arith)
-codecs_again script media_of known i (suc n) [] rest same ends told plain = absurd (omega arith)
-codecs_again script media_of known i (suc n) (c ∷ cs) rest same ends told plain =
-    let tail = lines_from codec_lines (i + 1) cs in
-    let ends_more : EndsEntries (tail ++ rest) = codecs_end (i + 1) cs rest ends in
-    let made = zip c.entries c.shown in
-    rw (
-      append_assoc (lines_from entry_lines 0 made) tail rest,
-      behind_entries_again 0 made (tail ++ rest) ends_more,
-      entry_lines_again 0 made (tail ++ rest) ends_more,
-      outputs_again c.opening.kind 0 made (tail ++ rest) ends_more (plain_pairs c (even_told script media_of known i c told.0) plain.0),
-      trace_again script media_of known i c told.0,
-      codecs_again script media_of known (i + 1) n cs rest (omega arith) ends told.1 plain.1,
-    ) refl
+    let again = shown_again c.entries c.shown (even_told script media_of known i c told.0) in
+    let ends_more = codecs_end (i + 1) cs rest ends in
+    let read = entries_told made (tail ++ rest) ends_more in
+    let lines = ap (λ (p : List EntryLine × List Line). p.0) read in
+    let behind = ap (λ (p : List EntryLine × List Line). p.1) read in
+    let own = outputs_again c.opening.kind 0 made (tail ++ rest) ends_more (subst (λ (xs : List Shown). AllByRecursion (IsOutputOf c.opening.kind) (units_shown xs)) (sym again) plain.0) in
+    let more = codecs_again script media_of known (i + 1) cs rest ends told.1 plain.1 in
+    record {
+      codecs = rw (append_assoc (lines_from entry_lines 0 made) tail rest, behind, lines, own, trace_again script media_of known i c told.0, more.codecs) refl;
+      outputs = rw (append_assoc (lines_from entry_lines 0 made) tail rest, behind, own, again, more.outputs) refl;
+    }
 
 -- ---- the run
 
-pool_again : (n : ℕ) (es : List PoolEntry) (rest : List Line) → pool_in (lines_from pool_lines n es ++ line.Slots ∷ rest) ≡ es
-pool_again n [] rest = refl
-pool_again n (e ∷ es) rest = ap (λ (x : List PoolEntry). e ∷ x) (pool_again (n + 1) es rest)
-
-behind_pool_again : (n : ℕ) (es : List PoolEntry) (rest : List Line) → behind_pool (lines_from pool_lines n es ++ line.Slots ∷ rest) ≡ line.Slots ∷ rest
-behind_pool_again n [] rest = refl
-behind_pool_again n (e ∷ es) rest = behind_pool_again (n + 1) es rest
-
-slots_again : (n : ℕ) (es : List SlotEntry) (held : ℕ) → slots_in (lines_from slot_lines n es ++ end_lines held) ≡ es
-slots_again n [] held = refl
-slots_again n (e ∷ es) held = ap (λ (x : List SlotEntry). e ∷ x) (slots_again (n + 1) es held)
-
-held_again : (n : ℕ) (es : List SlotEntry) (held : ℕ) → held_in (lines_from slot_lines n es ++ end_lines held) ≡ held
-held_again n [] held = refl
-held_again n (e ∷ es) held = held_again (n + 1) es held
+pool_ends : (rest : List Line) → EndsEntries (line.Pool ∷ rest)
+pool_ends rest = record { told = refl; outputs = λ k. refl; config = refl }
 
 codecs_end_results : (i : ℕ) (cs : List CodecTrace) (rest : List Line) → EndsResults (lines_from codec_lines i cs ++ line.Pool ∷ rest)
-codecs_end_results i [] rest = (refl, refl)
-codecs_end_results i (c ∷ cs) rest = (refl, refl)
+codecs_end_results i [] rest = refl
+codecs_end_results i _ rest = refl
 
-pool_ends : (rest : List Line) → EndsEntries (line.Pool ∷ rest)
-pool_ends rest = record { told = refl; outputs = λ k. refl; behind = refl; config = refl }
+abbrev pool_read : List Line → List PoolEntry × List Line
+pool_read ls = (pool_in ls, behind_pool ls)
+
+abbrev slots_read : List Line → List SlotEntry × ℕ
+slots_read ls = (slots_in ls, held_in ls)
 
 -- the outputs that lines show, of so many codecs behind so many callers
 abbrev pub outputs_behind : ℕ → ℕ → List Line → List (List media.Unit)
 outputs_behind callers codecs ls = (all_outputs_in codecs (callers_in callers (drop 1 ls)).1).0
 
--- the lines of a run show its outputs
-pub run_outputs : (run : Run) (callers codecs : ℕ) → length run.callers ≡ callers → length run.codecs ≡ codecs → AllByRecursion IsEven run.codecs → AllByRecursion IsPlainTrace run.codecs
-    → outputs_behind callers codecs (lines_of run) ≡ map shown_units_of run.codecs
-run_outputs run callers codecs callers_are codecs_are even plain =
+-- the lines of a run whose codecs are told show its outputs
+pub run_outputs : (script : ScriptData) (media_of : List (List Chunk)) (known : Known) (run : Run) → AreToldTraces script media_of known 0 run.codecs → AllByRecursion IsPlainTrace run.codecs
+    → outputs_behind (length run.callers) (length run.codecs) (lines_of run) ≡ map shown_units_of run.codecs
+run_outputs script media_of known run told plain =
     let end = lines_from slot_lines 0 run.slots ++ end_lines run.held in
     let pool = lines_from pool_lines 0 run.pool ++ line.Slots ∷ end in
-    ap (λ (x : List CallerTrace × List Line). (all_outputs_in codecs x.1).0) (callers_again 0 callers run.callers (lines_from codec_lines 0 run.codecs ++ line.Pool ∷ pool) callers_are (codecs_end_results 0 run.codecs pool))
-    ∙ ap (λ (x : List (List media.Unit) × List Line). x.0) (all_outputs_again 0 codecs run.codecs (line.Pool ∷ pool) codecs_are (pool_ends pool) even plain)
+    ap (λ (x : List CallerTrace × List Line). (all_outputs_in (length run.codecs) x.1).0) (callers_again 0 run.callers (lines_from codec_lines 0 run.codecs ++ line.Pool ∷ pool) (codecs_end_results 0 run.codecs pool))
+    ∙ ap (λ (x : List (List media.Unit) × List Line). x.0) (codecs_again script media_of known 0 run.codecs (line.Pool ∷ pool) (pool_ends pool) told plain).outputs
 
 -- the lines of a run that is told show that run
 pub run_again : (script : ScriptData) (media_of : List (List Chunk)) (run : Run) → IsToldRun script media_of run → AllByRecursion IsPlainTrace run.codecs → run_of script media_of (lines_of run) ≡ run
@@ -270,14 +222,17 @@ unfolding run_of
 run_again script media_of run told plain =
     let end = lines_from slot_lines 0 run.slots ++ end_lines run.held in
     let pool = lines_from pool_lines 0 run.pool ++ line.Slots ∷ end in
-    let codecs = lines_from codec_lines 0 run.codecs in
-    let even = all_even script media_of (known_of run) 0 run.codecs told.traces in
+    let codecs = codecs_again script media_of (known_of run) 0 run.codecs (line.Pool ∷ pool) (pool_ends pool) told.traces plain in
+    let entries : pool_read pool ≡ (run.pool, line.Slots ∷ end) = read_again pool_read (λ es. (es, line.Slots ∷ end)) pool_lines (line.Slots ∷ end) (λ n e es ls same. ap (with_item e) same) refl 0 run.pool in
+    let slots : slots_read end ≡ (run.slots, run.held) = read_again slots_read (λ es. (es, run.held)) slot_lines (end_lines run.held) (λ n e es ls same. ap (with_item e) same) refl 0 run.slots in
     rw (
-      callers_again 0 (length script.callers) run.callers (codecs ++ line.Pool ∷ pool) told.callers (codecs_end_results 0 run.codecs pool),
-      all_outputs_again 0 (length script.codecs) run.codecs (line.Pool ∷ pool) told.codecs (pool_ends pool) even plain,
-      pool_again 0 run.pool end,
-      codecs_again script media_of (known_of run) 0 (length script.codecs) run.codecs (line.Pool ∷ pool) told.codecs (pool_ends pool) told.traces plain,
-      behind_pool_again 0 run.pool end,
-      slots_again 0 run.slots run.held,
-      held_again 0 run.slots run.held,
+      sym told.callers,
+      sym told.codecs,
+      callers_again 0 run.callers (lines_from codec_lines 0 run.codecs ++ line.Pool ∷ pool) (codecs_end_results 0 run.codecs pool),
+      codecs.outputs,
+      ap (λ (p : List PoolEntry × List Line). p.0) entries,
+      codecs.codecs,
+      ap (λ (p : List PoolEntry × List Line). p.1) entries,
+      ap (λ (p : List SlotEntry × ℕ). p.0) slots,
+      ap (λ (p : List SlotEntry × ℕ). p.1) slots,
     ) refl

@@ -1,43 +1,24 @@
 -- What lines show is told: each entry holds its arguments and follows, and shows what it shows with its own outputs.
-use Rattle.std.proofs.Common.{◌≡◌, ℕ, zero, suc, ◌+◌, Bool, true, false, List, [], ◌∷◌, ◌++◌, length, map, drop, Option, Some, None, is_some, refl, sym, ap, subst, ◌∙◌}
-use Rattle.std.specs.Prelude.{option_map, option_and_then}
-use Rattle.std.specs.List.{AllByRecursion, zip, slice_get}
-use Rattle.wc_base.specs.declared.error.DomError.{DomError}
-use Rattle.wc_base.specs.declared.error.DomError.TheVariants as dom
-use Rattle.wc_base.specs.declared.media.Samples.{Samples}
-use Rattle.wc_base.specs.declared.who.Who.{Who}
+use Rattle.std.proofs.Common.{◌≡◌, ℕ, zero, suc, ◌+◌, true, List, [], ◌∷◌, ◌++◌, length, map, drop, is_some, refl, sym, ap, subst, ◌∙◌}
+use Rattle.std.specs.List.{AllByRecursion, zip}
 use Rattle.wc_chunk.specs.declared.chunk.Chunk.{Chunk}
 use Rattle.codec_definitions.specs.declared.unit.Unit as media
 use Rattle.codec_model.specs.declared.entry.Opening.{Opening}
 use Rattle.wc_config.specs.declared.kind.Kind.{Kind}
 use Rattle.codec_model.specs.declared.entry.Entry.{Entry}
-use Rattle.codec_model.specs.declared.entry.Entry.TheVariants as entry
-use Rattle.codec_model.specs.declared.entry.Pair.{Pair}
-use Rattle.codec_model.specs.declared.entry.Handed.{Handed}
-use Rattle.codec_model.specs.declared.entry.Handed.TheVariants as handed
 use Rattle.codec_model.specs.declared.entry.Event.{Event}
 use Rattle.codec_model.specs.declared.entry.Event.TheVariants as event
-use Rattle.codec_model.specs.declared.entry.Shown.{Shown}
 use Rattle.codec_model.specs.Replay.{State, opening_state}
-use Rattle.codec_model.specs.Shown.{refusal, handed_error, shows, units_in, units_shown}
-use Rattle.codec_follow.specs.Follow.{follow_from, filled, filled_at, each_filled_from}
+use Rattle.codec_model.specs.Shown.{shows, units_in, units_shown}
+use Rattle.codec_follow.specs.Follow.{follow_from, filled, each_filled_from}
 use Rattle.script_types.specs.declared.script.ScriptData.{ScriptData}
-use Rattle.script_types.specs.declared.steps.Step.{Step}
-use Rattle.script_types.specs.declared.steps.Step.TheVariants as step
-use Rattle.script_types.specs.declared.steps.MediaStep.TheVariants as on_media
-use Rattle.trace_text.specs.Follow.{steps_of}
-use Rattle.trace_text.specs.Report.{refusal_in, entry_line_of, lines_of}
-use Rattle.media_accounts.specs.Samples.{samples_before}
-use Rattle.report_text.specs.declared.line.CallWord.{CallWord}
-use Rattle.report_text.specs.declared.line.CallWord.TheVariants as call
+use Rattle.trace_text.specs.Report.{lines_of}
 use Rattle.report_text.specs.declared.line.EntryLine.{EntryLine}
-use Rattle.report_text.specs.declared.line.EntryLine.TheVariants as entry_line
 use Rattle.report_text.specs.declared.line.Line.{Line}
 use Rattle.report_reader.specs.declared.known.Known.{Known}
-use Rattle.report_reader.specs.Arguments.{results_of, taken_in, chunk_found, pair_for, clone_of, handed_for, is_given, is_detached, encode_of, call_of, take_of, entry_of}
-use Rattle.report_reader.specs.Read.{next_of, entry_then, entries_from, trace_of, callers_in, behind_results, codecs_in, all_outputs_in, pool_in, behind_entries, run_of}
+use Rattle.report_reader.specs.Read.{entries_from, trace_of, callers_in, behind_results, codecs_in, all_outputs_in, pool_in, behind_entries, run_of}
 use Rattle.report_reader.specs.Told.{known_of, HoldAll, IsPlainTrace, IsToldTrace, AreToldTraces, IsToldRun}
-use Rattle.report_reader.proofs.RunLaws.{step_of_followed, shown_units_of, all_even, outputs_behind, run_outputs}
+use Rattle.report_reader.proofs.RunLaws.{step_of_followed, shown_units_of, outputs_behind, run_outputs}
 use Rattle.report_reader.proofs.TraceLaws.{by_next}
 use Rattle.report_reader.proofs.CallLaws.{told_holds}
 
@@ -125,8 +106,7 @@ run_told script files ls same plain =
     let traces = traces_told script files ls in
     let callers = run_callers script files ls in
     let codecs = run_codecs script files ls in
-    let even = all_even script files (known_in script ls) 0 run.codecs traces in
-    let outputs = ap (outputs_behind (length script.callers) (length script.codecs)) same ∙ run_outputs run (length script.callers) (length script.codecs) callers codecs even plain in
+    let outputs = ap (outputs_behind (length script.callers) (length script.codecs)) same ∙ rw (callers, codecs) at (run_outputs script files (known_in script ls) run traces plain) in
     record {
       callers = callers;
       codecs = codecs;

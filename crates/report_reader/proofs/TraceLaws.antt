@@ -27,12 +27,6 @@ use Rattle.report_reader.specs.Next.{shown_next, NextIs}
 abbrev some : {A : Type 0} → A → Option A
 some x = Some x
 
-abbrev none_of : {A : Type 0} → Option A
-none_of = None
-
-not_some : {A : Type 0} {x : A} → none_of {A = A} ≡ Some x → ⊥
-not_some e = cc
-
 -- an entry with each of these
 abbrev paired : Entry → Option State → Option (Entry × State)
 paired e o = option_map {U = Entry × State} (λ u. (e, u)) o
@@ -50,7 +44,7 @@ shown_of e s None found is = rw (← is) refl
 shown_of e s (Some t) found is = rw (← is) refl
 
 next_after : (e d : Entry) (u : State) (o : Option State) (s : State) → paired e o ≡ Some (d, u) → unwrap_or o s ≡ u
-next_after e d u None s is = absurd (not_some is)
+next_after e d u None s is = absurd cc
 next_after e d u (Some t) s is = ap (λ (x : Entry × State). x.1) (some_same {X = Entry × State} (e, t) (d, u) is)
 
 pub entry_follows : (script : ScriptData) (media_of : List (List Chunk)) (known : Known) (k place : ℕ) (t : EntryLine) (e : Entry) (old new : FollowerValue) (found : Option Shown) → entry_of script media_of known k place t ≡ Some e → Follows e old found new
@@ -62,7 +56,7 @@ entry_follows script media_of known k place t e old new found is follows = recor
 }
 
 pub no_arguments : (script : ScriptData) (media_of : List (List Chunk)) (known : Known) (k place : ℕ) (t : EntryLine) (old : FollowerValue) → entry_of script media_of known k place t ≡ None → NextIs script media_of known k place t old None old
-no_arguments script media_of known k place t old is = record { answer = λ s same. rw is refl; after = λ s same d u next. absurd (not_some (rw is at next)) }
+no_arguments script media_of known k place t old is = record { answer = λ s same. rw is refl; after = λ s same d u next. absurd (let none = rw is at next in cc) }
 
 -- ---- the loop
 
@@ -86,11 +80,11 @@ record IsNext (script : ScriptData) (media_of : List (List Chunk)) (known : Know
 
 -- the next entry is the one that its line tells, and follows
 bound : (s : State) (e : Entry) (u : State) (p : Option Entry) → option_and_then {U = Entry × State} (λ d. paired d (follow_step d s)) p ≡ Some (e, u) → (p ≡ Some e) × (follow_step e s ≡ Some u)
-bound s e u None h = absurd (not_some h)
+bound s e u None h = absurd cc
 bound s e u (Some d) h = by (follow_step d s) refl h
   where
     by : (o : Option State) → follow_step d s ≡ o → paired d o ≡ Some (e, u) → (some d ≡ Some e) × (follow_step e s ≡ Some u)
-    by None is same = absurd (not_some same)
+    by None is same = absurd cc
     by (Some v) is same = let both = some_same {X = Entry × State} (d, v) (e, u) same in (ap (λ (x : Entry × State). some x.0) both, subst (λ (x : Entry × State). follow_step x.0 s ≡ Some x.1) both is)
 
 -- what holds of no entries, and of the next one with those behind it, holds of the entries that lines tell
@@ -102,72 +96,25 @@ by_next script media_of known k place t ts s P none more = by (next_of script me
     by None is = none
     by (Some (e, u)) is = let parts = bound s e u (entry_of script media_of known k place t) is in more e u parts.0 parts.1
 
-next_at : (script : ScriptData) (media_of : List (List Chunk)) (known : Known) (k place : ℕ) (t : EntryLine) (s : State) (e : Entry) (blank : Shown) (o : Option (Entry × State)) → next_of script media_of known k place s t ≡ o → showing_at s o ≡ Some (e, blank)
-    → IsNext script media_of known k place t s e blank
-next_at script media_of known k place t s e blank None is h = absurd (not_some h)
-next_at script media_of known k place t s e blank (Some (d, u)) is h =
-    let same = some_same {X = Entry × Shown} (d, shown_at d s) (e, blank) h in
-    let entry : d ≡ e = ap (λ (x : Entry × Shown). x.0) same in
-    let next : next_of script media_of known k place s t ≡ Some (e, u) = is ∙ ap (λ (x : Entry). some (x, u)) entry in
-    record {
-      state = u;
-      step = (bound s e u (entry_of script media_of known k place t) next).1;
-      next = next;
-      shown = sym (ap (λ (x : Entry × Shown). x.1) same) ∙ ap (λ (x : Entry). shown_at x s) entry;
-    }
-
 next_in : (script : ScriptData) (media_of : List (List Chunk)) (known : Known) (k place : ℕ) (t : EntryLine) (s : State) (e : Entry) (blank : Shown) → shown_next script media_of known k place s t ≡ Some (e, blank) → IsNext script media_of known k place t s e blank
-next_in script media_of known k place t s e blank h = next_at script media_of known k place t s e blank (next_of script media_of known k place s t) refl h
-
-abbrev pub filled_with : Kind → Shown → List media.Unit → Shown
-filled_with kind blank left = record { turn = blank.turn; events = (filled kind blank.events left).0 }
-
-one_more : (es : List Entry) (e : Entry) → length (es ++ (e ∷ [])) ≡ length es + 1
-one_more es e = length-append es (e ∷ [])
-
-more_with : (script : ScriptData) (media_of : List (List Chunk)) (known : Known) (k : ℕ) (o : Opening) (told : List EntryLine) (units : List media.Unit) (new : FollowerValue) (entries : List Entry) (shown : List Shown) (t : EntryLine) (more : List EntryLine) (left : List media.Unit) (e : Entry) (blank : Shown) (s u : State)
-    → follow_step e s ≡ Some u → next_of script media_of known k (length entries) s t ≡ Some (e, u) → blank ≡ shown_at e s → follower_of u ≡ new
-    → entries ++ entries_from script media_of known k (length entries) s (t ∷ more) ≡ entries_from script media_of known k 0 (opening_state o) told
-    → shown ++ each_filled_from o.kind (entries_from script media_of known k (length entries) s (t ∷ more)) s left ≡ each_filled o (entries_from script media_of known k 0 (opening_state o) told) units
-    → IsTracing script media_of known k o told units new (entries ++ (e ∷ [])) (shown ++ (filled_with o.kind blank left ∷ [])) more (filled o.kind blank.events left).1
-more_with script media_of known k o told units new entries shown t more left e blank s u step next is follower entries_are shown_are = record {
-  state = u;
-  is = follower;
-  entries_are = rw (one_more entries e) (append_assoc entries (e ∷ []) (entries_from script media_of known k (length entries + 1) u more) ∙ rw next at entries_are);
-  shown_are = rw (one_more entries e, is) (append_assoc shown (filled_at o.kind e s left ∷ []) (each_filled_from o.kind (entries_from script media_of known k (length entries + 1) u more) u (filled o.kind (shows e s) left).1) ∙ rw (next, step) at shown_are);
-}
-
-more_at : (script : ScriptData) (media_of : List (List Chunk)) (known : Known) (k : ℕ) (o : Opening) (told : List EntryLine) (units : List media.Unit) (follower new : FollowerValue) (entries : List Entry) (shown : List Shown) (t : EntryLine) (more : List EntryLine) (left : List media.Unit) (e : Entry) (blank : Shown)
-    → IsTracing script media_of known k o told units follower entries shown (t ∷ more) left → NextIs script media_of known k (length entries) t follower (Some (e, blank)) new
-    → IsTracing script media_of known k o told units new (entries ++ (e ∷ [])) (shown ++ (filled_with o.kind blank left ∷ [])) more (filled o.kind blank.events left).1
-more_at script media_of known k o told units follower new entries shown t more left e blank tracing next =
-    let s = tracing.state in
-    let n = next_in script media_of known k (length entries) t s e blank (next.answer s tracing.is) in
-    more_with script media_of known k o told units new entries shown t more left e blank s n.state n.step n.next n.shown (next.after s tracing.is e n.state n.next) tracing.entries_are tracing.shown_are
-
-pub record IsTraced (script : ScriptData) (media_of : List (List Chunk)) (known : Known) (k : ℕ) (o : Opening) (told : List EntryLine) (units : List media.Unit) (entries : List Entry) (shown : List Shown) : Type 0 where
-  pub entries_are : entries ≡ entries_from script media_of known k 0 (opening_state o) told
-  pub shown_are : shown ≡ each_filled o (entries_from script media_of known k 0 (opening_state o) told) units
-
-end_at : (script : ScriptData) (media_of : List (List Chunk)) (known : Known) (k : ℕ) (o : Opening) (told : List EntryLine) (units : List media.Unit) (follower : FollowerValue) (entries : List Entry) (shown : List Shown) (left : List media.Unit)
-    → IsTracing script media_of known k o told units follower entries shown [] left → IsTraced script media_of known k o told units entries shown
-end_at script media_of known k o told units follower entries shown left tracing = record {
-  entries_are = sym (append-nil entries) ∙ tracing.entries_are;
-  shown_are = sym (append-nil shown) ∙ tracing.shown_are;
-}
+next_in script media_of known k place t s e blank h = by (next_of script media_of known k place s t) refl h
+  where
+    by : (o : Option (Entry × State)) → next_of script media_of known k place s t ≡ o → showing_at s o ≡ Some (e, blank) → IsNext script media_of known k place t s e blank
+    by None is none = absurd cc
+    by (Some (d, u)) is there =
+        let same = some_same {X = Entry × Shown} (d, shown_at d s) (e, blank) there in
+        let entry : d ≡ e = ap (λ (x : Entry × Shown). x.0) same in
+        let next : next_of script media_of known k place s t ≡ Some (e, u) = is ∙ ap (λ (x : Entry). some (x, u)) entry in
+        record {
+          state = u;
+          step = (bound s e u (entry_of script media_of known k place t) next).1;
+          next = next;
+          shown = sym (ap (λ (x : Entry × Shown). x.1) same) ∙ ap (λ (x : Entry). shown_at x s) entry;
+        }
 
 none_next : (s : State) (o : Option (Entry × State)) → showing_at s o ≡ None → o ≡ None
 none_next s None h = refl
 none_next s (Some x) h = absurd cc
-
-stop_at : (script : ScriptData) (media_of : List (List Chunk)) (known : Known) (k : ℕ) (o : Opening) (told : List EntryLine) (units : List media.Unit) (follower new : FollowerValue) (entries : List Entry) (shown : List Shown) (t : EntryLine) (more : List EntryLine) (left : List media.Unit)
-    → IsTracing script media_of known k o told units follower entries shown (t ∷ more) left → NextIs script media_of known k (length entries) t follower None new → IsTraced script media_of known k o told units entries shown
-stop_at script media_of known k o told units follower new entries shown t more left tracing next =
-    let n : next_of script media_of known k (length entries) tracing.state t ≡ None = none_next tracing.state (next_of script media_of known k (length entries) tracing.state t) (next.answer tracing.state tracing.is) in
-    record {
-      entries_are = sym (append-nil entries) ∙ rw n at tracing.entries_are;
-      shown_are = sym (append-nil shown) ∙ rw n at tracing.shown_are;
-    }
 
 whole_tail : {X : Type 0} (x : X) (xs : List X) → take (suc (length xs) - 1) xs ≡ xs
 whole_tail x xs = let n : suc (length xs) - 1 ≡ length xs = omega arith in rw n (take-length xs)
@@ -176,6 +123,9 @@ rest_split : {X : Type 0} (rest : List X) (t : X) → 0 < length rest → t ≡ 
 rest_split [] t lt is = absurd (omega arith)
 rest_split (x ∷ xs) t lt is = rw (whole_tail x xs, is) refl
 
+abbrev filled_with : Kind → Shown → List media.Unit → Shown
+filled_with kind blank left = record { turn = blank.turn; events = (filled kind blank.events left).0 }
+
 -- the loop goes on with what was pushed
 pub tracing_more : (script : ScriptData) (media_of : List (List Chunk)) (known : Known) (k : ℕ) (o : Opening) (told : List EntryLine) (units : List media.Unit) (follower new : FollowerValue) (entries made : List Entry) (shown showing : List Shown) (t : EntryLine) (rest : List EntryLine) (left behind : List media.Unit) (e : Entry) (blank x : Shown) (events : List Event)
     → 0 < length rest → t ≡ get_or rest 0 t
@@ -183,12 +133,25 @@ pub tracing_more : (script : ScriptData) (media_of : List (List Chunk)) (known :
     → events ≡ (filled o.kind blank.events left).0 → behind ≡ (filled o.kind blank.events left).1 → x ≡ record { turn = blank.turn; events = events } → made ≡ entries ++ (e ∷ []) → showing ≡ shown ++ (x ∷ [])
     → IsTracing script media_of known k o told units new made showing (take (length rest - 1) (drop 1 rest)) behind
 tracing_more script media_of known k o told units follower new entries made shown showing t rest left behind e blank x events lt is tracing next events_are behind_is x_is made_is showing_is =
-    rw (made_is, showing_is, x_is, events_are, behind_is) (more_at script media_of known k o told units follower new entries shown t (take (length rest - 1) (drop 1 rest)) left e blank
-    (subst (λ (ts : List EntryLine). IsTracing script media_of known k o told units follower entries shown ts left) (rest_split rest t lt is) tracing) next)
+    let s = tracing.state in
+    let n = next_in script media_of known k (length entries) t s e blank (next.answer s tracing.is) in
+    let more = take (length rest - 1) (drop 1 rest) in
+    let split = rest_split rest t lt is in
+    let tail = entries_from script media_of known k (length entries + 1) n.state more in
+    record {
+      state = n.state;
+      is = next.after s tracing.is e n.state n.next;
+      entries_are = rw (made_is, length-append entries (e ∷ [])) (append_assoc entries (e ∷ []) tail ∙ rw (split, n.next) at tracing.entries_are);
+      shown_are = rw (made_is, showing_is, x_is, events_are, behind_is, length-append entries (e ∷ []))
+          (subst (λ (b : Shown). (shown ++ (filled_with o.kind b left ∷ [])) ++ each_filled_from o.kind tail n.state (filled o.kind b.events left).1 ≡ each_filled o (entries_from script media_of known k 0 (opening_state o) told) units) (sym n.shown)
+          (append_assoc shown (filled_at o.kind e s left ∷ []) (each_filled_from o.kind tail n.state (filled o.kind (shows e s) left).1) ∙ rw (split, n.next, n.step) at tracing.shown_are));
+    }
 
-traced_is : (script : ScriptData) (media_of : List (List Chunk)) (known : Known) (k : ℕ) (o : Opening) (told : List EntryLine) (units : List media.Unit) (entries : List Entry) (shown : List Shown) (trace : CodecTrace)
-    → IsTraced script media_of known k o told units entries shown → trace ≡ record { opening = o; entries = entries; shown = shown } → trace ≡ trace_of script media_of known k o told units
-traced_is script media_of known k o told units entries shown trace traced is = is ∙ rw (traced.entries_are, traced.shown_are) refl
+-- nothing more is made of what is told
+tracing_done : (script : ScriptData) (media_of : List (List Chunk)) (known : Known) (k : ℕ) (o : Opening) (told : List EntryLine) (units : List media.Unit) (follower : FollowerValue) (entries : List Entry) (shown : List Shown) (rest : List EntryLine) (left : List media.Unit) (trace : CodecTrace)
+    → (tracing : IsTracing script media_of known k o told units follower entries shown rest left) → entries_from script media_of known k (length entries) tracing.state rest ≡ [] → trace ≡ record { opening = o; entries = entries; shown = shown } → trace ≡ trace_of script media_of known k o told units
+tracing_done script media_of known k o told units follower entries shown rest left trace tracing none made =
+    made ∙ rw (sym (append-nil entries) ∙ rw none at tracing.entries_are, sym (append-nil shown) ∙ rw none at tracing.shown_are) refl
 
 -- the loop stops at an entry that is not to be had
 pub tracing_stop : (script : ScriptData) (media_of : List (List Chunk)) (known : Known) (k : ℕ) (o : Opening) (told : List EntryLine) (units : List media.Unit) (follower new : FollowerValue) (entries : List Entry) (shown : List Shown) (t : EntryLine) (rest : List EntryLine) (left : List media.Unit) (trace : CodecTrace)
@@ -196,13 +159,13 @@ pub tracing_stop : (script : ScriptData) (media_of : List (List Chunk)) (known :
     → IsTracing script media_of known k o told units follower entries shown rest left → NextIs script media_of known k (length entries) t follower None new → trace ≡ record { opening = o; entries = entries; shown = shown }
     → trace ≡ trace_of script media_of known k o told units
 tracing_stop script media_of known k o told units follower new entries shown t rest left trace lt is tracing next made =
-    traced_is script media_of known k o told units entries shown trace (stop_at script media_of known k o told units follower new entries shown t (take (length rest - 1) (drop 1 rest)) left
-    (subst (λ (ts : List EntryLine). IsTracing script media_of known k o told units follower entries shown ts left) (rest_split rest t lt is) tracing) next) made
+    let n : next_of script media_of known k (length entries) tracing.state t ≡ None = none_next tracing.state (next_of script media_of known k (length entries) tracing.state t) (next.answer tracing.state tracing.is) in
+    tracing_done script media_of known k o told units follower entries shown rest left trace tracing (rw (rest_split rest t lt is, n) refl) made
 
 -- nothing more is told
 pub tracing_end : (script : ScriptData) (media_of : List (List Chunk)) (known : Known) (k : ℕ) (o : Opening) (told : List EntryLine) (units : List media.Unit) (follower : FollowerValue) (entries : List Entry) (shown : List Shown) (rest : List EntryLine) (left : List media.Unit) (trace : CodecTrace)
     → length rest < 1 → IsTracing script media_of known k o told units follower entries shown rest left → trace ≡ record { opening = o; entries = entries; shown = shown } → trace ≡ trace_of script media_of known k o told units
-tracing_end script media_of known k o told units follower entries shown [] left trace few tracing made = traced_is script media_of known k o told units entries shown trace (end_at script media_of known k o told units follower entries shown left tracing) made
+tracing_end script media_of known k o told units follower entries shown [] left trace few tracing made = tracing_done script media_of known k o told units follower entries shown [] left trace tracing refl made
 tracing_end script media_of known k o told units follower entries shown (t ∷ rest) left trace few tracing made = absurd (omega arith)
 
 -- the first item, whatever stands for one where there is none
