@@ -67,15 +67,12 @@ line_with told x = told
 abbrev IsToldBy : EntryLine → Shown → Entry → Type 0
 IsToldBy told x e = entry_line_of e x ≡ line_with told x
 
-is_told : (told : EntryLine) (x : Shown) (d e : Entry) → Some d ≡ Some e → IsToldBy told x d → IsToldBy told x e
-is_told told x d e h is = subst (IsToldBy told x) (some_same d e h) is
-
 call_told : (files : List (List Chunk)) (known : Known) (steps : List Step) (who : Who) (word : CallWord) (error : Option DomError) (x : Shown) (s : Step) (e : Entry) → call_of files known steps who word s ≡ Some e → IsToldBy (entry_line.Call who word error) x e
-call_told files known steps who call.Configure error x (step.Configure on config) e h = is_told (entry_line.Call who call.Configure error) x (entry.Configure who config) e h refl
 call_told files known steps who call.Decode error x (step.Decode on chunk) e h = where_mapped (IsToldBy (entry_line.Call who call.Decode error) x) (λ (c : Chunk). entry.Decode who c) _ (λ c is. refl) e h
-call_told files known steps who call.Flush error x (step.Flush on bind) e h = is_told (entry_line.Call who call.Flush error) x (entry.Flush who) e h refl
-call_told files known steps who call.Reset error x (step.Reset on) e h = is_told (entry_line.Call who call.Reset error) x (entry.Reset who) e h refl
-call_told files known steps who call.Close error x (step.Close on) e h = is_told (entry_line.Call who call.Close error) x (entry.Close who) e h refl
+call_told files known steps who call.Configure error x (step.Configure on config) e h = cc
+call_told files known steps who call.Flush error x (step.Flush on bind) e h = cc
+call_told files known steps who call.Reset error x (step.Reset on) e h = cc
+call_told files known steps who call.Close error x (step.Close on) e h = cc
 call_told files known steps who _ error x _ e h = absurd cc
 
 encode_told : (known : Known) (steps : List Step) (k place : ℕ) (who : Who) (error : Option DomError) (x : Shown) (s : Step) (e : Entry) → encode_of known steps k place who error s ≡ Some e → IsToldBy (entry_line.Call who call.Encode error) x e
@@ -83,7 +80,7 @@ encode_told known steps k place who error x (step.Media (on_media.Encode on cont
 encode_told known steps k place who error x _ e h = absurd cc
 
 take_told : (who : Who) (n : ℕ) (x : Shown) (s : Step) (e : Entry) → take_of who n s ≡ Some e → IsToldBy (entry_line.Take who n) x e
-take_told who n x (step.Media (on_media.Take on bind kind)) e h = is_told (entry_line.Take who n) x (entry.Take who n) e h refl
+take_told who n x (step.Media (on_media.Take on bind kind)) e h = cc
 take_told who n x _ e h = absurd cc
 
 -- an entry that a line tells has that line, but for what it shows
@@ -95,18 +92,18 @@ entry_told script files known k place (entry_line.Call who word error) x e h =
     let steps = steps_of script who.caller in
     where_there (IsToldBy (entry_line.Call who word error) x) (call_of files known steps who word) (slice_get steps who.step) (call_told files known steps who word error x) e h
 entry_told script files known k place (entry_line.Take who n) x e h = where_there (IsToldBy (entry_line.Take who n) x) (take_of who n) (slice_get (steps_of script who.caller) who.step) (take_told who n x) e h
-entry_told script files known k place told x e h = is_told told x _ e h refl
+entry_told script files known k place told x e h = cc
 
 -- ---- an encode
 
 clone_shown : (a : Option Samples) (b : Option Pair) (h : Handed) → clone_of a b ≡ Some h → handed_error h ≡ None
-clone_shown (Some s) (Some p) h e = ap handed_error (sym (some_same (handed.Cloned (record { samples = s; pair = p })) h e))
+clone_shown (Some s) (Some p) h e = cc
 clone_shown _ _ h e = absurd cc
 
 -- what became of data that is not detached tells the exception
 handed_told : (error : Option DomError) (a : Option Samples) (b : Option Pair) (h : Handed) → handed_for true false error (clone_of a b) ≡ Some h → handed_error h ≡ error
 handed_told None a b h e = clone_shown a b h e
-handed_told (Some dom.InvalidState) a b h e = ap handed_error (sym (some_same handed.Kept h e))
+handed_told (Some dom.InvalidState) a b h e = cc
 handed_told _ a b h e = absurd cc
 
 -- so what became of data is read again from the exception that it tells
@@ -168,32 +165,22 @@ record IsCloned (shape : SoundShape) (held : Option MediaRef) (sound : HeldSound
   is : held ≡ Some reference
   samples : (let own : Samples = record { shape = shape; bytes = reference.bytes } in own) ≡ sound.samples
 
-cloned_same : (a b : HeldSound) → handed.Cloned a ≡ handed.Cloned b → a ≡ b
-cloned_same a b e = cc
-
 cloned_held : (number : ℕ) (accepts : Bool) (shape : SoundShape) (held : Option MediaRef) (sound : HeldSound) → handed_by number accepts shape held ≡ handed.Cloned sound → IsCloned shape held sound
-cloned_held number true shape (Some r) sound e = record {
-  reference = r;
-  is = refl;
-  samples = ap (λ (x : HeldSound). x.samples) (cloned_same _ sound e);
-}
+cloned_held number true shape (Some r) sound e = record { reference = r; is = refl; samples = cc }
 cloned_held number false shape (Some r) sound e = absurd cc
-cloned_held number accepts shape None sound e = absurd cc
+cloned_held number _ shape None sound e = absurd cc
 
 -- data is gone where it holds no reference
 gone_is : (number : ℕ) (accepts : Bool) (shape : SoundShape) (held : Option MediaRef) → is_none held ≡ is_gone (handed_by number accepts shape held)
-gone_is number false shape (Some r) = refl
 gone_is number true shape (Some r) = refl
-gone_is number accepts shape None = refl
+gone_is number false shape (Some r) = refl
+gone_is number _ shape None = refl
 
 -- what became of data that is there is told by whether it is detached, by the exception, and by the clone where there is one
 handed_back : (h : Handed) (gone : Bool) (a : Option Samples) (b : Option Pair) → gone ≡ is_gone h → ((x : HeldSound) → h ≡ handed.Cloned x → a ≡ Some x.samples) → ((x : HeldSound) → h ≡ handed.Cloned x → b ≡ Some x.pair)
     → handed_for true gone (handed_error h) (clone_of a b) ≡ Some h
-handed_back handed.Gone gone a b is samples pair = ap (λ (g : Bool). handed_for true g (Some dom.TypeErr) (clone_of a b)) is
-handed_back handed.Kept gone a b is samples pair = ap (λ (g : Bool). handed_for true g (Some dom.InvalidState) (clone_of a b)) is
-handed_back (handed.Cloned x) gone a b is samples pair =
-    let clone : clone_of a b ≡ Some (handed.Cloned x) = rw (samples x refl, pair x refl) refl in
-    ap (λ (g : Bool). handed_for true g None (clone_of a b)) is ∙ clone
+handed_back (handed.Cloned x) gone a b is samples pair = rw (is, samples x refl, pair x refl) refl
+handed_back _ gone a b is samples pair = rw is refl
 
 -- the step that an entry names was made
 abbrev pub IsMadeBy : Recorded → Who → Type 0
@@ -222,12 +209,9 @@ abbrev pub ShowsOwn : Entry → Shown → Type 0
 ShowsOwn (entry.Encode who h) x = refusal_in x.events ≡ handed_error h
 ShowsOwn _ x = Unit {0}
 
-refusal_first : (h : Handed) → refusal_in (refusal (handed_error h)) ≡ handed_error h
-refusal_first handed.Gone = refl
-refusal_first _ = refl
-
 pub shows_own : (e : Entry) (s : State) → ShowsOwn e (shown_at e s)
-shows_own (entry.Encode who h) s = refusal_first h
+shows_own (entry.Encode who handed.Gone) s = refl
+shows_own (entry.Encode who _) s = refl
 shows_own _ s = tt
 
 -- its line tells it again
@@ -236,16 +220,12 @@ IsAgain script files known k place x e = entry_of script files known k place (en
 
 step_again : (script : ScriptData) (files : List (List Chunk)) (w : Recorded) (known : Known) (k place : ℕ) (who : Who) (x : Shown) (s : Step) (e : Entry) → AreFound script files w known → IsMadeBy w who → slice_get (steps_of script who.caller) who.step ≡ Some s
     → HasPair known k place e → ShowsOwn e x → HasArguments script files (variables_at script files w who.caller who.step) who e s → IsAgain script files known k place x e
-step_again script files w known k place who x (step.Configure on config) e found made is pair own has = rw (has, is) refl
 step_again script files w known k place who x (step.Decode on chunk) e found made is pair own has = rw (has.2, is, found.chunks who.caller who.step chunk.step has.0 has.1) refl
-step_again script files w known k place who x (step.Flush on bind) e found made is pair own has = rw (has, is) refl
-step_again script files w known k place who x (step.Reset on) e found made is pair own has = rw (has, is) refl
-step_again script files w known k place who x (step.Close on) e found made is pair own has = rw (has, is) refl
 step_again script files w known k place who x (step.Media (on_media.Take on bind kind)) e found made is pair own has = rw (has.1, is) refl
 step_again script files w known k place who x (step.Media (on_media.Encode on content)) e found made is pair own has =
     subst (λ (z : Entry). HasPair known k place z → ShowsOwn z x → IsAgain script files known k place x z) (sym has.4)
     (λ pair own. rw (own, is) (encode_made script files w known k place who on content has.1 has.2 has.0 found pair made has.3)) pair own
-step_again script files w known k place who x _ e found made is pair own has = absurd has
+step_again script files w known k place who x _ e found made is pair own has = search (has, is)
 
 -- the entry of a call has a step, and what that gives
 abbrev pub GetsArguments : ScriptData → List (List Chunk) → Recorded → Entry → Type 0

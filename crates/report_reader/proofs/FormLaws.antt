@@ -4,8 +4,6 @@ use Rattle.std.specs.List.{AllByRecursion, flat_map}
 use Rattle.std.proofs.lemmas.List.{length-append}
 use Rattle.wc_chunk.specs.declared.chunk.Chunk.{Chunk}
 use Rattle.script_types.specs.declared.script.ScriptData.{ScriptData}
-use Rattle.report_text.specs.declared.result.StepResult.{StepResult}
-use Rattle.report_text.specs.declared.result.StepResult.TheVariants as result
 use Rattle.trace_text.specs.declared.run.Run.{Run}
 use Rattle.trace_text.specs.Report.{report_of, lines_of}
 use Rattle.report_lines.specs.Words.{◌>>=◌}
@@ -13,7 +11,7 @@ use Rattle.report_text.specs.declared.line.EventLine.{EventLine}
 use Rattle.report_text.specs.declared.line.EventLine.TheVariants as event_line
 use Rattle.report_text.specs.declared.line.Line.{Line}
 use Rattle.report_text.specs.declared.line.Line.TheVariants as line
-use Rattle.report_text.specs.Text.{line_text}
+use Rattle.report_text.specs.Text.{line_text, numbered_line}
 use Rattle.report_lines.specs.Reading.{line_at}
 use Rattle.report_lines.specs.Fits.{AreNames, FitsLine}
 use Rattle.report_lines.specs.Laws.{LineAgain, LineSound}
@@ -43,21 +41,16 @@ bind_some (Some x) f y e = (x, refl, e)
 
 -- ---- a line is not empty
 
-result_long : (script : ScriptData) (step : ℕ) (r : StepResult) → 0 < length (line_text script (line.Result step r))
-result_long script step (result.Call codec place error) = simp length-append (omega arith)
-result_long script step _ = simp length-append (omega arith)
+numbered_long : (n : ℕ) (text : List ℕ) → 0 < length (numbered_line n text)
+numbered_long n text = simp length-append (omega arith)
 
 event_long : (script : ScriptData) (e : EventLine) → 0 < length (line_text script (line.Event e))
 event_long script (event_line.Sound samples) = omega arith
 event_long script _ = omega arith
 
 pub line_long : (script : ScriptData) (l : Line) → 0 < length (line_text script l)
-line_long script (line.Result step r) = result_long script step r
 line_long script (line.Event s) = event_long script s
-line_long script (line.Entry place told) = simp length-append (omega arith)
-line_long script (line.Reference place entry) = simp length-append (omega arith)
-line_long script (line.Slot place entry) = simp length-append (omega arith)
-line_long script _ = omega arith
+line_long script _ = search (numbered_long, arith)
 
 line_shorter : LineSound → (script : ScriptData) (bs : List ℕ) (y : Line × List ℕ) → line_at script bs ≡ Some y → length y.1 < length bs
 line_shorter sound script bs y e =

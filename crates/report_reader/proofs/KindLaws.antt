@@ -83,17 +83,13 @@ record FitsConfig (script : ScriptData) (c : Option AudioDecoderConfig) : Type 0
   plain : IsPlainConfig c
   fits : AreFit script (config_lines c)
 
-description_plain : (d : List ℕ) → IsPlainDescription (description_of d)
-description_plain [] = tt
-description_plain (b ∷ bs) = tt
-
-description_same : (d : List ℕ) → unwrap_or (description_of d) [] ≡ d
-description_same [] = refl
-description_same (b ∷ bs) = refl
+description_told : (d : List ℕ) → IsPlainDescription (description_of d) × (unwrap_or (description_of d) [] ≡ d)
+description_told [] = (tt, refl)
+description_told (b ∷ bs) = (tt, refl)
 
 config_of_fits : (script : ScriptData) (codec : List ℕ) (rate channels : ℕ) (description : List ℕ) (q : Bool) → is_codec_string codec ≡ q → FitsEventLine (event_line.Config codec rate channels description)
     → FitsConfig script (cond q (Some (record { codec = codec; rate = rate; channels = channels; description = description_of description })) None)
-config_of_fits script codec rate channels description true is fits = record { plain = (is, description_plain description); fits = (rw (description_same description) fits, tt) }
+config_of_fits script codec rate channels description true is fits = record { plain = (is, (description_told description).0); fits = (rw (description_told description).1 fits, tt) }
 config_of_fits script codec rate channels description false is fits = record { plain = tt; fits = tt }
 
 config_fits : (script : ScriptData) (ls : List Line) → AreFit script ls → FitsConfig script (config_in ls)
@@ -131,28 +127,11 @@ suits_kind config.Bad word.AudioDecoder h = tt
 suits_kind config.Bad _ h = tt
 suits_kind _ _ h = absurd cc
 
-codec_of : Option (ℕ × ℕ) → ℕ
-codec_of None = 0
-codec_of (Some x) = x.0
-
 -- a result that names an entry, of a step that calls a codec, names that codec
 same_codec : (script : ScriptData) (w : Recorded) (on k p : ℕ) (r : StepResult) → IsAnswerOf script w (Some on) r → made_at r ≡ Some (k, p) → on ≡ k
-unfolding codec_of
-same_codec script w on k p (result.Call n q error) kept is =
-    let codec : n ≡ k = ap codec_of is in
-    sym kept.0 ∙ codec
+same_codec script w on k p (result.Call n q error) kept is = sym kept.0 ∙ ap (λ (x : ℕ × ℕ). x.0) (some_same {X = ℕ × ℕ} (n, q) (k, p) is)
 same_codec script w on k p result.Absent kept is = absurd cc
 same_codec script w on k p _ kept is = absurd kept
-
-abbrev IsConfigure : Step → Type 0
-IsConfigure (step.Configure on config) = Unit {0}
-IsConfigure _ = ⊥
-
--- a configure is made by a step that configures
-configures_only : (script : ScriptData) (files : List (List Chunk)) (vs : List (Option Medium)) (who : Who) (given : Config) (x : Step) → HasArguments script files vs who (entry.Configure who given) x → IsConfigure x
-configures_only script files vs who given (step.Configure on config) has = tt
-configures_only script files vs who given (step.Media (on_media.Take on bind kind)) has = absurd (grind arith)
-configures_only script files vs who given _ has = absurd (grind arith)
 
 -- the step of a configure, which names its codec, has a config of that codec's kind
 step_suits : (script : ScriptData) (files : List (List Chunk)) (vs : List (Option Medium)) (w : Recorded) (who : Who) (k p : ℕ) (r : StepResult) (c : CodecItem) (given : Config) (x : Step)
@@ -165,7 +144,8 @@ step_suits script files vs w who k p r c given (step.Configure on config) sound 
     let own = subst (λ (y : CodecItem). IsConfigOf y.kind config) same (suits_kind config there.0.kind there.2) in
     let kept_config : config ≡ given = cc in
     subst (λ (y : Config). IsConfigOf c.kind y) kept_config own
-step_suits script files vs w who k p r c given x sound is kept named has at = absurd (configures_only script files vs who given x has)
+step_suits script files vs w who k p r c given (step.Media (on_media.Take on bind kind)) sound is kept named has at = absurd (grind arith)
+step_suits script files vs w who k p r c given _ sound is kept named has at = absurd (grind arith)
 
 configures : (script : ScriptData) (files : List (List Chunk)) (w : Recorded) (k p : ℕ) (c : CodecItem) (e : Entry)
     → is_sound script ≡ true → CallsAreIn script w → ArgumentsAreIn script files w → entry_in w k p ≡ Some e → slice_get script.codecs k ≡ Some c → ConfiguresAs c.kind e

@@ -3,6 +3,7 @@ use Rattle.std.proofs.Common.{◌≡◌, ℕ, zero, suc, ◌+◌, Bool, true, fa
 use Rattle.std.specs.Prelude.{take, option_map, option_and_then, unwrap_or}
 use Rattle.std.specs.Option.{option_or}
 use Rattle.std.specs.List.{zip, slice_get}
+use Rattle.wc_base.specs.Options.{some_same}
 use Rattle.wc_config.specs.declared.codec.CoderId.{CoderId}
 use Rattle.wc_chunk.specs.declared.chunk.Chunk.{Chunk}
 use Rattle.wc_pool.specs.declared.entry.PoolEntry.{PoolEntry}
@@ -50,9 +51,6 @@ use Rattle.report_reader.proofs.CallLaws.{AreFound, HasPair, ShowsOwn, shows_own
 abbrev some : {A : Type 0} → A → Option A
 some x = Some x
 
-some_same : {A : Type 0} {x y : A} → some x ≡ some y → x ≡ y
-some_same e = cc
-
 -- ---- outputs
 
 units_then : (es : List Entry) (o : Option State) → ((t : State) → outputs_of (shown_from es t) ≡ units_shown (each_shown_from es t))
@@ -69,11 +67,10 @@ shown_units (e ∷ es) s =
 -- the outputs that a legal run's codecs showed are those of their histories
 outputs_are : (cs : List CodecItem) (ts : List CodecTrace) → AreLegalTraces cs ts → (k : ℕ) → outputs_of (shown (opening_in cs k) (at k (map (λ t. t.entries) ts))) ≡ at k (map shown_units_of ts)
 outputs_are [] [] legal k = refl
-outputs_are [] (t ∷ ts) legal k = absurd legal
-outputs_are (c ∷ cs) [] legal k = absurd legal
 outputs_are (c ∷ cs) (t ∷ ts) legal zero =
     ap (λ o. outputs_of (shown o t.entries)) (sym legal.0.opening) ∙ shown_units t.entries (opening_state t.opening) ∙ ap units_shown (sym legal.0.shown)
 outputs_are (c ∷ cs) (t ∷ ts) legal (suc k) = outputs_are cs ts legal.1 k
+outputs_are _ _ legal k = absurd legal
 
 -- ---- outputs that were taken
 
@@ -83,10 +80,7 @@ results_at _ _ = refl
 
 unit_of_taken : (answer : StepResult) (o : Option media.Unit) (t : Taken) → option_map (λ u. let y : Taken = record { unit = u; answer = answer } in y) o ≡ Some t → o ≡ Some t.unit
 unit_of_taken answer None t e = absurd cc
-unit_of_taken answer (Some u) t e =
-    let made : Taken = record { unit = u; answer = answer } in
-    let same : made ≡ t = some_same e in
-    ap (λ (y : Taken). some y.unit) same
+unit_of_taken answer (Some u) t e = cc
 
 taken_output : (script : ScriptData) (run : Run) → AreLegalTraces script.codecs run.codecs → (o : Option StepResult) (t : Taken) → taken_by script (recorded_of run) o ≡ Some t → output_of (map shown_units_of run.codecs) o ≡ Some t.unit
 taken_output script run legal (Some (result.Unit k p n)) t e =
@@ -123,31 +117,22 @@ all_found kept taken script files run legal locals =
 
 -- ---- clones
 
-is_pair : (r f : ℕ) (p : Pair) → op.Clone r f ≡ op.Clone p.resource p.reference → some (let q : Pair = record { resource = r; reference = f } in q) ≡ Some p
-is_pair r f p e =
+clone_first : (o : PoolOp) (p : Pair) → without_last o ≡ op.Clone p.resource p.reference → (rest : Option Pair) → option_or (cloned o) rest ≡ Some p
+clone_first (op.Clone r f) p e rest =
     let resource : r ≡ p.resource = cc in
     let reference : f ≡ p.reference = cc in
     rw (resource, reference) refl
-
-clone_first : (o : PoolOp) (p : Pair) → without_last o ≡ op.Clone p.resource p.reference → (rest : Option Pair) → option_or (cloned o) rest ≡ Some p
-clone_first (op.Clone r f) p e rest = is_pair r f p e
 clone_first _ p e rest = absurd cc
-
-first_op : (a b : PoolOp) (more rest : List PoolOp) → a ∷ more ≡ b ∷ rest → a ≡ b
-first_op a b more rest e = cc
-
-no_ops : (b : PoolOp) (bs : List PoolOp) → ◌≡◌ {A = List PoolOp} [] (b ∷ bs) → ⊥
-no_ops b bs e = cc
 
 pair_by : (k place : ℕ) (e : PoolEntry) (es : List PoolEntry) (p : Pair) (rest : List PoolOp) → (ops_of_entry k place es ≡ op.Clone p.resource p.reference ∷ rest → pair_for k place es ≡ Some p)
     → (q : Bool) → is_by_entry k place e.by ≡ q → map without_last (cond q (e.op ∷ ops_where (is_by_entry k place) es) (ops_where (is_by_entry k place) es)) ≡ op.Clone p.resource p.reference ∷ rest
     → option_or (cond q (cloned e.op) None) (pair_for k place es) ≡ Some p
-pair_by k place e es p rest later true is ops = clone_first e.op p (first_op _ _ _ _ ops) (pair_for k place es)
+pair_by k place e es p rest later true is ops = let first : without_last e.op ≡ op.Clone p.resource p.reference = cc in clone_first e.op p first (pair_for k place es)
 pair_by k place e es p rest later false is ops = later ops
 
 -- the first clone that an entry made is the only one
 pair_is : (k place : ℕ) (pool : List PoolEntry) (p : Pair) (rest : List PoolOp) → ops_of_entry k place pool ≡ op.Clone p.resource p.reference ∷ rest → pair_for k place pool ≡ Some p
-pair_is k place [] p rest e = absurd (no_ops (op.Clone p.resource p.reference) rest e)
+pair_is k place [] p rest e = absurd cc
 pair_is k place (x ∷ xs) p rest e = pair_by k place x xs p rest (pair_is k place xs p rest) (is_by_entry k place x.by) refl e
 
 -- an entry's clone is found
@@ -171,19 +156,16 @@ entries_hold script files w known k place (e ∷ es) (x ∷ xs) found own h = (
 )
 entries_hold script files w known k place _ _ found own h = tt
 
-not_there : {A : Type 0} {x : A} → ◌≡◌ {A = Option A} None (Some x) → ⊥
-not_there e = cc
-
 own_then : (es : List Entry) (o : Option State) → ((t : State) (p : ℕ) (e : Entry) (x : Shown) → slice_get es p ≡ Some e → slice_get (each_shown_from es t) p ≡ Some x → ShowsOwn e x)
     → (p : ℕ) (e : Entry) (x : Shown) → slice_get es p ≡ Some e → slice_get (unwrap_or (option_map (each_shown_from es) o) []) p ≡ Some x → ShowsOwn e x
-own_then es None later p e x is at = absurd (not_there at)
+own_then es None later p e x is at = absurd cc
 own_then es (Some t) later p e x is at = later t p e x is at
 
 own_shown : (es : List Entry) (s : State) (p : ℕ) (e : Entry) (x : Shown) → slice_get es p ≡ Some e → slice_get (each_shown_from es s) p ≡ Some x → ShowsOwn e x
-own_shown [] s p e x is at = absurd (not_there is)
+own_shown [] s p e x is at = absurd cc
 own_shown (d ∷ es) s zero e x is at =
-    let entry : d ≡ e = some_same is in
-    let events : shown_at d s ≡ x = some_same at in
+    let entry = some_same d e is in
+    let events = some_same (shown_at d s) x at in
     subst (λ (y : Shown). ShowsOwn e y) events (subst (λ (z : Entry). ShowsOwn z (shown_at d s)) entry (shows_own d s))
 own_shown (d ∷ es) s (suc p) e x is at = own_then es (legal_step d s) (λ t. own_shown es t) p e x is at
 
