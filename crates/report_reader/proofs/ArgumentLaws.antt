@@ -1,8 +1,9 @@
 -- The results of a caller by its number, and the samples of a variable by its step.
-use Rattle.std.proofs.Common.{ℕ, zero, suc, ◌≡◌, ◌<◌, ◌≤◌, Bool, true, false, cond, List, [], ◌∷◌, length, get_or, Option, Some, None, refl, ap, sym, ◌∙◌, arith}
-use Rattle.std.proofs.lemmas.Bool.{eqb-true, eqb-false}
+use Rattle.std.proofs.Common.{ℕ, zero, suc, ◌≡◌, ◌<◌, ◌≤◌, Bool, true, false, cond, List, [], ◌∷◌, length, get_or, Option, None, refl, ap, ◌∙◌, arith}
+use Rattle.std.proofs.lemmas.Bool.{eqb-true, eqb-false, lt-ltb, le-ltb}
+use Rattle.std.proofs.lemmas.Bool.Decides.{nat_tests}
 use Rattle.std.proofs.lemmas.Option.{slice_get_read, slice_get_past}
-use Rattle.std.specs.Prelude.{slice_get, option_and_then, ◌==◌}
+use Rattle.std.specs.Prelude.{slice_get, option_and_then, option_map, unwrap_or, nat_lt, ◌==◌}
 use Rattle.wc_base.specs.declared.media.Samples.{Samples}
 use Rattle.codec_definitions.specs.declared.unit.Unit as media
 use Rattle.script_types.specs.declared.steps.Step.{Step}
@@ -12,64 +13,51 @@ use Rattle.trace_text.specs.Follow.{steps_in}
 use Rattle.media_accounts.specs.Samples.{samples_by, samples_before}
 use Rattle.report_reader.specs.Arguments.{results_of}
 
-results_within : (c : ℕ) (callers : List CallerTrace) (x : CallerTrace) → slice_get callers c ≡ Some x → results_of callers c ≡ x.results
-results_within c [] x h = absurd cc
-results_within zero (y ∷ ys) x h = let same : y ≡ x = cc in ap (λ (z : CallerTrace). z.results) same
-results_within (suc c) (y ∷ ys) x h = results_within c ys x h
-
-results_beyond : (c : ℕ) (callers : List CallerTrace) → slice_get callers c ≡ None → results_of callers c ≡ []
-results_beyond c [] h = refl
-results_beyond zero (y ∷ ys) h = absurd cc
-results_beyond (suc c) (y ∷ ys) h = results_beyond c ys h
+results_are : (c : ℕ) (callers : List CallerTrace) → results_of callers c ≡ unwrap_or (option_map (λ x. x.results) (slice_get callers c)) []
+results_are zero (y ∷ ys) = refl
+results_are (suc c) (y ∷ ys) = results_are c ys
+results_are c [] = refl
 
 pub results_read : (c : ℕ) (callers : List CallerTrace) (x : CallerTrace) → c < length callers → x ≡ get_or callers c x → results_of callers c ≡ x.results
-results_read c callers x lt is = results_within c callers x (slice_get_read callers (length callers) c x refl lt is)
+results_read c callers x lt is = results_are c callers ∙ rw (slice_get_read callers (length callers) c x refl lt is) refl
 
 pub results_past : (c : ℕ) (callers : List CallerTrace) → length callers ≤ c → results_of callers c ≡ []
-results_past c callers beyond = results_beyond c callers (slice_get_past callers c beyond)
+results_past c callers beyond = results_are c callers ∙ rw (slice_get_past callers c beyond) refl
 
 -- ---- steps
 
-steps_within : (c : ℕ) (callers : List CallerItem) (x : CallerItem) → slice_get callers c ≡ Some x → steps_in callers c ≡ x.steps
-steps_within c [] x h = absurd cc
-steps_within zero (y ∷ ys) x h = let same : y ≡ x = cc in ap (λ (z : CallerItem). z.steps) same
-steps_within (suc c) (y ∷ ys) x h = steps_within c ys x h
-
-steps_beyond : (c : ℕ) (callers : List CallerItem) → slice_get callers c ≡ None → steps_in callers c ≡ []
-steps_beyond c [] h = refl
-steps_beyond zero (y ∷ ys) h = absurd cc
-steps_beyond (suc c) (y ∷ ys) h = steps_beyond c ys h
+steps_are : (c : ℕ) (callers : List CallerItem) → steps_in callers c ≡ unwrap_or (option_map (λ x. x.steps) (slice_get callers c)) []
+steps_are zero (y ∷ ys) = refl
+steps_are (suc c) (y ∷ ys) = steps_are c ys
+steps_are c [] = refl
 
 pub steps_read : (c : ℕ) (callers : List CallerItem) (x : CallerItem) → c < length callers → x ≡ get_or callers c x → steps_in callers c ≡ x.steps
-steps_read c callers x lt is = steps_within c callers x (slice_get_read callers (length callers) c x refl lt is)
+steps_read c callers x lt is = steps_are c callers ∙ rw (slice_get_read callers (length callers) c x refl lt is) refl
 
 pub steps_past : (c : ℕ) (callers : List CallerItem) → length callers ≤ c → steps_in callers c ≡ []
-steps_past c callers beyond = steps_beyond c callers (slice_get_past callers c beyond)
+steps_past c callers beyond = steps_are c callers ∙ rw (slice_get_past callers c beyond) refl
 
 -- ---- samples
 
 abbrev defined : List Step → (ℕ → Option media.Unit) → ℕ → Option Samples
 defined steps taken j = option_and_then (samples_by (samples_before steps taken j) (taken j)) (slice_get steps j)
 
-defined_by : (steps : List Step) (taken : ℕ → Option media.Unit) (n j : ℕ) → (j < n → samples_before steps taken n j ≡ defined steps taken j) → j < suc n
-    → (q : Bool) → (j == n) ≡ q → cond q (defined steps taken n) (samples_before steps taken n j) ≡ defined steps taken j
-defined_by steps taken n j earlier lt true is = let same : j ≡ n = eqb-true j n is in ap (λ (m : ℕ). defined steps taken m) (sym same)
-defined_by steps taken n j earlier lt false is = earlier (omega (arith, eqb-false j n is))
+-- a variable has the samples that its own step gives, once that was made
+samples_are : (steps : List Step) (taken : ℕ → Option media.Unit) (n j : ℕ) → samples_before steps taken n j ≡ cond (nat_lt j n) (defined steps taken j) None
+samples_are steps taken zero j = rw (le-ltb j 0 (omega arith)) refl
+samples_are steps taken (suc n) j = by (j == n) refl (samples_are steps taken n j)
+  where
+    by : (q : Bool) → (j == n) ≡ q → samples_before steps taken n j ≡ cond (nat_lt j n) (defined steps taken j) None
+        → cond q (defined steps taken n) (samples_before steps taken n j) ≡ cond (nat_lt j (suc n)) (defined steps taken j) None
+    by true is earlier = rw (eqb-true j n is, lt-ltb n (suc n) (omega arith)) refl
+    by false is earlier = let same : nat_lt j n ≡ nat_lt j (suc n) = grind (arith, nat_tests, eqb-false j n is) in rw same at earlier
 
--- a variable has the samples that its own step gives
 defined_at : (steps : List Step) (taken : ℕ → Option media.Unit) (n j : ℕ) → j < n → samples_before steps taken n j ≡ defined steps taken j
-defined_at steps taken zero j lt = absurd (omega arith)
-defined_at steps taken (suc n) j lt = defined_by steps taken n j (defined_at steps taken n j) lt (j == n) refl
-
-undefined_by : (steps : List Step) (taken : ℕ → Option media.Unit) (n j : ℕ) → samples_before steps taken n j ≡ None → suc n ≤ j
-    → (q : Bool) → (j == n) ≡ q → cond q (defined steps taken n) (samples_before steps taken n j) ≡ None
-undefined_by steps taken n j earlier le true is = let same : j ≡ n = eqb-true j n is in absurd (omega arith)
-undefined_by steps taken n j earlier le false is = earlier
+defined_at steps taken n j lt = rw (lt-ltb j n lt) at (samples_are steps taken n j)
 
 -- a step that was not made gives none
 pub undefined_at : (steps : List Step) (taken : ℕ → Option media.Unit) (n j : ℕ) → n ≤ j → samples_before steps taken n j ≡ None
-undefined_at steps taken zero j le = refl
-undefined_at steps taken (suc n) j le = undefined_by steps taken n j (undefined_at steps taken n j (omega arith)) le (j == n) refl
+undefined_at steps taken n j le = rw (le-ltb j n le) at (samples_are steps taken n j)
 
 pub defined_read : (steps : List Step) (taken : ℕ → Option media.Unit) (n j : ℕ) (x : Step) → j < n → j < length steps → x ≡ get_or steps j x
     → samples_before steps taken n j ≡ samples_by (samples_before steps taken j) (taken j) x

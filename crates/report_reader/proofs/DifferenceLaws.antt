@@ -1,20 +1,19 @@
 -- Where two texts differ.
-use Rattle.std.proofs.Common.{◌≡◌, ◌≢◌, ℕ, ◌+◌, ◌≤◌, Bool, true, false, cond, eqb, List, [], ◌∷◌, length, drop, Option, Some, None, refl, sym, ◌∙◌, ap, arith, eq-eqb, ◌⊎◌, inl, inr}
+use Rattle.std.proofs.Common.{◌≡◌, ◌≢◌, ℕ, ◌+◌, ◌≤◌, Bool, true, false, cond, eqb, List, [], ◌∷◌, length, drop, Option, Some, None, refl, sym, arith, eq-eqb, ◌⊎◌}
 use Rattle.std.specs.Prelude.{IfNone, IfSome}
 use Rattle.std.proofs.lemmas.List.{length-drop}
 use Rattle.std.proofs.lemmas.Bool.{eqb-true}
+use Rattle.wc_base.specs.Options.{some_same}
 use Rattle.report_reader.specs.Fault.{common, feeds, line_of_difference, difference_from}
 
 end_differs : (line : ℕ) (xs ys : List ℕ) → (length xs ≡ length ys → ⊥) → (length xs ≤ 0) ⊎ (length ys ≤ 0) → difference_from line xs ys ≡ Some line
 end_differs line [] [] h z = absurd (h refl)
 end_differs line [] (y ∷ ys) h z = refl
 end_differs line (x ∷ xs) [] h z = refl
-end_differs line (x ∷ xs) (y ∷ ys) h (inl z) = absurd (omega arith)
-end_differs line (x ∷ xs) (y ∷ ys) h (inr z) = absurd (omega arith)
+end_differs line (x ∷ xs) (y ∷ ys) h z = absurd (omega arith)
 
 pub differs_at_end : (line i : ℕ) (a b : List ℕ) → i ≤ length a → i ≤ length b → (length a ≡ length b → ⊥) → (length a ≤ i) ⊎ (length b ≤ i) → difference_from line (drop i a) (drop i b) ≡ Some line
-differs_at_end line i a b wa wb h (inl z) = end_differs line (drop i a) (drop i b) (λ e. h (omega (arith, length-drop i a, length-drop i b, e))) (inl (omega (arith, length-drop i a)))
-differs_at_end line i a b wa wb h (inr z) = end_differs line (drop i a) (drop i b) (λ e. h (omega (arith, length-drop i a, length-drop i b, e))) (inr (omega (arith, length-drop i b)))
+differs_at_end line i a b wa wb h z = end_differs line (drop i a) (drop i b) (λ e. h (omega (arith, length-drop i a, length-drop i b, e))) (grind (arith, length-drop i a, length-drop i b, z))
 
 some_differs : (q : Bool) (o : Option ℕ) (n : ℕ) → cond q o (Some n) ≡ None → (q ≡ true) × (o ≡ None)
 some_differs true o n e = (refl, e)
@@ -29,21 +28,12 @@ same_from n (x ∷ a) (y ∷ b) e =
     cc
 same_from n _ _ e = absurd cc
 
-pub none_from_same : (n : ℕ) (a : List ℕ) → difference_from n a a ≡ None
+none_from_same : (n : ℕ) (a : List ℕ) → difference_from n a a ≡ None
 none_from_same n [] = refl
 none_from_same n (x ∷ a) = rw (eq-eqb x x refl) (none_from_same (cond (eqb x 10) (n + 1) n) a)
 
-abbrev none : Option ℕ
-none = None
-
-no_line : {n : ℕ} → none ≡ Some n → ⊥
-no_line e = cc
-
-pub differs_from_some : (a b : List ℕ) (n : ℕ) → difference_from 1 a b ≡ Some n → a ≢ b
-differs_from_some a b n e same = no_line (sym (none_from_same 1 a) ∙ ap (λ (x : List ℕ). difference_from 1 a x) same ∙ e)
-
-is_line : {m n : ℕ} → ◌≡◌ {A = Option ℕ} (Some m) (Some n) → n ≡ m
-is_line e = cc
+differs_from_some : (a b : List ℕ) (n : ℕ) → difference_from 1 a b ≡ Some n → a ≢ b
+differs_from_some a b n e same = cc (none_from_same 1 a)
 
 line_step : (m n x : ℕ) (xs : List ℕ) (q : Bool) → eqb x 10 ≡ q → n ≡ feeds xs + cond q (m + 1) m → n ≡ feeds (x ∷ xs) + m
 line_step m n x xs true is e = rw is (omega (arith, e))
@@ -52,22 +42,14 @@ line_step m n x xs false is e = rw is (omega (arith, e))
 line_there : (m n x y : ℕ) (a b : List ℕ) → ((k : ℕ) → difference_from k a b ≡ Some n → n ≡ feeds (common a b) + k)
     → (q : Bool) → eqb x y ≡ q → cond q (difference_from (cond (eqb x 10) (m + 1) m) a b) (Some m) ≡ Some n → n ≡ feeds (cond q (x ∷ common a b) []) + m
 line_there m n x y a b on true is e = line_step m n x (common a b) (eqb x 10) refl (on (cond (eqb x 10) (m + 1) m) e)
-line_there m n x y a b on false is e = omega (arith, is_line e)
+line_there m n x y a b on false is e = omega (arith, some_same m n e)
 
 line_from : (m n : ℕ) (a b : List ℕ) → difference_from m a b ≡ Some n → n ≡ feeds (common a b) + m
 line_from m n [] [] e = absurd cc
-line_from m n [] (y ∷ b) e = omega (arith, is_line e)
-line_from m n (x ∷ a) [] e = omega (arith, is_line e)
+line_from m n [] (y ∷ b) e = omega (arith, some_same m n e)
+line_from m n (x ∷ a) [] e = omega (arith, some_same m n e)
 line_from m n (x ∷ a) (y ∷ b) e = line_there m n x y a b (λ k h. line_from k n a b h) (eqb x y) refl e
 
-pub none_told : (o : Option ℕ) (a b : List ℕ) → o ≡ difference_from 1 a b → IfNone o (a ≡ b)
-none_told None a b e = same_from 1 a b (sym e)
-none_told (Some n) a b e = tt
-
-pub differs_told : (o : Option ℕ) (a b : List ℕ) → o ≡ difference_from 1 a b → IfSome o (λ n. a ≢ b)
-differs_told None a b e = tt
-differs_told (Some n) a b e = differs_from_some a b n (sym e)
-
-pub line_told : (o : Option ℕ) (a b : List ℕ) → o ≡ difference_from 1 a b → IfSome o (λ n. n ≡ line_of_difference a b)
-line_told None a b e = tt
-line_told (Some n) a b e = line_from 1 n a b (sym e)
+pub difference_told : (o : Option ℕ) (a b : List ℕ) → o ≡ difference_from 1 a b → IfNone o (a ≡ b) × IfSome o (λ n. a ≢ b) × IfSome o (λ n. n ≡ line_of_difference a b)
+difference_told None a b e = (same_from 1 a b (sym e), tt, tt)
+difference_told (Some n) a b e = (tt, differs_from_some a b n (sym e), line_from 1 n a b (sym e))

@@ -1,5 +1,5 @@
 -- A fault has one place.
-use Rattle.std.proofs.Common.{◌≡◌, ℕ, ◌+◌, List, [], ◌∷◌, length, None, refl, sym, ap, subst, ◌∙◌, inl, inr}
+use Rattle.std.proofs.Common.{◌≡◌, ℕ, List, [], ◌∷◌, None, refl, sym, ap, subst, ◌∙◌, inl, inr}
 use Rattle.wc_chunk.specs.declared.chunk.Chunk.{Chunk}
 use Rattle.script_types.specs.declared.script.ScriptData.{ScriptData}
 use Rattle.trace_text.specs.Report.{report_of}
@@ -18,9 +18,6 @@ record IsSame (ls ms : List Line) (at there : Section) (left behind : List ℕ) 
   at_is : at ≡ there
   left_is : left ≡ behind
 
-first_is : (x y : Line) (a b : List Line) → x ≡ y → a ≡ b → x ∷ a ≡ y ∷ b
-first_is x y a b p q = rw (p, q) refl
-
 stops_once : (script : ScriptData) (s : Section) (bs : List ℕ) (ls ms : List Line) (at there : Section) (left behind : List ℕ)
     → Reads script s bs ls at left → form_at script at left ≡ None → Reads script s bs ms there behind → form_at script there behind ≡ None → IsSame ls ms at there left behind
 stops_once script s bs [] [] at there left behind r none q stop = record { lines = refl; at_is = sym r.0 ∙ q.0; left_is = sym r.1 ∙ q.1 }
@@ -31,10 +28,7 @@ stops_once script s bs (x ∷ ls) (y ∷ ms) at there left behind r none q stop 
     let same = some_is read (y, q.0, q.1) (sym r.2 ∙ q.2) in
     let moved : Reads script q.1 q.0 ls at left = subst (λ (z : Line × List ℕ × Section). Reads script z.2 z.1 ls at left) same r.3 in
     let more = stops_once script q.1 q.0 ls ms at there left behind moved none q.3 stop in
-    record { lines = first_is x y ls ms (ap (λ (z : Line × List ℕ × Section). z.0) same) more.lines; at_is = more.at_is; left_is = more.left_is }
-
-same_number : (a b : List Line) (m n : ℕ) → a ≡ b → m ≡ length a + 1 → n ≡ length b + 1 → m ≡ n
-same_number a b m n e p q = p ∙ ap (λ (ls : List Line). length ls + 1) e ∙ sym q
+    record { lines = cc (ap (λ (z : Line × List ℕ × Section). z.0) same, more.lines); at_is = more.at_is; left_is = more.left_is }
 
 bad_and_different : (script : ScriptData) (files : List (List Chunk)) (bs : List ℕ) (m n : ℕ) → IsBadForm script bs m → IsDifferent script files bs n → ⊥
 bad_and_different script files bs m n f d =
@@ -44,7 +38,7 @@ bad_and_different script files bs m n f d =
 pub fault_is_one : (script : ScriptData) (files : List (List Chunk)) (bs : List ℕ) (m n : ℕ) → IsFault script files bs (fault.BadLine m) → IsFault script files bs (fault.BadLine n) → m ≡ n
 fault_is_one script files bs m n (inl f) (inl g) =
     let same = stops_once script section.Start bs f.before g.before f.at g.at f.left g.left f.reads f.none g.reads g.none in
-    same_number f.before g.before m n same.lines f.number g.number
+    f.number ∙ rw same.lines (sym g.number)
 fault_is_one script files bs m n (inl f) (inr d) = absurd (bad_and_different script files bs m n f d)
 fault_is_one script files bs m n (inr d) (inl f) = absurd (bad_and_different script files bs n m f d)
 fault_is_one script files bs m n (inr d) (inr e) =

@@ -82,10 +82,7 @@ pub form_again : LineAgain → (script : ScriptData) → AreNames script → (s 
 unfolding form_at
 form_again again script names s l rest mid fits e = rw (again script l rest names fits, e) refl
 
-abbrev none_of : {A : Type 0} → Option A
-none_of = None
-
-nothing_after_none : {B : Type 0} (o : Option (Line × List ℕ)) → (o >>= λ x. none_of {A = B}) ≡ None
+nothing_after_none : {A B : Type 0} (o : Option A) → ◌≡◌ {A = Option B} (o >>= λ x. None) None
 nothing_after_none None = refl
 nothing_after_none (Some x) = refl
 
@@ -93,7 +90,7 @@ pub none_at_end : (script : ScriptData) (bs : List ℕ) → form_at script secti
 unfolding form_at
 none_at_end script bs = nothing_after_none (line_at script bs)
 
-pub not_some : {A : Type 0} {x : A} → none_of {A = A} ≡ Some x → ⊥
+pub not_some : {A : Type 0} {x : A} → ◌≡◌ {A = Option A} None (Some x) → ⊥
 not_some e = cc
 
 abbrev pub text_of : ScriptData → List Line → List ℕ

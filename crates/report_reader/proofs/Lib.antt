@@ -5,7 +5,6 @@ pub mod FormLaws
 pub mod PassLaws
 pub mod DifferenceLaws
 pub mod BuildLaws
-pub mod TextLaws
 pub mod TraceLaws
 pub mod NameLaws
 pub mod CallLaws

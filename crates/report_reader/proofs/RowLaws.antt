@@ -2,27 +2,21 @@
 use Rattle.std.proofs.Common.{◌<◌, ℕ, zero, suc, [], ◌∷◌, refl, arith}
 use Rattle.std.specs.Prelude.{slice_index}
 use Rattle.trace_text.specs.Rows.{ordinary_script, ordinary_run}
-use Rattle.report_reader.specs.Told.{IsToldRun, IsWithoutLoss, IsTold}
+use Rattle.report_reader.specs.Told.{IsTold}
 
 small : (i : ℕ) → slice_index (1 ∷ 0 ∷ 2 ∷ 0 ∷ []) i < 256
-small zero = omega arith
-small (suc zero) = omega arith
-small (suc (suc zero)) = omega arith
 small (suc (suc (suc zero))) = omega arith
-small (suc (suc (suc (suc i)))) = omega arith
-
-told : IsToldRun ordinary_script [] ordinary_run
-told = record {
-  callers = refl;
-  codecs = refl;
-  traces = (record { arguments = (refl, (refl, (refl, (refl, (refl, (refl, (refl, (refl, (refl, (refl, (refl, (refl, (refl, (refl, tt)))))))))))))); follows = refl; shows = refl }, tt);
-}
-
-whole : IsWithoutLoss ordinary_script ordinary_run
-whole = record {
-  plain = ((omega arith, tt), tt);
-  fits = (tt, ((omega arith, omega arith), ((omega arith, ((omega arith, omega arith), omega arith)), ((omega arith, tt), ((omega arith, ((omega arith, omega arith), omega arith)), ((omega arith, ((omega arith, omega arith), omega arith)), ((omega arith, ((omega arith, omega arith), omega arith)), (((omega arith, omega arith), omega arith), ((omega arith, ((omega arith, omega arith), omega arith)), ((omega arith, ((omega arith, omega arith), omega arith)), ((omega arith, ((omega arith, omega arith), omega arith)), ((omega arith, (omega arith, omega arith)), ((omega arith, (omega arith, omega arith, omega arith, omega arith)), ((omega arith, tt), ((omega arith, tt), ((omega arith, (omega arith, omega arith)), ((omega arith, (omega arith, omega arith, omega arith, omega arith)), ((omega arith, tt), (tt, ((omega arith, tt), (record { rate = omega arith; channels = omega arith; frames = omega arith; timestamp = omega arith; are_bytes = small }, ((omega arith, (omega arith, omega arith)), ((omega arith, (omega arith, omega arith, omega arith, omega arith)), ((omega arith, tt), (omega arith, (tt, (tt, ((omega arith, ((omega arith, omega arith), omega arith), omega arith), (omega arith, (tt, tt))))))))))))))))))))))))))))));
-}
+small _ = omega arith
 
 pub ordinary_told : IsTold ordinary_script [] ordinary_run
-ordinary_told = record { told = told; whole = whole }
+ordinary_told = record {
+  told = record {
+    callers = refl;
+    codecs = refl;
+    traces = (record { arguments = (refl, (refl, (refl, (refl, (refl, (refl, (refl, (refl, (refl, (refl, (refl, (refl, (refl, (refl, tt)))))))))))))); follows = refl; shows = refl }, tt);
+  };
+  whole = record {
+    plain = ((omega arith, tt), tt);
+    fits = (tt, ((omega arith, omega arith), ((omega arith, ((omega arith, omega arith), omega arith)), ((omega arith, tt), ((omega arith, ((omega arith, omega arith), omega arith)), ((omega arith, ((omega arith, omega arith), omega arith)), ((omega arith, ((omega arith, omega arith), omega arith)), (((omega arith, omega arith), omega arith), ((omega arith, ((omega arith, omega arith), omega arith)), ((omega arith, ((omega arith, omega arith), omega arith)), ((omega arith, ((omega arith, omega arith), omega arith)), ((omega arith, (omega arith, omega arith)), ((omega arith, (omega arith, omega arith, omega arith, omega arith)), ((omega arith, tt), ((omega arith, tt), ((omega arith, (omega arith, omega arith)), ((omega arith, (omega arith, omega arith, omega arith, omega arith)), ((omega arith, tt), (tt, ((omega arith, tt), (record { rate = omega arith; channels = omega arith; frames = omega arith; timestamp = omega arith; are_bytes = small }, ((omega arith, (omega arith, omega arith)), ((omega arith, (omega arith, omega arith, omega arith, omega arith)), ((omega arith, tt), (omega arith, (tt, (tt, ((omega arith, ((omega arith, omega arith), omega arith), omega arith), (omega arith, (tt, tt))))))))))))))))))))))))))))));
+  };
+}

@@ -13,7 +13,6 @@ use Rattle.wc_pool.specs.declared.entry.PoolEntry.{PoolEntry}
 use Rattle.wc_audio.specs.Sound.{Sound}
 use Rattle.codec_accounts.specs.Owed.{at}
 use Rattle.script_types.specs.declared.script.ScriptData.{ScriptData}
-use Rattle.script_types.specs.declared.steps.Variable.{Variable}
 use Rattle.script_types.specs.declared.steps.VariableKind.{VariableKind}
 use Rattle.script_types.specs.declared.steps.MediaStep.{MediaStep}
 use Rattle.script_types.specs.declared.steps.MediaStep.TheVariants as media
@@ -26,7 +25,7 @@ use Rattle.media_variables.specs.Variables.{Reference, Shape, SoundOf, Medium, C
 use Rattle.media_accounts.specs.Accounts.{step_by, before_step, media_of, variables_by, variables_in}
 use Rattle.trace_text.specs.Follow.{Recorded, steps_of}
 use Rattle.trace_text.specs.Fits.{LocalsAreIn, IsLocalAnswer, result_in, taken_by, brought_to, variables_at, came_at}
-use Rattle.report_reader.specs.Arguments.{is_ok, gives, is_given, detached_in, detached_by, is_named, is_detached}
+use Rattle.report_reader.specs.Arguments.{is_ok, gives, is_given, detached_in, is_named, is_detached}
 
 -- A variable's medium is what its step gave it: of audio data, that it was given, and whether it is detached.
 record Is (given gone : Bool) (m : Medium) : Type 0 where
@@ -117,21 +116,10 @@ ended_all given f n i vs m is none all j = by (i == j) refl
 
 -- ---- steps on media
 
-detaches_so : (given f : ℕ → Bool) (d e : Option ℕ) (n : ℕ) (vs : List (Option Medium)) → d ≡ e → AreAll given (more f e) n vs → AreAll given (more f d) n vs
-detaches_so given f d e n vs same all = subst (λ (o : Option ℕ). AreAll given (more f o) n vs) (sym same) all
-
--- a step that answers so gives its variable something
-ok_gives : (g : Bool) (r : StepResult) → g ≡ gives r → r ≡ result.Local None → g ≡ true
-ok_gives g r is ok = is ∙ ap gives ok
-
 unit_all : (p : List PoolEntry) (given f : ℕ → Bool) (n : ℕ) (vs : List (Option Medium)) (answer : StepResult) (u : output.Unit) → given n ≡ true → AreAll given f n vs → AreAll given (more f None) (suc n) (unit_came p n answer u vs).variables
 unit_all p given f n vs answer (unit.Sound x) gave all = new_all given f n vs _ (record { sound = λ shape is. (gave, refl) }) all
 unit_all p given f n vs answer (unit.Image x) gave all = new_all given f n vs _ (record { sound = λ shape is. absurd cc }) all
 unit_all p given f n vs answer (unit.Coded c config) gave all = new_all given f n vs (chunk_medium c) (record { sound = λ shape is. absurd cc }) all
-
--- the variable that a step with this result detaches
-abbrev detaches : ℕ → StepResult → Option ℕ
-detaches i r = cond (is_ok r) (Some i) None
 
 -- ---- every step
 
@@ -154,17 +142,17 @@ each_all : (p : List PoolEntry) (who : Who) (b : Brought) (given f : ℕ → Boo
 each_all p who b given f vs r gave all = record {
   refuses = λ x e k. same_all given f _ who.step vs (stays x r (λ apart. ap is_ok (k.own apart))) all;
   absent = λ x k. same_all given f _ who.step vs (stays x r (λ apart. ap is_ok (k.own apart))) all;
-  audio = λ bind i k. new_all given f who.step vs _ (record { sound = λ shape is. (ok_gives (given who.step) r gave (k.own (λ on other kind e. absurd cc)), refl) }) all;
+  audio = λ bind i k. new_all given f who.step vs _ (record { sound = λ shape is. (gave ∙ ap gives (k.own (λ on other kind e. absurd cc)), refl) }) all;
   frame = λ bind i k. new_all given f who.step vs _ (record { sound = λ shape is. absurd cc }) all;
   takes = λ on bind kind t is k. unit_all p given f who.step vs t.answer t.unit (gave ∙ k.took on bind kind t refl is) all;
-  clones = λ of bind m q is holds k. new_all given f who.step vs _ (record { sound = λ shape is. (ok_gives (given who.step) r gave (k.own (λ on other kind e. absurd cc)), refl) }) all;
+  clones = λ of bind m q is holds k. new_all given f who.step vs _ (record { sound = λ shape is. (gave ∙ ap gives (k.own (λ on other kind e. absurd cc)), refl) }) all;
   transfers = λ of bind m q is holds k. (
       let answer = k.own (λ on other kind e. absurd cc) in
-      detaches_so given f (detaches of.step r) (Some of.step) (suc who.step) _ (ap (detaches of.step) answer)
-      (moved_all given f who.step of.step vs m is (record { sound = λ shape so. (ok_gives (given who.step) r gave answer, sym (ap is_none holds)) }) all)
+      let new = moved_all given f who.step of.step vs m is (record { sound = λ shape so. (gave ∙ ap gives answer, sym (ap is_none holds)) }) all in
+      subst (λ (a : StepResult). AreAll given (more f (detached_in (step.Media (media.Transfer of bind)) a)) (suc who.step) (with_medium who.step m (with_medium of.step (detached m) vs))) (sym answer) new
       );
-  closed = λ of m is holds k. detaches_so given f (detaches of.step r) (Some of.step) (suc who.step) vs (ap (detaches of.step) (k.own (λ on other kind e. absurd cc))) (ended_all given f who.step of.step vs m is holds all);
-  closes = λ of m q is holds k. detaches_so given f (detaches of.step r) (Some of.step) (suc who.step) _ (ap (detaches of.step) (k.own (λ on other kind e. absurd cc))) (detached_all given f who.step of.step vs m is all);
+  closed = λ of m is holds k. subst (λ (a : StepResult). AreAll given (more f (detached_in (step.Media (media.CloseData of)) a)) (suc who.step) vs) (sym (k.own (λ on other kind e. absurd cc))) (ended_all given f who.step of.step vs m is holds all);
+  closes = λ of m q is holds k. subst (λ (a : StepResult). AreAll given (more f (detached_in (step.Media (media.CloseData of)) a)) (suc who.step) (with_medium of.step (detached m) vs)) (sym (k.own (λ on other kind e. absurd cc))) (detached_all given f who.step of.step vs m is all);
   copies_chunk = λ of size k. same_all given f None who.step vs refl all;
   copies = λ of o size m is k. same_all given f None who.step vs refl all;
   sizes = λ of o m is k. same_all given f None who.step vs refl all;
@@ -201,9 +189,7 @@ all_steps : (steps : ℕ → List Step) (brought : ℕ → ℕ → MediaStep →
 all_steps steps brought pool c results zero made = λ j. record { each = λ m is. absurd cc; free = λ is. absurd cc }
 all_steps steps brought pool c results (suc n) made =
     let here = made n (omega arith) in
-    let d = detached_by (steps c) results n in
-    let same : d ≡ option_and_then (λ x. detached_in x here.answer) (slice_get (steps c) n) = ap (λ (o : Option StepResult). option_and_then (λ x. option_and_then (detached_in x) o) (slice_get (steps c) n)) here.there in
-    detaches_so (is_given results) (is_detached (steps c) results n) d _ (suc n) _ same
+    subst (λ (o : Option StepResult). AreAll (is_given results) (more (is_detached (steps c) results n) (option_and_then (λ x. option_and_then (detached_in x) o) (slice_get (steps c) n))) (suc n) (variables_in steps brought pool c (suc n))) (sym here.there)
     (step_all (before_step c n pool) (step_by c n) (brought c n) (slice_get (steps c) n) (is_given results) (is_detached (steps c) results n) (variables_in steps brought pool c n) here.answer (ap (λ (o : Option StepResult). elim o [ None ↦ false | Some answer ↦ gives answer ]) here.there) here.answered
     (all_steps steps brought pool c results n (λ i lt. made i (omega (arith, lt)))))
 
@@ -215,14 +201,11 @@ took_gives s w (result.Unit k p n) t is = refl
 took_gives s w _ t is = absurd cc
 
 -- a step on media that takes nothing has the answer that it comes to
-own_answer : (s : ScriptData) (files : List (List Chunk)) (vs : List (Option Medium)) (y : Came) (c : ℕ) (x : MediaStep) (r : StepResult) → ((on : ℕ) (content : Variable) → x ≡ media.Encode on content → ⊥) → IsNoTake x
+own_answer : (s : ScriptData) (files : List (List Chunk)) (p : List PoolEntry) (who : Who) (b : Brought) (vs : List (Option Medium)) (y : Came) (c : ℕ) (x : MediaStep) (r : StepResult) → media_came p who b x vs ≡ Some y → IsNoTake x
     → IsLocalAnswer s files vs (Some y) c (step.Media x) r → r ≡ y.answer
-own_answer s files vs y c (media.Encode on content) r encode take h = absurd (encode on content refl)
-own_answer s files vs y c (media.Take on bind kind) r encode take h = absurd (take on bind kind refl)
-own_answer s files vs y c _ r encode take h = h
-
-encodes_nothing : (p : List PoolEntry) (who : Who) (b : Brought) (x : MediaStep) (vs : List (Option Medium)) (y : Came) → media_came p who b x vs ≡ Some y → (on : ℕ) (content : Variable) → x ≡ media.Encode on content → ⊥
-encodes_nothing p who b x vs y comes on content is = let none : None ≡ Some y = sym (ap (λ (z : MediaStep). media_came p who b z vs) is) ∙ comes in absurd cc
+own_answer s files p who b vs y c (media.Encode on content) r comes take h = absurd cc
+own_answer s files p who b vs y c (media.Take on bind kind) r comes take h = absurd (take on bind kind refl)
+own_answer s files p who b vs y c _ r comes take h = h
 
 -- each step that has a result is so
 made_so : (s : ScriptData) (files : List (List Chunk)) (w : Recorded) → LocalsAreIn s files w → (c n : ℕ) (r : StepResult) → result_in w c n ≡ Some r
@@ -234,7 +217,7 @@ made_so s files w locals c n r there x is y comes = record {
       let here : came_at s files w c n ≡ Some y =
       ap (λ (o : Option Step). option_and_then (λ z. media_came (before_step c n w.pool) (step_by c n) (brought_to s files w c n z) z vs) (option_and_then media_of o)) is ∙ comes in
       let answer : IsLocalAnswer s files vs (came_at s files w c n) c (step.Media x) r = locals c n (step.Media x) r is there in
-      own_answer s files vs y c x r (encodes_nothing (before_step c n w.pool) (step_by c n) (brought_to s files w c n x) x vs y comes) apart (subst (λ (o : Option Came). IsLocalAnswer s files vs o c (step.Media x) r) here answer)
+      own_answer s files (before_step c n w.pool) (step_by c n) (brought_to s files w c n x) vs y c x r comes apart (subst (λ (o : Option Came). IsLocalAnswer s files vs o c (step.Media x) r) here answer)
       );
 }
 

@@ -162,12 +162,6 @@ tracing_stop script media_of known k o told units follower new entries shown t r
     let n : next_of script media_of known k (length entries) tracing.state t ≡ None = none_next tracing.state (next_of script media_of known k (length entries) tracing.state t) (next.answer tracing.state tracing.is) in
     tracing_done script media_of known k o told units follower entries shown rest left trace tracing (rw (rest_split rest t lt is, n) refl) made
 
--- nothing more is told
-pub tracing_end : (script : ScriptData) (media_of : List (List Chunk)) (known : Known) (k : ℕ) (o : Opening) (told : List EntryLine) (units : List media.Unit) (follower : FollowerValue) (entries : List Entry) (shown : List Shown) (rest : List EntryLine) (left : List media.Unit) (trace : CodecTrace)
-    → length rest < 1 → IsTracing script media_of known k o told units follower entries shown rest left → trace ≡ record { opening = o; entries = entries; shown = shown } → trace ≡ trace_of script media_of known k o told units
-tracing_end script media_of known k o told units follower entries shown [] left trace few tracing made = tracing_done script media_of known k o told units follower entries shown [] left trace tracing refl made
-tracing_end script media_of known k o told units follower entries shown (t ∷ rest) left trace few tracing made = absurd (omega arith)
-
 -- the first item, whatever stands for one where there is none
 pub head_is : {X : Type 0} (rest : List X) (d : X) → 0 < length rest → get_or rest 0 d ≡ get_or rest 0 (get_or rest 0 d)
 head_is [] d lt = absurd (omega arith)
