@@ -85,26 +85,18 @@ take_told who n x _ e h = absurd cc
 
 -- an entry that a line tells has that line, but for what it shows
 pub entry_told : (script : ScriptData) (files : List (List Chunk)) (known : Known) (k place : ℕ) (told : EntryLine) (x : Shown) (e : Entry) → entry_of script files known k place told ≡ Some e → IsToldBy told x e
-entry_told script files known k place (entry_line.Call who call.Encode error) x e h =
-    let steps = steps_of script who.caller in
-    where_there (IsToldBy (entry_line.Call who call.Encode error) x) (encode_of known steps k place who error) (slice_get steps who.step) (encode_told known steps k place who error x) e h
-entry_told script files known k place (entry_line.Call who word error) x e h =
-    let steps = steps_of script who.caller in
-    where_there (IsToldBy (entry_line.Call who word error) x) (call_of files known steps who word) (slice_get steps who.step) (call_told files known steps who word error x) e h
-entry_told script files known k place (entry_line.Take who n) x e h = where_there (IsToldBy (entry_line.Take who n) x) (take_of who n) (slice_get (steps_of script who.caller) who.step) (take_told who n x) e h
+entry_told script files known k place (entry_line.Call who call.Encode error) x e h = where_there (IsToldBy (entry_line.Call who call.Encode error) x) _ _ (encode_told known (steps_of script who.caller) k place who error x) e h
+entry_told script files known k place (entry_line.Call who word error) x e h = where_there (IsToldBy (entry_line.Call who word error) x) _ _ (call_told files known (steps_of script who.caller) who word error x) e h
+entry_told script files known k place (entry_line.Take who n) x e h = where_there (IsToldBy (entry_line.Take who n) x) _ _ (take_told who n x) e h
 entry_told script files known k place told x e h = cc
 
 -- ---- an encode
 
-clone_shown : (a : Option Samples) (b : Option Pair) (h : Handed) → clone_of a b ≡ Some h → handed_error h ≡ None
-clone_shown (Some s) (Some p) h e = cc
-clone_shown _ _ h e = absurd cc
-
 -- what became of data that is not detached tells the exception
 handed_told : (error : Option DomError) (a : Option Samples) (b : Option Pair) (h : Handed) → handed_for true false error (clone_of a b) ≡ Some h → handed_error h ≡ error
-handed_told None a b h e = clone_shown a b h e
+handed_told None (Some s) (Some p) h e = cc
 handed_told (Some dom.InvalidState) a b h e = cc
-handed_told _ a b h e = absurd cc
+handed_told _ _ _ h e = absurd cc
 
 -- so what became of data is read again from the exception that it tells
 handed_again : (given gone : Bool) (error : Option DomError) (a : Option Samples) (b : Option Pair) (h : Handed) → handed_for given gone error (clone_of a b) ≡ Some h → handed_for given gone (handed_error h) (clone_of a b) ≡ Some h
@@ -137,9 +129,7 @@ encode_there kind known steps k place who error t us (Some s) e is = encode_agai
 
 line_again : (script : ScriptData) (files : List (List Chunk)) (known : Known) (k place : ℕ) (told : EntryLine) (e : Entry) (kind : Kind) (t : State) (us : List media.Unit) → entry_of script files known k place told ≡ Some e
     → entry_of script files known k place (line_with told (filled_at kind e t us)) ≡ Some e
-line_again script files known k place (entry_line.Call who call.Encode error) e kind t us h =
-    let steps = steps_of script who.caller in
-    encode_there kind known steps k place who error t us (slice_get steps who.step) e h
+line_again script files known k place (entry_line.Call who call.Encode error) e kind t us h = encode_there kind known (steps_of script who.caller) k place who error t us _ e h
 line_again script files known k place told e kind t us h = h
 
 pub told_holds : (script : ScriptData) (files : List (List Chunk)) (known : Known) (k place : ℕ) (told : EntryLine) (e : Entry) (kind : Kind) (t : State) (us : List media.Unit) → entry_of script files known k place told ≡ Some e

@@ -18,14 +18,6 @@ first_is : {X : Type 0} (text : X → List ℕ) (xs : List X) (w : List ℕ) (x 
 first_is text [] w x h = absurd cc
 first_is text (y ∷ ys) w x h = first_by text y w x (first_named text ys w) (first_is text ys w x) (bytes_eq w (text y)) refl h
 
-abbrev codecs : List CodecId
-codecs =
-    codec.PcmU8 ∷ codec.PcmS16 ∷ codec.PcmS24 ∷ codec.PcmS32 ∷ codec.Alaw ∷ codec.Ulaw ∷ codec.Flac
-    ∷ codec.RawI420 ∷ codec.RawI422 ∷ codec.RawI444 ∷ codec.RawNv12 ∷ []
-
-text_is : (w : List ℕ) (id : CodecId) → codec_id_of w ≡ Some id → codec_text id ≡ w
-text_is w id h = first_is codec_text codecs w id h
-
 -- a string names a codec where one of the tests of either list holds
 either : (a b c d e f g h i j k : Bool)
     → is_some (cond a (Some codec.PcmU8) (cond b (Some codec.PcmS16) (cond c (Some codec.PcmS24) (cond d (Some codec.PcmS32) (cond e (Some codec.Alaw) (cond f (Some codec.Ulaw) (cond g (Some codec.Flac) (cond h (Some codec.RawI420) (cond i (Some codec.RawI422) (cond j (Some codec.RawI444) (cond k (Some codec.RawNv12) None)))))))))))
@@ -43,4 +35,4 @@ pub string_none : (w : List ℕ) → codec_id_of w ≡ None → is_codec_string 
 string_none w h = sym (named w) ∙ ap (λ (o : Option CodecId). is_some o) h
 
 pub string_some : (w : List ℕ) (id : CodecId) → codec_id_of w ≡ Some id → (is_codec_string w ≡ true) × (codec_text id ≡ w)
-string_some w id h = (sym (named w) ∙ ap (λ (o : Option CodecId). is_some o) h, text_is w id h)
+string_some w id h = (sym (named w) ∙ ap (λ (o : Option CodecId). is_some o) h, search (first_is codec_text))

@@ -13,14 +13,12 @@ use Rattle.report_reader.specs.Fault.{IsBadForm, IsDifferent, IsFault, line_of_d
 use Rattle.report_reader.proofs.FormLaws.{some_is, not_some, none_at_end}
 
 -- reading stops at one place
-record IsSame (ls ms : List Line) (at there : Section) (left behind : List ℕ) : Type 0 where
-  lines : ls ≡ ms
-  at_is : at ≡ there
-  left_is : left ≡ behind
+abbrev IsSame : List Line → List Line → Section → Section → List ℕ → List ℕ → Type 0
+IsSame ls ms at there left behind = (ls ≡ ms) × (at ≡ there) × (left ≡ behind)
 
 stops_once : (script : ScriptData) (s : Section) (bs : List ℕ) (ls ms : List Line) (at there : Section) (left behind : List ℕ)
     → Reads script s bs ls at left → form_at script at left ≡ None → Reads script s bs ms there behind → form_at script there behind ≡ None → IsSame ls ms at there left behind
-stops_once script s bs [] [] at there left behind r none q stop = record { lines = refl; at_is = sym r.0 ∙ q.0; left_is = sym r.1 ∙ q.1 }
+stops_once script s bs [] [] at there left behind r none q stop = (refl, sym r.0 ∙ q.0, sym r.1 ∙ q.1)
 stops_once script s bs [] (y ∷ ms) at there left behind r none q stop = absurd (not_some (sym (rw (r.0, r.1) none) ∙ q.2))
 stops_once script s bs (x ∷ ls) [] at there left behind r none q stop = absurd (not_some (sym (rw (q.0, q.1) stop) ∙ r.2))
 stops_once script s bs (x ∷ ls) (y ∷ ms) at there left behind r none q stop =
@@ -28,19 +26,19 @@ stops_once script s bs (x ∷ ls) (y ∷ ms) at there left behind r none q stop 
     let same = some_is read (y, q.0, q.1) (sym r.2 ∙ q.2) in
     let moved : Reads script q.1 q.0 ls at left = subst (λ (z : Line × List ℕ × Section). Reads script z.2 z.1 ls at left) same r.3 in
     let more = stops_once script q.1 q.0 ls ms at there left behind moved none q.3 stop in
-    record { lines = cc (ap (λ (z : Line × List ℕ × Section). z.0) same, more.lines); at_is = more.at_is; left_is = more.left_is }
+    (cc (ap (λ (z : Line × List ℕ × Section). z.0) same, more.0), more.1, more.2)
 
 bad_and_different : (script : ScriptData) (files : List (List Chunk)) (bs : List ℕ) (m n : ℕ) → IsBadForm script bs m → IsDifferent script files bs n → ⊥
 bad_and_different script files bs m n f d =
     let same = stops_once script section.Start bs f.before d.lines f.at section.Ended f.left [] f.reads f.none d.forms (none_at_end script []) in
-    f.not_all same.at_is same.left_is
+    f.not_all same.1 same.2
 
 pub fault_is_one : (script : ScriptData) (files : List (List Chunk)) (bs : List ℕ) (m n : ℕ) → IsFault script files bs (fault.BadLine m) → IsFault script files bs (fault.BadLine n) → m ≡ n
 fault_is_one script files bs m n (inl f) (inl g) =
     let same = stops_once script section.Start bs f.before g.before f.at g.at f.left g.left f.reads f.none g.reads g.none in
-    f.number ∙ rw same.lines (sym g.number)
+    f.number ∙ rw same.0 (sym g.number)
 fault_is_one script files bs m n (inl f) (inr d) = absurd (bad_and_different script files bs m n f d)
 fault_is_one script files bs m n (inr d) (inl f) = absurd (bad_and_different script files bs n m f d)
 fault_is_one script files bs m n (inr d) (inr e) =
     let same = stops_once script section.Start bs d.lines e.lines section.Ended section.Ended [] [] d.forms (none_at_end script []) e.forms (none_at_end script []) in
-    d.number ∙ ap (λ (ls : List Line). line_of_difference (report_of script (run_of script files ls)) bs) same.lines ∙ sym e.number
+    d.number ∙ ap (λ (ls : List Line). line_of_difference (report_of script (run_of script files ls)) bs) same.0 ∙ sym e.number

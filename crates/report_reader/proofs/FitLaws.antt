@@ -112,7 +112,7 @@ lines_fit script P bound lines each n (x ∷ xs) le all =
 pub reads_fit : LineFits → (script : ScriptData) (s : Section) (bs : List ℕ) (ls : List Line) (end : Section) (left : List ℕ) → Reads script s bs ls end left → AllByRecursion (FitsLine script) ls
 reads_fit fits script s bs [] end left r = tt
 reads_fit fits script s bs (l ∷ ls) end left r =
-    let read = (form_parts script s bs l r.0 r.1 r.2).line in
+    let read = (form_parts script s bs l r.0 r.1 r.2).0 in
     (subst (λ (o : Option (Line × List ℕ)). IfSome o (λ x. FitsLine script x.0)) read (fits script bs), reads_fit fits script r.1 r.0 ls end left r.3)
 
 -- ---- callers
@@ -146,15 +146,14 @@ outputs_fit script k (line.Event s ∷ ls) fits =
 outputs_fit script k _ fits = tt
 
 -- each output that is filled in is one of the units, or has nothing in it
-record AreFilled (k : Kind) (P : media.Unit → Type 0) (xs : List Event) (us : List media.Unit) : Type 0 where
-  shown : AllByRecursion P (units_in (filled k xs us).0)
-  left : AllByRecursion P (filled k xs us).1
+abbrev AreFilled : Kind → (media.Unit → Type 0) → List Event → List media.Unit → Type 0
+AreFilled k P xs us = AllByRecursion P (units_in (filled k xs us).0) × AllByRecursion P (filled k xs us).1
 
 fill_fits : (k : Kind) (P : media.Unit → Type 0) → P (empty_output k) → (xs : List Event) (us : List media.Unit) → AllByRecursion P us → AreFilled k P xs us
-fill_fits k P none [] us all = record { shown = tt; left = all }
-fill_fits k P none (event.Output n u ∷ xs) [] all = let more = fill_fits k P none xs [] all in record { shown = (none, more.shown); left = more.left }
-fill_fits k P none (event.Output n u ∷ xs) (v ∷ us) all = let more = fill_fits k P none xs us all.1 in record { shown = (all.0, more.shown); left = more.left }
-fill_fits k P none (x ∷ xs) us all = let more = fill_fits k P none xs us all in record { shown = more.shown; left = more.left }
+fill_fits k P none [] us all = (tt, all)
+fill_fits k P none (event.Output n u ∷ xs) [] all = let more = fill_fits k P none xs [] all in ((none, more.0), more.1)
+fill_fits k P none (event.Output n u ∷ xs) (v ∷ us) all = let more = fill_fits k P none xs us all.1 in ((all.0, more.0), more.1)
+fill_fits k P none (x ∷ xs) us all = fill_fits k P none xs us all
 
 each_fits : (k : Kind) (P : media.Unit → Type 0) → P (empty_output k) → (es : List Entry) (s : State) (us : List media.Unit) → AllByRecursion P us → AllByRecursion P (units_shown (each_filled_from k es s us))
 each_fits k P none [] s us all = tt
@@ -166,7 +165,7 @@ each_fits k P none (e ∷ es) s us all = by (follow_step e s) (λ t vs more. eac
     by : (o : Option State) → ((t : State) (vs : List media.Unit) → AllByRecursion P vs → AllByRecursion P (units_shown (each_filled_from k es t vs)))
         → AllByRecursion P (units_shown (unwrap_or (option_map (λ t. filled_at k e s us ∷ each_filled_from k es t (filled k (shows e s) us).1) o) []))
     by None later = tt
-    by (Some t) later = all_append P (units_in (filled k (shows e s) us).0) (units_shown (each_filled_from k es t (filled k (shows e s) us).1)) here.shown (later t (filled k (shows e s) us).1 here.left)
+    by (Some t) later = all_append P (units_in (filled k (shows e s) us).0) (units_shown (each_filled_from k es t (filled k (shows e s) us).1)) here.0 (later t (filled k (shows e s) us).1 here.1)
 
 -- ---- entries
 
@@ -187,15 +186,14 @@ entry_fits : (script : ScriptData) (files : List (List Chunk)) (known : Known) (
 entry_fits script files known k place t e fits is x = subst (FitsEntryLine script) (sym (entry_told script files known k place t x e is)) (line_fits script t x fits)
 
 -- entries that fit, and are no more than those that are told
-record AreEntries (script : ScriptData) (ts : List EntryLine) (es : List Entry) : Type 0 where
-  fits : AllByRecursion (FitsEntry script) es
-  few : length es ≤ length ts
+abbrev AreEntries : ScriptData → List EntryLine → List Entry → Type 0
+AreEntries script ts es = AllByRecursion (FitsEntry script) es × (length es ≤ length ts)
 
 entries_fit : (script : ScriptData) (files : List (List Chunk)) (known : Known) (k place : ℕ) (ts : List EntryLine) (s : State) → AllByRecursion (FitsEntryLine script) ts → AreEntries script ts (entries_from script files known k place s ts)
-entries_fit script files known k place [] s fits = record { fits = tt; few = omega arith }
+entries_fit script files known k place [] s fits = (tt, omega arith)
 entries_fit script files known k place (t ∷ ts) s fits =
-    by_next script files known k place t ts s (AreEntries script (t ∷ ts)) (record { fits = tt; few = omega arith })
-    (λ e u is step. (let more = entries_fit script files known k (place + 1) ts u fits.1 in record { fits = (entry_fits script files known k place t e fits.0 is, more.fits); few = omega (arith, more.few) }))
+    by_next script files known k place t ts s (AreEntries script (t ∷ ts)) (tt, omega arith)
+    (λ e u is step. (let more = entries_fit script files known k (place + 1) ts u fits.1 in ((entry_fits script files known k place t e fits.0 is, more.0), omega (arith, more.1))))
 
 event_fits : (script : ScriptData) (k : Kind) (e : Event) → FitsEvent e → AllByRecursion (FitsUnit script k) (event_units e) → AreFit script (event_lines e)
 event_fits script k (event.Refusal x) fits units = tt
@@ -240,8 +238,8 @@ codecs_front script files known k (suc n) ls few fits =
     let made = entries_fit script files known k 0 (entry_lines_in (drop 1 ls)) start told.items in
     let own : FitsCodec script (codec_in script files known k ls) = record {
       opening = opening_fits script ls fits;
-      few = omega (arith, made.few, told.count);
-      entries = made.fits;
+      few = omega (arith, made.1, told.count);
+      entries = made.0;
       units = each_fits kind (FitsUnit script kind) (empty_fits script kind) (entries_from script files known k 0 start (entry_lines_in (drop 1 ls))) start (outputs_in kind (drop 1 ls)) (outputs_fit script kind (drop 1 ls) (all_behind (FitsLine script) ls fits));
     } in
     let more = codecs_front script files known (k + 1) n (behind_entries (drop 1 ls)) (omega (arith, told.behind.few)) told.behind.fits in
@@ -280,16 +278,12 @@ held_fits script _ fits = omega arith
 -- ---- the run
 
 -- a script with nothing at fault has few callers and codecs
-record AreFew (script : ScriptData) : Type 0 where
-  callers : length script.callers < 2 ^ 32
-  codecs : length script.codecs < 2 ^ 32
-
-few_in : (script : ScriptData) → is_sound script ≡ true → AreFew script
+few_in : (script : ScriptData) → is_sound script ≡ true → (length script.callers < 2 ^ 32) × (length script.codecs < 2 ^ 32)
 few_in script sound =
     let few = and_parts _ _ (parts_of script sound).few in
     let codecs : length script.codecs ≤ most_codecs = leb-true _ _ few.0 in
     let callers : length script.callers ≤ most_callers = leb-true _ _ (and_parts _ _ few.1).0 in
-    record { callers = omega arith; codecs = omega arith }
+    (omega arith, omega arith)
 
 run_fits : (script : ScriptData) (files : List (List Chunk)) (ls : List Line) → is_sound script ≡ true → length ls < 2 ^ 64 → AreFit script ls → AllByRecursion FitsTrace (run_of script files ls).codecs → IsWithoutLoss script (run_of script files ls)
 unfolding run_of
@@ -309,16 +303,16 @@ run_fits script files ls sound few fits promises =
     let references = begun script _ _ pool_in behind_pool (references_front script) outputs.1 made.1.fits in
     let entries = begun script _ _ slots_in (λ _. []) (slots_front script) (behind_pool pool) references.behind.fits in
     let end = all_append (FitsLine script) (lines_from slot_lines 0 (slots_in slots)) (end_lines (held_in slots))
-        (lines_fit script (FitsSlot script) (2 ^ 64) slot_lines (λ i e lt own. ((lt, own.0, own.1), tt)) 0 (slots_in slots) (omega (arith, entries.count, references.behind.few, front.1.few, made.1.few, less)) entries.items)
-        (held_fits script slots (all_behind (FitsLine script) (behind_pool pool) references.behind.fits), (tt, tt)) in
+    (lines_fit script (FitsSlot script) (2 ^ 64) slot_lines (λ i e lt own. ((lt, own.0, own.1), tt)) 0 (slots_in slots) (omega (arith, entries.count, references.behind.few, front.1.few, made.1.few, less)) entries.items)
+    (held_fits script slots (all_behind (FitsLine script) (behind_pool pool) references.behind.fits), (tt, tt)) in
     let back = all_append (FitsLine script) (lines_from pool_lines 0 (pool_in pool)) _
-        (lines_fit script (FitsReference script) (2 ^ 64) pool_lines (λ i e lt own. ((lt, own.0, own.1), tt)) 0 (pool_in pool) (omega (arith, references.count, front.1.few, made.1.few, less)) references.items) (tt, end) in
+    (lines_fit script (FitsReference script) (2 ^ 64) pool_lines (λ i e lt own. ((lt, own.0, own.1), tt)) 0 (pool_in pool) (omega (arith, references.count, front.1.few, made.1.few, less)) references.items) (tt, end) in
     record {
       plain = all_weaker (FitsCodec script) IsPlainTrace (codec_plain script) codecs made.0;
       fits = (
         tt,
-        all_append (FitsLine script) (lines_from caller_lines 0 callers.0) _ (caller_lines_fit script callers.0 (callers_count n (drop 1 ls)) small.callers front.0)
-            (all_append (FitsLine script) (lines_from codec_lines 0 codecs) _ (codec_lines_fit script codecs (codecs_count script files known 0 m callers.1) small.codecs (all_both (FitsCodec script) FitsTrace codecs made.0 promises)) (tt, back)),
+        all_append (FitsLine script) (lines_from caller_lines 0 callers.0) _ (caller_lines_fit script callers.0 (callers_count n (drop 1 ls)) small.0 front.0)
+            (all_append (FitsLine script) (lines_from codec_lines 0 codecs) _ (codec_lines_fit script codecs (codecs_count script files known 0 m callers.1) small.1 (all_both (FitsCodec script) FitsTrace codecs made.0 promises)) (tt, back)),
       );
     }
 

@@ -52,28 +52,20 @@ pub line_long : (script : ScriptData) (l : Line) → 0 < length (line_text scrip
 line_long script (line.Event s) = event_long script s
 line_long script _ = search (numbered_long, arith)
 
-line_shorter : LineSound → (script : ScriptData) (bs : List ℕ) (y : Line × List ℕ) → line_at script bs ≡ Some y → length y.1 < length bs
-line_shorter sound script bs y e =
-    omega (arith, line_long script y.0, ap (λ (x : List ℕ). length x) (sound script bs y e), length-append (line_text script y.0) y.1)
-
-pub record IsForm (script : ScriptData) (s : Section) (bs : List ℕ) (l : Line) (rest : List ℕ) (end : Section) : Type 0 where
-  pub line : line_at script bs ≡ Some (l, rest)
-  pub next : next_in script s l ≡ Some end
-
-pub form_parts : (script : ScriptData) (s : Section) (bs : List ℕ) (l : Line) (rest : List ℕ) (end : Section) → form_at script s bs ≡ Some (l, rest, end) → IsForm script s bs l rest end
+pub form_parts : (script : ScriptData) (s : Section) (bs : List ℕ) (l : Line) (rest : List ℕ) (end : Section) → form_at script s bs ≡ Some (l, rest, end) → (line_at script bs ≡ Some (l, rest)) × (next_in script s l ≡ Some end)
 unfolding form_at
 form_parts script s bs l rest end e =
     let x = bind_some (line_at script bs) (λ x. next_in script s x.0 >>= λ behind. Some (x.0, x.1, behind)) (l, rest, end) e in
     let y = bind_some (next_in script s x.0.0) (λ behind. Some (x.0.0, x.0.1, behind)) (l, rest, end) x.2 in
     let made : Line × List ℕ × Section = (x.0.0, x.0.1, y.0) in
-    let same : made ≡ (l, rest, end) = some_is made (l, rest, end) y.2 in
-    record {
-      line = x.1 ∙ ap (λ (z : Line × List ℕ × Section). some (z.0, z.1)) same;
-      next = ap (λ (z : Line × List ℕ × Section). next_in script s z.0) (sym same) ∙ y.1 ∙ ap (λ (z : Line × List ℕ × Section). some z.2) same;
-    }
+    let same : made ≡ (l, rest, end) = some_is made (l, rest, end) y.2 in (
+      x.1 ∙ ap (λ (z : Line × List ℕ × Section). some (z.0, z.1)) same,
+      ap (λ (z : Line × List ℕ × Section). next_in script s z.0) (sym same) ∙ y.1 ∙ ap (λ (z : Line × List ℕ × Section). some z.2) same,
+    )
 
 pub form_shorter : LineSound → (script : ScriptData) (s : Section) (bs : List ℕ) (l : Line) (rest : List ℕ) (end : Section) → form_at script s bs ≡ Some (l, rest, end) → length rest < length bs
-form_shorter sound script s bs l rest end e = line_shorter sound script bs (l, rest) (form_parts script s bs l rest end e).line
+form_shorter sound script s bs l rest end e =
+    omega (arith, line_long script l, ap (λ (x : List ℕ). length x) (sound script bs (l, rest) (form_parts script s bs l rest end e).0), length-append (line_text script l) rest)
 
 -- ---- a text of lines in their forms
 

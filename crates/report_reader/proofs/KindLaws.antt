@@ -1,5 +1,5 @@
 -- Outputs by the kinds of their codecs: the lines that show them, and those of a legal run that fits its script.
-use Rattle.std.proofs.Common.{ℕ, suc, ◌≡◌, ◌^◌, ◌<◌, Bool, true, false, cond, List, [], ◌∷◌, ◌++◌, map, Option, Some, None, refl, ap, sym, subst, ◌∙◌, arith}
+use Rattle.std.proofs.Common.{ℕ, suc, ◌≡◌, Bool, true, false, cond, List, [], ◌∷◌, ◌++◌, map, Option, Some, None, refl, ap, sym, subst, ◌∙◌, arith}
 use Rattle.std.specs.Prelude.{nat_lt, flat_map, unwrap_or, option_to_list}
 use Rattle.std.specs.List.{AllByRecursion, slice_get}
 use Rattle.std.proofs.lemmas.Bool.{lt-ltb, ltb-true}
@@ -109,13 +109,10 @@ unit_fits script word.AudioEncoder (event_line.Chunk chunk) ls own fits =
     (record { plain = config.plain; fits = (own, config.fits) }, tt)
 unit_fits script _ _ ls own fits = tt
 
-no_duration : (k : ℕ) → ◌≡◌ {A = Option ℕ} None (Some k) → k < 2 ^ 64
-no_duration k e = absurd cc
-
 pub empty_fits : (script : ScriptData) (k : Kind) → FitsUnit script k (empty_output k)
 empty_fits script word.AudioDecoder = record { plain = omega arith; fits = (record { rate = omega arith; channels = omega arith; frames = omega arith; timestamp = omega arith; are_bytes = λ i. omega arith }, tt) }
-empty_fits script word.AudioEncoder = record { plain = tt; fits = ((omega arith, no_duration, λ i. omega arith), tt) }
-empty_fits script word.VideoDecoder = record { plain = tt; fits = (record { width = omega arith; height = omega arith; timestamp = omega arith; duration = no_duration; are_bytes = λ i. omega arith }, tt) }
+empty_fits script word.AudioEncoder = record { plain = tt; fits = ((omega arith, λ k e. absurd cc, λ i. omega arith), tt) }
+empty_fits script word.VideoDecoder = record { plain = tt; fits = (record { width = omega arith; height = omega arith; timestamp = omega arith; duration = λ k e. absurd cc; are_bytes = λ i. omega arith }, tt) }
 
 -- ---- the outputs of a legal run
 

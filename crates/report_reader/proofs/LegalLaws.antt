@@ -2,8 +2,7 @@
 use Rattle.std.proofs.Common.{◌≡◌, ℕ, zero, suc, ◌+◌, Bool, true, false, cond, List, [], ◌∷◌, ◌++◌, map, Option, Some, None, refl, sym, ap, subst, ◌∙◌, arith}
 use Rattle.std.specs.Prelude.{take, option_map, option_and_then, unwrap_or}
 use Rattle.std.specs.Option.{option_or}
-use Rattle.std.specs.List.{zip, slice_get}
-use Rattle.wc_base.specs.Options.{some_same}
+use Rattle.std.specs.List.{AllByRecursion, zip, slice_get}
 use Rattle.wc_config.specs.declared.codec.CoderId.{CoderId}
 use Rattle.wc_chunk.specs.declared.chunk.Chunk.{Chunk}
 use Rattle.wc_pool.specs.declared.entry.PoolEntry.{PoolEntry}
@@ -47,9 +46,6 @@ use Rattle.report_reader.proofs.RunLaws.{shown_units_of}
 use Rattle.report_reader.proofs.KindLaws.{legal_plain}
 use Rattle.report_reader.proofs.StandingLaws.{IsStanding, stands}
 use Rattle.report_reader.proofs.CallLaws.{AreFound, HasPair, ShowsOwn, shows_own, IsGiven, entry_holds}
-
-abbrev some : {A : Type 0} → A → Option A
-some x = Some x
 
 -- ---- outputs
 
@@ -147,27 +143,30 @@ pair_found script files made run fits k place e is p adds =
 
 -- ---- entries
 
+-- each entry shows its own
+abbrev AreOwn : List Entry → List Shown → Type 0
+AreOwn es xs = AllByRecursion (λ (m : Entry × Shown). ShowsOwn m.0 m.1) (zip es xs)
+
+all_own : (es : List Entry) (s : State) → AreOwn es (each_shown_from es s)
+all_own [] s = tt
+all_own (e ∷ es) s = by (legal_step e s) (λ t. all_own es t)
+  where
+    by : (o : Option State) → ((t : State) → AreOwn es (each_shown_from es t)) → AreOwn (e ∷ es) (shown_at e s ∷ unwrap_or (option_map (each_shown_from es) o) [])
+    by None later = (shows_own e s, nothing es)
+      where
+        nothing : (ds : List Entry) → AreOwn ds []
+        nothing [] = tt
+        nothing (d ∷ ds) = tt
+    by (Some t) later = (shows_own e s, later t)
+
 entries_hold : (script : ScriptData) (files : List (List Chunk)) (w : Recorded) (known : Known) (k place : ℕ) (es : List Entry) (xs : List Shown) → AreFound script files w known
-    → ((p : ℕ) (e : Entry) (x : Shown) → slice_get es p ≡ Some e → slice_get xs p ≡ Some x → ShowsOwn e x)
+    → AreOwn es xs
     → ((p n : ℕ) (e : Entry) → n ≡ place + p → slice_get es p ≡ Some e → IsGiven script files w known k n e) → HoldAll script files known k place (zip es xs)
 entries_hold script files w known k place (e ∷ es) (x ∷ xs) found own h = (
-  entry_holds script files w known k place e x found (own 0 e x refl refl) (h 0 place e (omega arith) refl),
-  entries_hold script files w known k (place + 1) es xs found (λ p d y. own (suc p) d y) (λ p n d same is. h (suc p) n d (omega (arith, same)) is),
+  entry_holds script files w known k place e x found own.0 (h 0 place e (omega arith) refl),
+  entries_hold script files w known k (place + 1) es xs found own.1 (λ p n d same is. h (suc p) n d (omega (arith, same)) is),
 )
 entries_hold script files w known k place _ _ found own h = tt
-
-own_then : (es : List Entry) (o : Option State) → ((t : State) (p : ℕ) (e : Entry) (x : Shown) → slice_get es p ≡ Some e → slice_get (each_shown_from es t) p ≡ Some x → ShowsOwn e x)
-    → (p : ℕ) (e : Entry) (x : Shown) → slice_get es p ≡ Some e → slice_get (unwrap_or (option_map (each_shown_from es) o) []) p ≡ Some x → ShowsOwn e x
-own_then es None later p e x is at = absurd cc
-own_then es (Some t) later p e x is at = later t p e x is at
-
-own_shown : (es : List Entry) (s : State) (p : ℕ) (e : Entry) (x : Shown) → slice_get es p ≡ Some e → slice_get (each_shown_from es s) p ≡ Some x → ShowsOwn e x
-own_shown [] s p e x is at = absurd cc
-own_shown (d ∷ es) s zero e x is at =
-    let entry = some_same d e is in
-    let events = some_same (shown_at d s) x at in
-    subst (λ (y : Shown). ShowsOwn e y) events (subst (λ (z : Entry). ShowsOwn z (shown_at d s)) entry (shows_own d s))
-own_shown (d ∷ es) s (suc p) e x is at = own_then es (legal_step d s) (λ t. own_shown es t) p e x is at
 
 -- what is known of legal histories, and of what variables hold
 pub record HistoryLaws : Type 0 where
@@ -184,7 +183,7 @@ trace_told : HistoryLaws → (script : ScriptData) (files : List (List Chunk)) (
     → ((p : ℕ) (e : Entry) → slice_get t.entries p ≡ Some e → IsGiven script files w known k p e) → IsToldTrace script files known k t
 trace_told laws script files w known k c t found legal h = record {
   arguments = entries_hold script files w known k 0 t.entries t.shown found
-      (λ p e x is at. own_shown t.entries (opening_state t.opening) p e x is (subst (λ (xs : List Shown). slice_get xs p ≡ Some x) legal.shown at))
+      (subst (AreOwn t.entries) (sym legal.shown) (all_own t.entries (opening_state t.opening)))
       (λ p n e same is. let here : n ≡ p = omega (arith, same) in subst (λ (m : ℕ). IsGiven script files w known k m e) (sym here) (h p e is));
   follows = laws.follow t.opening t.entries legal.legal;
   shows = legal.shown ∙ laws.fill t.opening t.entries legal.legal ∙ ap (each_filled t.opening t.entries) (shown_units t.entries (opening_state t.opening) ∙ ap units_shown (sym legal.shown));

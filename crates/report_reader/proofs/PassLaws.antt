@@ -35,7 +35,7 @@ rises callers codecs section.Held line.End = omega arith
 rises callers codecs _ _ = search (if_rises, arith)
 
 pub form_numbered : (script : ScriptData) (s : Section) (bs : List ℕ) (l : Line) (rest : List ℕ) (t : Section) → form_at script s bs ≡ Some (l, rest, t) → next_number t ≤ next_number s + 1
-form_numbered script s bs l rest t e = subst (λ (o : Option Section). IfSome o (λ x. next_number x ≤ next_number s + 1)) (form_parts script s bs l rest t e).next (rises (length script.callers) (length script.codecs) s l)
+form_numbered script s bs l rest t e = subst (λ (o : Option Section). IfSome o (λ x. next_number x ≤ next_number s + 1)) (form_parts script s bs l rest t e).1 (rises (length script.callers) (length script.codecs) s l)
 
 -- ---- lines that stand one behind another
 

@@ -121,30 +121,26 @@ shown_again _ _ same = absurd (omega arith)
 
 -- ---- histories
 
-pub record IsStep (e : Entry) (es : List Entry) (s : State) : Type 0 where
-  pub state : State
-  pub step : follow_step e s ≡ Some state
-  pub more : is_some (follow_from es state) ≡ true
-
-step_in : (e : Entry) (es : List Entry) (s : State) (o : Option State) → follow_step e s ≡ o → is_some (option_and_then (follow_from es) o) ≡ true → IsStep e es s
-step_in e es s None is some = absurd cc
-step_in e es s (Some t) is some = record { state = t; step = is; more = some }
-
-pub step_of_followed : (e : Entry) (es : List Entry) (s : State) → is_some (follow_from (e ∷ es) s) ≡ true → IsStep e es s
-step_of_followed e es s some = step_in e es s (follow_step e s) refl some
+-- the state after an entry that follows with those behind it
+pub step_of_followed : (e : Entry) (es : List Entry) (s : State) → is_some (follow_from (e ∷ es) s) ≡ true → (t : State) × (follow_step e s ≡ Some t) × (is_some (follow_from es t) ≡ true)
+step_of_followed e es s some = by (follow_step e s) refl some
+  where
+    by : (o : Option State) → follow_step e s ≡ o → is_some (option_and_then (follow_from es) o) ≡ true → (t : State) × (follow_step e s ≡ Some t) × (is_some (follow_from es t) ≡ true)
+    by None is some = absurd cc
+    by (Some t) is some = (t, is, some)
 
 pub filled_length : (k : Kind) → (es : List Entry) (s : State) (us : List media.Unit) → is_some (follow_from es s) ≡ true → length (each_filled_from k es s us) ≡ length es
 filled_length k [] s us some = refl
 filled_length k (e ∷ es) s us some =
     let next = step_of_followed e es s some in
-    rw (next.step) (ap (λ (n : ℕ). suc n) (filled_length k es next.state (filled k (shows e s) us).1 next.more))
+    rw (next.1) (ap (λ (n : ℕ). suc n) (filled_length k es next.0 (filled k (shows e s) us).1 next.2))
 
 entries_again : (script : ScriptData) (media_of : List (List Chunk)) (known : Known) (k place : ℕ) (s : State) (es : List Entry) (xs : List Shown) → length xs ≡ length es → HoldAll script media_of known k place (zip es xs) → is_some (follow_from es s) ≡ true
     → entries_from script media_of known k place s (map entry_line_of_pair (zip es xs)) ≡ es
 entries_again script media_of known k place s [] [] same holds some = refl
 entries_again script media_of known k place s (e ∷ es) (x ∷ xs) same holds some =
     let next = step_of_followed e es s some in
-    rw (holds.0, next.step, entries_again script media_of known k (place + 1) next.state es xs (omega arith) holds.1 next.more) refl
+    rw (holds.0, next.1, entries_again script media_of known k (place + 1) next.0 es xs (omega arith) holds.1 next.2) refl
 entries_again script media_of known k place s _ _ same holds some = absurd (omega arith)
 
 -- ---- codecs
@@ -166,13 +162,12 @@ codecs_end i [] rest ends = ends
 codecs_end i (c ∷ cs) rest ends = record { told = refl; outputs = λ k. refl; config = refl }
 
 -- these codecs, and their outputs, are read again, and these lines are left
-record AreAgain (script : ScriptData) (media_of : List (List Chunk)) (known : Known) (i : ℕ) (cs : List CodecTrace) (ls rest : List Line) : Type 0 where
-  codecs : codecs_in script media_of known i (length cs) ls ≡ cs
-  outputs : all_outputs_in (length cs) ls ≡ (map shown_units_of cs, rest)
+abbrev AreAgain : ScriptData → List (List Chunk) → Known → ℕ → List CodecTrace → List Line → List Line → Type 0
+AreAgain script media_of known i cs ls rest = (codecs_in script media_of known i (length cs) ls ≡ cs) × (all_outputs_in (length cs) ls ≡ (map shown_units_of cs, rest))
 
 codecs_again : (script : ScriptData) (media_of : List (List Chunk)) (known : Known) (i : ℕ) (cs : List CodecTrace) (rest : List Line) → EndsEntries rest → AreToldTraces script media_of known i cs → AllByRecursion IsPlainTrace cs
     → AreAgain script media_of known i cs (lines_from codec_lines i cs ++ rest) rest
-codecs_again script media_of known i [] rest ends told plain = record { codecs = refl; outputs = refl }
+codecs_again script media_of known i [] rest ends told plain = (refl, refl)
 codecs_again script media_of known i (c ∷ cs) rest ends told plain =
     let tail = lines_from codec_lines (i + 1) cs in
     let made = zip c.entries c.shown in
@@ -182,11 +177,10 @@ codecs_again script media_of known i (c ∷ cs) rest ends told plain =
     let lines = ap (λ (p : List EntryLine × List Line). p.0) read in
     let behind = ap (λ (p : List EntryLine × List Line). p.1) read in
     let own = outputs_again c.opening.kind 0 made (tail ++ rest) ends_more (subst (λ (xs : List Shown). AllByRecursion (IsOutputOf c.opening.kind) (units_shown xs)) (sym again) plain.0) in
-    let more = codecs_again script media_of known (i + 1) cs rest ends told.1 plain.1 in
-    record {
-      codecs = rw (append_assoc (lines_from entry_lines 0 made) tail rest, behind, lines, own, trace_again script media_of known i c told.0, more.codecs) refl;
-      outputs = rw (append_assoc (lines_from entry_lines 0 made) tail rest, behind, own, again, more.outputs) refl;
-    }
+    let more = codecs_again script media_of known (i + 1) cs rest ends told.1 plain.1 in (
+      rw (append_assoc (lines_from entry_lines 0 made) tail rest, behind, lines, own, trace_again script media_of known i c told.0, more.0) refl,
+      rw (append_assoc (lines_from entry_lines 0 made) tail rest, behind, own, again, more.1) refl,
+    )
 
 -- ---- the run
 
@@ -214,7 +208,7 @@ run_outputs script media_of known run told plain =
     let end = lines_from slot_lines 0 run.slots ++ end_lines run.held in
     let pool = lines_from pool_lines 0 run.pool ++ line.Slots ∷ end in
     ap (λ (x : List CallerTrace × List Line). (all_outputs_in (length run.codecs) x.1).0) (callers_again 0 run.callers (lines_from codec_lines 0 run.codecs ++ line.Pool ∷ pool) (codecs_end_results 0 run.codecs pool))
-    ∙ ap (λ (x : List (List media.Unit) × List Line). x.0) (codecs_again script media_of known 0 run.codecs (line.Pool ∷ pool) (pool_ends pool) told plain).outputs
+    ∙ ap (λ (x : List (List media.Unit) × List Line). x.0) (codecs_again script media_of known 0 run.codecs (line.Pool ∷ pool) (pool_ends pool) told plain).1
 
 -- the lines of a run that is told show that run
 pub run_again : (script : ScriptData) (media_of : List (List Chunk)) (run : Run) → IsToldRun script media_of run → AllByRecursion IsPlainTrace run.codecs → run_of script media_of (lines_of run) ≡ run
@@ -229,9 +223,9 @@ run_again script media_of run told plain =
       sym told.callers,
       sym told.codecs,
       callers_again 0 run.callers (lines_from codec_lines 0 run.codecs ++ line.Pool ∷ pool) (codecs_end_results 0 run.codecs pool),
-      codecs.outputs,
+      codecs.1,
       ap (λ (p : List PoolEntry × List Line). p.0) entries,
-      codecs.codecs,
+      codecs.0,
       ap (λ (p : List PoolEntry × List Line). p.1) entries,
       ap (λ (p : List SlotEntry × ℕ). p.0) slots,
       ap (λ (p : List SlotEntry × ℕ). p.1) slots,

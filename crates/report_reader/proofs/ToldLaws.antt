@@ -24,13 +24,10 @@ use Rattle.report_reader.proofs.CallLaws.{told_holds}
 
 -- ---- the entries of a history
 
-abbrev AllHold : ScriptData → List (List Chunk) → Known → ℕ → ℕ → Kind → List Entry → State → List media.Unit → Type 0
-AllHold script files known k place kind es s us = HoldAll script files known k place (zip es (each_filled_from kind es s us))
-
-all_hold : (script : ScriptData) (files : List (List Chunk)) (known : Known) (k place : ℕ) (kind : Kind) (ts : List EntryLine) (s : State) (us : List media.Unit) → AllHold script files known k place kind (entries_from script files known k place s ts) s us
+all_hold : (script : ScriptData) (files : List (List Chunk)) (known : Known) (k place : ℕ) (kind : Kind) (ts : List EntryLine) (s : State) (us : List media.Unit) → HoldAll script files known k place (zip (entries_from script files known k place s ts) (each_filled_from kind (entries_from script files known k place s ts) s us))
 all_hold script files known k place kind [] s us = tt
 all_hold script files known k place kind (t ∷ ts) s us =
-    by_next script files known k place t ts s (λ es. AllHold script files known k place kind es s us) tt
+    by_next script files known k place t ts s (λ es. HoldAll script files known k place (zip es (each_filled_from kind es s us))) tt
     (λ e u is step. rw step (told_holds script files known k place t e kind s us is, all_hold script files known k (place + 1) kind ts u (filled kind (shows e s) us).1))
 
 all_follow : (script : ScriptData) (files : List (List Chunk)) (known : Known) (k place : ℕ) (ts : List EntryLine) (s : State) → is_some (follow_from (entries_from script files known k place s ts) s) ≡ true
@@ -50,7 +47,7 @@ each_again : (k : Kind) → (es : List Entry) (s : State) (us : List media.Unit)
 each_again k [] s us some = refl
 each_again k (e ∷ es) s us some =
     let next = step_of_followed e es s some in
-    rw (next.step, filled_again k (shows e s) us (units_shown (each_filled_from k es next.state (filled k (shows e s) us).1)), each_again k es next.state (filled k (shows e s) us).1 next.more) refl
+    rw (next.1, filled_again k (shows e s) us (units_shown (each_filled_from k es next.0 (filled k (shows e s) us).1)), each_again k es next.0 (filled k (shows e s) us).1 next.2) refl
 
 -- ---- the run
 

@@ -72,11 +72,8 @@ pub tracing_start : (script : ScriptData) (media_of : List (List Chunk)) (known 
 tracing_start script media_of known k o told units follower is = record { state = opening_state o; is = sym is; entries_are = refl; shown_are = refl }
 
 -- the entry is the next one, and this is the state after it
-record IsNext (script : ScriptData) (media_of : List (List Chunk)) (known : Known) (k place : ℕ) (t : EntryLine) (s : State) (e : Entry) (blank : Shown) : Type 0 where
-  state : State
-  step : follow_step e s ≡ Some state
-  next : next_of script media_of known k place s t ≡ Some (e, state)
-  shown : blank ≡ shown_at e s
+abbrev IsNext : ScriptData → List (List Chunk) → Known → ℕ → ℕ → EntryLine → State → Entry → Shown → Type 0
+IsNext script media_of known k place t s e blank = (u : State) × (follow_step e s ≡ Some u) × (next_of script media_of known k place s t ≡ Some (e, u)) × (blank ≡ shown_at e s)
 
 -- the next entry is the one that its line tells, and follows
 bound : (s : State) (e : Entry) (u : State) (p : Option Entry) → option_and_then {U = Entry × State} (λ d. paired d (follow_step d s)) p ≡ Some (e, u) → (p ≡ Some e) × (follow_step e s ≡ Some u)
@@ -105,23 +102,15 @@ next_in script media_of known k place t s e blank h = by (next_of script media_o
         let same = some_same {X = Entry × Shown} (d, shown_at d s) (e, blank) there in
         let entry : d ≡ e = ap (λ (x : Entry × Shown). x.0) same in
         let next : next_of script media_of known k place s t ≡ Some (e, u) = is ∙ ap (λ (x : Entry). some (x, u)) entry in
-        record {
-          state = u;
-          step = (bound s e u (entry_of script media_of known k place t) next).1;
-          next = next;
-          shown = sym (ap (λ (x : Entry × Shown). x.1) same) ∙ ap (λ (x : Entry). shown_at x s) entry;
-        }
+        (u, (bound s e u (entry_of script media_of known k place t) next).1, next, sym (ap (λ (x : Entry × Shown). x.1) same) ∙ ap (λ (x : Entry). shown_at x s) entry)
 
 none_next : (s : State) (o : Option (Entry × State)) → showing_at s o ≡ None → o ≡ None
 none_next s None h = refl
 none_next s (Some x) h = absurd cc
 
-whole_tail : {X : Type 0} (x : X) (xs : List X) → take (suc (length xs) - 1) xs ≡ xs
-whole_tail x xs = let n : suc (length xs) - 1 ≡ length xs = omega arith in rw n (take-length xs)
-
 rest_split : {X : Type 0} (rest : List X) (t : X) → 0 < length rest → t ≡ get_or rest 0 t → rest ≡ t ∷ take (length rest - 1) (drop 1 rest)
 rest_split [] t lt is = absurd (omega arith)
-rest_split (x ∷ xs) t lt is = rw (whole_tail x xs, is) refl
+rest_split (x ∷ xs) t lt is = let count : suc (length xs) - 1 ≡ length xs = omega arith in rw (count, take-length xs, is) refl
 
 abbrev filled_with : Kind → Shown → List media.Unit → Shown
 filled_with kind blank left = record { turn = blank.turn; events = (filled kind blank.events left).0 }
@@ -137,14 +126,14 @@ tracing_more script media_of known k o told units follower new entries made show
     let n = next_in script media_of known k (length entries) t s e blank (next.answer s tracing.is) in
     let more = take (length rest - 1) (drop 1 rest) in
     let split = rest_split rest t lt is in
-    let tail = entries_from script media_of known k (length entries + 1) n.state more in
+    let tail = entries_from script media_of known k (length entries + 1) n.0 more in
     record {
-      state = n.state;
-      is = next.after s tracing.is e n.state n.next;
-      entries_are = rw (made_is, length-append entries (e ∷ [])) (append_assoc entries (e ∷ []) tail ∙ rw (split, n.next) at tracing.entries_are);
+      state = n.0;
+      is = next.after s tracing.is e n.0 n.2;
+      entries_are = rw (made_is, length-append entries (e ∷ [])) (append_assoc entries (e ∷ []) tail ∙ rw (split, n.2) at tracing.entries_are);
       shown_are = rw (made_is, showing_is, x_is, events_are, behind_is, length-append entries (e ∷ []))
-          (subst (λ (b : Shown). (shown ++ (filled_with o.kind b left ∷ [])) ++ each_filled_from o.kind tail n.state (filled o.kind b.events left).1 ≡ each_filled o (entries_from script media_of known k 0 (opening_state o) told) units) (sym n.shown)
-          (append_assoc shown (filled_at o.kind e s left ∷ []) (each_filled_from o.kind tail n.state (filled o.kind (shows e s) left).1) ∙ rw (split, n.next, n.step) at tracing.shown_are));
+          (subst (λ (b : Shown). (shown ++ (filled_with o.kind b left ∷ [])) ++ each_filled_from o.kind tail n.0 (filled o.kind b.events left).1 ≡ each_filled o (entries_from script media_of known k 0 (opening_state o) told) units) (sym n.3)
+          (append_assoc shown (filled_at o.kind e s left ∷ []) (each_filled_from o.kind tail n.0 (filled o.kind (shows e s) left).1) ∙ rw (split, n.2, n.1) at tracing.shown_are));
     }
 
 -- nothing more is made of what is told

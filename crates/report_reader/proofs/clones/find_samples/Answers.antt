@@ -5,27 +5,21 @@ use Rattle.report_reader.proofs.ArgumentLaws.{defined_read, defined_past, undefi
 use Rattle.report_reader.proofs.clones.find_samples.Goals as goal
 
 pub returns-in_default : goal.returns-in_default
-returns-in_default c =
-    let taken = taken_in c.args.known.now c.args.caller in
-    sym (defined_past c.args.steps.now taken c.loop-number.end c.loop-number.number c.loop-number-test.true c.in_default.ensures.lookup.3) ∙ c.loop-number.invariant
+returns-in_default c = sym (defined_past c.args.steps.now _ c.loop-number.end c.loop-number.number c.loop-number-test.true c.in_default.ensures.lookup.3) ∙ c.loop-number.invariant
 
 pub loop-number-preserved : goal.loop-number-preserved
 loop-number-preserved c =
     let taken = taken_in c.args.known.now c.args.caller in
     let read = c.in-Some.ensures.lookup in
-    let earlier = samples_before c.args.steps.now taken c.loop-number.number in
     let here = defined_read c.args.steps.now taken c.loop-number.end c.loop-number.number c.in-Some.defining.now c.loop-number-test.true read.3.0 read.1 in
-    sym (c.in-Some-source_of.ensures.some earlier (taken c.loop-number.number)) ∙ sym here ∙ c.loop-number.invariant
+    sym (c.in-Some-source_of.ensures.some (samples_before c.args.steps.now taken c.loop-number.number) (taken c.loop-number.number)) ∙ sym here ∙ c.loop-number.invariant
 
 pub returns-in-None : goal.returns-in-None
 returns-in-None c =
     let taken = taken_in c.args.known.now c.args.caller in
     let read = c.in-Some.ensures.lookup in
-    let earlier = samples_before c.args.steps.now taken c.loop-number.number in
     let here = defined_read c.args.steps.now taken c.loop-number.end c.loop-number.number c.in-Some.defining.now c.loop-number-test.true read.3.0 read.1 in
-    rw (sym c.loop-number.invariant ∙ here ∙ c.in-None.ensures.none earlier (taken c.loop-number.number)) c.own_samples.ensures
+    rw (sym c.loop-number.invariant ∙ here ∙ c.in-None.ensures.none (samples_before c.args.steps.now taken c.loop-number.number) (taken c.loop-number.number)) c.own_samples.ensures
 
 pub returns : goal.returns
-returns c =
-    let taken = taken_in c.args.known.now c.args.caller in
-    sym (undefined_at c.args.steps.now taken c.loop-number.end c.loop-number.number (omega (arith, c.loop-number-test.false))) ∙ c.loop-number.invariant
+returns c = sym (undefined_at c.args.steps.now _ c.loop-number.end c.loop-number.number (omega (arith, c.loop-number-test.false))) ∙ c.loop-number.invariant
