@@ -1,11 +1,10 @@
 -- Calls and takes: what their lines tell, and what the steps of their callers give.
-use Rattle.std.proofs.Common.{◌≡◌, ℕ, Bool, true, false, List, [], ◌∷◌, Option, Some, None, refl, sym, ap, subst, ◌∙◌}
+use Rattle.std.proofs.Common.{arith, ◌≡◌, ℕ, Bool, true, false, List, [], ◌∷◌, Option, Some, None, refl, sym, ap, subst, ◌∙◌}
 use Rattle.std.specs.Prelude.{option_map, option_and_then}
 use Rattle.std.specs.Option.{is_none}
 use Rattle.std.specs.List.{slice_get}
 use Rattle.wc_base.specs.Options.{some_same}
 use Rattle.wc_base.specs.declared.error.DomError.{DomError}
-use Rattle.wc_base.specs.declared.error.DomError.TheVariants as dom
 use Rattle.wc_base.specs.declared.media.Samples.{Samples}
 use Rattle.wc_base.specs.declared.media.SoundShape.{SoundShape}
 use Rattle.wc_base.specs.declared.who.Who.{Who}
@@ -68,20 +67,13 @@ abbrev IsToldBy : EntryLine → Shown → Entry → Type 0
 IsToldBy told x e = entry_line_of e x ≡ line_with told x
 
 call_told : (files : List (List Chunk)) (known : Known) (steps : List Step) (who : Who) (word : CallWord) (error : Option DomError) (x : Shown) (s : Step) (e : Entry) → call_of files known steps who word s ≡ Some e → IsToldBy (entry_line.Call who word error) x e
-call_told files known steps who call.Decode error x (step.Decode on chunk) e h = where_mapped (IsToldBy (entry_line.Call who call.Decode error) x) (λ (c : Chunk). entry.Decode who c) _ (λ c is. refl) e h
-call_told files known steps who call.Configure error x (step.Configure on config) e h = cc
-call_told files known steps who call.Flush error x (step.Flush on bind) e h = cc
-call_told files known steps who call.Reset error x (step.Reset on) e h = cc
-call_told files known steps who call.Close error x (step.Close on) e h = cc
-call_told files known steps who _ error x _ e h = absurd cc
+call_told files known steps who word error x s e h = grind (arith, h)
 
 encode_told : (known : Known) (steps : List Step) (k place : ℕ) (who : Who) (error : Option DomError) (x : Shown) (s : Step) (e : Entry) → encode_of known steps k place who error s ≡ Some e → IsToldBy (entry_line.Call who call.Encode error) x e
-encode_told known steps k place who error x (step.Media (on_media.Encode on content)) e h = where_mapped (IsToldBy (entry_line.Call who call.Encode error) x) (λ (z : Handed). entry.Encode who z) _ (λ z is. refl) e h
-encode_told known steps k place who error x _ e h = absurd cc
+encode_told known steps k place who error x s e h = grind (arith, h)
 
 take_told : (who : Who) (n : ℕ) (x : Shown) (s : Step) (e : Entry) → take_of who n s ≡ Some e → IsToldBy (entry_line.Take who n) x e
-take_told who n x (step.Media (on_media.Take on bind kind)) e h = cc
-take_told who n x _ e h = absurd cc
+take_told who n x s e h = grind (arith, h)
 
 -- an entry that a line tells has that line, but for what it shows
 pub entry_told : (script : ScriptData) (files : List (List Chunk)) (known : Known) (k place : ℕ) (told : EntryLine) (x : Shown) (e : Entry) → entry_of script files known k place told ≡ Some e → IsToldBy told x e
@@ -94,19 +86,14 @@ entry_told script files known k place told x e h = cc
 
 -- what became of data that is not detached tells the exception
 handed_told : (error : Option DomError) (a : Option Samples) (b : Option Pair) (h : Handed) → handed_for true false error (clone_of a b) ≡ Some h → handed_error h ≡ error
-handed_told None (Some s) (Some p) h e = cc
-handed_told (Some dom.InvalidState) a b h e = cc
-handed_told _ _ _ h e = absurd cc
+handed_told error a b h e = grind (arith, e)
 
 -- so what became of data is read again from the exception that it tells
 handed_again : (given gone : Bool) (error : Option DomError) (a : Option Samples) (b : Option Pair) (h : Handed) → handed_for given gone error (clone_of a b) ≡ Some h → handed_for given gone (handed_error h) (clone_of a b) ≡ Some h
-handed_again false gone error a b h e = absurd cc
-handed_again true true error a b h e = e
-handed_again true false error a b h e = ap (λ (x : Option DomError). handed_for true false x (clone_of a b)) (handed_told error a b h e) ∙ e
+handed_again given gone error a b h e = grind (arith, handed_told error a b h, e)
 
 refusal_filled : (kind : Kind) (o : Option DomError) (us : List media.Unit) → refusal_in (filled kind (refusal o) us).0 ≡ o
-refusal_filled kind None us = refl
-refusal_filled kind (Some x) us = refl
+refusal_filled kind o us = grind arith
 
 -- and an encode, from the exception that it shows
 encode_again : (kind : Kind) (known : Known) (steps : List Step) (k place : ℕ) (who : Who) (error : Option DomError) (t : State) (us : List media.Unit) (s : Step) (e : Entry) → encode_of known steps k place who error s ≡ Some e
@@ -162,15 +149,12 @@ cloned_held number _ shape None sound e = absurd cc
 
 -- data is gone where it holds no reference
 gone_is : (number : ℕ) (accepts : Bool) (shape : SoundShape) (held : Option MediaRef) → is_none held ≡ is_gone (handed_by number accepts shape held)
-gone_is number true shape (Some r) = refl
-gone_is number false shape (Some r) = refl
-gone_is number _ shape None = refl
+gone_is number accepts shape held = grind arith
 
 -- what became of data that is there is told by whether it is detached, by the exception, and by the clone where there is one
 handed_back : (h : Handed) (gone : Bool) (a : Option Samples) (b : Option Pair) → gone ≡ is_gone h → ((x : HeldSound) → h ≡ handed.Cloned x → a ≡ Some x.samples) → ((x : HeldSound) → h ≡ handed.Cloned x → b ≡ Some x.pair)
     → handed_for true gone (handed_error h) (clone_of a b) ≡ Some h
-handed_back (handed.Cloned x) gone a b is samples pair = rw (is, samples x refl, pair x refl) refl
-handed_back _ gone a b is samples pair = rw is refl
+handed_back h gone a b is samples pair = grind (arith, is, samples, pair)
 
 -- the step that an entry names was made
 abbrev pub IsMadeBy : Recorded → Who → Type 0
@@ -200,9 +184,7 @@ ShowsOwn (entry.Encode who h) x = refusal_in x.events ≡ handed_error h
 ShowsOwn _ x = Unit {0}
 
 pub shows_own : (e : Entry) (s : State) → ShowsOwn e (shown_at e s)
-shows_own (entry.Encode who handed.Gone) s = refl
-shows_own (entry.Encode who _) s = refl
-shows_own _ s = tt
+shows_own e s = grind arith
 
 -- its line tells it again
 abbrev IsAgain : ScriptData → List (List Chunk) → Known → ℕ → ℕ → Shown → Entry → Type 0

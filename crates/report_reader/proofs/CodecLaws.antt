@@ -1,9 +1,8 @@
 -- Codec strings and the codecs that they name.
-use Rattle.std.proofs.Common.{◌≡◌, Bool, true, false, cond, ◌||◌, List, [], ◌∷◌, ℕ, codes, Option, Some, None, is_some, refl, ap, sym, ◌∙◌}
+use Rattle.std.proofs.Common.{arith, ◌≡◌, Bool, true, false, cond, List, [], ◌∷◌, ℕ, Option, Some, None, is_some, refl, ap, sym, ◌∙◌}
 use Rattle.std.specs.Str.{bytes_eq}
 use Rattle.std.proofs.lemmas.Slice.Eq.{bytes_eq-Decides}
 use Rattle.wc_config.specs.declared.codec.CodecId.{CodecId}
-use Rattle.wc_config.specs.declared.codec.CodecId.TheVariants as codec
 use Rattle.codec_follow.specs.Outputs.{is_codec_string}
 use Rattle.report_text.specs.Words.{codec_text}
 use Rattle.report_lines.specs.Vocabulary.{first_named, codec_id_of}
@@ -18,18 +17,9 @@ first_is : {X : Type 0} (text : X → List ℕ) (xs : List X) (w : List ℕ) (x 
 first_is text [] w x h = absurd cc
 first_is text (y ∷ ys) w x h = first_by text y w x (first_named text ys w) (first_is text ys w x) (bytes_eq w (text y)) refl h
 
--- a string names a codec where one of the tests of either list holds
-either : (a b c d e f g h i j k : Bool)
-    → is_some (cond a (Some codec.PcmU8) (cond b (Some codec.PcmS16) (cond c (Some codec.PcmS24) (cond d (Some codec.PcmS32) (cond e (Some codec.Alaw) (cond f (Some codec.Ulaw) (cond g (Some codec.Flac) (cond h (Some codec.RawI420) (cond i (Some codec.RawI422) (cond j (Some codec.RawI444) (cond k (Some codec.RawNv12) None)))))))))))
-    ≡ (is_some (cond a (Some codec.PcmU8) (cond b (Some codec.PcmS16) (cond c (Some codec.PcmS24) (cond d (Some codec.PcmS32) (cond e (Some codec.Alaw) (cond f (Some codec.Ulaw) (cond g (Some codec.Flac) None)))))))
-    || is_some (cond h (Some codec.RawI420) (cond i (Some codec.RawI422) (cond j (Some codec.RawI444) (cond k (Some codec.RawNv12) None)))))
-either false false false false false false false h i j k = refl
-either _ _ _ _ _ _ _ h i j k = refl
-
+-- a string names a codec where it is that of one of either list
 named : (w : List ℕ) → is_some (codec_id_of w) ≡ is_codec_string w
-named w =
-    either (bytes_eq w (codes "pcm-u8")) (bytes_eq w (codes "pcm-s16")) (bytes_eq w (codes "pcm-s24")) (bytes_eq w (codes "pcm-s32")) (bytes_eq w (codes "alaw")) (bytes_eq w (codes "ulaw")) (bytes_eq w (codes "flac"))
-    (bytes_eq w (codes "x-raw-i420")) (bytes_eq w (codes "x-raw-i422")) (bytes_eq w (codes "x-raw-i444")) (bytes_eq w (codes "x-raw-nv12"))
+named w = grind arith
 
 pub string_none : (w : List ℕ) → codec_id_of w ≡ None → is_codec_string w ≡ false
 string_none w h = sym (named w) ∙ ap (λ (o : Option CodecId). is_some o) h

@@ -16,8 +16,7 @@ pub differs_at_end : (line i : ℕ) (a b : List ℕ) → i ≤ length a → i �
 differs_at_end line i a b wa wb h z = end_differs line (drop i a) (drop i b) (λ e. h (omega (arith, length-drop i a, length-drop i b, e))) (grind (arith, length-drop i a, length-drop i b, z))
 
 some_differs : (q : Bool) (o : Option ℕ) (n : ℕ) → cond q o (Some n) ≡ None → (q ≡ true) × (o ≡ None)
-some_differs true o n e = (refl, e)
-some_differs false o n e = absurd cc
+some_differs q o n e = grind (arith, e)
 
 same_from : (n : ℕ) (a b : List ℕ) → difference_from n a b ≡ None → a ≡ b
 same_from n [] [] e = refl
@@ -36,8 +35,7 @@ differs_from_some : (a b : List ℕ) (n : ℕ) → difference_from 1 a b ≡ Som
 differs_from_some a b n e same = cc (none_from_same 1 a)
 
 line_step : (m n x : ℕ) (xs : List ℕ) (q : Bool) → eqb x 10 ≡ q → n ≡ feeds xs + cond q (m + 1) m → n ≡ feeds (x ∷ xs) + m
-line_step m n x xs true is e = rw is (omega (arith, e))
-line_step m n x xs false is e = rw is (omega (arith, e))
+line_step m n x xs q is e = grind (arith, is, e)
 
 line_there : (m n x y : ℕ) (a b : List ℕ) → ((k : ℕ) → difference_from k a b ≡ Some n → n ≡ feeds (common a b) + k)
     → (q : Bool) → eqb x y ≡ q → cond q (difference_from (cond (eqb x 10) (m + 1) m) a b) (Some m) ≡ Some n → n ≡ feeds (cond q (x ∷ common a b) []) + m

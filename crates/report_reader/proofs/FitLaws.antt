@@ -24,7 +24,6 @@ use Rattle.trace_text.specs.declared.run.CallerTrace.{CallerTrace}
 use Rattle.trace_text.specs.declared.run.CodecTrace.{CodecTrace}
 use Rattle.trace_text.specs.declared.run.Run.{Run}
 use Rattle.report_text.specs.declared.line.EntryLine.{EntryLine}
-use Rattle.report_text.specs.declared.line.EntryLine.TheVariants as entry_line
 use Rattle.report_text.specs.declared.line.Line.{Line}
 use Rattle.report_text.specs.declared.line.Line.TheVariants as line
 use Rattle.trace_text.specs.Report.{entry_line_of, event_lines, lines_from, result_lines, caller_lines, entry_lines, codec_lines, pool_lines, slot_lines, end_lines, lines_of, report_of}
@@ -58,8 +57,7 @@ all_behind P [] all = tt
 all_behind P (x ∷ xs) all = all.1
 
 few_behind : {X : Type 0} (xs : List X) → length (drop 1 xs) ≤ length xs
-few_behind [] = omega arith
-few_behind (x ∷ xs) = omega arith
+few_behind xs = grind arith
 
 all_both : {X : Type 0} (P Q : X → Type 0) (xs : List X) → AllByRecursion P xs → AllByRecursion Q xs → AllByRecursion (λ x. P x × Q x) xs
 all_both P Q [] p q = tt
@@ -179,8 +177,7 @@ abbrev FitsEntry : ScriptData → Entry → Type 0
 FitsEntry script e = (x : Shown) → FitsEntryLine script (entry_line_of e x)
 
 line_fits : (script : ScriptData) (t : EntryLine) (x : Shown) → FitsEntryLine script t → FitsEntryLine script (line_with t x)
-line_fits script (entry_line.Call who word error) x fits = fits
-line_fits script t x fits = fits
+line_fits script t x fits = grind (arith, fits)
 
 entry_fits : (script : ScriptData) (files : List (List Chunk)) (known : Known) (k place : ℕ) (t : EntryLine) (e : Entry) → FitsEntryLine script t → entry_of script files known k place t ≡ Some e → FitsEntry script e
 entry_fits script files known k place t e fits is x = subst (FitsEntryLine script) (sym (entry_told script files known k place t x e is)) (line_fits script t x fits)

@@ -75,8 +75,7 @@ unfolding form_at
 form_again again script names s l rest mid fits e = rw (again script l rest names fits, e) refl
 
 nothing_after_none : {A B : Type 0} (o : Option A) → ◌≡◌ {A = Option B} (o >>= λ x. None) None
-nothing_after_none None = refl
-nothing_after_none (Some x) = refl
+nothing_after_none o = grind arith
 
 pub none_at_end : (script : ScriptData) (bs : List ℕ) → form_at script section.Ended bs ≡ None
 unfolding form_at

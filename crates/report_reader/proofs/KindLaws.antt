@@ -8,7 +8,6 @@ use Rattle.wc_base.specs.declared.media.Samples.{Samples}
 use Rattle.wc_base.specs.declared.who.Who.{Who}
 use Rattle.wc_config.specs.declared.config.AudioDecoderConfig.{AudioDecoderConfig}
 use Rattle.wc_config.specs.declared.config.Config.{Config}
-use Rattle.wc_config.specs.declared.config.Config.TheVariants as config
 use Rattle.wc_config.specs.declared.kind.Kind.{Kind}
 use Rattle.wc_config.specs.declared.kind.Kind.TheVariants as word
 use Rattle.wc_chunk.specs.declared.chunk.Chunk.{Chunk}
@@ -30,7 +29,6 @@ use Rattle.script_types.specs.declared.steps.MediaStep.TheVariants as on_media
 use Rattle.script_types.specs.Sound.{is_sound, suits}
 use Rattle.script_types.specs.SoundLaws.{step_at, codec_there}
 use Rattle.report_text.specs.declared.result.StepResult.{StepResult}
-use Rattle.report_text.specs.declared.result.StepResult.TheVariants as result
 use Rattle.report_text.specs.declared.line.EventLine.{EventLine}
 use Rattle.report_text.specs.declared.line.EventLine.TheVariants as event_line
 use Rattle.report_text.specs.declared.line.Line.{Line}
@@ -58,8 +56,7 @@ config_events (event.Output n (unit.Sound samples) ∷ es) ls none = refl
 config_events _ ls none = refl
 
 description_again : (d : Option (List ℕ)) → IsPlainDescription d → description_of (unwrap_or d []) ≡ d
-description_again (Some []) plain = absurd plain
-description_again _ plain = refl
+description_again d plain = grind (arith, plain)
 
 pub outputs_events : (k : Kind) (es : List Event) (ls : List Line) → config_in ls ≡ None → AllByRecursion (IsOutputOf k) (units_in es) → outputs_in k (flat_map event_lines es ++ ls) ≡ units_in es ++ outputs_in k ls
 outputs_events word.AudioDecoder (event.Output n (unit.Sound samples) ∷ es) ls none plain = rw (lt-ltb 0 samples.shape.rate plain.0) (ap (λ (us : List media.Unit). unit.Sound samples ∷ us) (outputs_events word.AudioDecoder es ls none plain.1))
@@ -84,8 +81,7 @@ record FitsConfig (script : ScriptData) (c : Option AudioDecoderConfig) : Type 0
   fits : AreFit script (config_lines c)
 
 description_told : (d : List ℕ) → IsPlainDescription (description_of d) × (unwrap_or (description_of d) [] ≡ d)
-description_told [] = (tt, refl)
-description_told (b ∷ bs) = (tt, refl)
+description_told d = grind arith
 
 config_of_fits : (script : ScriptData) (codec : List ℕ) (rate channels : ℕ) (description : List ℕ) (q : Bool) → is_codec_string codec ≡ q → FitsEventLine (event_line.Config codec rate channels description)
     → FitsConfig script (cond q (Some (record { codec = codec; rate = rate; channels = channels; description = description_of description })) None)
@@ -117,18 +113,11 @@ empty_fits script word.VideoDecoder = record { plain = tt; fits = (record { widt
 -- ---- the outputs of a legal run
 
 suits_kind : (c : Config) (k : Kind) → suits c k ≡ true → IsConfigOf k c
-suits_kind (config.AudioDecoder c) word.AudioDecoder h = tt
-suits_kind (config.AudioEncoder c) word.AudioEncoder h = tt
-suits_kind (config.VideoDecoder c) word.VideoDecoder h = tt
-suits_kind config.Bad word.AudioDecoder h = tt
-suits_kind config.Bad _ h = tt
-suits_kind _ _ h = absurd cc
+suits_kind c k h = grind (arith, h)
 
 -- a result that names an entry, of a step that calls a codec, names that codec
 same_codec : (script : ScriptData) (w : Recorded) (on k p : ℕ) (r : StepResult) → IsAnswerOf script w (Some on) r → made_at r ≡ Some (k, p) → on ≡ k
-same_codec script w on k p (result.Call n q error) kept is = sym kept.0 ∙ ap (λ (x : ℕ × ℕ). x.0) (some_same {X = ℕ × ℕ} (n, q) (k, p) is)
-same_codec script w on k p result.Absent kept is = absurd cc
-same_codec script w on k p _ kept is = absurd kept
+same_codec script w on k p r kept is = grind (arith, kept, is)
 
 -- the step of a configure, which names its codec, has a config of that codec's kind
 step_suits : (script : ScriptData) (files : List (List Chunk)) (vs : List (Option Medium)) (w : Recorded) (who : Who) (k p : ℕ) (r : StepResult) (c : CodecItem) (given : Config) (x : Step)

@@ -27,14 +27,13 @@ use Rattle.script_types.specs.declared.steps.MediaStep.TheVariants as on_media
 use Rattle.script_types.specs.declared.steps.Step.TheVariants as step
 use Rattle.script_types.specs.Sound.{is_sound}
 use Rattle.report_text.specs.declared.result.StepResult.{StepResult}
-use Rattle.report_text.specs.declared.result.StepResult.TheVariants as result
 use Rattle.media_variables.specs.Variables.{Taken, medium_at, chunk_in_medium}
 use Rattle.media_accounts.specs.Accounts.{is_by_entry, ops_where, without_last, ops_of_entry, called_for, called_at}
 use Rattle.media_accounts.specs.Samples.{chunk_of_unit, SamplesAreKept, ChunksAreTaken}
 use Rattle.trace_text.specs.declared.run.CallerTrace.{CallerTrace}
 use Rattle.trace_text.specs.declared.run.CodecTrace.{CodecTrace}
 use Rattle.trace_text.specs.declared.run.Run.{Run}
-use Rattle.trace_text.specs.Follow.{Recorded, steps_of, opening_in, opening_at, output_at, chunk_at}
+use Rattle.trace_text.specs.Follow.{Recorded, steps_of, opening_in, opening_at, chunk_at}
 use Rattle.trace_text.specs.Fits.{Fits, IsLegalTrace, AreLegalTraces, IsLegalRun, LocalStepsAnswer, recorded_of, entry_in, result_in, taken_by, brought_to, variables_at}
 use Rattle.trace_text.specs.FitsLaws.{calls_by_places}
 use Rattle.run_ranges.specs.Counts.{traces_count}
@@ -75,14 +74,10 @@ results_at (t ∷ ts) (suc c) = results_at ts c
 results_at _ _ = refl
 
 unit_of_taken : (answer : StepResult) (o : Option media.Unit) (t : Taken) → option_map (λ u. let y : Taken = record { unit = u; answer = answer } in y) o ≡ Some t → o ≡ Some t.unit
-unit_of_taken answer None t e = absurd cc
-unit_of_taken answer (Some u) t e = cc
+unit_of_taken answer o t e = grind (arith, e)
 
 taken_output : (script : ScriptData) (run : Run) → AreLegalTraces script.codecs run.codecs → (o : Option StepResult) (t : Taken) → taken_by script (recorded_of run) o ≡ Some t → output_of (map shown_units_of run.codecs) o ≡ Some t.unit
-taken_output script run legal (Some (result.Unit k p n)) t e =
-    let found = unit_of_taken (result.Unit k p n) (output_at (opening_at script k) (at k (recorded_of run).codecs) n) t e in
-    ap (λ (us : List media.Unit). slice_get us n) (sym (outputs_are script.codecs run.codecs legal k)) ∙ found
-taken_output script run legal _ t e = absurd cc
+taken_output script run legal o t e = grind (arith, outputs_are, unit_of_taken, legal, e)
 
 -- what a report shows of taken outputs is what the run brings to its callers' steps
 taken_is : (script : ScriptData) (files : List (List Chunk)) (run : Run) → AreLegalTraces script.codecs run.codecs → (c j on : ℕ) (bind : List ℕ) (kind : VariableKind) (t : Taken)
@@ -94,8 +89,7 @@ taken_is script files run legal c j on bind kind t is brought =
 -- ---- what arguments are found in
 
 either_found : (made a b : Option Chunk) (value : Chunk) → ((c : Chunk) → a ≡ Some c → b ≡ Some c) → option_or made a ≡ Some value → option_or made b ≡ Some value
-either_found None a b value h e = h value e
-either_found (Some c) a b value h e = e
+either_found made a b value h e = grind (arith, h, e)
 
 all_found : SamplesAreKept → ChunksAreTaken → (script : ScriptData) (files : List (List Chunk)) (run : Run) → AreLegalTraces script.codecs run.codecs → LocalStepsAnswer script files run → AreFound script files (recorded_of run) (known_of run)
 all_found kept taken script files run legal locals =
@@ -114,11 +108,7 @@ all_found kept taken script files run legal locals =
 -- ---- clones
 
 clone_first : (o : PoolOp) (p : Pair) → without_last o ≡ op.Clone p.resource p.reference → (rest : Option Pair) → option_or (cloned o) rest ≡ Some p
-clone_first (op.Clone r f) p e rest =
-    let resource : r ≡ p.resource = cc in
-    let reference : f ≡ p.reference = cc in
-    rw (resource, reference) refl
-clone_first _ p e rest = absurd cc
+clone_first o p e rest = grind (arith, e)
 
 pair_by : (k place : ℕ) (e : PoolEntry) (es : List PoolEntry) (p : Pair) (rest : List PoolOp) → (ops_of_entry k place es ≡ op.Clone p.resource p.reference ∷ rest → pair_for k place es ≡ Some p)
     → (q : Bool) → is_by_entry k place e.by ≡ q → map without_last (cond q (e.op ∷ ops_where (is_by_entry k place) es) (ops_where (is_by_entry k place) es)) ≡ op.Clone p.resource p.reference ∷ rest

@@ -22,8 +22,7 @@ second : (a b : Bool) → (a && b) ≡ true → b ≡ true
 second a b h = (and_parts a b h).1
 
 not_so : (q : Bool) → not q ≡ true → q ≡ false
-not_so true h = absurd cc
-not_so false h = refl
+not_so q h = grind (arith, h)
 
 -- ---- lists
 

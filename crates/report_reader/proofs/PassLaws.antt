@@ -1,5 +1,5 @@
 -- The lines of a run that is told stand in their places.
-use Rattle.std.proofs.Common.{◌≡◌, ℕ, suc, ◌+◌, ◌<◌, ◌≤◌, Bool, true, false, cond, List, [], ◌∷◌, ◌++◌, length, Option, Some, refl, sym, ap, subst, ◌∙◌, arith, eq-eqb}
+use Rattle.std.proofs.Common.{◌≡◌, ℕ, suc, ◌+◌, ◌<◌, ◌≤◌, List, [], ◌∷◌, ◌++◌, length, Option, Some, refl, sym, ap, subst, ◌∙◌, arith, eq-eqb}
 use Rattle.std.specs.Prelude.{flat_map, IfSome}
 use Rattle.std.specs.List.{zip}
 use Rattle.std.proofs.lemmas.Bool.{lt-ltb}
@@ -21,18 +21,8 @@ use Rattle.report_reader.proofs.FormLaws.{form_parts}
 
 -- ---- numbers rise by one at most
 
-if_rises : (q : Bool) (n : ℕ) (a b : Option Section) → IfSome a (λ t. next_number t ≤ n) → IfSome b (λ t. next_number t ≤ n) → IfSome (cond q a b) (λ t. next_number t ≤ n)
-if_rises true n a b h k = h
-if_rises false n a b h k = k
-
 rises : (callers codecs : ℕ) (s : Section) (l : Line) → IfSome (next callers codecs s l) (λ t. next_number t ≤ next_number s + 1)
-rises callers codecs section.Start line.Header = omega arith
-rises callers codecs (section.Callers k n) (line.Result step found) = search (if_rises, arith)
-rises callers codecs (section.Codecs k n) (line.Entry place told) = search (if_rises, arith)
-rises callers codecs (section.Pool n) line.Slots = omega arith
-rises callers codecs (section.Slots n) (line.Held held) = omega arith
-rises callers codecs section.Held line.End = omega arith
-rises callers codecs _ _ = search (if_rises, arith)
+rises callers codecs s l = grind arith
 
 pub form_numbered : (script : ScriptData) (s : Section) (bs : List ℕ) (l : Line) (rest : List ℕ) (t : Section) → form_at script s bs ≡ Some (l, rest, t) → next_number t ≤ next_number s + 1
 form_numbered script s bs l rest t e = subst (λ (o : Option Section). IfSome o (λ x. next_number x ≤ next_number s + 1)) (form_parts script s bs l rest t e).1 (rises (length script.callers) (length script.codecs) s l)

@@ -19,7 +19,6 @@ use Rattle.script_types.specs.declared.steps.MediaStep.TheVariants as media
 use Rattle.script_types.specs.declared.steps.Step.{Step}
 use Rattle.script_types.specs.declared.steps.Step.TheVariants as step
 use Rattle.report_text.specs.declared.result.StepResult.{StepResult}
-use Rattle.report_text.specs.declared.result.StepResult.TheVariants as result
 use Rattle.media_variables.specs.CameLaws.{EachCame, by_came}
 use Rattle.media_variables.specs.Variables.{Reference, Shape, SoundOf, Medium, Came, Taken, Brought, medium_at, with_medium, detached, unit_came, chunk_medium, sound_in, sound_at, sound_of, media_ref, media_came}
 use Rattle.media_accounts.specs.Accounts.{step_by, before_step, media_of, variables_by, variables_in}
@@ -46,12 +45,10 @@ more gone d j = cond (gone j) true (is_named j d)
 -- ---- one variable
 
 or_false : (f b : Bool) → b ≡ false → cond f true b ≡ f
-or_false true b none = refl
-or_false false b none = none
+or_false f b none = grind (arith, none)
 
 or_true : (f b : Bool) → b ≡ true → cond f true b ≡ true
-or_true true b here = refl
-or_true false b here = here
+or_true f b here = grind (arith, here)
 
 -- a step that does not detach it
 later : (given f b : Bool) (j n : ℕ) (o : Option Medium) → b ≡ false → IsAt given f j n o → IsAt given (cond f true b) j (suc n) o
@@ -133,9 +130,7 @@ record IsAnswered (b : Brought) (x : MediaStep) (y : Came) (r : StepResult) : Ty
 
 -- a step that is refused detaches nothing
 stays : (x : MediaStep) (r : StepResult) → (IsNoTake x → is_ok r ≡ false) → detached_in (step.Media x) r ≡ None
-stays (media.Transfer of bind) r h = ap (λ (b : Bool). cond b (Some of.step) None) (h (λ on other kind e. absurd cc))
-stays (media.CloseData of) r h = ap (λ (b : Bool). cond b (Some of.step) None) (h (λ on other kind e. absurd cc))
-stays _ r h = refl
+stays x r h = grind (arith, h)
 
 each_all : (p : List PoolEntry) (who : Who) (b : Brought) (given f : ℕ → Bool) (vs : List (Option Medium)) (r : StepResult) → given who.step ≡ gives r → AreAll given f who.step vs
     → EachCame p who b vs (λ x y. IsAnswered b x y r → AreAll given (more f (detached_in (step.Media x) r)) (suc who.step) y.variables)
@@ -197,15 +192,12 @@ all_steps steps brought pool c results (suc n) made =
 
 -- an output is brought to a step whose result is that it took it
 took_gives : (s : ScriptData) (w : Recorded) (r : StepResult) (t : Taken) → taken_by s w (Some r) ≡ Some t → gives r ≡ true
-took_gives s w (result.Unit k p n) t is = refl
-took_gives s w _ t is = absurd cc
+took_gives s w r t is = grind (arith, is)
 
 -- a step on media that takes nothing has the answer that it comes to
 own_answer : (s : ScriptData) (files : List (List Chunk)) (p : List PoolEntry) (who : Who) (b : Brought) (vs : List (Option Medium)) (y : Came) (c : ℕ) (x : MediaStep) (r : StepResult) → media_came p who b x vs ≡ Some y → IsNoTake x
     → IsLocalAnswer s files vs (Some y) c (step.Media x) r → r ≡ y.answer
-own_answer s files p who b vs y c (media.Encode on content) r comes take h = absurd cc
-own_answer s files p who b vs y c (media.Take on bind kind) r comes take h = absurd (take on bind kind refl)
-own_answer s files p who b vs y c _ r comes take h = h
+own_answer s files p who b vs y c x r comes take h = grind (arith, comes, take, h)
 
 -- each step that has a result is so
 made_so : (s : ScriptData) (files : List (List Chunk)) (w : Recorded) → LocalsAreIn s files w → (c n : ℕ) (r : StepResult) → result_in w c n ≡ Some r
@@ -234,8 +226,7 @@ pub record IsStanding (steps : List Step) (results : List StepResult) (n j : ℕ
   pub gone : is_detached steps results n j ≡ is_none x.held
 
 held_none : (h : Option Reference) → is_none h ≡ is_none (option_map media_ref h)
-held_none None = refl
-held_none (Some r) = refl
+held_none h = grind arith
 
 sound_stands : (given gone : Bool) (m : Medium) (shape : Shape) (x : Sound) → Is given gone m → m.shape ≡ shape → sound_in (record { shape = shape; held = m.held }) ≡ Some x → (given ≡ true) × (gone ≡ is_none x.held)
 sound_stands given gone m (SoundOf s) x is shaped sound =

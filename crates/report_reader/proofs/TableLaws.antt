@@ -1,11 +1,10 @@
 -- What a table that keeps the first value of each key has.
-use Rattle.std.proofs.Common.{ℕ, zero, suc, ◌≡◌, ◌+◌, ◌<◌, ◌≤◌, nat_lt, Bool, true, false, cond, List, Option, Some, None, is_some, refl, ap, sym, subst, ◌∙◌, arith}
+use Rattle.std.proofs.Common.{ℕ, zero, suc, ◌≡◌, ◌+◌, ◌<◌, ◌≤◌, nat_lt, Bool, true, false, cond, List, Option, Some, None, is_some, refl, ap, sym, ◌∙◌, arith}
 use Rattle.std.specs.Prelude.{◌==◌, ◌&&◌, length}
 use Rattle.std.proofs.lemmas.Option.{slice_get_past}
 use Rattle.std.specs.Option.{option_or}
 use Rattle.std.specs.BTreeMap.{BTreeMap, get, is_at}
-use Rattle.std.proofs.lemmas.Bool.{and_parts, eqb-true, eqb-false}
-use Rattle.wc_base.specs.Options.{some_same}
+use Rattle.std.proofs.lemmas.Bool.{eqb-true, eqb-false}
 use Rattle.std.proofs.lemmas.Bool.Decides.{nat_tests}
 use Rattle.script_types.specs.declared.script.ScriptData.{ScriptData}
 use Rattle.script_types.specs.declared.steps.Step.{Step}
@@ -19,21 +18,13 @@ same_key : (a b k n : ℕ) → is_at (key_cmp (a, b)) (k, n) ≡ ((a == k) && (b
 same_key a b k n = grind (arith, nat_tests)
 
 or_none : {V : Type 0} (o : Option V) → o ≡ option_or o None
-or_none None = refl
-or_none (Some v) = refl
+or_none o = grind arith
 
 put_by : {V : Type 0} (old new : BTreeMap (ℕ × ℕ) V) (a b k n : ℕ) (v : V) → get key_cmp old (a, b) ≡ None → (q : Bool) → ((a == k) && (b == n)) ≡ q → cond q (Some v) (get key_cmp old (k, n)) ≡ option_or (get key_cmp old (k, n)) (cond q (Some v) None)
-put_by old new a b k n v none true is =
-    let parts = and_parts (a == k) (b == n) is in
-    let first : a ≡ k = eqb-true a k parts.0 in
-    let second : b ≡ n = eqb-true b n parts.1 in
-    let here : get key_cmp old (k, n) ≡ None = subst (λ (i : ℕ). get key_cmp old (i, n) ≡ None) first (subst (λ (j : ℕ). get key_cmp old (a, j) ≡ None) second none) in
-    ap (λ o. option_or o (Some v)) (sym here)
-put_by old new a b k n v none false is = or_none (get key_cmp old (k, n))
+put_by old new a b k n v none q is = grind (arith, nat_tests, none, is)
 
 pub absent : {V : Type 0} (o : Option V) → false ≡ is_some o → o ≡ None
-absent None e = refl
-absent (Some v) e = absurd cc
+absent o e = grind (arith, e)
 
 -- a key that had no value has this one, and the others are as they were
 pub put_first : {V : Type 0} (old new : BTreeMap (ℕ × ℕ) V) (key : ℕ × ℕ) (v : V) → get key_cmp old key ≡ None → ((q : ℕ × ℕ) → get key_cmp new q ≡ cond (is_at (key_cmp key) q) (Some v) (get key_cmp old q))
@@ -48,9 +39,7 @@ abbrev step_here : Bool → ℕ → Option ℕ
 step_here q n = cond q (Some n) None
 
 first_below_by : (o : Option ℕ) (q : Bool) (n i : ℕ) → ((k : ℕ) → o ≡ Some k → k < n) → option_or o (step_here q n) ≡ Some i → i < suc n
-first_below_by None true n i below h = let same = some_same n i h in omega (arith, same)
-first_below_by (Some k) q n i below h = let same = some_same k i h in let lt = below k refl in omega (arith, lt, same)
-first_below_by _ _ n i below h = absurd cc
+first_below_by o q n i below h = grind (arith, below, h)
 
 -- the first is one of them
 first_below : (f : ℕ → Option ℕ) (n j i : ℕ) → first_named f n j ≡ Some i → i < n
@@ -59,14 +48,11 @@ first_below f (suc n) j i h = first_below_by (first_named f n j) (is_named j (f 
 
 -- of fewer steps
 earlier_by : (o : Option ℕ) (q : Bool) (n m : ℕ) → m ≤ n → is_before (option_or o (step_here q n)) m ≡ is_before o m
-earlier_by None true n m le = grind (arith, nat_tests, le)
-earlier_by _ _ n m le = refl
+earlier_by o q n m le = grind (arith, nat_tests, le)
 
 -- of all of them
 here_by : (o : Option ℕ) (q : Bool) (n : ℕ) → ((i : ℕ) → o ≡ Some i → i < n) → is_before (option_or o (step_here q n)) (suc n) ≡ cond (is_before o n) true q
-here_by None true n below = grind (arith, nat_tests)
-here_by None false n below = refl
-here_by (Some i) q n below = let lt = below i refl in grind (arith, nat_tests, lt)
+here_by o q n below = grind (arith, nat_tests, below)
 
 -- ---- the ends of variables
 

@@ -40,12 +40,10 @@ showing_at s o = option_map {U = Entry × Shown} (λ x. (x.0, shown_at x.0 s)) o
 
 shown_of : (e : Entry) (s : State) (o : Option State) (found : Option Shown) → option_map (λ t. shown_at e s) o ≡ found
     → showing_at s (paired e o) ≡ noted e found
-shown_of e s None found is = rw (← is) refl
-shown_of e s (Some t) found is = rw (← is) refl
+shown_of e s o found is = grind (arith, is)
 
 next_after : (e d : Entry) (u : State) (o : Option State) (s : State) → paired e o ≡ Some (d, u) → unwrap_or o s ≡ u
-next_after e d u None s is = absurd cc
-next_after e d u (Some t) s is = ap (λ (x : Entry × State). x.1) (some_same {X = Entry × State} (e, t) (d, u) is)
+next_after e d u o s is = grind (arith, is)
 
 pub entry_follows : (script : ScriptData) (media_of : List (List Chunk)) (known : Known) (k place : ℕ) (t : EntryLine) (e : Entry) (old new : FollowerValue) (found : Option Shown) → entry_of script media_of known k place t ≡ Some e → Follows e old found new
     → NextIs script media_of known k place t old (noted e found) new
@@ -105,8 +103,7 @@ next_in script media_of known k place t s e blank h = by (next_of script media_o
         (u, (bound s e u (entry_of script media_of known k place t) next).1, next, sym (ap (λ (x : Entry × Shown). x.1) same) ∙ ap (λ (x : Entry). shown_at x s) entry)
 
 none_next : (s : State) (o : Option (Entry × State)) → showing_at s o ≡ None → o ≡ None
-none_next s None h = refl
-none_next s (Some x) h = absurd cc
+none_next s o h = grind (arith, h)
 
 rest_split : {X : Type 0} (rest : List X) (t : X) → 0 < length rest → t ≡ get_or rest 0 t → rest ≡ t ∷ take (length rest - 1) (drop 1 rest)
 rest_split [] t lt is = absurd (omega arith)
