@@ -3,7 +3,6 @@ use Rattle.std.proofs.Common.{arith, ◌≡◌, ℕ, Bool, true, false, List, []
 use Rattle.std.specs.Prelude.{option_map, option_and_then}
 use Rattle.std.specs.Option.{is_none}
 use Rattle.std.specs.List.{slice_get}
-use Rattle.wc_base.specs.Options.{some_same}
 use Rattle.wc_base.specs.declared.error.DomError.{DomError}
 use Rattle.wc_base.specs.declared.media.Samples.{Samples}
 use Rattle.wc_base.specs.declared.media.SoundShape.{SoundShape}
@@ -48,12 +47,10 @@ use Rattle.report_reader.proofs.StandingLaws.{IsStanding}
 
 -- what holds of all that is given for a value that is there
 where_there : {X Y : Type 0} (P : Y → Type 0) (f : X → Option Y) (o : Option X) → ((x : X) (y : Y) → f x ≡ Some y → P y) → (y : Y) → option_and_then f o ≡ Some y → P y
-where_there P f None each y h = absurd cc
-where_there P f (Some x) each y h = each x y h
+where_there P f o each y h = grind (arith, each, h)
 
 where_mapped : {X Y : Type 0} (P : Y → Type 0) (f : X → Y) (o : Option X) → ((x : X) → o ≡ Some x → P (f x)) → (y : Y) → option_map f o ≡ Some y → P y
-where_mapped P f None each y h = absurd cc
-where_mapped P f (Some x) each y h = subst P (some_same (f x) y h) (each x refl)
+where_mapped P f o each y h = grind (arith, each, h)
 
 -- ---- an entry's line tells the entry
 

@@ -1,5 +1,5 @@
 -- Where two texts differ.
-use Rattle.std.proofs.Common.{◌≡◌, ◌≢◌, ℕ, ◌+◌, ◌≤◌, Bool, true, false, cond, eqb, List, [], ◌∷◌, length, drop, Option, Some, None, refl, sym, arith, eq-eqb, ◌⊎◌}
+use Rattle.std.proofs.Common.{◌≡◌, ◌≢◌, ℕ, ◌+◌, ◌≤◌, Bool, true, cond, eqb, List, [], ◌∷◌, length, drop, Option, Some, None, refl, sym, arith, eq-eqb, ◌⊎◌}
 use Rattle.std.specs.Prelude.{IfNone, IfSome}
 use Rattle.std.proofs.lemmas.List.{length-drop}
 use Rattle.std.proofs.lemmas.Bool.{eqb-true}
@@ -39,8 +39,7 @@ line_step m n x xs q is e = grind (arith, is, e)
 
 line_there : (m n x y : ℕ) (a b : List ℕ) → ((k : ℕ) → difference_from k a b ≡ Some n → n ≡ feeds (common a b) + k)
     → (q : Bool) → eqb x y ≡ q → cond q (difference_from (cond (eqb x 10) (m + 1) m) a b) (Some m) ≡ Some n → n ≡ feeds (cond q (x ∷ common a b) []) + m
-line_there m n x y a b on true is e = line_step m n x (common a b) (eqb x 10) refl (on (cond (eqb x 10) (m + 1) m) e)
-line_there m n x y a b on false is e = omega (arith, some_same m n e)
+line_there m n x y a b on q is e = grind (arith, line_step, on, is, e)
 
 line_from : (m n : ℕ) (a b : List ℕ) → difference_from m a b ≡ Some n → n ≡ feeds (common a b) + m
 line_from m n [] [] e = absurd cc

@@ -193,9 +193,7 @@ entries_fit script files known k place (t ∷ ts) s fits =
     (λ e u is step. (let more = entries_fit script files known k (place + 1) ts u fits.1 in ((entry_fits script files known k place t e fits.0 is, more.0), omega (arith, more.1))))
 
 event_fits : (script : ScriptData) (k : Kind) (e : Event) → FitsEvent e → AllByRecursion (FitsUnit script k) (event_units e) → AreFit script (event_lines e)
-event_fits script k (event.Refusal x) fits units = tt
-event_fits script k (event.Output n u) fits units = units.0.fits
-event_fits script k _ fits units = (fits, tt)
+event_fits script k e fits units = grind (arith, fits, units)
 
 events_fit : (script : ScriptData) (k : Kind) (es : List Event) → AllByRecursion FitsEvent es → AllByRecursion (FitsUnit script k) (units_in es) → AreFit script (flat_map event_lines es)
 events_fit script k [] fits units = tt
@@ -222,8 +220,7 @@ record FitsCodec (script : ScriptData) (c : CodecTrace) : Type 0 where
   units : AllByRecursion (FitsUnit script c.opening.kind) (units_shown c.shown)
 
 opening_fits : (script : ScriptData) (ls : List Line) → AreFit script ls → (opening_of ls).saturation < 2 ^ 32
-opening_fits script (line.Codec n opening ∷ ls) fits = fits.0.1
-opening_fits script ls fits = omega arith
+opening_fits script ls fits = grind (arith, fits)
 
 codecs_front : (script : ScriptData) (files : List (List Chunk)) (known : Known) (k n : ℕ) (ls : List Line) → length ls < 2 ^ 64 → AreFit script ls
     → AllByRecursion (FitsCodec script) (codecs_in script files known k n ls) × IsLeft script ls (all_outputs_in n ls).1

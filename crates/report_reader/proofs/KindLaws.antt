@@ -1,5 +1,5 @@
 -- Outputs by the kinds of their codecs: the lines that show them, and those of a legal run that fits its script.
-use Rattle.std.proofs.Common.{ℕ, suc, ◌≡◌, Bool, true, false, cond, List, [], ◌∷◌, ◌++◌, map, Option, Some, None, refl, ap, sym, subst, ◌∙◌, arith}
+use Rattle.std.proofs.Common.{ℕ, suc, ◌≡◌, Bool, true, cond, List, [], ◌∷◌, ◌++◌, map, Option, Some, None, refl, ap, sym, subst, ◌∙◌, arith}
 use Rattle.std.specs.Prelude.{nat_lt, flat_map, unwrap_or, option_to_list}
 use Rattle.std.specs.List.{AllByRecursion, slice_get}
 use Rattle.std.proofs.lemmas.Bool.{lt-ltb, ltb-true}
@@ -85,8 +85,7 @@ description_told d = grind arith
 
 config_of_fits : (script : ScriptData) (codec : List ℕ) (rate channels : ℕ) (description : List ℕ) (q : Bool) → is_codec_string codec ≡ q → FitsEventLine (event_line.Config codec rate channels description)
     → FitsConfig script (cond q (Some (record { codec = codec; rate = rate; channels = channels; description = description_of description })) None)
-config_of_fits script codec rate channels description true is fits = record { plain = (is, (description_told description).0); fits = (rw (description_told description).1 fits, tt) }
-config_of_fits script codec rate channels description false is fits = record { plain = tt; fits = tt }
+config_of_fits script codec rate channels description q is fits = grind (arith, description_told description, is, fits)
 
 config_fits : (script : ScriptData) (ls : List Line) → AreFit script ls → FitsConfig script (config_in ls)
 config_fits script (line.Event (event_line.Config codec rate channels description) ∷ ls) fits = config_of_fits script codec rate channels description (is_codec_string codec) refl fits.0
@@ -94,8 +93,7 @@ config_fits script ls fits = record { plain = tt; fits = tt }
 
 sound_fits : (script : ScriptData) (samples : Samples) (q : Bool) → nat_lt 0 samples.shape.rate ≡ q → FitsEventLine (event_line.Sound samples)
     → AllByRecursion (FitsUnit script word.AudioDecoder) (option_to_list (cond q (Some (unit.Sound samples)) None))
-sound_fits script samples true is own = (record { plain = ltb-true 0 samples.shape.rate is; fits = (own, tt) }, tt)
-sound_fits script samples false is own = tt
+sound_fits script samples q is own = grind (arith, ltb-true, is, own)
 
 pub unit_fits : (script : ScriptData) (k : Kind) (s : EventLine) (ls : List Line) → FitsEventLine s → AreFit script ls → AllByRecursion (FitsUnit script k) (option_to_list (unit_of k s (config_in ls)))
 unit_fits script word.AudioDecoder (event_line.Sound samples) ls own fits = sound_fits script samples (nat_lt 0 samples.shape.rate) refl own

@@ -50,8 +50,7 @@ use Rattle.report_reader.proofs.CallLaws.{AreFound, HasPair, ShowsOwn, shows_own
 
 units_then : (es : List Entry) (o : Option State) → ((t : State) → outputs_of (shown_from es t) ≡ units_shown (each_shown_from es t))
     → outputs_of (unwrap_or (option_map (shown_from es) o) []) ≡ units_shown (unwrap_or (option_map (each_shown_from es) o) [])
-units_then es None later = refl
-units_then es (Some t) later = later t
+units_then es o later = grind (arith, later)
 
 shown_units : (es : List Entry) (s : State) → outputs_of (shown_from es s) ≡ units_shown (each_shown_from es s)
 shown_units [] s = refl
@@ -113,8 +112,7 @@ clone_first o p e rest = grind (arith, e)
 pair_by : (k place : ℕ) (e : PoolEntry) (es : List PoolEntry) (p : Pair) (rest : List PoolOp) → (ops_of_entry k place es ≡ op.Clone p.resource p.reference ∷ rest → pair_for k place es ≡ Some p)
     → (q : Bool) → is_by_entry k place e.by ≡ q → map without_last (cond q (e.op ∷ ops_where (is_by_entry k place) es) (ops_where (is_by_entry k place) es)) ≡ op.Clone p.resource p.reference ∷ rest
     → option_or (cond q (cloned e.op) None) (pair_for k place es) ≡ Some p
-pair_by k place e es p rest later true is ops = let first : without_last e.op ≡ op.Clone p.resource p.reference = cc in clone_first e.op p first (pair_for k place es)
-pair_by k place e es p rest later false is ops = later ops
+pair_by k place e es p rest later q is ops = grind (arith, clone_first, later, is, ops)
 
 -- the first clone that an entry made is the only one
 pair_is : (k place : ℕ) (pool : List PoolEntry) (p : Pair) (rest : List PoolOp) → ops_of_entry k place pool ≡ op.Clone p.resource p.reference ∷ rest → pair_for k place pool ≡ Some p

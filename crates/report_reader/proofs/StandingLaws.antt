@@ -1,6 +1,6 @@
 -- Which variables hold audio data, and which data is detached, by the results of their callers' steps.
 use Rattle.std.proofs.Common.{ℕ, zero, suc, ◌≡◌, ◌<◌, Bool, true, false, cond, List, [], ◌∷◌, Option, Some, None, refl, ap, sym, subst, ◌∙◌, arith}
-use Rattle.std.specs.Prelude.{slice_get, take, option_map, option_and_then, ◌==◌}
+use Rattle.std.specs.Prelude.{slice_get, take, option_and_then, ◌==◌}
 use Rattle.std.specs.Option.{is_none}
 use Rattle.std.proofs.lemmas.Bool.{eq-eqb, ne_eqb, eqb-true}
 use Rattle.wc_base.specs.Options.{some_same}
@@ -20,7 +20,7 @@ use Rattle.script_types.specs.declared.steps.Step.{Step}
 use Rattle.script_types.specs.declared.steps.Step.TheVariants as step
 use Rattle.report_text.specs.declared.result.StepResult.{StepResult}
 use Rattle.media_variables.specs.CameLaws.{EachCame, by_came}
-use Rattle.media_variables.specs.Variables.{Reference, Shape, SoundOf, Medium, Came, Taken, Brought, medium_at, with_medium, detached, unit_came, chunk_medium, sound_in, sound_at, sound_of, media_ref, media_came}
+use Rattle.media_variables.specs.Variables.{Shape, SoundOf, Medium, Came, Taken, Brought, medium_at, with_medium, detached, unit_came, chunk_medium, sound_in, sound_at, media_came}
 use Rattle.media_accounts.specs.Accounts.{step_by, before_step, media_of, variables_by, variables_in}
 use Rattle.trace_text.specs.Follow.{Recorded, steps_of}
 use Rattle.trace_text.specs.Fits.{LocalsAreIn, IsLocalAnswer, result_in, taken_by, brought_to, variables_at, came_at}
@@ -225,15 +225,8 @@ pub record IsStanding (steps : List Step) (results : List StepResult) (n j : ℕ
   pub given : is_given results j ≡ true
   pub gone : is_detached steps results n j ≡ is_none x.held
 
-held_none : (h : Option Reference) → is_none h ≡ is_none (option_map media_ref h)
-held_none h = grind arith
-
 sound_stands : (given gone : Bool) (m : Medium) (shape : Shape) (x : Sound) → Is given gone m → m.shape ≡ shape → sound_in (record { shape = shape; held = m.held }) ≡ Some x → (given ≡ true) × (gone ≡ is_none x.held)
-sound_stands given gone m (SoundOf s) x is shaped sound =
-    let same : sound_of s m.held ≡ x = cc in
-    let known = is.sound s shaped in
-    (known.0, known.1 ∙ held_none m.held ∙ ap (λ (y : Sound). is_none y.held) same)
-sound_stands given gone m _ x is shaped sound = absurd cc
+sound_stands given gone m shape x is shaped sound = grind (arith, is, shaped, sound)
 
 stands_there : (given gone : ℕ → Bool) (n : ℕ) (vs : List (Option Medium)) (j : ℕ) (x : Sound) (o : Option Medium) → AreAll given gone n vs → medium_at vs j ≡ o → option_and_then sound_in o ≡ Some x → (given j ≡ true) × (gone j ≡ is_none x.held)
 stands_there given gone n vs j x None all there sound = absurd cc

@@ -53,9 +53,6 @@ entry_follows script media_of known k place t e old new found is follows = recor
       ap follower_of (sym (next_after e d u (follow_step e s) s there)) ∙ follows.after s same;
 }
 
-pub no_arguments : (script : ScriptData) (media_of : List (List Chunk)) (known : Known) (k place : ℕ) (t : EntryLine) (old : FollowerValue) → entry_of script media_of known k place t ≡ None → NextIs script media_of known k place t old None old
-no_arguments script media_of known k place t old is = record { answer = λ s same. rw is refl; after = λ s same d u next. absurd (let none = rw is at next in cc) }
-
 -- ---- the loop
 
 -- So far these entries and what they show were made, and the rest is told after the follower's state.
@@ -75,12 +72,7 @@ IsNext script media_of known k place t s e blank = (u : State) × (follow_step e
 
 -- the next entry is the one that its line tells, and follows
 bound : (s : State) (e : Entry) (u : State) (p : Option Entry) → option_and_then {U = Entry × State} (λ d. paired d (follow_step d s)) p ≡ Some (e, u) → (p ≡ Some e) × (follow_step e s ≡ Some u)
-bound s e u None h = absurd cc
-bound s e u (Some d) h = by (follow_step d s) refl h
-  where
-    by : (o : Option State) → follow_step d s ≡ o → paired d o ≡ Some (e, u) → (some d ≡ Some e) × (follow_step e s ≡ Some u)
-    by None is same = absurd cc
-    by (Some v) is same = let both = some_same {X = Entry × State} (d, v) (e, u) same in (ap (λ (x : Entry × State). some x.0) both, subst (λ (x : Entry × State). follow_step x.0 s ≡ Some x.1) both is)
+bound s e u p h = grind (arith, h)
 
 -- what holds of no entries, and of the next one with those behind it, holds of the entries that lines tell
 pub by_next : (script : ScriptData) (media_of : List (List Chunk)) (known : Known) (k place : ℕ) (t : EntryLine) (ts : List EntryLine) (s : State) (P : List Entry → Type 0) → P []
