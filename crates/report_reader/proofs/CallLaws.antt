@@ -209,10 +209,8 @@ pub record IsGiven (script : ScriptData) (files : List (List Chunk)) (w : Record
 
 pub entry_holds : (script : ScriptData) (files : List (List Chunk)) (w : Recorded) (known : Known) (k place : ℕ) (e : Entry) (x : Shown) → AreFound script files w known → ShowsOwn e x → IsGiven script files w known k place e
     → IsAgain script files known k place x e
-entry_holds script files w known k place (entry.Start epoch item) x found own h = refl
-entry_holds script files w known k place (entry.Done epoch item moment outcome) x found own h = refl
-entry_holds script files w known k place entry.Turn x found own h = refl
-entry_holds script files w known k place (entry.Reclaim moment) x found own h = refl
-entry_holds script files w known k place e x found own h =
-    let got = h.arguments _ refl in
-    step_again script files w known k place _ x got.0 e found (h.made _ refl) got.1 h.pair own got.2
+entry_holds script files w known k place e x found own h = by (who_of e) refl
+  where
+    by : (o : Option Who) → who_of e ≡ o → IsAgain script files known k place x e
+    by None is = grind (arith, is)
+    by (Some who) is = let got = h.arguments who is in step_again script files w known k place who x got.0 e found (h.made who is) got.1 h.pair own got.2

@@ -25,7 +25,6 @@ use Rattle.script_types.specs.declared.script.ScriptData.{ScriptData}
 use Rattle.script_types.specs.declared.script.CodecItem.{CodecItem}
 use Rattle.script_types.specs.declared.steps.Step.{Step}
 use Rattle.script_types.specs.declared.steps.Step.TheVariants as step
-use Rattle.script_types.specs.declared.steps.MediaStep.TheVariants as on_media
 use Rattle.script_types.specs.Sound.{is_sound, suits}
 use Rattle.script_types.specs.SoundLaws.{step_at, codec_there}
 use Rattle.report_text.specs.declared.result.StepResult.{StepResult}
@@ -104,9 +103,7 @@ unit_fits script word.AudioEncoder (event_line.Chunk chunk) ls own fits =
 unit_fits script _ _ ls own fits = tt
 
 pub empty_fits : (script : ScriptData) (k : Kind) → FitsUnit script k (empty_output k)
-empty_fits script word.AudioDecoder = record { plain = omega arith; fits = (record { rate = omega arith; channels = omega arith; frames = omega arith; timestamp = omega arith; are_bytes = λ i. omega arith }, tt) }
-empty_fits script word.AudioEncoder = record { plain = tt; fits = ((omega arith, λ k e. absurd cc, λ i. omega arith), tt) }
-empty_fits script word.VideoDecoder = record { plain = tt; fits = (record { width = omega arith; height = omega arith; timestamp = omega arith; duration = λ k e. absurd cc; are_bytes = λ i. omega arith }, tt) }
+empty_fits script k = grind arith
 
 -- ---- the outputs of a legal run
 
@@ -128,8 +125,7 @@ step_suits script files vs w who k p r c given (step.Configure on config) sound 
     let own = subst (λ (y : CodecItem). IsConfigOf y.kind config) same (suits_kind config there.0.kind there.2) in
     let kept_config : config ≡ given = cc in
     subst (λ (y : Config). IsConfigOf c.kind y) kept_config own
-step_suits script files vs w who k p r c given (step.Media (on_media.Take on bind kind)) sound is kept named has at = absurd (grind arith)
-step_suits script files vs w who k p r c given _ sound is kept named has at = absurd (grind arith)
+step_suits script files vs w who k p r c given _ sound is kept named has at = absurd (grind (arith, has))
 
 configures : (script : ScriptData) (files : List (List Chunk)) (w : Recorded) (k p : ℕ) (c : CodecItem) (e : Entry)
     → is_sound script ≡ true → CallsAreIn script w → ArgumentsAreIn script files w → entry_in w k p ≡ Some e → slice_get script.codecs k ≡ Some c → ConfiguresAs c.kind e
