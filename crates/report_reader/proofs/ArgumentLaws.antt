@@ -6,10 +6,8 @@ use Rattle.std.proofs.lemmas.Option.{slice_get_read, slice_get_past}
 use Rattle.std.specs.Prelude.{slice_get, option_and_then, option_map, unwrap_or, nat_lt, ◌==◌}
 use Rattle.wc_base.specs.declared.media.Samples.{Samples}
 use Rattle.codec_definitions.specs.declared.unit.Unit as media
-use Rattle.script_types.specs.declared.steps.Step.{Step}
-use Rattle.script_types.specs.declared.script.CallerItem.{CallerItem}
-use Rattle.trace_text.specs.declared.run.CallerTrace.{CallerTrace}
-use Rattle.trace_text.specs.Follow.{steps_in}
+use Rattle.script_types.specs.declared.{steps.Step.Step, script.CallerItem.CallerItem}
+use Rattle.trace_text.specs.{declared.run.CallerTrace.CallerTrace, Follow.steps_in}
 use Rattle.media_accounts.specs.Samples.{samples_by, samples_before}
 use Rattle.report_reader.specs.Arguments.{results_of}
 

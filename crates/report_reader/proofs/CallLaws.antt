@@ -3,37 +3,19 @@ use Rattle.std.proofs.Common.{arith, ◌≡◌, ℕ, Bool, true, false, List, []
 use Rattle.std.specs.Prelude.{option_map, option_and_then}
 use Rattle.std.specs.Option.{is_none}
 use Rattle.std.specs.List.{slice_get}
-use Rattle.wc_base.specs.declared.error.DomError.{DomError}
-use Rattle.wc_base.specs.declared.media.Samples.{Samples}
-use Rattle.wc_base.specs.declared.media.SoundShape.{SoundShape}
-use Rattle.wc_base.specs.declared.who.Who.{Who}
+use Rattle.wc_base.specs.declared.{error.DomError.DomError, media.Samples.Samples, media.SoundShape.SoundShape, who.Who.Who}
 use Rattle.wc_config.specs.declared.kind.Kind.{Kind}
 use Rattle.wc_chunk.specs.declared.chunk.Chunk.{Chunk}
 use Rattle.wc_pool.specs.declared.reference.MediaRef.{MediaRef}
 use Rattle.wc_audio.specs.Sound.{Sound}
 use Rattle.codec_definitions.specs.declared.unit.Unit as media
-use Rattle.codec_model.specs.declared.entry.Pair.{Pair}
-use Rattle.codec_model.specs.declared.entry.HeldSound.{HeldSound}
-use Rattle.codec_model.specs.declared.entry.Handed.{Handed}
-use Rattle.codec_model.specs.declared.entry.Handed.TheVariants as handed
-use Rattle.codec_model.specs.declared.entry.Entry.{Entry}
-use Rattle.codec_model.specs.declared.entry.Entry.TheVariants as entry
-use Rattle.codec_model.specs.declared.entry.Shown.{Shown}
-use Rattle.codec_model.specs.Replay.{State}
+use Rattle.codec_model.specs.declared.entry.{Pair.Pair, HeldSound.HeldSound, Handed.Handed, Entry.Entry, Shown.Shown}
+use Rattle.codec_model.specs.{Replay.State, Held.adds_held}
 use Rattle.codec_model.specs.Shown.{refusal, handed_error, shown_at}
-use Rattle.codec_model.specs.Held.{adds_held}
 use Rattle.codec_follow.specs.Follow.{filled, filled_at}
 use Rattle.codec_accounts.specs.Calls.{who_of}
-use Rattle.script_types.specs.declared.script.ScriptData.{ScriptData}
-use Rattle.script_types.specs.declared.steps.Variable.{Variable}
-use Rattle.script_types.specs.declared.steps.Step.{Step}
-use Rattle.script_types.specs.declared.steps.Step.TheVariants as step
-use Rattle.script_types.specs.declared.steps.MediaStep.TheVariants as on_media
-use Rattle.report_text.specs.declared.result.StepResult.{StepResult}
-use Rattle.report_text.specs.declared.line.CallWord.{CallWord}
-use Rattle.report_text.specs.declared.line.CallWord.TheVariants as call
-use Rattle.report_text.specs.declared.line.EntryLine.{EntryLine}
-use Rattle.report_text.specs.declared.line.EntryLine.TheVariants as entry_line
+use Rattle.script_types.specs.declared.{script.ScriptData.ScriptData, steps.Variable.Variable, steps.Step.Step, steps.MediaStep.MediaStep}
+use Rattle.report_text.specs.declared.{result.StepResult.StepResult, line.CallWord.CallWord, line.EntryLine.EntryLine}
 use Rattle.media_variables.specs.Variables.{sound_at, handed_by, handed_of}
 use Rattle.media_accounts.specs.Samples.{samples_before}
 use Rattle.trace_text.specs.Follow.{Recorded, steps_of, chunk_for, is_gone}
@@ -56,27 +38,27 @@ where_mapped P f o each y h = grind (arith, each, h)
 
 -- a line of an entry, where the entry shows this
 abbrev pub line_with : EntryLine → Shown → EntryLine
-line_with (entry_line.Call who word error) x = entry_line.Call who word (refusal_in x.events)
-line_with (entry_line.Turn word) x = entry_line.Turn x.turn
+line_with (EntryLine.Call who word error) x = EntryLine.Call who word (refusal_in x.events)
+line_with (EntryLine.Turn word) x = EntryLine.Turn x.turn
 line_with told x = told
 
 abbrev IsToldBy : EntryLine → Shown → Entry → Type 0
 IsToldBy told x e = entry_line_of e x ≡ line_with told x
 
-call_told : (files : List (List Chunk)) (known : Known) (steps : List Step) (who : Who) (word : CallWord) (error : Option DomError) (x : Shown) (s : Step) (e : Entry) → call_of files known steps who word s ≡ Some e → IsToldBy (entry_line.Call who word error) x e
+call_told : (files : List (List Chunk)) (known : Known) (steps : List Step) (who : Who) (word : CallWord) (error : Option DomError) (x : Shown) (s : Step) (e : Entry) → call_of files known steps who word s ≡ Some e → IsToldBy (EntryLine.Call who word error) x e
 call_told files known steps who word error x s e h = grind (arith, h)
 
-encode_told : (known : Known) (steps : List Step) (k place : ℕ) (who : Who) (error : Option DomError) (x : Shown) (s : Step) (e : Entry) → encode_of known steps k place who error s ≡ Some e → IsToldBy (entry_line.Call who call.Encode error) x e
+encode_told : (known : Known) (steps : List Step) (k place : ℕ) (who : Who) (error : Option DomError) (x : Shown) (s : Step) (e : Entry) → encode_of known steps k place who error s ≡ Some e → IsToldBy (EntryLine.Call who CallWord.Encode error) x e
 encode_told known steps k place who error x s e h = grind (arith, h)
 
-take_told : (who : Who) (n : ℕ) (x : Shown) (s : Step) (e : Entry) → take_of who n s ≡ Some e → IsToldBy (entry_line.Take who n) x e
+take_told : (who : Who) (n : ℕ) (x : Shown) (s : Step) (e : Entry) → take_of who n s ≡ Some e → IsToldBy (EntryLine.Take who n) x e
 take_told who n x s e h = grind (arith, h)
 
 -- an entry that a line tells has that line, but for what it shows
 pub entry_told : (script : ScriptData) (files : List (List Chunk)) (known : Known) (k place : ℕ) (told : EntryLine) (x : Shown) (e : Entry) → entry_of script files known k place told ≡ Some e → IsToldBy told x e
-entry_told script files known k place (entry_line.Call who call.Encode error) x e h = where_there (IsToldBy (entry_line.Call who call.Encode error) x) _ _ (encode_told known (steps_of script who.caller) k place who error x) e h
-entry_told script files known k place (entry_line.Call who word error) x e h = where_there (IsToldBy (entry_line.Call who word error) x) _ _ (call_told files known (steps_of script who.caller) who word error x) e h
-entry_told script files known k place (entry_line.Take who n) x e h = where_there (IsToldBy (entry_line.Take who n) x) _ _ (take_told who n x) e h
+entry_told script files known k place (EntryLine.Call who CallWord.Encode error) x e h = where_there (IsToldBy (EntryLine.Call who CallWord.Encode error) x) _ _ (encode_told known (steps_of script who.caller) k place who error x) e h
+entry_told script files known k place (EntryLine.Call who word error) x e h = where_there (IsToldBy (EntryLine.Call who word error) x) _ _ (call_told files known (steps_of script who.caller) who word error x) e h
+entry_told script files known k place (EntryLine.Take who n) x e h = where_there (IsToldBy (EntryLine.Take who n) x) _ _ (take_told who n x) e h
 entry_told script files known k place told x e h = cc
 
 -- ---- an encode
@@ -95,13 +77,13 @@ refusal_filled kind o us = grind arith
 -- and an encode, from the exception that it shows
 encode_again : (kind : Kind) (known : Known) (steps : List Step) (k place : ℕ) (who : Who) (error : Option DomError) (t : State) (us : List media.Unit) (s : Step) (e : Entry) → encode_of known steps k place who error s ≡ Some e
     → encode_of known steps k place who (refusal_in (filled_at kind e t us).events) s ≡ Some e
-encode_again kind known steps k place who error t us (step.Media (on_media.Encode on content)) e is =
+encode_again kind known steps k place who error t us (Step.Media (MediaStep.Encode on content)) e is =
     let given = is_given (results_of known.callers who.caller) content.step in
     let gone = is_detached steps (results_of known.callers who.caller) who.step content.step in
     let a = samples_before steps (taken_in known who.caller) who.step content.step in
     let b = pair_for k place known.pool in
-    where_mapped (λ (z : Entry). option_map (λ h. entry.Encode who h) (handed_for given gone (refusal_in (filled_at kind z t us).events) (clone_of a b)) ≡ Some z) (λ (h : Handed). entry.Encode who h) (handed_for given gone error (clone_of a b))
-    (λ h found. ap (λ (x : Option DomError). option_map (λ z. entry.Encode who z) (handed_for given gone x (clone_of a b))) (refusal_filled kind (handed_error h) us) ∙ ap (option_map (λ z. entry.Encode who z)) (handed_again given gone error a b h found)) e is
+    where_mapped (λ (z : Entry). option_map (λ h. Entry.Encode who h) (handed_for given gone (refusal_in (filled_at kind z t us).events) (clone_of a b)) ≡ Some z) (λ (h : Handed). Entry.Encode who h) (handed_for given gone error (clone_of a b))
+    (λ h found. ap (λ (x : Option DomError). option_map (λ z. Entry.Encode who z) (handed_for given gone x (clone_of a b))) (refusal_filled kind (handed_error h) us) ∙ ap (option_map (λ z. Entry.Encode who z)) (handed_again given gone error a b h found)) e is
 encode_again kind known steps k place who error t us _ e is = absurd cc
 
 encode_there : (kind : Kind) (known : Known) (steps : List Step) (k place : ℕ) (who : Who) (error : Option DomError) (t : State) (us : List media.Unit) (o : Option Step) (e : Entry) → option_and_then (encode_of known steps k place who error) o ≡ Some e
@@ -113,7 +95,7 @@ encode_there kind known steps k place who error t us (Some s) e is = encode_agai
 
 line_again : (script : ScriptData) (files : List (List Chunk)) (known : Known) (k place : ℕ) (told : EntryLine) (e : Entry) (kind : Kind) (t : State) (us : List media.Unit) → entry_of script files known k place told ≡ Some e
     → entry_of script files known k place (line_with told (filled_at kind e t us)) ≡ Some e
-line_again script files known k place (entry_line.Call who call.Encode error) e kind t us h = encode_there kind known (steps_of script who.caller) k place who error t us _ e h
+line_again script files known k place (EntryLine.Call who CallWord.Encode error) e kind t us h = encode_there kind known (steps_of script who.caller) k place who error t us _ e h
 line_again script files known k place told e kind t us h = h
 
 pub told_holds : (script : ScriptData) (files : List (List Chunk)) (known : Known) (k place : ℕ) (told : EntryLine) (e : Entry) (kind : Kind) (t : State) (us : List media.Unit) → entry_of script files known k place told ≡ Some e
@@ -139,7 +121,7 @@ record IsCloned (shape : SoundShape) (held : Option MediaRef) (sound : HeldSound
   is : held ≡ Some reference
   samples : (let own : Samples = record { shape = shape; bytes = reference.bytes } in own) ≡ sound.samples
 
-cloned_held : (number : ℕ) (accepts : Bool) (shape : SoundShape) (held : Option MediaRef) (sound : HeldSound) → handed_by number accepts shape held ≡ handed.Cloned sound → IsCloned shape held sound
+cloned_held : (number : ℕ) (accepts : Bool) (shape : SoundShape) (held : Option MediaRef) (sound : HeldSound) → handed_by number accepts shape held ≡ Handed.Cloned sound → IsCloned shape held sound
 cloned_held number true shape (Some r) sound e = record { reference = r; is = refl; samples = cc }
 cloned_held number false shape (Some r) sound e = absurd cc
 cloned_held number _ shape None sound e = absurd cc
@@ -149,7 +131,7 @@ gone_is : (number : ℕ) (accepts : Bool) (shape : SoundShape) (held : Option Me
 gone_is number accepts shape held = grind arith
 
 -- what became of data that is there is told by whether it is detached, by the exception, and by the clone where there is one
-handed_back : (h : Handed) (gone : Bool) (a : Option Samples) (b : Option Pair) → gone ≡ is_gone h → ((x : HeldSound) → h ≡ handed.Cloned x → a ≡ Some x.samples) → ((x : HeldSound) → h ≡ handed.Cloned x → b ≡ Some x.pair)
+handed_back : (h : Handed) (gone : Bool) (a : Option Samples) (b : Option Pair) → gone ≡ is_gone h → ((x : HeldSound) → h ≡ Handed.Cloned x → a ≡ Some x.samples) → ((x : HeldSound) → h ≡ Handed.Cloned x → b ≡ Some x.pair)
     → handed_for true gone (handed_error h) (clone_of a b) ≡ Some h
 handed_back h gone a b is samples pair = grind (arith, is, samples, pair)
 
@@ -158,26 +140,26 @@ abbrev pub IsMadeBy : Recorded → Who → Type 0
 IsMadeBy w who = (r : StepResult) × (result_in w who.caller who.step ≡ Some r)
 
 encode_made : (script : ScriptData) (files : List (List Chunk)) (w : Recorded) (known : Known) (k place : ℕ) (who : Who) (on : ℕ) (content : Variable) (number : ℕ) (accepts : Bool) (x : Sound) → AreFound script files w known
-    → HasPair known k place (entry.Encode who (handed_of number accepts x)) → IsMadeBy w who → sound_at (variables_at script files w who.caller who.step) content.step ≡ Some x
-    → encode_of known (steps_of script who.caller) k place who (handed_error (handed_of number accepts x)) (step.Media (on_media.Encode on content)) ≡ Some (entry.Encode who (handed_of number accepts x))
+    → HasPair known k place (Entry.Encode who (handed_of number accepts x)) → IsMadeBy w who → sound_at (variables_at script files w who.caller who.step) content.step ≡ Some x
+    → encode_of known (steps_of script who.caller) k place who (handed_error (handed_of number accepts x)) (Step.Media (MediaStep.Encode on content)) ≡ Some (Entry.Encode who (handed_of number accepts x))
 encode_made script files w known k place who on content number accepts x found pair made there =
     let steps = steps_of script who.caller in
     let h : Handed = handed_of number accepts x in
     let a = samples_before steps (taken_in known who.caller) who.step content.step in
     let b = pair_for k place known.pool in
-    let samples : (y : HeldSound) → h ≡ handed.Cloned y → a ≡ Some y.samples =
+    let samples : (y : HeldSound) → h ≡ Handed.Cloned y → a ≡ Some y.samples =
     λ y is. let held = cloned_held number accepts x.shape x.held y is in
     found.sounds who.caller who.step content.step x held.reference there held.is ∙ ap {B = Option Samples} Some held.samples in
     let detached = is_detached steps (results_of known.callers who.caller) who.step content.step in
     let stand = found.standing who.caller who.step content.step made.0 x made.1 there in
-    let again = handed_back h detached a b (stand.gone ∙ gone_is number accepts x.shape x.held) samples (λ y is. pair y.pair (ap (λ (z : Handed). adds_held (entry.Encode who z)) is)) in
-    ap (λ (q : Bool). option_map (λ z. entry.Encode who z) (handed_for q detached (handed_error h) (clone_of a b))) stand.given ∙ ap (option_map (λ z. entry.Encode who z)) again
+    let again = handed_back h detached a b (stand.gone ∙ gone_is number accepts x.shape x.held) samples (λ y is. pair y.pair (ap (λ (z : Handed). adds_held (Entry.Encode who z)) is)) in
+    ap (λ (q : Bool). option_map (λ z. Entry.Encode who z) (handed_for q detached (handed_error h) (clone_of a b))) stand.given ∙ ap (option_map (λ z. Entry.Encode who z)) again
 
 -- ---- the entry that a step makes
 
 -- an encode shows the exception that what became of its data tells
 abbrev pub ShowsOwn : Entry → Shown → Type 0
-ShowsOwn (entry.Encode who h) x = refusal_in x.events ≡ handed_error h
+ShowsOwn (Entry.Encode who h) x = refusal_in x.events ≡ handed_error h
 ShowsOwn _ x = Unit {0}
 
 pub shows_own : (e : Entry) (s : State) → ShowsOwn e (shown_at e s)
@@ -189,9 +171,9 @@ IsAgain script files known k place x e = entry_of script files known k place (en
 
 step_again : (script : ScriptData) (files : List (List Chunk)) (w : Recorded) (known : Known) (k place : ℕ) (who : Who) (x : Shown) (s : Step) (e : Entry) → AreFound script files w known → IsMadeBy w who → slice_get (steps_of script who.caller) who.step ≡ Some s
     → HasPair known k place e → ShowsOwn e x → HasArguments script files (variables_at script files w who.caller who.step) who e s → IsAgain script files known k place x e
-step_again script files w known k place who x (step.Decode on chunk) e found made is pair own has = rw (has.2, is, found.chunks who.caller who.step chunk.step has.0 has.1) refl
-step_again script files w known k place who x (step.Media (on_media.Take on bind kind)) e found made is pair own has = rw (has.1, is) refl
-step_again script files w known k place who x (step.Media (on_media.Encode on content)) e found made is pair own has =
+step_again script files w known k place who x (Step.Decode on chunk) e found made is pair own has = rw (has.2, is, found.chunks who.caller who.step chunk.step has.0 has.1) refl
+step_again script files w known k place who x (Step.Media (MediaStep.Take on bind kind)) e found made is pair own has = rw (has.1, is) refl
+step_again script files w known k place who x (Step.Media (MediaStep.Encode on content)) e found made is pair own has =
     subst (λ (z : Entry). HasPair known k place z → ShowsOwn z x → IsAgain script files known k place x z) (sym has.4)
     (λ pair own. rw (own, is) (encode_made script files w known k place who on content has.1 has.2 has.0 found pair made has.3)) pair own
 step_again script files w known k place who x _ e found made is pair own has = search (has, is)

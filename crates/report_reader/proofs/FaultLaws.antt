@@ -4,11 +4,7 @@ use Rattle.wc_chunk.specs.declared.chunk.Chunk.{Chunk}
 use Rattle.script_types.specs.declared.script.ScriptData.{ScriptData}
 use Rattle.trace_text.specs.Report.{report_of}
 use Rattle.report_text.specs.declared.line.Line.{Line}
-use Rattle.report_reader.specs.declared.forms.Section.{Section}
-use Rattle.report_reader.specs.declared.forms.Section.TheVariants as section
-use Rattle.report_reader.specs.declared.fault.ReportFault.TheVariants as fault
-use Rattle.report_reader.specs.Form.{form_at, Reads}
-use Rattle.report_reader.specs.Read.{run_of}
+use Rattle.report_reader.specs.{declared.forms.Section.Section, declared.fault.ReportFault.ReportFault, Form.form_at, Form.Reads, Read.run_of}
 use Rattle.report_reader.specs.Fault.{IsBadForm, IsDifferent, IsFault, line_of_difference}
 use Rattle.report_reader.proofs.FormLaws.{some_is, not_some, none_at_end}
 
@@ -30,15 +26,15 @@ stops_once script s bs (x ∷ ls) (y ∷ ms) at there left behind r none q stop 
 
 bad_and_different : (script : ScriptData) (files : List (List Chunk)) (bs : List ℕ) (m n : ℕ) → IsBadForm script bs m → IsDifferent script files bs n → ⊥
 bad_and_different script files bs m n f d =
-    let same = stops_once script section.Start bs f.before d.lines f.at section.Ended f.left [] f.reads f.none d.forms (none_at_end script []) in
+    let same = stops_once script Section.Start bs f.before d.lines f.at Section.Ended f.left [] f.reads f.none d.forms (none_at_end script []) in
     f.not_all same.1 same.2
 
-pub fault_is_one : (script : ScriptData) (files : List (List Chunk)) (bs : List ℕ) (m n : ℕ) → IsFault script files bs (fault.BadLine m) → IsFault script files bs (fault.BadLine n) → m ≡ n
+pub fault_is_one : (script : ScriptData) (files : List (List Chunk)) (bs : List ℕ) (m n : ℕ) → IsFault script files bs (ReportFault.BadLine m) → IsFault script files bs (ReportFault.BadLine n) → m ≡ n
 fault_is_one script files bs m n (inl f) (inl g) =
-    let same = stops_once script section.Start bs f.before g.before f.at g.at f.left g.left f.reads f.none g.reads g.none in
+    let same = stops_once script Section.Start bs f.before g.before f.at g.at f.left g.left f.reads f.none g.reads g.none in
     f.number ∙ rw same.0 (sym g.number)
 fault_is_one script files bs m n (inl f) (inr d) = absurd (bad_and_different script files bs m n f d)
 fault_is_one script files bs m n (inr d) (inl f) = absurd (bad_and_different script files bs n m f d)
 fault_is_one script files bs m n (inr d) (inr e) =
-    let same = stops_once script section.Start bs d.lines e.lines section.Ended section.Ended [] [] d.forms (none_at_end script []) e.forms (none_at_end script []) in
+    let same = stops_once script Section.Start bs d.lines e.lines Section.Ended Section.Ended [] [] d.forms (none_at_end script []) e.forms (none_at_end script []) in
     d.number ∙ ap (λ (ls : List Line). line_of_difference (report_of script (run_of script files ls)) bs) same.0 ∙ sym e.number

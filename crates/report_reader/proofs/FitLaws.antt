@@ -8,43 +8,25 @@ use Rattle.wc_pool.specs.declared.entry.PoolEntry.{PoolEntry}
 use Rattle.codec_definitions.specs.declared.unit.Unit as media
 use Rattle.coder_api.specs.declared.slot.SlotEntry.{SlotEntry}
 use Rattle.wc_config.specs.declared.kind.Kind.{Kind}
-use Rattle.codec_model.specs.declared.entry.Entry.{Entry}
-use Rattle.codec_model.specs.declared.entry.Event.{Event}
-use Rattle.codec_model.specs.declared.entry.Event.TheVariants as event
-use Rattle.codec_model.specs.declared.entry.Shown.{Shown}
-use Rattle.codec_model.specs.Replay.{State, opening_state}
+use Rattle.codec_model.specs.{declared.entry.Entry.Entry, declared.entry.Event.Event, declared.entry.Shown.Shown, Replay.State, Replay.opening_state}
 use Rattle.codec_model.specs.Shown.{shows, event_units, units_in, units_shown}
 use Rattle.codec_follow.specs.Follow.{follow_step, filled, filled_at, each_filled_from}
 use Rattle.history_laws.specs.OutputLaws.{all_append}
-use Rattle.script_types.specs.declared.script.ScriptData.{ScriptData}
+use Rattle.script_types.specs.{declared.script.ScriptData.ScriptData, SoundLaws.parts_of}
 use Rattle.script_types.specs.Sound.{is_sound, most_codecs, most_callers}
-use Rattle.script_types.specs.SoundLaws.{parts_of}
-use Rattle.report_text.specs.declared.result.StepResult.{StepResult}
-use Rattle.trace_text.specs.declared.run.CallerTrace.{CallerTrace}
-use Rattle.trace_text.specs.declared.run.CodecTrace.{CodecTrace}
-use Rattle.trace_text.specs.declared.run.Run.{Run}
-use Rattle.report_text.specs.declared.line.EntryLine.{EntryLine}
-use Rattle.report_text.specs.declared.line.Line.{Line}
-use Rattle.report_text.specs.declared.line.Line.TheVariants as line
+use Rattle.report_text.specs.declared.{result.StepResult.StepResult, line.EntryLine.EntryLine, line.Line.Line}
+use Rattle.trace_text.specs.declared.run.{CallerTrace.CallerTrace, CodecTrace.CodecTrace, Run.Run}
 use Rattle.trace_text.specs.Report.{entry_line_of, event_lines, lines_from, result_lines, caller_lines, entry_lines, codec_lines, pool_lines, slot_lines, end_lines, lines_of, report_of}
 use Rattle.report_lines.specs.Fits.{FitsResult, FitsEntryLine, FitsBy, FitsOp, FitsPoolOp, FitsLine}
 use Rattle.report_lines.specs.Laws.{LineFits, LineAgain}
-use Rattle.report_reader.specs.declared.forms.Section.{Section}
-use Rattle.report_reader.specs.declared.forms.Section.TheVariants as section
-use Rattle.report_reader.specs.Form.{Reads, AreForms}
-use Rattle.report_reader.specs.declared.known.Known.{Known}
-use Rattle.report_reader.specs.Arguments.{entry_of}
+use Rattle.report_reader.specs.{declared.forms.Section.Section, Form.Reads, Form.AreForms, declared.known.Known.Known, Arguments.entry_of}
 use Rattle.report_reader.specs.Read.{results_in, behind_results, callers_in, entries_from, entry_lines_in, behind_entries, config_in, unit_of, outputs_in, opening_of, codec_in, codecs_in, all_outputs_in, pool_in, behind_pool, slots_in, held_in, run_of}
 use Rattle.report_reader.specs.Told.{IsPlainTrace, IsWithoutLoss, IsTold}
 use Rattle.codec_follow.specs.Outputs.{IsOutputOf, empty_output}
 use Rattle.report_reader.specs.Fits.{FitsEvent, FitsShown, FitsTrace}
 use Rattle.report_reader.proofs.KindLaws.{AreFit, FitsUnit, unit_fits, empty_fits}
-use Rattle.report_reader.proofs.RunLaws.{all_left, all_right}
-use Rattle.report_reader.proofs.FormLaws.{form_parts, forms_again}
-use Rattle.report_reader.proofs.PassLaws.{run_passes}
-use Rattle.report_reader.proofs.NameLaws.{sound_names}
-use Rattle.report_reader.proofs.TraceLaws.{by_next}
-use Rattle.report_reader.proofs.CallLaws.{line_with, entry_told}
+use Rattle.report_reader.proofs.{RunLaws.all_left, RunLaws.all_right, FormLaws.form_parts, FormLaws.forms_again, PassLaws.run_passes}
+use Rattle.report_reader.proofs.{NameLaws.sound_names, TraceLaws.by_next, CallLaws.line_with, CallLaws.entry_told}
 use Rattle.report_reader.proofs.ToldLaws.{run_told, callers_count, codecs_count, run_callers, run_codecs}
 
 -- ---- lists
@@ -116,7 +98,7 @@ reads_fit fits script s bs (l ∷ ls) end left r =
 -- ---- callers
 
 results_front : (script : ScriptData) (ls : List Line) → AreFit script ls → AreInFront script StepResult (FitsResult script) ls (results_in ls) (behind_results ls)
-results_front script (line.Result step found ∷ ls) fits = one_in_front script _ _ _ ls _ found _ fits.0.1 (results_front script ls fits.1)
+results_front script (Line.Result step found ∷ ls) fits = one_in_front script _ _ _ ls _ found _ fits.0.1 (results_front script ls fits.1)
 results_front script ls fits = none_in_front script _ _ ls fits
 
 record FitsCaller (script : ScriptData) (c : CallerTrace) : Type 0 where
@@ -138,8 +120,8 @@ caller_lines_fit script cs le small =
 -- ---- outputs
 
 outputs_fit : (script : ScriptData) (k : Kind) (ls : List Line) → AreFit script ls → AllByRecursion (FitsUnit script k) (outputs_in k ls)
-outputs_fit script k (line.Entry place t ∷ ls) fits = outputs_fit script k ls fits.1
-outputs_fit script k (line.Event s ∷ ls) fits =
+outputs_fit script k (Line.Entry place t ∷ ls) fits = outputs_fit script k ls fits.1
+outputs_fit script k (Line.Event s ∷ ls) fits =
     all_append (FitsUnit script k) (option_to_list (unit_of k s (config_in ls))) (outputs_in k ls) (unit_fits script k s ls fits.0 fits.1) (outputs_fit script k ls fits.1)
 outputs_fit script k _ fits = tt
 
@@ -149,8 +131,8 @@ AreFilled k P xs us = AllByRecursion P (units_in (filled k xs us).0) × AllByRec
 
 fill_fits : (k : Kind) (P : media.Unit → Type 0) → P (empty_output k) → (xs : List Event) (us : List media.Unit) → AllByRecursion P us → AreFilled k P xs us
 fill_fits k P none [] us all = (tt, all)
-fill_fits k P none (event.Output n u ∷ xs) [] all = let more = fill_fits k P none xs [] all in ((none, more.0), more.1)
-fill_fits k P none (event.Output n u ∷ xs) (v ∷ us) all = let more = fill_fits k P none xs us all.1 in ((all.0, more.0), more.1)
+fill_fits k P none (Event.Output n u ∷ xs) [] all = let more = fill_fits k P none xs [] all in ((none, more.0), more.1)
+fill_fits k P none (Event.Output n u ∷ xs) (v ∷ us) all = let more = fill_fits k P none xs us all.1 in ((all.0, more.0), more.1)
 fill_fits k P none (x ∷ xs) us all = fill_fits k P none xs us all
 
 each_fits : (k : Kind) (P : media.Unit → Type 0) → P (empty_output k) → (es : List Entry) (s : State) (us : List media.Unit) → AllByRecursion P us → AllByRecursion P (units_shown (each_filled_from k es s us))
@@ -168,8 +150,8 @@ each_fits k P none (e ∷ es) s us all = by (follow_step e s) (λ t vs more. eac
 -- ---- entries
 
 entries_front : (script : ScriptData) (ls : List Line) → AreFit script ls → AreInFront script EntryLine (FitsEntryLine script) ls (entry_lines_in ls) (behind_entries ls)
-entries_front script (line.Entry place t ∷ ls) fits = one_in_front script _ _ _ ls _ t _ fits.0.1 (entries_front script ls fits.1)
-entries_front script (line.Event s ∷ ls) fits = one_passed script _ _ _ ls _ _ (entries_front script ls fits.1)
+entries_front script (Line.Entry place t ∷ ls) fits = one_in_front script _ _ _ ls _ t _ fits.0.1 (entries_front script ls fits.1)
+entries_front script (Line.Event s ∷ ls) fits = one_passed script _ _ _ ls _ _ (entries_front script ls fits.1)
 entries_front script ls fits = none_in_front script _ _ ls fits
 
 -- whatever the entry shows, its line fits
@@ -253,7 +235,7 @@ abbrev FitsReference : ScriptData → PoolEntry → Type 0
 FitsReference script e = FitsBy script e.by × FitsPoolOp e.op
 
 references_front : (script : ScriptData) (ls : List Line) → AreFit script ls → AreInFront script PoolEntry (FitsReference script) ls (pool_in ls) (behind_pool ls)
-references_front script (line.Reference place e ∷ ls) fits = one_in_front script _ _ _ ls _ e _ (fits.0.1, fits.0.2) (references_front script ls fits.1)
+references_front script (Line.Reference place e ∷ ls) fits = one_in_front script _ _ _ ls _ e _ (fits.0.1, fits.0.2) (references_front script ls fits.1)
 references_front script ls fits = none_in_front script _ _ ls fits
 
 abbrev FitsSlot : ScriptData → SlotEntry → Type 0
@@ -261,12 +243,12 @@ FitsSlot script e = FitsBy script e.by × FitsOp e.op
 
 -- whatever lines stand behind, none of them is kept here
 slots_front : (script : ScriptData) (ls : List Line) → AreFit script ls → AreInFront script SlotEntry (FitsSlot script) ls (slots_in ls) []
-slots_front script (line.Slot place e ∷ ls) fits = one_in_front script _ _ _ ls [] e _ (fits.0.1, fits.0.2) (slots_front script ls fits.1)
+slots_front script (Line.Slot place e ∷ ls) fits = one_in_front script _ _ _ ls [] e _ (fits.0.1, fits.0.2) (slots_front script ls fits.1)
 slots_front script _ fits = record { items = tt; count = omega arith; behind = record { fits = tt; few = omega arith } }
 
 held_fits : (script : ScriptData) (ls : List Line) → AreFit script ls → held_in ls < 2 ^ 64
-held_fits script (line.Slot place e ∷ ls) fits = held_fits script ls fits.1
-held_fits script (line.Held n ∷ ls) fits = fits.0
+held_fits script (Line.Slot place e ∷ ls) fits = held_fits script ls fits.1
+held_fits script (Line.Held n ∷ ls) fits = fits.0
 held_fits script _ fits = omega arith
 
 -- ---- the run
@@ -315,7 +297,7 @@ pub forms_told : LineFits → LineAgain → (script : ScriptData) (files : List 
     → run ≡ run_of script files ls → AllByRecursion FitsTrace run.codecs → bs ≡ report_of script run → IsTold script files run
 forms_told fits again script files bs ls run sound forms few is promises text =
     let own : AllByRecursion FitsTrace (run_of script files ls).codecs = subst (λ (x : Run). AllByRecursion FitsTrace x.codecs) is promises in
-    let whole = run_fits script files ls sound few (reads_fit fits script section.Start bs ls section.Ended [] forms) own in
+    let whole = run_fits script files ls sound few (reads_fit fits script Section.Start bs ls Section.Ended [] forms) own in
     let passes = run_passes script (run_of script files ls) (run_callers script files ls) (run_codecs script files ls) in
     let same = forms_again again script (sound_names script sound) bs ls (lines_of (run_of script files ls)) forms passes whole.fits (text ∙ ap (report_of script) is) in
     let told : IsTold script files (run_of script files ls) = record { told = run_told script files ls same whole.plain; whole = whole } in

@@ -4,22 +4,11 @@ use Rattle.std.specs.List.{AllByRecursion, flat_map}
 use Rattle.std.proofs.lemmas.List.{length-append}
 use Rattle.wc_chunk.specs.declared.chunk.Chunk.{Chunk}
 use Rattle.script_types.specs.declared.script.ScriptData.{ScriptData}
-use Rattle.trace_text.specs.declared.run.Run.{Run}
-use Rattle.trace_text.specs.Report.{report_of, lines_of}
-use Rattle.report_lines.specs.Words.{◌>>=◌}
-use Rattle.report_text.specs.declared.line.EventLine.{EventLine}
-use Rattle.report_text.specs.declared.line.EventLine.TheVariants as event_line
-use Rattle.report_text.specs.declared.line.Line.{Line}
-use Rattle.report_text.specs.declared.line.Line.TheVariants as line
-use Rattle.report_text.specs.Text.{line_text, numbered_line}
-use Rattle.report_lines.specs.Reading.{line_at}
-use Rattle.report_lines.specs.Fits.{AreNames, FitsLine}
-use Rattle.report_lines.specs.Laws.{LineAgain, LineSound}
-use Rattle.report_reader.specs.declared.forms.Section.{Section}
-use Rattle.report_reader.specs.declared.forms.Section.TheVariants as section
+use Rattle.trace_text.specs.{declared.run.Run.Run, Report.report_of, Report.lines_of}
+use Rattle.report_lines.specs.{Words.◌>>=◌, Reading.line_at, Fits.AreNames, Fits.FitsLine, Laws.LineAgain, Laws.LineSound}
+use Rattle.report_text.specs.{declared.line.EventLine.EventLine, declared.line.Line.Line, Text.line_text, Text.numbered_line}
+use Rattle.report_reader.specs.{declared.forms.Section.Section, Read.run_of, Told.IsTold}
 use Rattle.report_reader.specs.Form.{next_in, form_at, Reads, AreForms, Passes}
-use Rattle.report_reader.specs.Read.{run_of}
-use Rattle.report_reader.specs.Told.{IsTold}
 use Rattle.report_reader.proofs.RunLaws.{run_again}
 
 -- ---- the loop
@@ -44,12 +33,12 @@ bind_some (Some x) f y e = (x, refl, e)
 numbered_long : (n : ℕ) (text : List ℕ) → 0 < length (numbered_line n text)
 numbered_long n text = simp length-append (omega arith)
 
-event_long : (script : ScriptData) (e : EventLine) → 0 < length (line_text script (line.Event e))
-event_long script (event_line.Sound samples) = omega arith
+event_long : (script : ScriptData) (e : EventLine) → 0 < length (line_text script (Line.Event e))
+event_long script (EventLine.Sound samples) = omega arith
 event_long script _ = omega arith
 
 pub line_long : (script : ScriptData) (l : Line) → 0 < length (line_text script l)
-line_long script (line.Event s) = event_long script s
+line_long script (Line.Event s) = event_long script s
 line_long script _ = search (numbered_long, arith)
 
 pub form_parts : (script : ScriptData) (s : Section) (bs : List ℕ) (l : Line) (rest : List ℕ) (end : Section) → form_at script s bs ≡ Some (l, rest, end) → (line_at script bs ≡ Some (l, rest)) × (next_in script s l ≡ Some end)
@@ -77,7 +66,7 @@ form_again again script names s l rest mid fits e = rw (again script l rest name
 nothing_after_none : {A B : Type 0} (o : Option A) → ◌≡◌ {A = Option B} (o >>= λ x. None) None
 nothing_after_none o = grind arith
 
-pub none_at_end : (script : ScriptData) (bs : List ℕ) → form_at script section.Ended bs ≡ None
+pub none_at_end : (script : ScriptData) (bs : List ℕ) → form_at script Section.Ended bs ≡ None
 unfolding form_at
 none_at_end script bs = nothing_after_none (line_at script bs)
 
@@ -92,16 +81,16 @@ pub record IsFront (script : ScriptData) (ls all : List Line) (at : Section) (le
   pub more : List Line
   pub parts : all ≡ ls ++ more
   pub text : left ≡ text_of script more
-  pub passes : Passes script at more section.Ended
+  pub passes : Passes script at more Section.Ended
   pub fits : AllByRecursion (FitsLine script) more
 
 pub reads_front : LineAgain → (script : ScriptData) → AreNames script → (s : Section) (bs : List ℕ) (ls : List Line) (at : Section) (left : List ℕ) (all : List Line)
-    → Reads script s bs ls at left → Passes script s all section.Ended → AllByRecursion (FitsLine script) all → bs ≡ text_of script all → IsFront script ls all at left
+    → Reads script s bs ls at left → Passes script s all Section.Ended → AllByRecursion (FitsLine script) all → bs ≡ text_of script all → IsFront script ls all at left
 reads_front again script names s bs [] at left all r passes fits e = record {
   more = all;
   parts = refl;
   text = sym r.1 ∙ e;
-  passes = subst (λ (x : Section). Passes script x all section.Ended) r.0 passes;
+  passes = subst (λ (x : Section). Passes script x all Section.Ended) r.0 passes;
   fits = fits;
 }
 reads_front again script names s bs (l ∷ ls) at left [] r passes fits e =
@@ -113,31 +102,31 @@ reads_front again script names s bs (l ∷ ls) at left (x ∷ all) r passes fits
     let rest_is : r.0 ≡ text_of script all = ap (λ (z : Line × List ℕ × Section). z.1) same in
     let mid_is : passes.0 ≡ r.1 = sym (ap (λ (z : Line × List ℕ × Section). z.2) same) in
     let line_is : x ≡ l = sym (ap (λ (z : Line × List ℕ × Section). z.0) same) in
-    let on = reads_front again script names r.1 r.0 ls at left all r.3 (subst (λ (m : Section). Passes script m all section.Ended) mid_is passes.2) fits.1 rest_is in
+    let on = reads_front again script names r.1 r.0 ls at left all r.3 (subst (λ (m : Section). Passes script m all Section.Ended) mid_is passes.2) fits.1 rest_is in
     record { more = on.more; parts = cc (on.parts, line_is); text = on.text; passes = on.passes; fits = on.fits }
 
-none_more : (script : ScriptData) (ls : List Line) → Passes script section.Ended ls section.Ended → ls ≡ []
+none_more : (script : ScriptData) (ls : List Line) → Passes script Section.Ended ls Section.Ended → ls ≡ []
 none_more script [] passes = refl
 none_more script (l ∷ ls) passes = absurd (not_some passes.1)
 
 -- the lines that are read of a report's text are the report's
 pub forms_again : LineAgain → (script : ScriptData) → AreNames script → (bs : List ℕ) (ls all : List Line) → AreForms script bs ls
-    → Passes script section.Start all section.Ended → AllByRecursion (FitsLine script) all → bs ≡ text_of script all → ls ≡ all
+    → Passes script Section.Start all Section.Ended → AllByRecursion (FitsLine script) all → bs ≡ text_of script all → ls ≡ all
 forms_again again script names bs ls all r passes fits e =
-    let f = reads_front again script names section.Start bs ls section.Ended [] all r passes fits e in
+    let f = reads_front again script names Section.Start bs ls Section.Ended [] all r passes fits e in
     sym (f.parts ∙ ap (λ (x : List Line). ls ++ x) (none_more script f.more f.passes) ∙ append-nil ls)
 
-stuck : LineAgain → (script : ScriptData) → AreNames script → (at : Section) (left : List ℕ) (more : List Line) → (at ≡ section.Ended → left ≡ [] → ⊥) → form_at script at left ≡ None
-    → left ≡ text_of script more → Passes script at more section.Ended → AllByRecursion (FitsLine script) more → ⊥
+stuck : LineAgain → (script : ScriptData) → AreNames script → (at : Section) (left : List ℕ) (more : List Line) → (at ≡ Section.Ended → left ≡ [] → ⊥) → form_at script at left ≡ None
+    → left ≡ text_of script more → Passes script at more Section.Ended → AllByRecursion (FitsLine script) more → ⊥
 stuck again script names at left [] not_all none e passes fits = not_all passes e
 stuck again script names at left (l ∷ more) not_all none e passes fits =
     not_some (sym none ∙ ap (form_at script at) e ∙ form_again again script names at l (text_of script more) passes.0 fits.0 passes.1)
 
 -- a text of lines in their forms has no place without a form
-pub never_stuck : LineAgain → (script : ScriptData) → AreNames script → (bs : List ℕ) (before : List Line) (at : Section) (left : List ℕ) (all : List Line) → Reads script section.Start bs before at left
-    → (at ≡ section.Ended → left ≡ [] → ⊥) → form_at script at left ≡ None → Passes script section.Start all section.Ended → AllByRecursion (FitsLine script) all → bs ≡ text_of script all → ⊥
+pub never_stuck : LineAgain → (script : ScriptData) → AreNames script → (bs : List ℕ) (before : List Line) (at : Section) (left : List ℕ) (all : List Line) → Reads script Section.Start bs before at left
+    → (at ≡ Section.Ended → left ≡ [] → ⊥) → form_at script at left ≡ None → Passes script Section.Start all Section.Ended → AllByRecursion (FitsLine script) all → bs ≡ text_of script all → ⊥
 never_stuck again script names bs before at left all r not_all none passes fits e =
-    let f = reads_front again script names section.Start bs before at left all r passes fits e in
+    let f = reads_front again script names Section.Start bs before at left all r passes fits e in
     stuck again script names at left f.more not_all none f.text f.passes f.fits
 
 -- ---- the text determines the run

@@ -5,45 +5,29 @@ use Rattle.std.specs.Option.{option_or}
 use Rattle.std.specs.List.{AllByRecursion, zip, slice_get}
 use Rattle.wc_config.specs.declared.codec.CoderId.{CoderId}
 use Rattle.wc_chunk.specs.declared.chunk.Chunk.{Chunk}
-use Rattle.wc_pool.specs.declared.entry.PoolEntry.{PoolEntry}
-use Rattle.wc_pool.specs.declared.entry.PoolOp.{PoolOp}
-use Rattle.wc_pool.specs.declared.entry.PoolOp.TheVariants as op
+use Rattle.wc_pool.specs.declared.entry.{PoolEntry.PoolEntry, PoolOp.PoolOp}
 use Rattle.codec_definitions.specs.declared.unit.Unit as media
-use Rattle.codec_model.specs.declared.entry.Pair.{Pair}
-use Rattle.codec_model.specs.declared.entry.Entry.{Entry}
-use Rattle.codec_model.specs.declared.entry.Shown.{Shown}
+use Rattle.codec_model.specs.{declared.entry.Pair.Pair, declared.entry.Entry.Entry, declared.entry.Shown.Shown, Held.lets_go}
 use Rattle.codec_model.specs.Replay.{State, opening_state, step as legal_step}
 use Rattle.codec_model.specs.Shown.{shows, units_in, outputs_of, shown, shown_at, shown_from, each_shown_from, units_shown}
-use Rattle.codec_model.specs.Held.{lets_go}
 use Rattle.codec_follow.specs.Follow.{each_filled}
 use Rattle.codec_follow.specs.Laws.{LegalFollows, LegalFills, OutputsAreOfKind}
 use Rattle.history_laws.specs.CountLaws.{outputs_tagged}
-use Rattle.codec_accounts.specs.Owed.{at}
-use Rattle.codec_accounts.specs.Codec.{state_after}
-use Rattle.script_types.specs.declared.script.ScriptData.{ScriptData}
-use Rattle.script_types.specs.declared.script.CodecItem.{CodecItem}
-use Rattle.script_types.specs.declared.steps.VariableKind.{VariableKind}
-use Rattle.script_types.specs.declared.steps.MediaStep.TheVariants as on_media
-use Rattle.script_types.specs.declared.steps.Step.TheVariants as step
-use Rattle.script_types.specs.Sound.{is_sound}
+use Rattle.codec_accounts.specs.{Owed.at, Codec.state_after}
+use Rattle.script_types.specs.declared.{script.ScriptData.ScriptData, script.CodecItem.CodecItem, steps.VariableKind.VariableKind}
+use Rattle.script_types.specs.{declared.steps.MediaStep.MediaStep, declared.steps.Step.Step, Sound.is_sound}
 use Rattle.report_text.specs.declared.result.StepResult.{StepResult}
 use Rattle.media_variables.specs.Variables.{Taken, medium_at, chunk_in_medium}
 use Rattle.media_accounts.specs.Accounts.{is_by_entry, ops_where, without_last, ops_of_entry, called_for, called_at}
 use Rattle.media_accounts.specs.Samples.{chunk_of_unit, SamplesAreKept, ChunksAreTaken}
-use Rattle.trace_text.specs.declared.run.CallerTrace.{CallerTrace}
-use Rattle.trace_text.specs.declared.run.CodecTrace.{CodecTrace}
-use Rattle.trace_text.specs.declared.run.Run.{Run}
+use Rattle.trace_text.specs.{declared.run.CallerTrace.CallerTrace, declared.run.CodecTrace.CodecTrace, declared.run.Run.Run, FitsLaws.calls_by_places}
 use Rattle.trace_text.specs.Follow.{Recorded, steps_of, opening_in, opening_at, chunk_at}
 use Rattle.trace_text.specs.Fits.{Fits, IsLegalTrace, AreLegalTraces, IsLegalRun, LocalStepsAnswer, recorded_of, entry_in, result_in, taken_by, brought_to, variables_at}
-use Rattle.trace_text.specs.FitsLaws.{calls_by_places}
-use Rattle.run_ranges.specs.Counts.{traces_count}
-use Rattle.run_ranges.specs.Ranges.{AreWithin, LegalRunsFit}
+use Rattle.run_ranges.specs.{Counts.traces_count, Ranges.AreWithin, Ranges.LegalRunsFit}
 use Rattle.report_reader.specs.declared.known.Known.{Known}
 use Rattle.report_reader.specs.Arguments.{results_of, output_of, taken_in, cloned, pair_for}
 use Rattle.report_reader.specs.Told.{known_of, HoldAll, IsToldTrace, AreToldTraces, IsTold}
-use Rattle.report_reader.proofs.RunLaws.{shown_units_of}
-use Rattle.report_reader.proofs.KindLaws.{legal_plain}
-use Rattle.report_reader.proofs.StandingLaws.{IsStanding, stands}
+use Rattle.report_reader.proofs.{RunLaws.shown_units_of, KindLaws.legal_plain, StandingLaws.IsStanding, StandingLaws.stands}
 use Rattle.report_reader.proofs.CallLaws.{AreFound, HasPair, ShowsOwn, shows_own, IsGiven, entry_holds}
 
 -- ---- outputs
@@ -80,7 +64,7 @@ taken_output script run legal o t e = grind (arith, outputs_are, unit_of_taken, 
 
 -- what a report shows of taken outputs is what the run brings to its callers' steps
 taken_is : (script : ScriptData) (files : List (List Chunk)) (run : Run) → AreLegalTraces script.codecs run.codecs → (c j on : ℕ) (bind : List ℕ) (kind : VariableKind) (t : Taken)
-    → slice_get (steps_of script c) j ≡ Some (step.Media (on_media.Take on bind kind)) → (brought_to script files (recorded_of run) c j (on_media.Take on bind kind)).taken ≡ Some t → taken_in (known_of run) c j ≡ Some t.unit
+    → slice_get (steps_of script c) j ≡ Some (Step.Media (MediaStep.Take on bind kind)) → (brought_to script files (recorded_of run) c j (MediaStep.Take on bind kind)).taken ≡ Some t → taken_in (known_of run) c j ≡ Some t.unit
 taken_is script files run legal c j on bind kind t is brought =
     let results = results_at run.callers c in
     ap (λ (rs : List StepResult). output_of (known_of run).outputs (slice_get rs j)) (sym results) ∙ taken_output script run legal (result_in (recorded_of run) c j) t brought
@@ -106,16 +90,16 @@ all_found kept taken script files run legal locals =
 
 -- ---- clones
 
-clone_first : (o : PoolOp) (p : Pair) → without_last o ≡ op.Clone p.resource p.reference → (rest : Option Pair) → option_or (cloned o) rest ≡ Some p
+clone_first : (o : PoolOp) (p : Pair) → without_last o ≡ PoolOp.Clone p.resource p.reference → (rest : Option Pair) → option_or (cloned o) rest ≡ Some p
 clone_first o p e rest = grind (arith, e)
 
-pair_by : (k place : ℕ) (e : PoolEntry) (es : List PoolEntry) (p : Pair) (rest : List PoolOp) → (ops_of_entry k place es ≡ op.Clone p.resource p.reference ∷ rest → pair_for k place es ≡ Some p)
-    → (q : Bool) → is_by_entry k place e.by ≡ q → map without_last (cond q (e.op ∷ ops_where (is_by_entry k place) es) (ops_where (is_by_entry k place) es)) ≡ op.Clone p.resource p.reference ∷ rest
+pair_by : (k place : ℕ) (e : PoolEntry) (es : List PoolEntry) (p : Pair) (rest : List PoolOp) → (ops_of_entry k place es ≡ PoolOp.Clone p.resource p.reference ∷ rest → pair_for k place es ≡ Some p)
+    → (q : Bool) → is_by_entry k place e.by ≡ q → map without_last (cond q (e.op ∷ ops_where (is_by_entry k place) es) (ops_where (is_by_entry k place) es)) ≡ PoolOp.Clone p.resource p.reference ∷ rest
     → option_or (cond q (cloned e.op) None) (pair_for k place es) ≡ Some p
 pair_by k place e es p rest later q is ops = grind (arith, clone_first, later, is, ops)
 
 -- the first clone that an entry made is the only one
-pair_is : (k place : ℕ) (pool : List PoolEntry) (p : Pair) (rest : List PoolOp) → ops_of_entry k place pool ≡ op.Clone p.resource p.reference ∷ rest → pair_for k place pool ≡ Some p
+pair_is : (k place : ℕ) (pool : List PoolEntry) (p : Pair) (rest : List PoolOp) → ops_of_entry k place pool ≡ PoolOp.Clone p.resource p.reference ∷ rest → pair_for k place pool ≡ Some p
 pair_is k place [] p rest e = absurd cc
 pair_is k place (x ∷ xs) p rest e = pair_by k place x xs p rest (pair_is k place xs p rest) (is_by_entry k place x.by) refl e
 
@@ -125,9 +109,9 @@ pair_found script files made run fits k place e is p adds =
     let o = opening_at script k in
     let h = at k (recorded_of run).codecs in
     let s = state_after o (take place h) in
-    let ends = map (λ (x : Pair). op.End x.resource x.reference false) (lets_go e s) in
+    let ends = map (λ (x : Pair). PoolOp.End x.resource x.reference false) (lets_go e s) in
     let ops : ops_of_entry k place run.pool ≡ called_for e s = fits.accounted.codecs k place ∙ ap (called_at o h place) is in
-    pair_is k place run.pool p ends (ops ∙ ap (λ (ps : List Pair). map (λ (x : Pair). op.Clone x.resource x.reference) ps ++ ends) adds)
+    pair_is k place run.pool p ends (ops ∙ ap (λ (ps : List Pair). map (λ (x : Pair). PoolOp.Clone x.resource x.reference) ps ++ ends) adds)
 
 -- ---- entries
 

@@ -6,14 +6,11 @@ use Rattle.std.specs.Str.{bytes_eq}
 use Rattle.std.proofs.lemmas.Bool.{and_parts, or_parts}
 use Rattle.std.proofs.Math.Seq.{take-length}
 use Rattle.std.proofs.lemmas.Slice.Eq.{bytes_eq-Decides}
-use Rattle.script_types.specs.declared.script.CodecItem.{CodecItem}
-use Rattle.script_types.specs.declared.script.CallerItem.{CallerItem}
-use Rattle.script_types.specs.declared.script.ScriptData.{ScriptData}
+use Rattle.script_types.specs.declared.script.{CodecItem.CodecItem, CallerItem.CallerItem, ScriptData.ScriptData}
 use Rattle.script_types.specs.Names.{is_name_byte, is_codec_name, is_caller_name}
 use Rattle.script_types.specs.Sound.{is_sound, is_sound_caller, are_sound_callers}
 use Rattle.script_types.specs.SoundLaws.{parts_of, codec_at}
-use Rattle.report_lines.specs.Words.{is_word_byte}
-use Rattle.report_lines.specs.Fits.{AreNames}
+use Rattle.report_lines.specs.{Words.is_word_byte, Fits.AreNames}
 
 first : (a b : Bool) → (a && b) ≡ true → a ≡ true
 first a b h = (and_parts a b h).0

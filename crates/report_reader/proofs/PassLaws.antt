@@ -4,18 +4,12 @@ use Rattle.std.specs.Prelude.{flat_map, IfSome}
 use Rattle.std.specs.List.{zip}
 use Rattle.std.proofs.lemmas.Bool.{lt-ltb}
 use Rattle.codec_definitions.specs.declared.unit.Unit.TheVariants as unit
-use Rattle.codec_model.specs.declared.entry.Opening.{Opening}
-use Rattle.codec_model.specs.declared.entry.Event.{Event}
-use Rattle.codec_model.specs.declared.entry.Event.TheVariants as event
+use Rattle.codec_model.specs.declared.entry.{Opening.Opening, Event.Event}
 use Rattle.script_types.specs.declared.script.ScriptData.{ScriptData}
-use Rattle.trace_text.specs.declared.run.CallerTrace.{CallerTrace}
-use Rattle.trace_text.specs.declared.run.CodecTrace.{CodecTrace}
-use Rattle.trace_text.specs.declared.run.Run.{Run}
+use Rattle.trace_text.specs.declared.run.{CallerTrace.CallerTrace, CodecTrace.CodecTrace, Run.Run}
 use Rattle.report_text.specs.declared.line.Line.{Line}
-use Rattle.report_text.specs.declared.line.Line.TheVariants as line
 use Rattle.trace_text.specs.Report.{event_lines, lines_from, result_lines, caller_lines, entry_lines, codec_lines, pool_lines, slot_lines, end_lines, lines_of}
 use Rattle.report_reader.specs.declared.forms.Section.{Section}
-use Rattle.report_reader.specs.declared.forms.Section.TheVariants as section
 use Rattle.report_reader.specs.Form.{next_part, next, next_in, form_at, Passes, next_number}
 use Rattle.report_reader.proofs.FormLaws.{form_parts}
 
@@ -57,45 +51,45 @@ numbered_lead script at lines each xs =
     subst (λ (t : Section). Passes script (at 0) (lines_from lines 0 xs) t) (all.1 ∙ ap at same) all.2
 
 abbrev IsCallers : ℕ → Section → Type 0
-IsCallers k s = (n : ℕ) × (s ≡ section.Callers k n)
+IsCallers k s = (n : ℕ) × (s ≡ Section.Callers k n)
 
-events_pass : (script : ScriptData) (k n : ℕ) (es : List Event) → Passes script (section.Codecs k n) (flat_map event_lines es) (section.Codecs k n)
+events_pass : (script : ScriptData) (k n : ℕ) (es : List Event) → Passes script (Section.Codecs k n) (flat_map event_lines es) (Section.Codecs k n)
 events_pass script k n [] = refl
-events_pass script k n (event.Refusal x ∷ es) = events_pass script k n es
-events_pass script k n (event.Output m (unit.Coded chunk (Some c)) ∷ es) = (section.Codecs k n, refl, (section.Codecs k n, refl, events_pass script k n es))
-events_pass script k n (e ∷ es) = (section.Codecs k n, refl, events_pass script k n es)
+events_pass script k n (Event.Refusal x ∷ es) = events_pass script k n es
+events_pass script k n (Event.Output m (unit.Coded chunk (Some c)) ∷ es) = (Section.Codecs k n, refl, (Section.Codecs k n, refl, events_pass script k n es))
+events_pass script k n (e ∷ es) = (Section.Codecs k n, refl, events_pass script k n es)
 
 -- in this section the next codec, or the pool, may stand
 pub record IsReady (script : ScriptData) (s : Section) (k : ℕ) : Type 0 where
-  pub codec : (i : ℕ) (o : Opening) → next_in script s (line.Codec i o) ≡ next_part (length script.codecs) k (line.Codec i o)
-  pub pool : next_in script s line.Pool ≡ next_part (length script.codecs) k line.Pool
+  pub codec : (i : ℕ) (o : Opening) → next_in script s (Line.Codec i o) ≡ next_part (length script.codecs) k (Line.Codec i o)
+  pub pool : next_in script s Line.Pool ≡ next_part (length script.codecs) k Line.Pool
 
 codec_leads : (script : ScriptData) (k : ℕ) (c : CodecTrace) (s : Section) → k < length script.codecs → IsReady script s k → Leads script s (codec_lines k c) (λ t. IsReady script t (k + 1))
 codec_leads script k c s lt ready =
     let made = zip c.entries c.shown in
-    let entries = numbered_lead script (section.Codecs (k + 1)) entry_lines (λ n m. (section.Codecs (k + 1) (n + 1), rw (eq-eqb n n refl) refl, events_pass script (k + 1) (n + 1) m.1.events)) made in
-    (section.Codecs (k + 1) (length made), record { codec = λ i o. refl; pool = refl }, (section.Codecs (k + 1) 0, ready.codec k c.opening ∙ rw (eq-eqb k k refl, lt-ltb k (length script.codecs) lt) refl, entries))
+    let entries = numbered_lead script (Section.Codecs (k + 1)) entry_lines (λ n m. (Section.Codecs (k + 1) (n + 1), rw (eq-eqb n n refl) refl, events_pass script (k + 1) (n + 1) m.1.events)) made in
+    (Section.Codecs (k + 1) (length made), record { codec = λ i o. refl; pool = refl }, (Section.Codecs (k + 1) 0, ready.codec k c.opening ∙ rw (eq-eqb k k refl, lt-ltb k (length script.codecs) lt) refl, entries))
 
 caller_leads : (script : ScriptData) (k : ℕ) (c : CallerTrace) (s : Section) → k < length script.callers → IsCallers k s → Leads script s (caller_lines k c) (IsCallers (k + 1))
 caller_leads script k c s lt here =
-    let results = numbered_lead script (section.Callers (k + 1)) result_lines (λ n r. (section.Callers (k + 1) (n + 1), rw (lt-ltb 0 (k + 1) (omega arith), eq-eqb n n refl) refl, refl)) c.results in
-    (section.Callers (k + 1) (length c.results), (length c.results, refl), (section.Callers (k + 1) 0, rw (here.1, eq-eqb k k refl, lt-ltb k (length script.callers) lt) refl, results))
+    let results = numbered_lead script (Section.Callers (k + 1)) result_lines (λ n r. (Section.Callers (k + 1) (n + 1), rw (lt-ltb 0 (k + 1) (omega arith), eq-eqb n n refl) refl, refl)) c.results in
+    (Section.Callers (k + 1) (length c.results), (length c.results, refl), (Section.Callers (k + 1) 0, rw (here.1, eq-eqb k k refl, lt-ltb k (length script.callers) lt) refl, results))
 
 -- the lines of a run with the script's callers and codecs stand in their places
-pub run_passes : (script : ScriptData) (run : Run) → length run.callers ≡ length script.callers → length run.codecs ≡ length script.codecs → Passes script section.Start (lines_of run) section.Ended
+pub run_passes : (script : ScriptData) (run : Run) → length run.callers ≡ length script.callers → length run.codecs ≡ length script.codecs → Passes script Section.Start (lines_of run) Section.Ended
 run_passes script run callers_are codecs_are =
     let end = lines_from slot_lines 0 run.slots ++ end_lines run.held in
-    let pool = lines_from pool_lines 0 run.pool ++ line.Slots ∷ end in
+    let pool = lines_from pool_lines 0 run.pool ++ Line.Slots ∷ end in
     let callers = lines_from caller_lines 0 run.callers in
     let codecs = lines_from codec_lines 0 run.codecs in
     let n = length script.callers in
     let m = length script.codecs in
-    let front = items_lead script IsCallers caller_lines n (caller_leads script) 0 run.callers (section.Callers 0 0) (omega (arith, callers_are)) (0, refl) in
-    let there : front.0 ≡ section.Callers n front.1.0 = let same : 0 + length run.callers ≡ n = omega (arith, callers_are) in front.1.1 ∙ ap (λ (k : ℕ). section.Callers k front.1.0) same in
+    let front = items_lead script IsCallers caller_lines n (caller_leads script) 0 run.callers (Section.Callers 0 0) (omega (arith, callers_are)) (0, refl) in
+    let there : front.0 ≡ Section.Callers n front.1.0 = let same : 0 + length run.callers ≡ n = omega (arith, callers_are) in front.1.1 ∙ ap (λ (k : ℕ). Section.Callers k front.1.0) same in
     let ready : IsReady script front.0 0 = rw there (record { codec = λ i o. rw (eq-eqb n n refl) refl; pool = rw (eq-eqb n n refl) refl }) in
     let middle = items_lead script (λ k s. IsReady script s k) codec_lines m (codec_leads script) 0 run.codecs front.0 (omega (arith, codecs_are)) ready in
     let all_codecs : 0 + length run.codecs ≡ m = omega (arith, codecs_are) in
-    let slots = passes_on script (section.Slots 0) _ (end_lines run.held) _ section.Ended (numbered_lead script section.Slots slot_lines (λ i e. (section.Slots (i + 1), rw (eq-eqb i i refl) refl, refl)) run.slots) (section.Held, refl, (section.Ended, refl, refl)) in
-    let back = passes_on script (section.Pool 0) _ (line.Slots ∷ end) _ section.Ended (numbered_lead script section.Pool pool_lines (λ i e. (section.Pool (i + 1), rw (eq-eqb i i refl) refl, refl)) run.pool) (section.Slots 0, refl, slots) in
-    let rest : Passes script middle.0 (line.Pool ∷ pool) section.Ended = (section.Pool 0, middle.1.pool ∙ rw (eq-eqb (0 + length run.codecs) m all_codecs) refl, back) in
-    (section.Callers 0 0, refl, passes_on script (section.Callers 0 0) callers (codecs ++ line.Pool ∷ pool) front.0 section.Ended front.2 (passes_on script front.0 codecs (line.Pool ∷ pool) middle.0 section.Ended middle.2 rest))
+    let slots = passes_on script (Section.Slots 0) _ (end_lines run.held) _ Section.Ended (numbered_lead script Section.Slots slot_lines (λ i e. (Section.Slots (i + 1), rw (eq-eqb i i refl) refl, refl)) run.slots) (Section.Held, refl, (Section.Ended, refl, refl)) in
+    let back = passes_on script (Section.Pool 0) _ (Line.Slots ∷ end) _ Section.Ended (numbered_lead script Section.Pool pool_lines (λ i e. (Section.Pool (i + 1), rw (eq-eqb i i refl) refl, refl)) run.pool) (Section.Slots 0, refl, slots) in
+    let rest : Passes script middle.0 (Line.Pool ∷ pool) Section.Ended = (Section.Pool 0, middle.1.pool ∙ rw (eq-eqb (0 + length run.codecs) m all_codecs) refl, back) in
+    (Section.Callers 0 0, refl, passes_on script (Section.Callers 0 0) callers (codecs ++ Line.Pool ∷ pool) front.0 Section.Ended front.2 (passes_on script front.0 codecs (Line.Pool ∷ pool) middle.0 Section.Ended middle.2 rest))

@@ -8,21 +8,12 @@ use Rattle.codec_definitions.specs.declared.unit.Unit as media
 use Rattle.codec_definitions.specs.declared.unit.Unit.TheVariants as unit
 use Rattle.coder_api.specs.declared.slot.SlotEntry.{SlotEntry}
 use Rattle.wc_config.specs.declared.kind.Kind.{Kind}
-use Rattle.codec_model.specs.declared.entry.Entry.{Entry}
-use Rattle.codec_model.specs.declared.entry.Event.{Event}
-use Rattle.codec_model.specs.declared.entry.Event.TheVariants as event
-use Rattle.codec_model.specs.declared.entry.Shown.{Shown}
-use Rattle.codec_model.specs.Replay.{State, opening_state}
+use Rattle.codec_model.specs.{declared.entry.Entry.Entry, declared.entry.Event.Event, declared.entry.Shown.Shown, Replay.State, Replay.opening_state}
 use Rattle.codec_model.specs.Shown.{shows, units_in, units_shown}
 use Rattle.codec_follow.specs.Follow.{follow_step, follow_from, filled, each_filled_from}
 use Rattle.script_types.specs.declared.script.ScriptData.{ScriptData}
-use Rattle.report_text.specs.declared.result.StepResult.{StepResult}
-use Rattle.trace_text.specs.declared.run.CallerTrace.{CallerTrace}
-use Rattle.trace_text.specs.declared.run.CodecTrace.{CodecTrace}
-use Rattle.trace_text.specs.declared.run.Run.{Run}
-use Rattle.report_text.specs.declared.line.EntryLine.{EntryLine}
-use Rattle.report_text.specs.declared.line.Line.{Line}
-use Rattle.report_text.specs.declared.line.Line.TheVariants as line
+use Rattle.report_text.specs.declared.{result.StepResult.StepResult, line.EntryLine.EntryLine, line.Line.Line}
+use Rattle.trace_text.specs.declared.run.{CallerTrace.CallerTrace, CodecTrace.CodecTrace, Run.Run}
 use Rattle.trace_text.specs.Report.{entry_line_of, event_lines, lines_from, result_lines, caller_lines, entry_lines, codec_lines, pool_lines, slot_lines, end_lines, lines_of}
 use Rattle.report_reader.specs.declared.known.Known.{Known}
 use Rattle.report_reader.specs.Read.{results_in, behind_results, callers_in, entries_from, entry_lines_in, behind_entries, config_in, outputs_in, trace_of, codecs_in, all_outputs_in, pool_in, behind_pool, slots_in, held_in, run_of}
@@ -72,7 +63,7 @@ entries_read ls = (entry_lines_in ls, behind_entries ls)
 -- what an entry showed is passed
 behind_events : (es : List Event) (ls : List Line) → entries_read (flat_map event_lines es ++ ls) ≡ entries_read ls
 behind_events [] ls = refl
-behind_events (event.Output n (unit.Coded chunk (Some c)) ∷ es) ls = behind_events es ls
+behind_events (Event.Output n (unit.Coded chunk (Some c)) ∷ es) ls = behind_events es ls
 behind_events (e ∷ es) ls = behind_events es ls
 
 -- no entry, and nothing that one showed, stands in front
@@ -184,10 +175,10 @@ codecs_again script media_of known i (c ∷ cs) rest ends told plain =
 
 -- ---- the run
 
-pool_ends : (rest : List Line) → EndsEntries (line.Pool ∷ rest)
+pool_ends : (rest : List Line) → EndsEntries (Line.Pool ∷ rest)
 pool_ends rest = record { told = refl; outputs = λ k. refl; config = refl }
 
-codecs_end_results : (i : ℕ) (cs : List CodecTrace) (rest : List Line) → EndsResults (lines_from codec_lines i cs ++ line.Pool ∷ rest)
+codecs_end_results : (i : ℕ) (cs : List CodecTrace) (rest : List Line) → EndsResults (lines_from codec_lines i cs ++ Line.Pool ∷ rest)
 codecs_end_results i [] rest = refl
 codecs_end_results i _ rest = refl
 
@@ -206,23 +197,23 @@ pub run_outputs : (script : ScriptData) (media_of : List (List Chunk)) (known : 
     → outputs_behind (length run.callers) (length run.codecs) (lines_of run) ≡ map shown_units_of run.codecs
 run_outputs script media_of known run told plain =
     let end = lines_from slot_lines 0 run.slots ++ end_lines run.held in
-    let pool = lines_from pool_lines 0 run.pool ++ line.Slots ∷ end in
-    ap (λ (x : List CallerTrace × List Line). (all_outputs_in (length run.codecs) x.1).0) (callers_again 0 run.callers (lines_from codec_lines 0 run.codecs ++ line.Pool ∷ pool) (codecs_end_results 0 run.codecs pool))
-    ∙ ap (λ (x : List (List media.Unit) × List Line). x.0) (codecs_again script media_of known 0 run.codecs (line.Pool ∷ pool) (pool_ends pool) told plain).1
+    let pool = lines_from pool_lines 0 run.pool ++ Line.Slots ∷ end in
+    ap (λ (x : List CallerTrace × List Line). (all_outputs_in (length run.codecs) x.1).0) (callers_again 0 run.callers (lines_from codec_lines 0 run.codecs ++ Line.Pool ∷ pool) (codecs_end_results 0 run.codecs pool))
+    ∙ ap (λ (x : List (List media.Unit) × List Line). x.0) (codecs_again script media_of known 0 run.codecs (Line.Pool ∷ pool) (pool_ends pool) told plain).1
 
 -- the lines of a run that is told show that run
 pub run_again : (script : ScriptData) (media_of : List (List Chunk)) (run : Run) → IsToldRun script media_of run → AllByRecursion IsPlainTrace run.codecs → run_of script media_of (lines_of run) ≡ run
 unfolding run_of
 run_again script media_of run told plain =
     let end = lines_from slot_lines 0 run.slots ++ end_lines run.held in
-    let pool = lines_from pool_lines 0 run.pool ++ line.Slots ∷ end in
-    let codecs = codecs_again script media_of (known_of run) 0 run.codecs (line.Pool ∷ pool) (pool_ends pool) told.traces plain in
-    let entries : pool_read pool ≡ (run.pool, line.Slots ∷ end) = read_again pool_read (λ es. (es, line.Slots ∷ end)) pool_lines (line.Slots ∷ end) (λ n e es ls same. ap (with_item e) same) refl 0 run.pool in
+    let pool = lines_from pool_lines 0 run.pool ++ Line.Slots ∷ end in
+    let codecs = codecs_again script media_of (known_of run) 0 run.codecs (Line.Pool ∷ pool) (pool_ends pool) told.traces plain in
+    let entries : pool_read pool ≡ (run.pool, Line.Slots ∷ end) = read_again pool_read (λ es. (es, Line.Slots ∷ end)) pool_lines (Line.Slots ∷ end) (λ n e es ls same. ap (with_item e) same) refl 0 run.pool in
     let slots : slots_read end ≡ (run.slots, run.held) = read_again slots_read (λ es. (es, run.held)) slot_lines (end_lines run.held) (λ n e es ls same. ap (with_item e) same) refl 0 run.slots in
     rw (
       sym told.callers,
       sym told.codecs,
-      callers_again 0 run.callers (lines_from codec_lines 0 run.codecs ++ line.Pool ∷ pool) (codecs_end_results 0 run.codecs pool),
+      callers_again 0 run.callers (lines_from codec_lines 0 run.codecs ++ Line.Pool ∷ pool) (codecs_end_results 0 run.codecs pool),
       codecs.1,
       ap (λ (p : List PoolEntry × List Line). p.0) entries,
       codecs.0,

@@ -3,21 +3,14 @@ use Rattle.std.proofs.Common.{ℕ, zero, suc, ◌≡◌, ◌<◌, Bool, true, fa
 use Rattle.std.specs.Prelude.{slice_get, take, option_and_then, ◌==◌}
 use Rattle.std.specs.Option.{is_none}
 use Rattle.std.proofs.lemmas.Bool.{eq-eqb, ne_eqb, eqb-true}
-use Rattle.wc_base.specs.Options.{some_same}
-use Rattle.wc_base.specs.declared.media.SoundShape.{SoundShape}
-use Rattle.wc_base.specs.declared.who.Who.{Who}
+use Rattle.wc_base.specs.{Options.some_same, declared.media.SoundShape.SoundShape, declared.who.Who.Who}
 use Rattle.wc_chunk.specs.declared.chunk.Chunk.{Chunk}
 use Rattle.codec_definitions.specs.declared.unit.Unit as output
 use Rattle.codec_definitions.specs.declared.unit.Unit.TheVariants as unit
 use Rattle.wc_pool.specs.declared.entry.PoolEntry.{PoolEntry}
 use Rattle.wc_audio.specs.Sound.{Sound}
 use Rattle.codec_accounts.specs.Owed.{at}
-use Rattle.script_types.specs.declared.script.ScriptData.{ScriptData}
-use Rattle.script_types.specs.declared.steps.VariableKind.{VariableKind}
-use Rattle.script_types.specs.declared.steps.MediaStep.{MediaStep}
-use Rattle.script_types.specs.declared.steps.MediaStep.TheVariants as media
-use Rattle.script_types.specs.declared.steps.Step.{Step}
-use Rattle.script_types.specs.declared.steps.Step.TheVariants as step
+use Rattle.script_types.specs.declared.{script.ScriptData.ScriptData, steps.VariableKind.VariableKind, steps.MediaStep.MediaStep, steps.Step.Step}
 use Rattle.report_text.specs.declared.result.StepResult.{StepResult}
 use Rattle.media_variables.specs.CameLaws.{EachCame, by_came}
 use Rattle.media_variables.specs.Variables.{Shape, SoundOf, Medium, Came, Taken, Brought, medium_at, with_medium, detached, unit_came, chunk_medium, sound_in, sound_at, media_came}
@@ -121,19 +114,19 @@ unit_all p given f n vs answer (unit.Coded c config) gave all = new_all given f 
 -- ---- every step
 
 abbrev IsNoTake : MediaStep → Type 0
-IsNoTake x = (on : ℕ) (bind : List ℕ) (kind : VariableKind) → x ≡ media.Take on bind kind → ⊥
+IsNoTake x = (on : ℕ) (bind : List ℕ) (kind : VariableKind) → x ≡ MediaStep.Take on bind kind → ⊥
 
 -- What is known of the result of a step on media: what it gives its variable where an output was taken, and else its answer.
 record IsAnswered (b : Brought) (x : MediaStep) (y : Came) (r : StepResult) : Type 0 where
-  took : (on : ℕ) (bind : List ℕ) (kind : VariableKind) (t : Taken) → x ≡ media.Take on bind kind → b.taken ≡ Some t → gives r ≡ true
+  took : (on : ℕ) (bind : List ℕ) (kind : VariableKind) (t : Taken) → x ≡ MediaStep.Take on bind kind → b.taken ≡ Some t → gives r ≡ true
   own : IsNoTake x → r ≡ y.answer
 
 -- a step that is refused detaches nothing
-stays : (x : MediaStep) (r : StepResult) → (IsNoTake x → is_ok r ≡ false) → detached_in (step.Media x) r ≡ None
+stays : (x : MediaStep) (r : StepResult) → (IsNoTake x → is_ok r ≡ false) → detached_in (Step.Media x) r ≡ None
 stays x r h = grind (arith, h)
 
 each_all : (p : List PoolEntry) (who : Who) (b : Brought) (given f : ℕ → Bool) (vs : List (Option Medium)) (r : StepResult) → given who.step ≡ gives r → AreAll given f who.step vs
-    → EachCame p who b vs (λ x y. IsAnswered b x y r → AreAll given (more f (detached_in (step.Media x) r)) (suc who.step) y.variables)
+    → EachCame p who b vs (λ x y. IsAnswered b x y r → AreAll given (more f (detached_in (Step.Media x) r)) (suc who.step) y.variables)
 each_all p who b given f vs r gave all = record {
   refuses = λ x e k. same_all given f _ who.step vs (stays x r (λ apart. ap is_ok (k.own apart))) all;
   absent = λ x k. same_all given f _ who.step vs (stays x r (λ apart. ap is_ok (k.own apart))) all;
@@ -144,10 +137,10 @@ each_all p who b given f vs r gave all = record {
   transfers = λ of bind m q is holds k. (
       let answer = k.own (λ on other kind e. absurd cc) in
       let new = moved_all given f who.step of.step vs m is (record { sound = λ shape so. (gave ∙ ap gives answer, sym (ap is_none holds)) }) all in
-      subst (λ (a : StepResult). AreAll given (more f (detached_in (step.Media (media.Transfer of bind)) a)) (suc who.step) (with_medium who.step m (with_medium of.step (detached m) vs))) (sym answer) new
+      subst (λ (a : StepResult). AreAll given (more f (detached_in (Step.Media (MediaStep.Transfer of bind)) a)) (suc who.step) (with_medium who.step m (with_medium of.step (detached m) vs))) (sym answer) new
       );
-  closed = λ of m is holds k. subst (λ (a : StepResult). AreAll given (more f (detached_in (step.Media (media.CloseData of)) a)) (suc who.step) vs) (sym (k.own (λ on other kind e. absurd cc))) (ended_all given f who.step of.step vs m is holds all);
-  closes = λ of m q is holds k. subst (λ (a : StepResult). AreAll given (more f (detached_in (step.Media (media.CloseData of)) a)) (suc who.step) (with_medium of.step (detached m) vs)) (sym (k.own (λ on other kind e. absurd cc))) (detached_all given f who.step of.step vs m is all);
+  closed = λ of m is holds k. subst (λ (a : StepResult). AreAll given (more f (detached_in (Step.Media (MediaStep.CloseData of)) a)) (suc who.step) vs) (sym (k.own (λ on other kind e. absurd cc))) (ended_all given f who.step of.step vs m is holds all);
+  closes = λ of m q is holds k. subst (λ (a : StepResult). AreAll given (more f (detached_in (Step.Media (MediaStep.CloseData of)) a)) (suc who.step) (with_medium of.step (detached m) vs)) (sym (k.own (λ on other kind e. absurd cc))) (detached_all given f who.step of.step vs m is all);
   copies_chunk = λ of size k. same_all given f None who.step vs refl all;
   copies = λ of o size m is k. same_all given f None who.step vs refl all;
   sizes = λ of o m is k. same_all given f None who.step vs refl all;
@@ -155,20 +148,20 @@ each_all p who b given f vs r gave all = record {
 
 -- a step that comes to nothing here, as an encode or a take that found no output, detaches nothing
 came_all : (p : List PoolEntry) (who : Who) (b : Brought) (x : MediaStep) (given f : ℕ → Bool) (vs : List (Option Medium)) (r : StepResult) → given who.step ≡ gives r → ((y : Came) → media_came p who b x vs ≡ Some y → IsAnswered b x y r) → AreAll given f who.step vs
-    → (o : Option Came) → media_came p who b x vs ≡ o → AreAll given (more f (detached_in (step.Media x) r)) (suc who.step) (variables_by o vs)
+    → (o : Option Came) → media_came p who b x vs ≡ o → AreAll given (more f (detached_in (Step.Media x) r)) (suc who.step) (variables_by o vs)
 came_all p who b x given f vs r gave a all (Some y) is = by_came p who b vs _ (each_all p who b given f vs r gave all) x y is (a y is)
-came_all p who b (media.Encode on content) given f vs r gave a all None is = same_all given f None who.step vs refl all
-came_all p who b (media.Take on bind kind) given f vs r gave a all None is = same_all given f None who.step vs refl all
+came_all p who b (MediaStep.Encode on content) given f vs r gave a all None is = same_all given f None who.step vs refl all
+came_all p who b (MediaStep.Take on bind kind) given f vs r gave a all None is = same_all given f None who.step vs refl all
 came_all p who b _ given f vs r gave a all None is = absurd cc
 
 -- what is known of a step that has this result
 abbrev HasResult : List PoolEntry → Who → (MediaStep → Brought) → Option Step → List (Option Medium) → StepResult → Type 0
-HasResult p who brings o vs r = (x : MediaStep) → o ≡ Some (step.Media x) → (y : Came) → media_came p who (brings x) x vs ≡ Some y → IsAnswered (brings x) x y r
+HasResult p who brings o vs r = (x : MediaStep) → o ≡ Some (Step.Media x) → (y : Came) → media_came p who (brings x) x vs ≡ Some y → IsAnswered (brings x) x y r
 
 step_all : (p : List PoolEntry) (who : Who) (brings : MediaStep → Brought) (o : Option Step) (given f : ℕ → Bool) (vs : List (Option Medium)) (r : StepResult) → given who.step ≡ gives r → HasResult p who brings o vs r → AreAll given f who.step vs
     → AreAll given (more f (option_and_then (λ x. detached_in x r) o)) (suc who.step) (variables_by (option_and_then (λ y. media_came p who (brings y) y vs) (option_and_then media_of o)) vs)
 step_all p who brings None given f vs r gave a all = same_all given f None who.step vs refl all
-step_all p who brings (Some (step.Media x)) given f vs r gave a all = came_all p who (brings x) x given f vs r gave (a x refl) all _ refl
+step_all p who brings (Some (Step.Media x)) given f vs r gave a all = came_all p who (brings x) x given f vs r gave (a x refl) all _ refl
 step_all p who brings (Some _) given f vs r gave a all = same_all given f None who.step vs refl all
 
 -- ---- all steps
@@ -196,7 +189,7 @@ took_gives s w r t is = grind (arith, is)
 
 -- a step on media that takes nothing has the answer that it comes to
 own_answer : (s : ScriptData) (files : List (List Chunk)) (p : List PoolEntry) (who : Who) (b : Brought) (vs : List (Option Medium)) (y : Came) (c : ℕ) (x : MediaStep) (r : StepResult) → media_came p who b x vs ≡ Some y → IsNoTake x
-    → IsLocalAnswer s files vs (Some y) c (step.Media x) r → r ≡ y.answer
+    → IsLocalAnswer s files vs (Some y) c (Step.Media x) r → r ≡ y.answer
 own_answer s files p who b vs y c x r comes take h = grind (arith, comes, take, h)
 
 -- each step that has a result is so
@@ -208,8 +201,8 @@ made_so s files w locals c n r there x is y comes = record {
       let vs = variables_at s files w c n in
       let here : came_at s files w c n ≡ Some y =
       ap (λ (o : Option Step). option_and_then (λ z. media_came (before_step c n w.pool) (step_by c n) (brought_to s files w c n z) z vs) (option_and_then media_of o)) is ∙ comes in
-      let answer : IsLocalAnswer s files vs (came_at s files w c n) c (step.Media x) r = locals c n (step.Media x) r is there in
-      own_answer s files (before_step c n w.pool) (step_by c n) (brought_to s files w c n x) vs y c x r comes apart (subst (λ (o : Option Came). IsLocalAnswer s files vs o c (step.Media x) r) here answer)
+      let answer : IsLocalAnswer s files vs (came_at s files w c n) c (Step.Media x) r = locals c n (Step.Media x) r is there in
+      own_answer s files (before_step c n w.pool) (step_by c n) (brought_to s files w c n x) vs y c x r comes apart (subst (λ (o : Option Came). IsLocalAnswer s files vs o c (Step.Media x) r) here answer)
       );
 }
 

@@ -6,8 +6,7 @@ use Rattle.std.specs.Option.{option_or}
 use Rattle.std.specs.BTreeMap.{BTreeMap, get, is_at}
 use Rattle.std.proofs.lemmas.Bool.{eqb-true, eqb-false}
 use Rattle.std.proofs.lemmas.Bool.Decides.{nat_tests}
-use Rattle.script_types.specs.declared.script.ScriptData.{ScriptData}
-use Rattle.script_types.specs.declared.steps.Step.{Step}
+use Rattle.script_types.specs.declared.{script.ScriptData.ScriptData, steps.Step.Step}
 use Rattle.trace_text.specs.Follow.{steps_of}
 use Rattle.report_text.specs.declared.result.StepResult.{StepResult}
 use Rattle.report_reader.specs.Arguments.{is_named, detached_by, is_detached}

@@ -3,24 +3,19 @@ use Rattle.std.proofs.Common.{◌≡◌, ℕ, zero, suc, ◌+◌, true, List, []
 use Rattle.std.specs.List.{AllByRecursion, zip}
 use Rattle.wc_chunk.specs.declared.chunk.Chunk.{Chunk}
 use Rattle.codec_definitions.specs.declared.unit.Unit as media
-use Rattle.codec_model.specs.declared.entry.Opening.{Opening}
+use Rattle.codec_model.specs.declared.entry.{Opening.Opening, Entry.Entry, Event.Event}
 use Rattle.wc_config.specs.declared.kind.Kind.{Kind}
-use Rattle.codec_model.specs.declared.entry.Entry.{Entry}
-use Rattle.codec_model.specs.declared.entry.Event.{Event}
-use Rattle.codec_model.specs.declared.entry.Event.TheVariants as event
 use Rattle.codec_model.specs.Replay.{State, opening_state}
 use Rattle.codec_model.specs.Shown.{shows, units_in, units_shown}
 use Rattle.codec_follow.specs.Follow.{follow_from, filled, each_filled_from}
 use Rattle.script_types.specs.declared.script.ScriptData.{ScriptData}
 use Rattle.trace_text.specs.Report.{lines_of}
-use Rattle.report_text.specs.declared.line.EntryLine.{EntryLine}
-use Rattle.report_text.specs.declared.line.Line.{Line}
+use Rattle.report_text.specs.declared.line.{EntryLine.EntryLine, Line.Line}
 use Rattle.report_reader.specs.declared.known.Known.{Known}
 use Rattle.report_reader.specs.Read.{entries_from, trace_of, callers_in, behind_results, codecs_in, all_outputs_in, pool_in, behind_entries, run_of}
 use Rattle.report_reader.specs.Told.{known_of, HoldAll, IsPlainTrace, IsToldTrace, AreToldTraces, IsToldRun}
 use Rattle.report_reader.proofs.RunLaws.{step_of_followed, shown_units_of, outputs_behind, run_outputs}
-use Rattle.report_reader.proofs.TraceLaws.{by_next}
-use Rattle.report_reader.proofs.CallLaws.{told_holds}
+use Rattle.report_reader.proofs.{TraceLaws.by_next, CallLaws.told_holds}
 
 -- ---- the entries of a history
 
@@ -39,8 +34,8 @@ all_follow script files known k place (t ∷ ts) s =
 
 filled_again : (k : Kind) → (xs : List Event) (us rest : List media.Unit) → filled k xs (units_in (filled k xs us).0 ++ rest) ≡ ((filled k xs us).0, rest)
 filled_again k [] us rest = refl
-filled_again k (event.Output n u ∷ xs) [] rest = rw (filled_again k xs [] rest) refl
-filled_again k (event.Output n u ∷ xs) (v ∷ us) rest = rw (filled_again k xs us rest) refl
+filled_again k (Event.Output n u ∷ xs) [] rest = rw (filled_again k xs [] rest) refl
+filled_again k (Event.Output n u ∷ xs) (v ∷ us) rest = rw (filled_again k xs us rest) refl
 filled_again k (x ∷ xs) us rest = rw (filled_again k xs us rest) refl
 
 each_again : (k : Kind) → (es : List Entry) (s : State) (us : List media.Unit) → is_some (follow_from es s) ≡ true → each_filled_from k es s (units_shown (each_filled_from k es s us)) ≡ each_filled_from k es s us

@@ -5,22 +5,16 @@ use Rattle.std.proofs.Math.Seq.{take-length}
 use Rattle.wc_base.specs.Options.{some_same}
 use Rattle.wc_chunk.specs.declared.chunk.Chunk.{Chunk}
 use Rattle.codec_definitions.specs.declared.unit.Unit as media
-use Rattle.codec_model.specs.declared.entry.Opening.{Opening}
+use Rattle.codec_model.specs.declared.entry.{Opening.Opening, Entry.Entry, Event.Event, Shown.Shown}
 use Rattle.wc_config.specs.declared.kind.Kind.{Kind}
-use Rattle.codec_model.specs.declared.entry.Entry.{Entry}
-use Rattle.codec_model.specs.declared.entry.Event.{Event}
-use Rattle.codec_model.specs.declared.entry.Shown.{Shown}
-use Rattle.codec_model.specs.Replay.{State, opening_state}
-use Rattle.codec_model.specs.Shown.{shows, shown_at}
+use Rattle.codec_model.specs.{Replay.State, Replay.opening_state, Shown.shows, Shown.shown_at}
 use Rattle.codec_follow.specs.Follow.{follow_step, filled, filled_at, each_filled_from, each_filled}
 use Rattle.codec_follow.specs.Followed.{FollowerValue, follower_of, Follows}
 use Rattle.script_types.specs.declared.script.ScriptData.{ScriptData}
 use Rattle.trace_text.specs.declared.run.CodecTrace.{CodecTrace}
 use Rattle.report_text.specs.declared.line.EntryLine.{EntryLine}
-use Rattle.report_reader.specs.declared.known.Known.{Known}
-use Rattle.report_reader.specs.Arguments.{entry_of}
+use Rattle.report_reader.specs.{declared.known.Known.Known, Arguments.entry_of, Next.shown_next, Next.NextIs}
 use Rattle.report_reader.specs.Read.{next_of, entry_then, entries_from, trace_of}
-use Rattle.report_reader.specs.Next.{shown_next, NextIs}
 
 -- ---- the next entry
 

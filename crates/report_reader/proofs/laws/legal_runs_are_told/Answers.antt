@@ -1,6 +1,4 @@
-use Rattle.report_reader.proofs.LegalLaws.{HistoryLaws, legal_told}
-use Rattle.report_reader.proofs.FormLaws.{report_tells}
-use Rattle.report_reader.proofs.NameLaws.{sound_names}
+use Rattle.report_reader.proofs.{LegalLaws.HistoryLaws, LegalLaws.legal_told, FormLaws.report_tells, NameLaws.sound_names}
 use Rattle.report_reader.proofs.laws.legal_runs_are_told.Goals as goal
 
 pub returns : goal.returns

@@ -1,5 +1,4 @@
-use Rattle.report_reader.proofs.ReadLaws.{read_again}
-use Rattle.report_reader.proofs.NameLaws.{sound_names}
+use Rattle.report_reader.proofs.{ReadLaws.read_again, NameLaws.sound_names}
 use Rattle.report_reader.proofs.read.read_report.Goals as goal
 
 pub returns-clause-only : goal.returns-clause-only

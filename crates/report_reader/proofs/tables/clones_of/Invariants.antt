@@ -1,8 +1,7 @@
 use Rattle.std.proofs.Common.{ℕ, ◌≡◌, length}
 use Rattle.std.specs.BTreeMap.{get}
 use Rattle.std.specs.Option.{option_or}
-use Rattle.report_reader.specs.Arguments.{pair_for}
-use Rattle.report_reader.specs.Tables.{key_cmp}
+use Rattle.report_reader.specs.{Arguments.pair_for, Tables.key_cmp}
 use Rattle.report_reader.proofs.tables.clones_of.Given as goal
 
 abbrev pub invariant-loop-rest : goal.invariant-loop-rest

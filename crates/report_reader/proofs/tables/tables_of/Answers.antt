@@ -1,7 +1,6 @@
 use Rattle.std.specs.BTreeMap.{get}
 use Rattle.trace_text.specs.Follow.{steps_of}
-use Rattle.report_reader.specs.Arguments.{results_of}
-use Rattle.report_reader.specs.Tables.{key_cmp}
+use Rattle.report_reader.specs.{Arguments.results_of, Tables.key_cmp}
 use Rattle.report_reader.proofs.TableLaws.{ends_tell}
 use Rattle.report_reader.proofs.tables.tables_of.Goals as goal
 

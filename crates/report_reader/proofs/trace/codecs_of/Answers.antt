@@ -1,6 +1,5 @@
 use Rattle.report_reader.specs.Fits.{FitsTrace}
-use Rattle.report_reader.proofs.BuildLaws.{codec_more}
-use Rattle.report_reader.proofs.FitLaws.{all_more}
+use Rattle.report_reader.proofs.{BuildLaws.codec_more, FitLaws.all_more}
 use Rattle.report_reader.proofs.trace.codecs_of.Goals as goal
 
 pub loop-codec-preserved : goal.loop-codec-preserved

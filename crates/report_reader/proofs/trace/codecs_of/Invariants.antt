@@ -1,7 +1,6 @@
 use Rattle.std.proofs.Common.{◌≡◌, ◌++◌, ◌-◌}
 use Rattle.std.specs.List.{AllByRecursion}
-use Rattle.report_reader.specs.Read.{codecs_in}
-use Rattle.report_reader.specs.Fits.{FitsTrace}
+use Rattle.report_reader.specs.{Read.codecs_in, Fits.FitsTrace}
 use Rattle.report_reader.proofs.trace.codecs_of.Given as goal
 
 abbrev pub invariant-loop-codec : goal.invariant-loop-codec
