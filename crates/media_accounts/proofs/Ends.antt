@@ -1,7 +1,7 @@
 -- What one more entry, and the ends of a list of references, make of a pool's history.
 use Rattle.std.proofs.Common.{ℕ, zero, suc, ◌≡◌, ◌≢◌, ◌<◌, ◌+◌, ◌==◌, Bool, true, false, cond, not, if◌then◌else◌, List, [], ◌∷◌, ◌++◌, Option, Some, None, refl, ap, sym, subst, ◌∙◌, arith, append_assoc, append-nil, eq-eqb}
 use Rattle.std.specs.Prelude.{map, slice_get, ◌&&◌}
-use Rattle.std.proofs.lemmas.Bool.{ne_eqb}
+use Rattle.std.proofs.lemmas.Bool.{and_from, ne_eqb}
 use Rattle.std.proofs.lemmas.List.Sums.{fold_push, sum_by_push}
 use Rattle.wc_base.specs.declared.who.By.{By}
 use Rattle.wc_pool.specs.declared.entry.PoolEntry.{PoolEntry}
@@ -12,7 +12,7 @@ use Rattle.codec_model.specs.declared.entry.Pair.{Pair}
 use Rattle.media_variables.specs.Variables.{is_last_of}
 use Rattle.media_variables.specs.Held.{clones_of, ends_behind}
 use Rattle.media_accounts.specs.Accounts.{MayAdd, ops_where, without_last}
-use Rattle.media_accounts.proofs.Pools.{AllBy, legal_one}
+use Rattle.media_accounts.proofs.Pools.{AllBy}
 
 abbrev one_if : Bool → ℕ
 one_if b = cond b 1 0
@@ -91,7 +91,7 @@ only_one p q (suc i) is = absurd cc
 
 pub clone_grows : (cause : By) (pool : List PoolEntry) (p : Pair) → MayAdd pool p → ((f r : ℕ) → resource_of f pool ≡ Some r → f < references_made pool) → Grows cause pool (clone_of cause p ∷ []) [] (p ∷ [])
 clone_grows cause pool p may numbered = record {
-  legal = legal_one pool (clone_of cause p) (clone_legal cause pool p may);
+  legal = and_from (is_legal_next pool (clone_of cause p)) true (clone_legal cause pool p may) refl;
   its = (refl, tt);
   stays = λ f r lives none. (
       let lt = numbered f r lives in

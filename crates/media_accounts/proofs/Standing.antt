@@ -1,17 +1,22 @@
 -- What stands of all callers' media.
-use Rattle.std.proofs.Common.{ℕ, zero, suc, ◌≡◌, ◌≢◌, ◌≤◌, ◌<◌, inl, inr, Bool, ltb, List, [], ◌∷◌, ◌++◌, length, map, Option, Some, None, refl, ap, sym, subst, ◌∙◌, arith}
+use Rattle.std.proofs.Common.{ℕ, zero, suc, ◌≡◌, ◌≢◌, ◌<◌, Bool, true, List, [], ◌∷◌, ◌++◌, length, map, Option, Some, None, refl, ap, sym, ◌∙◌, arith}
 use Rattle.std.specs.Prelude.{slice_get, slice_set, option_and_then}
-use Rattle.std.proofs.lemmas.Bool.{cases_eq, cases_lt, le-ltb}
+use Rattle.std.proofs.lemmas.Bool.{and_from, le-ltb}
+use Rattle.std.proofs.lemmas.List.{append-nil}
 use Rattle.script_types.specs.declared.script.CallerItem.{CallerItem}
 use Rattle.script_types.specs.declared.steps.MediaStep.{MediaStep}
 use Rattle.script_types.specs.declared.steps.Step.{Step}
+use Rattle.wc_base.specs.declared.who.By.TheVariants as by
 use Rattle.wc_base.specs.declared.who.Who.{Who}
+use Rattle.wc_pool.specs.declared.entry.PoolOp.{PoolOp}
+use Rattle.wc_pool.specs.Bag.{is_legal_next, is_legal_from}
 use Rattle.wc_pool.specs.declared.entry.PoolEntry.{PoolEntry}
-use Rattle.media_variables.specs.Variables.{Medium, Came, Brought, media_came, entries_of, variables_of, medium_at}
+use Rattle.media_variables.specs.Variables.{Medium, Media, Came, Brought, media_came, entries_of, variables_of, medium_at}
 use Rattle.media_variables.specs.Held.{reference_at, AreHeld, StayHeld, DoLegally}
-use Rattle.media_accounts.specs.Accounts.{step_by, before_step, media_of, variables_by, owes, came_on, came_in, variables_in, Next, IsBroughtToo, NothingStands, StepsStand, OthersStand, LaterStand}
+use Rattle.media_accounts.specs.Accounts.{step_by, before_step, media_of, variables_by, owes, came_on, came_in, variables_in, Lending, AreLent, OneMore, MediaStand, NothingStands, StepsStand, OthersStand, LaterStand}
+use Rattle.media_accounts.proofs.Pools.{by_one}
 use Rattle.media_accounts.proofs.Lent.{stay_apart}
-use Rattle.media_accounts.proofs.Steps.{media_stay, quiet_came, other_stays}
+use Rattle.media_accounts.proofs.Steps.{ComesToo, variables_stay, came_stays, owes_same, comes_there, came_before, came_now, variables_now, variables_others, grown}
 
 -- ---- lists of variables
 
@@ -50,6 +55,11 @@ none_held callers = record {
     nothing : (k j : ℕ) → reference_at (map (λ x. []) callers) k j ≡ None
     nothing k j = ap (λ (vs : List (Option Medium)). option_and_then (λ (m : Medium). m.held) (medium_at vs j)) (none_there callers k)
 
+-- the entry of a step is legal, if it makes one
+entries_legal : (pool : List PoolEntry) (who : Who) (o : Option PoolOp) → ((e : PoolEntry) → entries_of who o ≡ e ∷ [] → is_legal_next pool e ≡ true) → is_legal_from pool (entries_of who o) ≡ true
+entries_legal pool who None legal = refl
+entries_legal pool who (Some o) legal = and_from _ true (legal (record { by = by.Caller who; op = o }) refl) refl
+
 -- ---- before any step
 
 pub nothing_stands : NothingStands
@@ -73,52 +83,64 @@ nothing_stands steps brought callers = record {
   there = none_long callers;
 }
 
--- ---- a step on media
+-- ---- a step
+
+-- One step more, which comes to this, leaves the pool's history with its entry, and these variables.
+module _ (steps : ℕ → List Step) (brought : ℕ → ℕ → MediaStep → Brought) (codecs : Lending) (made more : ℕ → ℕ) (callers : ℕ) (m : Media) (c : ℕ) (st : MediaStand steps brought codecs made callers m) (one : OneMore made more c) (o : Option Came) where
+  abbrev longer : List PoolEntry
+  longer = m.pool ++ entries_of (step_by c (made c)) (option_and_then (λ (z : Came). z.does) o)
+
+  stands_after : (us : List (List (Option Medium))) → came_on steps brought longer c (made c) (variables_in steps brought m.pool c (made c)) ≡ o → is_legal_from m.pool (entries_of (step_by c (made c)) (option_and_then (λ (z : Came). z.does) o)) ≡ true
+      → variables_of c us ≡ variables_by o (variables_of c m.variables) → ((d : ℕ) → d ≢ c → variables_of d us ≡ variables_of d m.variables)
+      → AreHeld longer us → AreLent longer us codecs.holds → length us ≡ length m.variables → MediaStand steps brought codecs more callers (record { variables = us; pool = longer })
+  stands_after us comes legal here others held lent long = record {
+    accounted = grown steps brought codecs.lends made more m.pool c st.accounted one o comes legal;
+    variables = by_one (λ d. variables_of d us ≡ variables_in steps brought longer d (more d)) c
+        (here ∙ (ap (variables_by o) (st.variables c) ∙ sym (variables_now steps brought codecs.lends made more m.pool c st.accounted one o comes)))
+        (λ d other. others d other ∙ (st.variables d ∙ sym (variables_others steps brought codecs.lends made more m.pool c st.accounted one o d other)));
+    held = held;
+    lent = lent;
+    there = long ∙ st.there;
+  }
 
 pub step_stands : StayHeld → DoLegally → StepsStand
 step_stands stay legally steps brought codecs made more callers m c x y st lt one is comes =
     let who = step_by c (made c) in
+    let vs = variables_in steps brought m.pool c (made c) in
     let there : c < length m.variables = (let n = st.there in omega (arith, lt, n)) in
-    let next : Next steps brought made m.pool c x y = record {
-      is_step = is;
-      comes = subst (λ (vs : List (Option Medium)). media_came m.pool who (brought c (made c) x) x vs ≡ Some y) (st.variables c) comes;
-      legal = λ e made_it. legally m.pool who m.variables (brought c (made c) x) x y e st.accounted.legal st.held comes made_it;
-    } in
-    let after = media_stay steps brought codecs.lends made more m.pool c x y st.accounted one next in
+    let same : media_came m.pool who (brought c (made c) x) x vs ≡ Some y = ap (media_came m.pool who (brought c (made c) x) x) (sym (st.variables c)) ∙ comes in
+    let longer = m.pool ++ entries_of who y.does in
+    let came : came_on steps brought longer c (made c) vs ≡ Some y =
+    ap (λ (o : Option Step). option_and_then (λ (z : MediaStep). media_came (before_step c (made c) longer) who (brought c (made c) z) z vs) (option_and_then media_of o)) is
+    ∙ comes_there steps brought codecs.lends made more m.pool c st.accounted one x y vs y.does refl same in
     record {
-      stands = record {
-        accounted = after.accounted;
-        variables = λ d. elim (cases_eq d c) [
-          | inl same ↦ subst (λ (k : ℕ). variables_of k (slice_set m.variables c y.variables) ≡ variables_in steps brought (m.pool ++ entries_of who y.does) k (more k)) (sym same)
-              (variables_here c y.variables m.variables there ∙ sym (ap (variables_in steps brought (m.pool ++ entries_of who y.does) c) one.here ∙ after.variables))
-          | inr other ↦ variables_else d c y.variables m.variables other ∙ (st.variables d ∙ sym (after.others d other))
-        ];
-        held = stay m.pool who m.variables (brought c (made c) x) x y st.accounted.legal there st.held comes;
-        lent = record {
-          apart = λ k. stay_apart stay m.pool who m.variables (brought c (made c) x) x y (codecs.holds k) st.accounted.legal there st.held (st.lent.apart k) comes;
-          between = st.lent.between;
-        };
-        there = set_long c y.variables m.variables ∙ st.there;
-      };
-      here = after.here;
-      earlier = after.earlier;
+      stands = stands_after steps brought codecs made more callers m c st one (Some y) (slice_set m.variables c y.variables) came
+          (entries_legal m.pool who y.does (λ e made_it. legally m.pool who m.variables (brought c (made c) x) x y e st.accounted.legal st.held comes made_it))
+          (variables_here c y.variables m.variables there) (λ d other. variables_else d c y.variables m.variables other)
+          (stay m.pool who m.variables (brought c (made c) x) x y st.accounted.legal there st.held comes)
+          (record {
+            apart = λ k. stay_apart stay m.pool who m.variables (brought c (made c) x) x y (codecs.holds k) st.accounted.legal there st.held (st.lent.apart k) comes;
+            between = st.lent.between;
+          })
+          (set_long c y.variables m.variables);
+      here = came_now steps brought codecs.lends made more m.pool c st.accounted one (Some y) came;
+      earlier = came_before steps brought codecs.lends made more m.pool c st.accounted one (Some y);
     }
 
--- ---- any other step
+-- what a step that comes to nothing comes to
+came_none : (before : List PoolEntry) (who : Who) (brings : MediaStep → Brought) (o : Option MediaStep) (vs : List (Option Medium)) → ((x : MediaStep) → o ≡ Some x → media_came before who (brings x) x vs ≡ None)
+    → option_and_then (λ (x : MediaStep). media_came before who (brings x) x vs) o ≡ None
+came_none before who brings None vs quiet = refl
+came_none before who brings (Some x) vs quiet = quiet x refl
 
 pub other_stands : OthersStand
-other_stands steps brought codecs made more callers m c st one quiet = record {
-  accounted = other_stays steps brought codecs.lends made more m.pool c st.accounted one quiet;
-  variables = λ d. elim (cases_eq d c) [
-    | inr other ↦ st.variables d ∙ ap (variables_in steps brought m.pool d) (sym (one.others d other))
-    | inl same ↦ subst (λ (k : ℕ). variables_of k m.variables ≡ variables_in steps brought m.pool k (more k)) (sym same)
-        (st.variables c ∙ sym (ap (variables_in steps brought m.pool c) one.here
-        ∙ ap (λ (o : Option Came). variables_by o (variables_in steps brought m.pool c (made c))) (quiet_came steps brought m.pool c (made c) (variables_in steps brought m.pool c (made c)) quiet)))
-  ];
-  held = st.held;
-  lent = st.lent;
-  there = st.there;
-}
+other_stands steps brought codecs made more callers m c st one quiet =
+    let vs = variables_in steps brought m.pool c (made c) in
+    let before = before_step c (made c) (m.pool ++ []) in
+    let held : AreHeld (m.pool ++ []) m.variables = rw append-nil st.held in
+    let lent : AreLent (m.pool ++ []) m.variables codecs.holds = rw append-nil st.lent in
+    rw append-nil at (stands_after steps brought codecs made more callers m c st one None m.variables
+    (came_none before (step_by c (made c)) (brought c (made c)) (option_and_then media_of (slice_get (steps c) (made c))) vs (λ x is. quiet x before vs is)) refl refl (λ d other. refl) held lent refl)
 
 -- ---- more is brought
 
@@ -128,43 +150,24 @@ came_too : (before : List PoolEntry) (who : Who) (vs : List (Option Medium)) (la
 came_too before who vs later brings None same = refl
 came_too before who vs later brings (Some x) same = ap (λ (b : Brought). media_came before who b x vs) (same x)
 
-module _ (steps : ℕ → List Step) (brought later : ℕ → ℕ → MediaStep → Brought) (made : ℕ → ℕ) (pool : List PoolEntry) (too : IsBroughtToo made brought later) where
-  came_on_too : (c j : ℕ) (vs us : List (Option Medium)) → j < made c → us ≡ vs → came_on steps later pool c j us ≡ came_on steps brought pool c j vs
-  came_on_too c j vs us lt same =
-      came_too (before_step c j pool) (step_by c j) us (later c j) (brought c j) (option_and_then media_of (slice_get (steps c) j)) (λ x. too c j x lt)
-      ∙ ap (came_on steps brought pool c j) same
-
-  variables_too : (c j : ℕ) → j ≤ made c → variables_in steps later pool c j ≡ variables_in steps brought pool c j
-  variables_too c zero le = refl
-  variables_too c (suc j) le =
-      let vs = variables_too c j (omega (arith, le)) in
-      let came = came_on_too c j (variables_in steps brought pool c j) (variables_in steps later pool c j) (omega (arith, le)) vs in
-      ap (λ (y : Option Came). variables_by y (variables_in steps later pool c j)) came
-      ∙ ap (variables_by (came_in steps brought pool c j)) vs
-
-  came_in_too : (c j : ℕ) → j < made c → came_in steps later pool c j ≡ came_in steps brought pool c j
-  came_in_too c j lt = came_on_too c j (variables_in steps brought pool c j) (variables_in steps later pool c j) lt (variables_too c j (omega (arith, lt)))
-
-  -- a step that was not made owes nothing, whatever it comes to
-  owes_too : (c j : ℕ) → owes (ltb j (made c)) (came_in steps brought pool c j) ≡ owes (ltb j (made c)) (came_in steps later pool c j)
-  owes_too c j = elim (cases_lt j (made c)) [
-    | inl lt ↦ ap (owes (ltb j (made c))) (sym (came_in_too c j lt))
-    | inr le ↦ ap (λ (b : Bool). owes b (came_in steps brought pool c j)) (le-ltb j (made c) le) ∙ sym (ap (λ (b : Bool). owes b (came_in steps later pool c j)) (le-ltb j (made c) le))
-  ]
-
 pub later_stand : LaterStand
-later_stand steps brought later codecs made callers m st too = record {
-  stands = record {
-    accounted = record {
-      legal = st.accounted.legal;
-      owed = λ c j. st.accounted.owed c j ∙ owes_too steps brought later made m.pool too c j;
-      codecs = st.accounted.codecs;
-      rises = st.accounted.rises;
-    };
-    variables = λ c. st.variables c ∙ sym (variables_too steps brought later made m.pool too c (made c) (omega arith));
-    held = st.held;
-    lent = st.lent;
-    there = st.there;
-  };
-  same = came_in_too steps brought later made m.pool too;
-}
+later_stand steps brought later codecs made callers m st too =
+    let comes : (c j : ℕ) → j < made c → ComesToo steps brought later m.pool m.pool c j =
+    λ c j lt vs. came_too (before_step c j m.pool) (step_by c j) vs (later c j) (brought c j) (option_and_then media_of (slice_get (steps c) j)) (λ x. too c j x lt) in
+    let same : (c j : ℕ) → j < made c → came_in steps later m.pool c j ≡ came_in steps brought m.pool c j =
+    λ c j lt. came_stays steps brought later m.pool m.pool c j (λ i le. comes c i (omega (arith, lt, le))) in
+    record {
+      stands = record {
+        accounted = record {
+          legal = st.accounted.legal;
+          owed = λ c j. st.accounted.owed c j ∙ owes_same j (made c) (came_in steps brought m.pool c j) (came_in steps later m.pool c j) (λ lt. sym (same c j lt));
+          codecs = st.accounted.codecs;
+          rises = st.accounted.rises;
+        };
+        variables = λ c. st.variables c ∙ sym (variables_stay steps brought later m.pool m.pool c (made c) (λ i lt. comes c i lt));
+        held = st.held;
+        lent = st.lent;
+        there = st.there;
+      };
+      same = same;
+    }
