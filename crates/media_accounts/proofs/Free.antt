@@ -17,53 +17,51 @@ use Rattle.script_types.specs.declared.steps.MediaStep.TheVariants as media
 use Rattle.report_text.specs.declared.result.StepResult.{StepResult}
 use Rattle.media_variables.specs.Variables.{Shape, SoundOf, PictureOf, Reference, Medium, Came, medium_at, only_answers, refused, makes, clone_held, close_held, is_last, if_there, Taken, Brought, unit_came, taken_came, media_came}
 
-does_not : (a y : Came) (o : PoolOp) → a.does ≡ Some o → Some a ≡ Some y → y.does ≡ None → ⊥
-does_not a y o is came none =
-    let same : a ≡ y = cc in
-    let bad : Some o ≡ None = sym is ∙ (ap (λ (z : Came). z.does) same ∙ none) in
+-- what it comes to is the same whatever the history is, where it does nothing
+abbrev Free : (List PoolEntry → Option Came) → Type 0
+Free came = (p q : List PoolEntry) (y : Came) → came p ≡ Some y → y.does ≡ None → came q ≡ Some y
+
+-- what always does something
+does_free : (came : List PoolEntry → Came) (does : List PoolEntry → PoolOp) → ((p : List PoolEntry) → (came p).does ≡ Some (does p)) → Free (λ p. Some (came p))
+does_free came does is p q y comes none =
+    let same : came p ≡ y = cc in
+    let bad : Some (does p) ≡ None = sym (is p) ∙ (ap (λ (z : Came). z.does) same ∙ none) in
     absurd cc
 
+makes_free : (j : ℕ) (shape : Shape) (bytes : List ℕ) (answer : StepResult) (vs : List (Option Medium)) → Free (λ p. Some (record (makes p j shape bytes vs) { answer = answer }))
+makes_free j shape bytes answer vs = does_free _ (λ p. op.Make (resources_made p) (references_made p)) (λ p. refl)
+
 -- an init that is refused makes nothing, and any other makes a resource
-init_free : (p q : List PoolEntry) (j : ℕ) (shape : Shape) (bytes : List ℕ) (vs : List (Option Medium)) (y : Came) (b : Bool) → Some (cond b (only_answers (refused dom.TypeErr) vs) (makes p j shape bytes vs)) ≡ Some y → y.does ≡ None
-    → Some (cond b (only_answers (refused dom.TypeErr) vs) (makes q j shape bytes vs)) ≡ Some y
-init_free p q j shape bytes vs y true came none = came
-init_free p q j shape bytes vs y false came none = absurd (does_not (makes p j shape bytes vs) y (op.Make (resources_made p) (references_made p)) refl came none)
+init_free : (b : Bool) (other : Came) (came : List PoolEntry → Came) → Free (λ p. Some (came p)) → Free (λ p. Some (cond b other (came p)))
+init_free true other came free = λ p q y comes none. comes
+init_free false other came free = free
 
-clone_free : (p q : List PoolEntry) (j : ℕ) (shape : Shape) (o : Option Reference) (vs : List (Option Medium)) (y : Came) → Some (clone_held p j shape o vs) ≡ Some y → y.does ≡ None → Some (clone_held q j shape o vs) ≡ Some y
-clone_free p q j shape None vs y came none = came
-clone_free p q j shape (Some r) vs y came none = absurd (does_not (clone_held p j shape (Some r) vs) y (op.Clone r.resource (references_made p)) refl came none)
+there_free : (o : Option Medium) (vs : List (Option Medium)) (came : List PoolEntry → Medium → Came) → ((m : Medium) → Free (λ p. Some (came p m))) → Free (λ p. Some (if_there o vs (came p)))
+there_free None vs came free = λ p q y comes none. comes
+there_free (Some m) vs came free = free m
 
-close_free : (p q : List PoolEntry) (who : Who) (of : ℕ) (m : Medium) (o : Option Reference) (vs : List (Option Medium)) (y : Came) → Some (close_held p who of m o vs) ≡ Some y → y.does ≡ None → Some (close_held q who of m o vs) ≡ Some y
-close_free p q who of m None vs y came none = came
-close_free p q who of m (Some r) vs y came none = absurd (does_not (close_held p who of m (Some r) vs) y (op.End r.resource r.number (is_last who r p)) refl came none)
+clone_free : (j : ℕ) (shape : Shape) (o : Option Reference) (vs : List (Option Medium)) → Free (λ p. Some (clone_held p j shape o vs))
+clone_free j shape None vs = λ p q y comes none. comes
+clone_free j shape (Some r) vs = does_free _ (λ p. op.Clone r.resource (references_made p)) (λ p. refl)
 
-clone_there : (p q : List PoolEntry) (j : ℕ) (o : Option Medium) (vs : List (Option Medium)) (y : Came) → Some (if_there o vs (λ m. clone_held p j m.shape m.held vs)) ≡ Some y → y.does ≡ None → Some (if_there o vs (λ m. clone_held q j m.shape m.held vs)) ≡ Some y
-clone_there p q j None vs y came none = came
-clone_there p q j (Some m) vs y came none = clone_free p q j m.shape m.held vs y came none
-
-close_there : (p q : List PoolEntry) (who : Who) (of : ℕ) (o : Option Medium) (vs : List (Option Medium)) (y : Came) → Some (if_there o vs (λ m. close_held p who of m m.held vs)) ≡ Some y → y.does ≡ None → Some (if_there o vs (λ m. close_held q who of m m.held vs)) ≡ Some y
-close_there p q who of None vs y came none = came
-close_there p q who of (Some m) vs y came none = close_free p q who of m m.held vs y came none
+close_free : (who : Who) (of : ℕ) (m : Medium) (o : Option Reference) (vs : List (Option Medium)) → Free (λ p. Some (close_held p who of m o vs))
+close_free who of m None vs = λ p q y comes none. comes
+close_free who of m (Some r) vs = does_free _ (λ p. op.End r.resource r.number (is_last who r p)) (λ p. refl)
 
 -- an output makes a resource, unless it is a chunk
-unit_free : (p q : List PoolEntry) (j : ℕ) (answer : StepResult) (u : output.Unit) (vs : List (Option Medium)) (y : Came) → Some (unit_came p j answer u vs) ≡ Some y → y.does ≡ None → Some (unit_came q j answer u vs) ≡ Some y
-unit_free p q j answer (unit.Sound s) vs y came none = absurd (does_not (unit_came p j answer (unit.Sound s) vs) y (op.Make (resources_made p) (references_made p)) refl came none)
-unit_free p q j answer (unit.Image i) vs y came none = absurd (does_not (unit_came p j answer (unit.Image i) vs) y (op.Make (resources_made p) (references_made p)) refl came none)
-unit_free p q j answer (unit.Coded chunk config) vs y came none = came
+taken_free : (j : ℕ) (t : Option Taken) (vs : List (Option Medium)) → Free (λ p. taken_came p j t vs)
+taken_free j None vs = λ p q y comes none. comes
+taken_free j (Some t) vs = unit_free t.unit
+  where
+    unit_free : (u : output.Unit) → Free (λ p. Some (unit_came p j t.answer u vs))
+    unit_free (unit.Sound s) = makes_free j (SoundOf s.shape) s.bytes t.answer vs
+    unit_free (unit.Image i) = makes_free j (PictureOf i.shape) i.bytes t.answer vs
+    unit_free (unit.Coded chunk config) = λ p q y comes none. comes
 
-taken_free : (p q : List PoolEntry) (j : ℕ) (t : Option Taken) (vs : List (Option Medium)) (y : Came) → taken_came p j t vs ≡ Some y → y.does ≡ None → taken_came q j t vs ≡ Some y
-taken_free p q j None vs y came none = absurd cc
-taken_free p q j (Some t) vs y came none = unit_free p q j t.answer t.unit vs y came none
-
-pub came_free : (p q : List PoolEntry) (who : Who) (b : Brought) (x : MediaStep) (vs : List (Option Medium)) (y : Came) → media_came p who b x vs ≡ Some y → y.does ≡ None → media_came q who b x vs ≡ Some y
-came_free p q who b (media.Audio bind None) vs y came none = came
-came_free p q who b (media.Audio bind (Some i)) vs y came none = init_free p q who.step (SoundOf i.shape) (take (needed i.shape) i.content) vs y (is_invalid i.shape (length i.content)) came none
-came_free p q who b (media.Frame bind None) vs y came none = came
-came_free p q who b (media.Frame bind (Some i)) vs y came none = init_free p q who.step (PictureOf i.shape) (take (picture_size i.shape) i.content) vs y (frames.is_invalid i.shape (length i.content)) came none
-came_free p q who b (media.Encode on content) vs y came none = absurd cc
-came_free p q who b (media.Take on bind kind) vs y came none = taken_free p q who.step b.taken vs y came none
-came_free p q who b (media.Clone of bind) vs y came none = clone_there p q who.step (medium_at vs of.step) vs y came none
-came_free p q who b (media.Transfer of bind) vs y came none = came
-came_free p q who b (media.CloseData of) vs y came none = close_there p q who of.step (medium_at vs of.step) vs y came none
-came_free p q who b (media.Copy of o size) vs y came none = came
-came_free p q who b (media.Size of o) vs y came none = came
+pub came_free : (who : Who) (b : Brought) (x : MediaStep) (vs : List (Option Medium)) → Free (λ p. media_came p who b x vs)
+came_free who b (media.Audio bind (Some i)) vs = init_free (is_invalid i.shape (length i.content)) _ _ (makes_free who.step (SoundOf i.shape) (take (needed i.shape) i.content) _ vs)
+came_free who b (media.Frame bind (Some i)) vs = init_free (frames.is_invalid i.shape (length i.content)) _ _ (makes_free who.step (PictureOf i.shape) (take (picture_size i.shape) i.content) _ vs)
+came_free who b (media.Take on bind kind) vs = taken_free who.step b.taken vs
+came_free who b (media.Clone of bind) vs = there_free (medium_at vs of.step) vs _ (λ m. clone_free who.step m.shape m.held vs)
+came_free who b (media.CloseData of) vs = there_free (medium_at vs of.step) vs _ (λ m. close_free who of.step m m.held vs)
+came_free who b _ vs = λ p q y comes none. comes

@@ -1,5 +1,5 @@
 -- The references that codecs hold stay live and apart in each step of a caller: they stand as those of one caller more do.
-use Rattle.std.proofs.Common.{ℕ, zero, suc, ◌≡◌, ◌≢◌, ◌<◌, ◌+◌, inl, inr, true, List, [], ◌∷◌, ◌++◌, length, map, Option, Some, None, refl, ap, sym, subst, ◌∙◌, arith}
+use Rattle.std.proofs.Common.{ℕ, zero, suc, ◌≡◌, ◌≢◌, ◌<◌, ◌+◌, ◌⊎◌, inl, inr, true, List, [], ◌∷◌, ◌++◌, length, map, Option, Some, None, refl, ap, sym, subst, ◌∙◌, arith}
 use Rattle.std.specs.Prelude.{pos, slice_get, slice_set, option_map}
 use Rattle.std.proofs.lemmas.Bool.{cases_eq}
 use Rattle.std.proofs.lemmas.List.{length-append}
@@ -13,14 +13,6 @@ use Rattle.media_variables.specs.Variables.{Reference, SoundOf, Medium, Came, Br
 use Rattle.media_variables.specs.Held.{held_by, reference_at, AreHeld, AreApart, StayHeld}
 
 -- ---- lists of variables
-
-variables_last : (vs : List (Option Medium)) (all : List (List (Option Medium))) → variables_of (length all) (all ++ vs ∷ []) ≡ vs
-variables_last vs [] = refl
-variables_last vs (x ∷ xs) = variables_last vs xs
-
-variables_past : (all : List (List (Option Medium))) → variables_of (length all) all ≡ []
-variables_past [] = refl
-variables_past (x ∷ xs) = variables_past xs
 
 variables_before : (k : ℕ) (vs : List (Option Medium)) (all : List (List (Option Medium))) → k ≢ length all → variables_of k (all ++ vs ∷ []) ≡ variables_of k all
 variables_before zero vs [] other = absurd (other refl)
@@ -54,30 +46,29 @@ abbrev with_holders : List (List (Option Medium)) → List Pair → List (List (
 with_holders all ps = all ++ holders ps ∷ []
 
 at_last : (all : List (List (Option Medium))) (ps : List Pair) (i : ℕ) → reference_at (with_holders all ps) (length all) i ≡ option_map of_pair (slice_get ps i)
-at_last all ps i = ap (λ (vs : List (Option Medium)). held_by (medium_at vs i)) (variables_last (holders ps) all) ∙ holds_it ps i
+at_last [] ps i = holds_it ps i
+at_last (x ∷ xs) ps i = at_last xs ps i
 
 at_other : (all : List (List (Option Medium))) (ps : List Pair) (k j : ℕ) → k ≢ length all → reference_at (with_holders all ps) k j ≡ reference_at all k j
 at_other all ps k j other = ap (λ (vs : List (Option Medium)). held_by (medium_at vs j)) (variables_before k (holders ps) all other)
 
 -- a variable that holds something is one of a caller
 within : (all : List (List (Option Medium))) (k j : ℕ) (r : Reference) → reference_at all k j ≡ Some r → k ≢ length all
-within all k j r is same =
-    let none : reference_at all k j ≡ None = ap (λ (n : ℕ). reference_at all n j) same ∙ ap (λ (vs : List (Option Medium)). held_by (medium_at vs j)) (variables_past all) in
-    let bad : None ≡ Some r = sym none ∙ is in
-    absurd cc
+within [] k j r is same = absurd cc
+within (x ∷ xs) zero j r is same = absurd (omega (arith, same))
+within (x ∷ xs) (suc k) j r is same = within xs k j r is (omega (arith, same))
 
 -- which of the references such a variable holds
-record Holds (ps : List Pair) (i : ℕ) (r : Reference) : Type 0 where
-  pair : Pair
-  there : slice_get ps i ≡ Some pair
-  same : r ≡ of_pair pair
+holds_some : (r : Reference) (o : Option Pair) → option_map of_pair o ≡ Some r → (p : Pair) × (o ≡ Some p) × (of_pair p ≡ r)
+holds_some r None is = absurd cc
+holds_some r (Some p) is = (p, refl, cc)
 
-holds_some : (ps : List Pair) (i : ℕ) (r : Reference) (o : Option Pair) → slice_get ps i ≡ o → option_map of_pair o ≡ Some r → Holds ps i r
-holds_some ps i r None at is = absurd cc
-holds_some ps i r (Some p) at is = record { pair = p; there = at; same = (let both : of_pair p ≡ r = cc in sym both) }
-
-held_last : (all : List (List (Option Medium))) (ps : List Pair) (k i : ℕ) (r : Reference) → k ≡ length all → reference_at (with_holders all ps) k i ≡ Some r → Holds ps i r
-held_last all ps k i r same is = holds_some ps i r (slice_get ps i) refl (sym (ap (λ (n : ℕ). reference_at (with_holders all ps) n i) same ∙ at_last all ps i) ∙ is)
+-- a reference is one of these, or a caller's
+found : (all : List (List (Option Medium))) (ps : List Pair) (k i : ℕ) (r : Reference) → reference_at (with_holders all ps) k i ≡ Some r → ((k ≡ length all) × ((p : Pair) × (slice_get ps i ≡ Some p) × (of_pair p ≡ r))) ⊎ (reference_at all k i ≡ Some r)
+found all ps k i r is = elim (cases_eq k (length all)) [
+  | inl last ↦ inl (last, holds_some r (slice_get ps i) (sym (ap (λ (n : ℕ). reference_at (with_holders all ps) n i) last ∙ at_last all ps i) ∙ is))
+  | inr other ↦ inr (sym (at_other all ps k i other) ∙ is)
+]
 
 -- ---- both ways
 
@@ -85,27 +76,18 @@ add_holders : (pool : List PoolEntry) (all : List (List (Option Medium))) (ps : 
 add_holders pool all ps h a =
     let number : Reference → ℕ = λ r. r.number in
     record {
-      live = λ k j r is. elim (cases_eq k (length all)) [
-        | inl last ↦ (let its = held_last all ps k j r last is in subst (λ (x : Reference). resource_of x.number pool ≡ Some x.resource) (sym its.same) (a.lives j its.pair its.there))
-        | inr other ↦ h.live k j r (sym (at_other all ps k j other) ∙ is)
+      live = λ k j r is. elim (found all ps k j r is) [
+        | inl last ↦ subst (λ (x : Reference). resource_of x.number pool ≡ Some x.resource) last.1.2 (a.lives j last.1.0 last.1.1)
+        | inr there ↦ h.live k j r there
       ];
-      apart = λ k j l i r s one two same. elim (cases_eq k (length all)) [
-        | inl last ↦ (
-            let its = held_last all ps k j r last one in
-            elim (cases_eq l (length all)) [
-              | inl last_too ↦ (
-                  let other = held_last all ps l i s last_too two in
-                  (last ∙ sym last_too, a.once j i its.pair other.pair its.there other.there (sym (ap number its.same) ∙ (same ∙ ap number other.same)))
-                  )
-              | inr before ↦ absurd (a.elsewhere j l i its.pair s its.there (sym (at_other all ps l i before) ∙ two) (sym (ap number its.same) ∙ same))
-            ]
-            )
-        | inr before ↦ elim (cases_eq l (length all)) [
-          | inl last ↦ (
-              let its = held_last all ps l i s last two in
-              absurd (a.elsewhere i k j its.pair r its.there (sym (at_other all ps k j before) ∙ one) (sym (same ∙ ap number its.same)))
-              )
-          | inr before_too ↦ h.apart k j l i r s (sym (at_other all ps k j before) ∙ one) (sym (at_other all ps l i before_too) ∙ two) same
+      apart = λ k j l i r s one two same. elim (found all ps k j r one) [
+        | inl last ↦ elim (found all ps l i s two) [
+          | inl last_too ↦ (last.0 ∙ sym last_too.0, a.once j i last.1.0 last_too.1.0 last.1.1 last_too.1.1 (ap number last.1.2 ∙ (same ∙ sym (ap number last_too.1.2))))
+          | inr there ↦ absurd (a.elsewhere j l i last.1.0 s last.1.1 there (ap number last.1.2 ∙ same))
+        ]
+        | inr there ↦ elim (found all ps l i s two) [
+          | inl last ↦ absurd (a.elsewhere i k j last.1.0 r last.1.1 there (ap number last.1.2 ∙ sym same))
+          | inr there_too ↦ h.apart k j l i r s there there_too same
         ]
       ];
     }

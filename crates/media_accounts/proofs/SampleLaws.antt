@@ -2,6 +2,7 @@
 use Rattle.std.proofs.Common.{ℕ, zero, suc, ◌≡◌, ◌<◌, inl, inr, ◌⊎◌, Bool, true, false, cond, List, [], ◌∷◌, Option, Some, None, refl, ap, sym, subst, ◌∙◌, arith}
 use Rattle.std.specs.Prelude.{slice_get, IfSome, option_and_then}
 use Rattle.std.proofs.lemmas.Bool.{eq-eqb, ne_eqb}
+use Rattle.std.proofs.lemmas.Option.{option_and_then_some}
 use Rattle.wc_base.specs.declared.media.SoundShape.{SoundShape}
 use Rattle.wc_base.specs.declared.media.PictureShape.{PictureShape}
 use Rattle.wc_base.specs.declared.media.Samples.{Samples}
@@ -177,16 +178,12 @@ chunk_kept : (s : Option Samples) (u : Option output.Unit) (shape : Shape) (h : 
 chunk_kept s u (ChunkOf x) h chunk known is = known.1 ∙ is
 chunk_kept s u _ h chunk known is = absurd cc
 
-in_medium : {X : Type 0} (o : Option Medium) (has : Medium → Option X) (x : X) → option_and_then has o ≡ Some x → (m : Medium) × (o ≡ Some m) × (has m ≡ Some x)
-in_medium None has x is = absurd cc
-in_medium (Some m) has x is = (m, refl, is)
-
 pub sounds_are_kept : SamplesAreKept
 sounds_are_kept steps brought pool c taken n j x r took sound is =
-    let m = in_medium (medium_at (variables_in steps brought pool c n) j) sound_in x sound in
-    sound_kept (samples_before (steps c) taken n j) (taken j) m.0.shape m.0.held x r (all_steps steps brought pool c taken n took j m.0 m.1).1 m.2 is
+    option_and_then_some sound_in (medium_at (variables_in steps brought pool c n) j) x sound
+    (λ m there has. sound_kept (samples_before (steps c) taken n j) (taken j) m.shape m.held x r (all_steps steps brought pool c taken n took j m there).1 has is)
 
 pub chunks_are_taken : ChunksAreTaken
 chunks_are_taken steps brought pool c taken n j chunk took is =
-    let m = in_medium (medium_at (variables_in steps brought pool c n) j) chunk_in_medium chunk is in
-    chunk_kept (samples_before (steps c) taken n j) (taken j) m.0.shape m.0.held chunk (all_steps steps brought pool c taken n took j m.0 m.1).1 m.2
+    option_and_then_some chunk_in_medium (medium_at (variables_in steps brought pool c n) j) chunk is
+    (λ m there has. chunk_kept (samples_before (steps c) taken n j) (taken j) m.shape m.held chunk (all_steps steps brought pool c taken n took j m there).1 has)

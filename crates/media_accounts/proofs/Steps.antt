@@ -83,7 +83,7 @@ module _ (steps : ℕ → List Step) (brought : ℕ → ℕ → MediaStep → Br
   -- it comes to the same where its own entry stands
   pub comes_there : (x : MediaStep) (y : Came) (vs : List (Option Medium)) (o : Option PoolOp) → y.does ≡ o → media_came pool who (brought c (made c) x) x vs ≡ Some y
       → media_came (before_step c (made c) (pool ++ entries_of who o)) who (brought c (made c) x) x vs ≡ Some y
-  comes_there x y vs None does comes = came_free pool (before_step c (made c) (pool ++ [])) who (brought c (made c) x) x vs y comes does
+  comes_there x y vs None does comes = came_free who (brought c (made c) x) x vs pool (before_step c (made c) (pool ++ [])) y comes does
   comes_there x y vs (Some o) does comes =
       ap (λ (b : List PoolEntry). media_came b who (brought c (made c) x) x vs) (before_new c (made c) [] pool (record { by = by.Caller who; op = o }) owed_none (own_place c (made c))) ∙ comes
 
