@@ -9,17 +9,10 @@ use Rattle.wc_pool.specs.declared.entry.PoolOp.{PoolOp}
 use Rattle.wc_pool.specs.declared.entry.PoolOp.TheVariants as op
 use Rattle.wc_pool.specs.Bag.{resource_after, resource_of, is_live, is_number, mints, references_made, count_below, is_held, is_legal_next, is_legal_from}
 use Rattle.codec_model.specs.declared.entry.Pair.{Pair}
-use Rattle.media_variables.specs.Variables.{is_last_of}
-use Rattle.media_variables.specs.Held.{clones_of, ends_behind}
-use Rattle.media_accounts.specs.Accounts.{MayAdd, ops_where, without_last}
+use Rattle.media_variables.specs.Variables.{Medium, is_last_of}
+use Rattle.media_variables.specs.Held.{AreApart, clones_of, ends_behind}
+use Rattle.media_accounts.specs.Accounts.{MayAdd, without_last}
 use Rattle.media_accounts.proofs.Pools.{AllBy}
-
-abbrev one_if : Bool → ℕ
-one_if b = cond b 1 0
-
-count_same : (p q : ℕ → Bool) (n : ℕ) → ((k : ℕ) → p k ≡ q k) → count_below p n ≡ count_below q n
-count_same p q zero h = refl
-count_same p q (suc n) h = let rest = count_same p q n h in let here = ap one_if (h n) in omega (arith, rest, here)
 
 pub resource_more : (f : ℕ) (h : List PoolEntry) (e : PoolEntry) → resource_of f (h ++ e ∷ []) ≡ resource_after f (resource_of f h) e
 resource_more f h e = fold_push (resource_after f) None h e
@@ -29,17 +22,12 @@ resource_more f h e = fold_push (resource_after f) None h e
 abbrev end_of : By → ℕ → ℕ → Bool → PoolEntry
 end_of cause r f last = record { by = cause; op = op.End r f last }
 
-minted_same : (cause : By) (r f : ℕ) (a : Bool) (h : List PoolEntry) → references_made (h ++ end_of cause r f a ∷ []) ≡ references_made h + 0
-minted_same cause r f a h = sum_by_push (λ x. one_if (mints x)) h (end_of cause r f a)
-
 -- the flag of an end does not matter to what is held after it
 held_same : (cause : By) (r f : ℕ) (a b : Bool) (n : ℕ) (h : List PoolEntry) → is_held n (h ++ end_of cause r f a ∷ []) ≡ is_held n (h ++ end_of cause r f b ∷ [])
 held_same cause r f a b n h =
-    let p : ℕ → Bool = λ g. is_live n g (h ++ end_of cause r f a ∷ []) in
-    let q : ℕ → Bool = λ g. is_live n g (h ++ end_of cause r f b ∷ []) in
-    let each : (g : ℕ) → p g ≡ q g = λ g. ap (λ (o : Option ℕ). is_number o n) (resource_more g h (end_of cause r f a) ∙ sym (resource_more g h (end_of cause r f b))) in
-    let made = minted_same cause r f a h ∙ sym (minted_same cause r f b h) in
-    ap (λ (c : ℕ). not (c == 0)) (ap (count_below p) made ∙ count_same p q (references_made (h ++ end_of cause r f b ∷ [])) each)
+    let each : (g : ℕ) → resource_of g (h ++ end_of cause r f a ∷ []) ≡ resource_of g (h ++ end_of cause r f b ∷ []) = λ g. resource_more g h (end_of cause r f a) ∙ sym (resource_more g h (end_of cause r f b)) in
+    let made : references_made (h ++ end_of cause r f a ∷ []) ≡ references_made (h ++ end_of cause r f b ∷ []) = sum_by_push (λ x. cond (mints x) 1 0) h (end_of cause r f a) ∙ sym (sum_by_push (λ x. cond (mints x) 1 0) h (end_of cause r f b)) in
+    λ i. not (count_below (λ g. is_number (each g i) n) (made i) == 0)
 
 flag_legal : (cause : By) (pool : List PoolEntry) (r f : ℕ) (b : Bool) → is_held r (pool ++ end_of cause r f false ∷ []) ≡ b
     → (if not b then not (is_held r (pool ++ end_of cause r f (not b) ∷ [])) else is_held r (pool ++ end_of cause r f (not b) ∷ [])) ≡ true
@@ -110,57 +98,39 @@ clone_grows cause pool p may numbered = record {
 
 -- ---- a list of ends
 
--- each of these is live, and stands once among them
-pub record MayEnd (pool : List PoolEntry) (ps : List Pair) : Type 0 where
-  pub lives : (i : ℕ) (p : Pair) → slice_get ps i ≡ Some p → resource_of p.reference pool ≡ Some p.resource
-  pub once : (i j : ℕ) (p q : Pair) → slice_get ps i ≡ Some p → slice_get ps j ≡ Some q → p.reference ≡ q.reference → i ≡ j
-
-may_end_rest : (cause : By) (pool : List PoolEntry) (p : Pair) (ps : List Pair) → MayEnd pool (p ∷ ps) → MayEnd (pool ++ end_here cause pool p ∷ []) ps
-may_end_rest cause pool p ps m = record {
+rest_apart : (cause : By) (pool : List PoolEntry) (callers : List (List (Option Medium))) (p : Pair) (ps : List Pair) → AreApart pool callers (p ∷ ps) → AreApart (pool ++ end_here cause pool p ∷ []) callers ps
+rest_apart cause pool callers p ps m = record {
   lives = λ i q at. end_others cause pool p q.reference (λ e. (let bad = m.once 0 (suc i) p q refl at e in omega (arith, bad))) ∙ m.lives (suc i) q at;
   once = λ i j q s one two same. (let both = m.once (suc i) (suc j) q s one two same in omega (arith, both));
+  elsewhere = λ i. m.elsewhere (suc i);
 }
 
-ends_by : (cause : By) (pool : List PoolEntry) (ps : List Pair) → AllBy cause (ends_behind cause pool ps)
-ends_by cause pool [] = tt
-ends_by cause pool (p ∷ ps) = (refl, ends_by cause (pool ++ end_here cause pool p ∷ []) ps)
-
-ends_legal : (cause : By) (pool : List PoolEntry) (ps : List Pair) → MayEnd pool ps → is_legal_from pool (ends_behind cause pool ps) ≡ true
-ends_legal cause pool [] m = refl
-ends_legal cause pool (p ∷ ps) m =
-    let new = pool ++ end_here cause pool p ∷ [] in
-    ap (λ (b : Bool). b && is_legal_from new (ends_behind cause new ps)) (end_legal cause pool p (m.lives 0 p refl))
-    ∙ ends_legal cause new ps (may_end_rest cause pool p ps m)
-
-ends_others : (cause : By) (pool : List PoolEntry) (ps : List Pair) (f : ℕ) → ((i : ℕ) (q : Pair) → slice_get ps i ≡ Some q → q.reference ≢ f) → resource_of f (pool ++ ends_behind cause pool ps) ≡ resource_of f pool
-ends_others cause pool [] f other = ap (resource_of f) (append-nil pool)
-ends_others cause pool (p ∷ ps) f other =
-    let new = pool ++ end_here cause pool p ∷ [] in
-    ap (resource_of f) (sym (append_assoc pool (end_here cause pool p ∷ []) (ends_behind cause new ps)))
-    ∙ (ends_others cause new ps f (λ i q at. other (suc i) q at) ∙ end_others cause pool p f (other 0 p refl))
-
-pub ends_grow : (cause : By) (pool : List PoolEntry) (ps : List Pair) → MayEnd pool ps → Grows cause pool (ends_behind cause pool ps) ps []
-ends_grow cause pool ps m = record {
-  legal = ends_legal cause pool ps m;
-  its = ends_by cause pool ps;
-  stays = λ f r lives other. ends_others cause pool ps f other ∙ lives;
+pub ends_grow : (cause : By) (pool : List PoolEntry) (callers : List (List (Option Medium))) (ps : List Pair) → AreApart pool callers ps → Grows cause pool (ends_behind cause pool ps) ps []
+ends_grow cause pool callers [] m = record {
+  legal = refl;
+  its = tt;
+  stays = λ f r lives other. ap (resource_of f) (append-nil pool) ∙ lives;
   adds = λ i p at. absurd cc;
   fresh = λ i p at. absurd cc;
   single = λ i j p q one two. absurd cc;
 }
+ends_grow cause pool callers (p ∷ ps) m =
+    let new = pool ++ end_here cause pool p ∷ [] in
+    let rest = ends_grow cause new callers ps (rest_apart cause pool callers p ps m) in
+    record {
+      legal = and_from (is_legal_next pool (end_here cause pool p)) (is_legal_from new (ends_behind cause new ps)) (end_legal cause pool p (m.lives 0 p refl)) rest.legal;
+      its = (refl, rest.its);
+      stays = λ f r lives other.
+          ap (resource_of f) (sym (append_assoc pool (end_here cause pool p ∷ []) (ends_behind cause new ps)))
+          ∙ rest.stays f r (end_others cause pool p f (other 0 p refl) ∙ lives) (λ i q at. other (suc i) q at);
+      adds = λ i p at. absurd cc;
+      fresh = λ i p at. absurd cc;
+      single = λ i j p q one two. absurd cc;
+    }
 
 -- ---- what they did
 
-pub clones_do : (test : By → Bool) (cause : By) (ps : List Pair) → test cause ≡ true → map without_last (ops_where test (clones_of cause ps)) ≡ map (λ p. op.Clone p.resource p.reference) ps
-clones_do test cause [] its = refl
-clones_do test cause (p ∷ ps) its =
-    ap (λ (b : Bool). map without_last (cond b (op.Clone p.resource p.reference ∷ ops_where test (clones_of cause ps)) (ops_where test (clones_of cause ps)))) its
-    ∙ ap (λ (l : List PoolOp). op.Clone p.resource p.reference ∷ l) (clones_do test cause ps its)
-
-pub ends_do : (test : By → Bool) (cause : By) (pool : List PoolEntry) (ps : List Pair) → test cause ≡ true → map without_last (ops_where test (ends_behind cause pool ps)) ≡ map (λ p. op.End p.resource p.reference false) ps
-ends_do test cause pool [] its = refl
-ends_do test cause pool (p ∷ ps) its =
-    let e = end_here cause pool p in
-    let rest = ops_where test (ends_behind cause (pool ++ e ∷ []) ps) in
-    ap (λ (b : Bool). map without_last (cond b (e.op ∷ rest) rest)) its
-    ∙ ap (λ (l : List PoolOp). op.End p.resource p.reference false ∷ l) (ends_do test cause (pool ++ e ∷ []) ps its)
+pub all_done : (cause : By) (pool : List PoolEntry) (ps qs : List Pair) → map without_last (map (λ e. e.op) (clones_of cause ps ++ ends_behind cause pool qs)) ≡ map (λ p. op.Clone p.resource p.reference) ps ++ map (λ p. op.End p.resource p.reference false) qs
+all_done cause pool [] [] = refl
+all_done cause pool [] (q ∷ qs) = ap (λ (l : List PoolOp). op.End q.resource q.reference false ∷ l) (all_done cause (pool ++ end_here cause pool q ∷ []) [] qs)
+all_done cause pool (p ∷ ps) qs = ap (λ (l : List PoolOp). op.Clone p.resource p.reference ∷ l) (all_done cause pool ps qs)

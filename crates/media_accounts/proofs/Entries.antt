@@ -1,5 +1,5 @@
 -- One entry more of a codec.
-use Rattle.std.proofs.Common.{ℕ, zero, suc, ◌≡◌, ◌≢◌, ◌<◌, ◌+◌, inl, inr, true, false, ltb, List, [], ◌∷◌, ◌++◌, length, Some, refl, ap, sym, subst, ◌∙◌, arith}
+use Rattle.std.proofs.Common.{ℕ, zero, suc, ◌≡◌, ◌≢◌, ◌<◌, ◌+◌, inl, inr, true, false, ltb, List, [], ◌∷◌, ◌++◌, length, Option, Some, refl, ap, sym, subst, ◌∙◌, arith}
 use Rattle.std.specs.Prelude.{map, slice_get}
 use Rattle.std.proofs.lemmas.Bool.{cases_eq}
 use Rattle.std.proofs.lemmas.List.{map-append}
@@ -19,12 +19,12 @@ use Rattle.codec_model.specs.Replay.{State}
 use Rattle.codec_model.specs.Held.{adds_held, lets_go, leaves_held}
 use Rattle.script_types.specs.declared.steps.MediaStep.{MediaStep}
 use Rattle.script_types.specs.declared.steps.Step.{Step}
-use Rattle.media_variables.specs.Variables.{Reference, Media, Brought}
-use Rattle.media_variables.specs.Held.{reference_at, AreHeld, AreApart, clones_of, ends_behind}
+use Rattle.media_variables.specs.Variables.{Medium, Media, Brought}
+use Rattle.media_variables.specs.Held.{AreHeld, AreApart, clones_of, ends_behind}
 use Rattle.media_accounts.specs.Accounts.{is_by_step, ops_where, is_by_entry, ops_of_entry, without_last, called_for, pool_by, owes, came_in, variables_in, MediaAreIn, Lending, MediaStand, MayAdd, AreParts, EntryMore, EntryStands, EntriesStand}
-use Rattle.media_accounts.proofs.Pools.{get_either, by_one, by_place, own_place, other_place, its_cause, before_stays, ops_more, ops_kept, legal_from}
+use Rattle.media_accounts.proofs.Pools.{get_either, by_one, by_place, own_place, other_place, its_cause, before_stays, ops_more, ops_all, ops_kept, legal_from}
 use Rattle.media_accounts.proofs.Steps.{ComesToo, variables_stay, came_stays, comes_too}
-use Rattle.media_accounts.proofs.Ends.{Grows, MayEnd, clone_grows, ends_grow, clones_do, ends_do}
+use Rattle.media_accounts.proofs.Ends.{Grows, clone_grows, ends_grow, all_done}
 
 -- ---- lists
 
@@ -62,26 +62,20 @@ parts_of held gone kept (inl is) = subst (λ (l : List Pair). Parts l gone kept)
 parts_of held gone kept (inr is) = subst (λ (l : List Pair). Parts l gone kept) (sym is)
     (let parts = parts_at kept gone in record { goes = parts.keeps; keeps = parts.goes; other = λ i j p q one two same. parts.other j i q p two one (sym same) })
 
+-- what is known of the whole is known of a part
+part_apart : (pool : List PoolEntry) (callers : List (List (Option Medium))) (held part : List Pair) → Part held part → AreApart pool callers held → AreApart pool callers part
+part_apart pool callers held part w h = record {
+  lives = λ i p at. h.lives (w.place i) p (w.at i p at);
+  once = λ i j p q one two same. w.one i j (h.once (w.place i) (w.place j) p q (w.at i p one) (w.at j q two) same);
+  elsewhere = λ i k j p r at. h.elsewhere (w.place i) k j p r (w.at i p at);
+}
+
 -- ---- an entry adds or lets go, and never both
 
-grows_by : (cause : By) (pool : List PoolEntry) (e : Entry) (s : State) → ((f r : ℕ) → resource_of f pool ≡ Some r → f < references_made pool)
-    → ((i : ℕ) (p : Pair) → slice_get (adds_held e) i ≡ Some p → MayAdd pool p) → MayEnd pool (lets_go e s) → Grows cause pool (pool_by cause e s pool) (lets_go e s) (adds_held e)
-grows_by cause pool (entry.Encode who (handed.Cloned sound)) s numbered may ends = clone_grows cause pool sound.pair (may 0 sound.pair refl) numbered
-grows_by cause pool e s numbered may ends = ends_grow cause pool (lets_go e s) ends
-
--- ---- what it did
-
-its_ops : (k place : ℕ) (e : Entry) (s : State) (pool : List PoolEntry) → map without_last (ops_where (is_by_entry k place) (pool_by (by.Codec k place) e s pool)) ≡ called_for e s
-its_ops k place e s pool =
-    let cause = by.Codec k place in
-    let test = is_by_entry k place in
-    let cloned = clones_of cause (adds_held e) in
-    let ended = ends_behind cause pool (lets_go e s) in
-    let own = own_place k place in
-    ap (map without_last) (ops_more test cloned ended)
-    ∙ (map-append without_last (ops_where test cloned) (ops_where test ended)
-    ∙ (ap (λ (l : List PoolOp). l ++ map without_last (ops_where test ended)) (clones_do test cause (adds_held e) own)
-    ∙ ap (λ (l : List PoolOp). map (λ p. op.Clone p.resource p.reference) (adds_held e) ++ l) (ends_do test cause pool (lets_go e s) own)))
+grows_by : (cause : By) (pool : List PoolEntry) (callers : List (List (Option Medium))) (e : Entry) (s : State) → ((f r : ℕ) → resource_of f pool ≡ Some r → f < references_made pool)
+    → ((i : ℕ) (p : Pair) → slice_get (adds_held e) i ≡ Some p → MayAdd pool p) → AreApart pool callers (lets_go e s) → Grows cause pool (pool_by cause e s pool) (lets_go e s) (adds_held e)
+grows_by cause pool callers (entry.Encode who (handed.Cloned sound)) s numbered may ends = clone_grows cause pool sound.pair (may 0 sound.pair refl) numbered
+grows_by cause pool callers e s numbered may ends = ends_grow cause pool callers (lets_go e s) ends
 
 -- ---- all of it
 
@@ -104,14 +98,14 @@ module _ (numbered : LiveAreNumbered) (steps : ℕ → List Step) (brought : ℕ
   parts : Parts (codecs.holds k) (lets_go e s) (leaves_held e s)
   parts = parts_of (codecs.holds k) (lets_go e s) (leaves_held e s) more.parts
 
-  may_end : MayEnd m.pool (lets_go e s)
-  may_end = record {
-    lives = λ i p at. old.lives (parts.goes.place i) p (parts.goes.at i p at);
-    once = λ i j p q one two same. parts.goes.one i j (old.once (parts.goes.place i) (parts.goes.place j) p q (parts.goes.at i p one) (parts.goes.at j q two) same);
-  }
+  gone : AreApart m.pool m.variables (lets_go e s)
+  gone = part_apart m.pool m.variables (codecs.holds k) (lets_go e s) parts.goes old
+
+  kept : AreApart m.pool m.variables (leaves_held e s)
+  kept = part_apart m.pool m.variables (codecs.holds k) (leaves_held e s) parts.keeps old
 
   grows : Grows cause m.pool new (lets_go e s) (adds_held e)
-  grows = grows_by cause m.pool e s below more.adds may_end
+  grows = grows_by cause m.pool m.variables e s below more.adds gone
 
   -- ---- the account
 
@@ -135,7 +129,7 @@ module _ (numbered : LiveAreNumbered) (steps : ℕ → List Step) (brought : ℕ
       ap (map without_last) (ops_more (is_by_entry k place) m.pool new)
       ∙ (map-append without_last was now
       ∙ (ap (λ (o : List PoolOp). o ++ map without_last now) (st.accounted.codecs k place ∙ more.fresh)
-      ∙ (its_ops k place e s m.pool ∙ sym more.lends)))
+      ∙ (ap (map without_last) (ops_all (is_by_entry k place) cause new grows.its (own_place k place)) ∙ (all_done cause m.pool (adds_held e) (lets_go e s) ∙ sym more.lends))))
 
   -- an entry of a step was there
   of_step : (c j n : ℕ) (d : PoolEntry) → slice_get longer n ≡ Some d → is_by_step c j d.by ≡ true → slice_get m.pool n ≡ Some d
@@ -156,13 +150,9 @@ module _ (numbered : LiveAreNumbered) (steps : ℕ → List Step) (brought : ℕ
 
   held : AreHeld longer m.variables
   held = record {
-    live = λ l j r at. grows.stays r.number r.resource (st.held.live l j r at) (λ i q gone. old.elsewhere (parts.goes.place i) l j q r (parts.goes.at i q gone) at);
+    live = λ l j r at. grows.stays r.number r.resource (st.held.live l j r at) (λ i q out. gone.elsewhere i l j q r out at);
     apart = st.held.apart;
   }
-
-  -- what the codec keeps was live
-  kept_below : (i : ℕ) (p : Pair) → slice_get (leaves_held e s) i ≡ Some p → resource_of p.reference m.pool ≡ Some p.resource
-  kept_below i p at = old.lives (parts.keeps.place i) p (parts.keeps.at i p at)
 
   -- what is added is none of what was live
   is_new : (i : ℕ) (p : Pair) (f r : ℕ) → slice_get (adds_held e) i ≡ Some p → resource_of f m.pool ≡ Some r → p.reference ≢ f
@@ -174,18 +164,18 @@ module _ (numbered : LiveAreNumbered) (steps : ℕ → List Step) (brought : ℕ
   -- what holds of what is kept, and of what is added, holds of what is left
   left_each : (P : Pair → Type 0) → ((i : ℕ) (p : Pair) → slice_get (leaves_held e s) i ≡ Some p → P p) → ((i : ℕ) (p : Pair) → slice_get (adds_held e) i ≡ Some p → P p) → (i : ℕ) (p : Pair) → slice_get left i ≡ Some p → P p
   left_each P keeps adds i p at = elim (get_either (leaves_held e s) (adds_held e) i p at) [
-    | inl kept ↦ keeps i p kept.0
+    | inl first ↦ keeps i p first.0
     | inr added ↦ adds added.0 p added.2
   ]
 
   left_once : (i j : ℕ) (p q : Pair) → slice_get left i ≡ Some p → slice_get left j ≡ Some q → p.reference ≡ q.reference → i ≡ j
   left_once i j p q one two same = elim (get_either (leaves_held e s) (adds_held e) i p one) [
-    | inl kept ↦ elim (get_either (leaves_held e s) (adds_held e) j q two) [
-      | inl kept_too ↦ parts.keeps.one i j (old.once (parts.keeps.place i) (parts.keeps.place j) p q (parts.keeps.at i p kept.0) (parts.keeps.at j q kept_too.0) same)
-      | inr added ↦ absurd (is_new added.0 q p.reference p.resource added.2 (kept_below i p kept.0) (sym same))
+    | inl first ↦ elim (get_either (leaves_held e s) (adds_held e) j q two) [
+      | inl second ↦ kept.once i j p q first.0 second.0 same
+      | inr added ↦ absurd (is_new added.0 q p.reference p.resource added.2 (kept.lives i p first.0) (sym same))
     ]
     | inr added ↦ elim (get_either (leaves_held e s) (adds_held e) j q two) [
-      | inl kept ↦ absurd (is_new added.0 p q.reference q.resource added.2 (kept_below j q kept.0) same)
+      | inl second ↦ absurd (is_new added.0 p q.reference q.resource added.2 (kept.lives j q second.0) same)
       | inr added_too ↦ added.1 ∙ (ap (λ (n : ℕ). length (leaves_held e s) + n) (grows.single added.0 added_too.0 p q added.2 added_too.2) ∙ sym added_too.1)
     ]
   ]
@@ -193,18 +183,17 @@ module _ (numbered : LiveAreNumbered) (steps : ℕ → List Step) (brought : ℕ
   left_apart : AreApart longer m.variables left
   left_apart = record {
     lives = left_each (λ p. resource_of p.reference longer ≡ Some p.resource)
-        (λ i p at. grows.stays p.reference p.resource (kept_below i p at) (λ j q gone same. parts.other i j p q at gone (old.once (parts.keeps.place i) (parts.goes.place j) p q (parts.keeps.at i p at) (parts.goes.at j q gone) (sym same))))
+        (λ i p at. grows.stays p.reference p.resource (kept.lives i p at) (λ j q out same. parts.other i j p q at out (old.once (parts.keeps.place i) (parts.goes.place j) p q (parts.keeps.at i p at) (parts.goes.at j q out) (sym same))))
         grows.adds;
     once = left_once;
-    elsewhere = λ i l j p r at there. left_each (λ q. q.reference ≢ r.number)
-        (λ i q kept. old.elsewhere (parts.keeps.place i) l j q r (parts.keeps.at i q kept) there) (λ i q added. is_new i q r.number r.resource added (st.held.live l j r there)) i p at;
+    elsewhere = λ i l j p r at there. left_each (λ q. q.reference ≢ r.number) (λ i q first. kept.elsewhere i l j q r first there) (λ i q added. is_new i q r.number r.resource added (st.held.live l j r there)) i p at;
   }
 
   other_apart : (l : ℕ) → l ≢ k → AreApart longer m.variables (codecs.holds l)
   other_apart l other = record {
     lives = λ i p at. (
         grows.stays p.reference p.resource ((st.lent.apart l).lives i p at)
-        (λ j q gone. st.lent.between k l (parts.goes.place j) i q p (λ same. other (sym same)) (parts.goes.at j q gone) at)
+        (λ j q out. st.lent.between k l (parts.goes.place j) i q p (λ same. other (sym same)) (parts.goes.at j q out) at)
         );
     once = (st.lent.apart l).once;
     elsewhere = (st.lent.apart l).elsewhere;
@@ -217,7 +206,7 @@ module _ (numbered : LiveAreNumbered) (steps : ℕ → List Step) (brought : ℕ
   -- the codec holds nothing that another one does
   left_between : (l i j : ℕ) (p q : Pair) → l ≢ k → slice_get left i ≡ Some p → slice_get (codecs.holds l) j ≡ Some q → p.reference ≢ q.reference
   left_between l i j p q other at there = left_each (λ x. x.reference ≢ q.reference)
-      (λ i x kept. st.lent.between k l (parts.keeps.place i) j x q (λ same. other (sym same)) (parts.keeps.at i x kept) there) (λ i x added. is_new i x q.reference q.resource added ((st.lent.apart l).lives j q there)) i p at
+      (λ i x first. st.lent.between k l (parts.keeps.place i) j x q (λ same. other (sym same)) (parts.keeps.at i x first) there) (λ i x added. is_new i x q.reference q.resource added ((st.lent.apart l).lives j q there)) i p at
 
   holds_left : (l i : ℕ) (p : Pair) → l ≡ k → slice_get (later.holds l) i ≡ Some p → slice_get left i ≡ Some p
   holds_left l i p same at = ap (λ (ps : List Pair). slice_get ps i) (sym (ap later.holds same ∙ more.holds)) ∙ at

@@ -1,7 +1,6 @@
 -- A step that does nothing to the pool comes to the same whatever the pool's history is.
 use Rattle.std.proofs.Common.{ℕ, ◌≡◌, Bool, true, false, cond, List, Option, Some, None, refl, ap, sym, ◌∙◌}
 use Rattle.std.specs.Prelude.{length, take}
-use Rattle.wc_base.specs.declared.error.DomError.TheVariants as dom
 use Rattle.wc_base.specs.declared.who.Who.{Who}
 use Rattle.codec_definitions.specs.declared.unit.Unit as output
 use Rattle.codec_definitions.specs.declared.unit.Unit.TheVariants as unit
@@ -15,7 +14,7 @@ use Rattle.wc_video.specs.Frames as frames
 use Rattle.script_types.specs.declared.steps.MediaStep.{MediaStep}
 use Rattle.script_types.specs.declared.steps.MediaStep.TheVariants as media
 use Rattle.report_text.specs.declared.result.StepResult.{StepResult}
-use Rattle.media_variables.specs.Variables.{Shape, SoundOf, PictureOf, Reference, Medium, Came, medium_at, only_answers, refused, makes, clone_held, close_held, is_last, if_there, Taken, Brought, unit_came, taken_came, media_came}
+use Rattle.media_variables.specs.Variables.{Shape, SoundOf, PictureOf, Reference, Medium, Came, medium_at, makes, clone_held, close_held, is_last, if_there, Taken, Brought, unit_came, taken_came, media_came}
 
 -- what it comes to is the same whatever the history is, where it does nothing
 abbrev Free : (List PoolEntry → Option Came) → Type 0

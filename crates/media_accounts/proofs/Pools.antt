@@ -1,6 +1,6 @@
 -- A pool's history with more entries.
 use Rattle.std.proofs.Common.{ℕ, zero, suc, ◌≡◌, ◌≢◌, ◌<◌, ◌+◌, ◌⊎◌, inl, inr, Bool, eqb, true, false, cond, List, [], ◌∷◌, ◌++◌, length, Some, refl, ap, sym, subst, ◌∙◌, arith, append_assoc, append-nil}
-use Rattle.std.specs.Prelude.{slice_get, ◌&&◌}
+use Rattle.std.specs.Prelude.{map, slice_get, ◌&&◌}
 use Rattle.std.proofs.lemmas.Bool.{and_parts, and_from, cases_eq, eqb-true, eq-eqb, false_from_ne_true}
 use Rattle.wc_base.specs.declared.who.By.{By}
 use Rattle.wc_pool.specs.declared.entry.PoolEntry.{PoolEntry}
@@ -85,6 +85,11 @@ its_cause (d ∷ ds) cause (suc n) e all is = its_cause ds cause n e all.1 is
 ops_none : (test : By → Bool) (cause : By) (new : List PoolEntry) → AllBy cause new → test cause ≡ false → ops_where test new ≡ []
 ops_none test cause [] all other = refl
 ops_none test cause (e ∷ es) all other = ap (λ (b : Bool). cond b (e.op ∷ ops_where test es) (ops_where test es)) (ap test all.0 ∙ other) ∙ ops_none test cause es all.1 other
+
+-- all that is done where each entry passes
+pub ops_all : (test : By → Bool) (cause : By) (new : List PoolEntry) → AllBy cause new → test cause ≡ true → ops_where test new ≡ map (λ e. e.op) new
+ops_all test cause [] all its = refl
+ops_all test cause (e ∷ es) all its = ap (λ (b : Bool). cond b (e.op ∷ ops_where test es) (ops_where test es)) (ap test all.0 ∙ its) ∙ ap (λ (l : List PoolOp). e.op ∷ l) (ops_all test cause es all.1 its)
 
 -- what others did stays
 pub ops_kept : (test : By → Bool) (cause : By) (pool new : List PoolEntry) → AllBy cause new → test cause ≡ false → ops_where test (pool ++ new) ≡ ops_where test pool

@@ -1,26 +1,17 @@
 -- What variables hold, step after step: the samples of their audio data, and the chunks that were taken.
-use Rattle.std.proofs.Common.{ℕ, zero, suc, ◌≡◌, ◌<◌, inl, inr, ◌⊎◌, Bool, true, false, cond, List, [], ◌∷◌, Option, Some, None, refl, ap, sym, subst, ◌∙◌, arith}
+use Rattle.std.proofs.Common.{ℕ, zero, suc, ◌≡◌, ◌<◌, inl, inr, ◌⊎◌, List, [], ◌∷◌, Option, Some, None, refl, ap, sym, subst, ◌∙◌, arith}
 use Rattle.std.specs.Prelude.{slice_get, IfSome, option_and_then}
 use Rattle.std.proofs.lemmas.Bool.{eq-eqb, ne_eqb}
 use Rattle.std.proofs.lemmas.Option.{option_and_then_some}
-use Rattle.wc_base.specs.declared.media.SoundShape.{SoundShape}
-use Rattle.wc_base.specs.declared.media.PictureShape.{PictureShape}
 use Rattle.wc_base.specs.declared.media.Samples.{Samples}
-use Rattle.wc_base.specs.declared.error.DomError.TheVariants as dom
 use Rattle.wc_base.specs.declared.who.Who.{Who}
 use Rattle.wc_chunk.specs.declared.chunk.Chunk.{Chunk}
 use Rattle.codec_definitions.specs.declared.unit.Unit as output
 use Rattle.codec_definitions.specs.declared.unit.Unit.TheVariants as unit
-use Rattle.picture_planes.specs.Planes.{picture_size}
 use Rattle.wc_pool.specs.declared.entry.PoolEntry.{PoolEntry}
 use Rattle.wc_pool.specs.declared.reference.MediaRef.{MediaRef}
-use Rattle.wc_pool.specs.Bag.{resources_made, references_made}
-use Rattle.wc_audio.specs.Sound.{Sound, needed, is_invalid}
-use Rattle.wc_video.specs.Frames as frames
-use Rattle.script_types.specs.declared.options.Options.{Options}
-use Rattle.script_types.specs.declared.options.Options.TheVariants as options
-use Rattle.script_types.specs.declared.steps.SoundInit.{SoundInit}
-use Rattle.script_types.specs.declared.steps.PictureInit.{PictureInit}
+use Rattle.wc_pool.specs.Bag.{references_made}
+use Rattle.wc_audio.specs.Sound.{Sound}
 use Rattle.script_types.specs.declared.steps.VariableKind.{VariableKind}
 use Rattle.script_types.specs.declared.steps.MediaStep.{MediaStep}
 use Rattle.script_types.specs.declared.steps.MediaStep.TheVariants as media
@@ -28,9 +19,9 @@ use Rattle.script_types.specs.declared.steps.Step.{Step}
 use Rattle.script_types.specs.declared.steps.Step.TheVariants as step
 use Rattle.report_text.specs.declared.result.StepResult.{StepResult}
 use Rattle.media_variables.specs.CameLaws.{EachCame, came_each}
-use Rattle.media_variables.specs.Variables.{Reference, Shape, SoundOf, PictureOf, ChunkOf, Medium, Came, Taken, Brought, medium_at, with_medium, detached, makes, only_answers, refused, clone_held, transfer_held, close_held, if_there, copy_came, copy_medium, size_of_medium, unit_came, taken_came, chunk_medium, chunk_in_medium, sound_in, sound_of, media_ref, media_came}
+use Rattle.media_variables.specs.Variables.{Reference, Shape, SoundOf, PictureOf, ChunkOf, Medium, Came, Taken, Brought, medium_at, with_medium, detached, unit_came, chunk_in_medium, sound_in, sound_of, media_ref, media_came}
 use Rattle.media_accounts.specs.Accounts.{step_by, before_step, media_of, variables_by, variables_in}
-use Rattle.media_accounts.specs.Samples.{sound_of_unit, chunk_of_unit, samples_of_init, samples_by, samples_before, IsTakenBy, SamplesAreKept, ChunksAreTaken}
+use Rattle.media_accounts.specs.Samples.{sound_of_unit, chunk_of_unit, samples_by, samples_before, IsTakenBy, SamplesAreKept, ChunksAreTaken}
 
 -- A variable's medium is what its step gave it: audio data that is not detached has these samples, and a chunk, which holds no
 -- reference, is this output.

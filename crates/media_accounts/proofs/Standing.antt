@@ -28,9 +28,8 @@ variables_here (suc k) vs (x ∷ xs) lt = variables_here k vs xs (omega (arith, 
 variables_else : (d k : ℕ) (vs : List (Option Medium)) (all : List (List (Option Medium))) → d ≢ k → variables_of d (slice_set all k vs) ≡ variables_of d all
 variables_else d k vs [] other = refl
 variables_else zero zero vs (x ∷ xs) other = absurd (other refl)
-variables_else zero (suc k) vs (x ∷ xs) other = refl
-variables_else (suc d) zero vs (x ∷ xs) other = refl
 variables_else (suc d) (suc k) vs (x ∷ xs) other = variables_else d k vs xs (λ e. other (ap suc e))
+variables_else _ _ vs (x ∷ xs) other = refl
 
 set_long : (k : ℕ) (vs : List (Option Medium)) (all : List (List (Option Medium))) → length (slice_set all k vs) ≡ length all
 set_long k vs [] = refl
@@ -45,15 +44,6 @@ none_there (x ∷ xs) (suc c) = none_there xs c
 none_long : (callers : List CallerItem) → length {A = List (Option Medium)} (map (λ x. []) callers) ≡ length callers
 none_long [] = refl
 none_long (x ∷ xs) = ap suc (none_long xs)
-
-none_held : (callers : List CallerItem) → AreHeld [] (map (λ x. []) callers)
-none_held callers = record {
-  live = λ k j r is. absurd (let bad : None ≡ Some r = sym (nothing k j) ∙ is in cc);
-  apart = λ k j l i r s is its same. absurd (let bad : None ≡ Some r = sym (nothing k j) ∙ is in cc);
-}
-  where
-    nothing : (k j : ℕ) → reference_at (map (λ x. []) callers) k j ≡ None
-    nothing k j = ap (λ (vs : List (Option Medium)). option_and_then (λ (m : Medium). m.held) (medium_at vs j)) (none_there callers k)
 
 -- the entry of a step is legal, if it makes one
 entries_legal : (pool : List PoolEntry) (who : Who) (o : Option PoolOp) → ((e : PoolEntry) → entries_of who o ≡ e ∷ [] → is_legal_next pool e ≡ true) → is_legal_from pool (entries_of who o) ≡ true
@@ -71,7 +61,10 @@ nothing_stands steps brought callers = record {
     rises = λ c i j m n d e lt is its one two. absurd cc;
   };
   variables = λ c. none_there callers c;
-  held = none_held callers;
+  held = record {
+    live = λ k j r is. absurd (let bad : None ≡ Some r = rw (none_there callers k) at is in cc);
+    apart = λ k j l i r q is its same. absurd (let bad : None ≡ Some r = rw (none_there callers k) at is in cc);
+  };
   lent = record {
     apart = λ k. record {
       lives = λ i p at. absurd cc;

@@ -1,5 +1,5 @@
 -- One step more of a caller.
-use Rattle.std.proofs.Common.{ℕ, zero, suc, ◌≡◌, ◌≢◌, ◌≤◌, ◌<◌, ◌+◌, inl, inr, Bool, true, false, cond, ltb, List, [], ◌∷◌, ◌++◌, length, Option, Some, None, refl, ap, sym, ◌∙◌, arith}
+use Rattle.std.proofs.Common.{ℕ, zero, suc, ◌≡◌, ◌≢◌, ◌≤◌, ◌<◌, inl, inr, Bool, true, false, cond, ltb, List, [], ◌∷◌, ◌++◌, length, Option, Some, None, refl, ap, sym, ◌∙◌, arith}
 use Rattle.std.specs.Prelude.{map, slice_get, option_and_then}
 use Rattle.std.specs.Option.{option_to_list}
 use Rattle.std.proofs.lemmas.Bool.{cases_eq, cases_lt, lt-ltb, le-ltb}
@@ -13,7 +13,7 @@ use Rattle.wc_pool.specs.Bag.{is_legal_from}
 use Rattle.script_types.specs.declared.steps.MediaStep.{MediaStep}
 use Rattle.script_types.specs.declared.steps.Step.{Step}
 use Rattle.media_variables.specs.Variables.{Medium, Came, Brought, media_came, entries_of}
-use Rattle.media_accounts.specs.Accounts.{step_by, is_by_step, before_step, ops_by, without_last, media_of, owes, variables_by, is_by_entry, ops_of_entry, came_on, variables_in, came_in, MediaAreIn, OneMore}
+use Rattle.media_accounts.specs.Accounts.{step_by, is_by_step, before_step, ops_by, without_last, media_of, owes, variables_by, is_by_entry, came_on, variables_in, came_in, MediaAreIn, OneMore}
 use Rattle.media_accounts.proofs.Pools.{get_either, by_place, own_place, same_place, other_place, AllBy, its_cause, before_new, before_stays, ops_more, ops_kept, ops_some, legal_from}
 use Rattle.media_accounts.proofs.Free.{came_free}
 
