@@ -1,12 +1,10 @@
 -- What one more entry, and the ends of a list of references, make of a pool's history.
-use Rattle.std.proofs.Common.{ℕ, zero, suc, ◌≡◌, ◌≢◌, ◌<◌, ◌+◌, ◌==◌, Bool, true, false, cond, not, if◌then◌else◌, List, [], ◌∷◌, ◌++◌, Option, Some, None, refl, ap, sym, subst, ◌∙◌, arith, append_assoc, append-nil, eq-eqb}
+use Rattle.std.proofs.Common.{ℕ, zero, suc, ◌≡◌, ◌≢◌, ◌<◌, ◌==◌, Bool, true, false, cond, not, if◌then◌else◌, List, [], ◌∷◌, ◌++◌, Option, Some, None, refl, ap, sym, subst, ◌∙◌, arith, append_assoc, append-nil, eq-eqb}
 use Rattle.std.specs.Prelude.{map, slice_get, ◌&&◌}
 use Rattle.std.proofs.lemmas.Bool.{and_from, ne_eqb}
 use Rattle.std.proofs.lemmas.List.Sums.{fold_push, sum_by_push}
 use Rattle.wc_base.specs.declared.who.By.{By}
-use Rattle.wc_pool.specs.declared.entry.PoolEntry.{PoolEntry}
-use Rattle.wc_pool.specs.declared.entry.PoolOp.{PoolOp}
-use Rattle.wc_pool.specs.declared.entry.PoolOp.TheVariants as op
+use Rattle.wc_pool.specs.declared.entry.{PoolEntry.PoolEntry, PoolOp.PoolOp}
 use Rattle.wc_pool.specs.Bag.{resource_after, resource_of, is_live, is_number, mints, references_made, count_below, is_held, is_legal_next, is_legal_from}
 use Rattle.codec_model.specs.declared.entry.Pair.{Pair}
 use Rattle.media_variables.specs.Variables.{Medium, is_last_of}
@@ -20,7 +18,7 @@ resource_more f h e = fold_push (resource_after f) None h e
 -- ---- one end
 
 abbrev end_of : By → ℕ → ℕ → Bool → PoolEntry
-end_of cause r f last = record { by = cause; op = op.End r f last }
+end_of cause r f last = record { by = cause; op = PoolOp.End r f last }
 
 -- the flag of an end does not matter to what is held after it
 held_same : (cause : By) (r f : ℕ) (a b : Bool) (n : ℕ) (h : List PoolEntry) → is_held n (h ++ end_of cause r f a ∷ []) ≡ is_held n (h ++ end_of cause r f b ∷ [])
@@ -68,7 +66,7 @@ pub record Grows (cause : By) (pool new : List PoolEntry) (gone added : List Pai
 -- ---- one clone
 
 abbrev clone_of : By → Pair → PoolEntry
-clone_of cause p = record { by = cause; op = op.Clone p.resource p.reference }
+clone_of cause p = record { by = cause; op = PoolOp.Clone p.resource p.reference }
 
 clone_legal : (cause : By) (pool : List PoolEntry) (p : Pair) → MayAdd pool p → is_legal_next pool (clone_of cause p) ≡ true
 clone_legal cause pool p may = ap (λ (b : Bool). b && (p.reference == references_made pool)) may.0 ∙ eq-eqb p.reference (references_made pool) may.1
@@ -130,7 +128,7 @@ ends_grow cause pool callers (p ∷ ps) m =
 
 -- ---- what they did
 
-pub all_done : (cause : By) (pool : List PoolEntry) (ps qs : List Pair) → map without_last (map (λ e. e.op) (clones_of cause ps ++ ends_behind cause pool qs)) ≡ map (λ p. op.Clone p.resource p.reference) ps ++ map (λ p. op.End p.resource p.reference false) qs
+pub all_done : (cause : By) (pool : List PoolEntry) (ps qs : List Pair) → map without_last (map (λ e. e.op) (clones_of cause ps ++ ends_behind cause pool qs)) ≡ map (λ p. PoolOp.Clone p.resource p.reference) ps ++ map (λ p. PoolOp.End p.resource p.reference false) qs
 all_done cause pool [] [] = refl
-all_done cause pool [] (q ∷ qs) = ap (λ (l : List PoolOp). op.End q.resource q.reference false ∷ l) (all_done cause (pool ++ end_here cause pool q ∷ []) [] qs)
-all_done cause pool (p ∷ ps) qs = ap (λ (l : List PoolOp). op.Clone p.resource p.reference ∷ l) (all_done cause pool ps qs)
+all_done cause pool [] (q ∷ qs) = ap (λ (l : List PoolOp). PoolOp.End q.resource q.reference false ∷ l) (all_done cause (pool ++ end_here cause pool q ∷ []) [] qs)
+all_done cause pool (p ∷ ps) qs = ap (λ (l : List PoolOp). PoolOp.Clone p.resource p.reference ∷ l) (all_done cause pool ps qs)

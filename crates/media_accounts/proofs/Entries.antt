@@ -5,23 +5,14 @@ use Rattle.std.proofs.lemmas.Bool.{cases_eq}
 use Rattle.std.proofs.lemmas.List.{map-append}
 use Rattle.std.proofs.lemmas.Option.{slice_get_within}
 use Rattle.wc_base.specs.declared.who.By.{By}
-use Rattle.wc_base.specs.declared.who.By.TheVariants as by
-use Rattle.wc_pool.specs.declared.entry.PoolEntry.{PoolEntry}
-use Rattle.wc_pool.specs.declared.entry.PoolOp.{PoolOp}
-use Rattle.wc_pool.specs.declared.entry.PoolOp.TheVariants as op
-use Rattle.wc_pool.specs.Bag.{resource_of, references_made}
+use Rattle.wc_pool.specs.{declared.entry.PoolEntry.PoolEntry, declared.entry.PoolOp.PoolOp, Bag.resource_of, Bag.references_made}
 use Rattle.wc_pool.specs.Laws.{LiveAreNumbered}
-use Rattle.codec_model.specs.declared.entry.Handed.TheVariants as handed
-use Rattle.codec_model.specs.declared.entry.Entry.{Entry}
-use Rattle.codec_model.specs.declared.entry.Entry.TheVariants as entry
-use Rattle.codec_model.specs.declared.entry.Pair.{Pair}
-use Rattle.codec_model.specs.Replay.{State}
+use Rattle.codec_model.specs.{declared.entry.Handed.Handed, declared.entry.Entry.Entry, declared.entry.Pair.Pair, Replay.State}
 use Rattle.codec_model.specs.Held.{adds_held, lets_go, leaves_held}
-use Rattle.script_types.specs.declared.steps.MediaStep.{MediaStep}
-use Rattle.script_types.specs.declared.steps.Step.{Step}
+use Rattle.script_types.specs.declared.steps.{MediaStep.MediaStep, Step.Step}
 use Rattle.media_variables.specs.Variables.{Medium, Media, Brought}
-use Rattle.media_variables.specs.Held.{AreHeld, AreApart, clones_of, ends_behind}
-use Rattle.media_accounts.specs.Accounts.{is_by_step, ops_where, is_by_entry, ops_of_entry, without_last, called_for, pool_by, owes, came_in, variables_in, MediaAreIn, Lending, MediaStand, MayAdd, AreParts, EntryMore, EntryStands, EntriesStand}
+use Rattle.media_variables.specs.Held.{AreHeld, AreApart}
+use Rattle.media_accounts.specs.Accounts.{is_by_step, ops_where, is_by_entry, ops_of_entry, without_last, pool_by, owes, came_in, variables_in, MediaAreIn, Lending, MediaStand, MayAdd, AreParts, EntryMore, EntryStands, EntriesStand}
 use Rattle.media_accounts.proofs.Pools.{get_either, by_one, by_place, own_place, other_place, its_cause, before_stays, ops_more, ops_all, ops_kept, legal_from}
 use Rattle.media_accounts.proofs.Steps.{ComesToo, variables_stay, came_stays, comes_too}
 use Rattle.media_accounts.proofs.Ends.{Grows, clone_grows, ends_grow, all_done}
@@ -74,14 +65,14 @@ part_apart pool callers held part w h = record {
 
 grows_by : (cause : By) (pool : List PoolEntry) (callers : List (List (Option Medium))) (e : Entry) (s : State) → ((f r : ℕ) → resource_of f pool ≡ Some r → f < references_made pool)
     → ((i : ℕ) (p : Pair) → slice_get (adds_held e) i ≡ Some p → MayAdd pool p) → AreApart pool callers (lets_go e s) → Grows cause pool (pool_by cause e s pool) (lets_go e s) (adds_held e)
-grows_by cause pool callers (entry.Encode who (handed.Cloned sound)) s numbered may ends = clone_grows cause pool sound.pair (may 0 sound.pair refl) numbered
+grows_by cause pool callers (Entry.Encode who (Handed.Cloned sound)) s numbered may ends = clone_grows cause pool sound.pair (may 0 sound.pair refl) numbered
 grows_by cause pool callers e s numbered may ends = ends_grow cause pool callers (lets_go e s) ends
 
 -- ---- all of it
 
 module _ (numbered : LiveAreNumbered) (steps : ℕ → List Step) (brought : ℕ → ℕ → MediaStep → Brought) (codecs later : Lending) (made : ℕ → ℕ) (callers k place : ℕ) (e : Entry) (s : State) (m : Media) (st : MediaStand steps brought codecs made callers m) (more : EntryMore codecs later k place e s m.pool) where
   abbrev cause : By
-  cause = by.Codec k place
+  cause = By.Codec k place
 
   abbrev new : List PoolEntry
   new = pool_by cause e s m.pool

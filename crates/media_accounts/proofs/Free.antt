@@ -5,14 +5,10 @@ use Rattle.wc_base.specs.declared.who.Who.{Who}
 use Rattle.codec_definitions.specs.declared.unit.Unit as output
 use Rattle.codec_definitions.specs.declared.unit.Unit.TheVariants as unit
 use Rattle.picture_planes.specs.Planes.{picture_size}
-use Rattle.wc_pool.specs.declared.entry.PoolEntry.{PoolEntry}
-use Rattle.wc_pool.specs.declared.entry.PoolOp.{PoolOp}
-use Rattle.wc_pool.specs.declared.entry.PoolOp.TheVariants as op
-use Rattle.wc_pool.specs.Bag.{resources_made, references_made}
+use Rattle.wc_pool.specs.{declared.entry.PoolEntry.PoolEntry, declared.entry.PoolOp.PoolOp, Bag.resources_made, Bag.references_made}
 use Rattle.wc_audio.specs.Sound.{needed, is_invalid}
 use Rattle.wc_video.specs.Frames as frames
 use Rattle.script_types.specs.declared.steps.MediaStep.{MediaStep}
-use Rattle.script_types.specs.declared.steps.MediaStep.TheVariants as media
 use Rattle.report_text.specs.declared.result.StepResult.{StepResult}
 use Rattle.media_variables.specs.Variables.{Shape, SoundOf, PictureOf, Reference, Medium, Came, medium_at, makes, clone_held, close_held, is_last, if_there, Taken, Brought, unit_came, taken_came, media_came}
 
@@ -28,7 +24,7 @@ does_free came does is p q y comes none =
     absurd cc
 
 makes_free : (j : ℕ) (shape : Shape) (bytes : List ℕ) (answer : StepResult) (vs : List (Option Medium)) → Free (λ p. Some (record (makes p j shape bytes vs) { answer = answer }))
-makes_free j shape bytes answer vs = does_free _ (λ p. op.Make (resources_made p) (references_made p)) (λ p. refl)
+makes_free j shape bytes answer vs = does_free _ (λ p. PoolOp.Make (resources_made p) (references_made p)) (λ p. refl)
 
 -- an init that is refused makes nothing, and any other makes a resource
 init_free : (b : Bool) (other : Came) (came : List PoolEntry → Came) → Free (λ p. Some (came p)) → Free (λ p. Some (cond b other (came p)))
@@ -41,11 +37,11 @@ there_free (Some m) vs came free = free m
 
 clone_free : (j : ℕ) (shape : Shape) (o : Option Reference) (vs : List (Option Medium)) → Free (λ p. Some (clone_held p j shape o vs))
 clone_free j shape None vs = λ p q y comes none. comes
-clone_free j shape (Some r) vs = does_free _ (λ p. op.Clone r.resource (references_made p)) (λ p. refl)
+clone_free j shape (Some r) vs = does_free _ (λ p. PoolOp.Clone r.resource (references_made p)) (λ p. refl)
 
 close_free : (who : Who) (of : ℕ) (m : Medium) (o : Option Reference) (vs : List (Option Medium)) → Free (λ p. Some (close_held p who of m o vs))
 close_free who of m None vs = λ p q y comes none. comes
-close_free who of m (Some r) vs = does_free _ (λ p. op.End r.resource r.number (is_last who r p)) (λ p. refl)
+close_free who of m (Some r) vs = does_free _ (λ p. PoolOp.End r.resource r.number (is_last who r p)) (λ p. refl)
 
 -- an output makes a resource, unless it is a chunk
 taken_free : (j : ℕ) (t : Option Taken) (vs : List (Option Medium)) → Free (λ p. taken_came p j t vs)
@@ -58,9 +54,9 @@ taken_free j (Some t) vs = unit_free t.unit
     unit_free (unit.Coded chunk config) = λ p q y comes none. comes
 
 pub came_free : (who : Who) (b : Brought) (x : MediaStep) (vs : List (Option Medium)) → Free (λ p. media_came p who b x vs)
-came_free who b (media.Audio bind (Some i)) vs = init_free (is_invalid i.shape (length i.content)) _ _ (makes_free who.step (SoundOf i.shape) (take (needed i.shape) i.content) _ vs)
-came_free who b (media.Frame bind (Some i)) vs = init_free (frames.is_invalid i.shape (length i.content)) _ _ (makes_free who.step (PictureOf i.shape) (take (picture_size i.shape) i.content) _ vs)
-came_free who b (media.Take on bind kind) vs = taken_free who.step b.taken vs
-came_free who b (media.Clone of bind) vs = there_free (medium_at vs of.step) vs _ (λ m. clone_free who.step m.shape m.held vs)
-came_free who b (media.CloseData of) vs = there_free (medium_at vs of.step) vs _ (λ m. close_free who of.step m m.held vs)
+came_free who b (MediaStep.Audio bind (Some i)) vs = init_free (is_invalid i.shape (length i.content)) _ _ (makes_free who.step (SoundOf i.shape) (take (needed i.shape) i.content) _ vs)
+came_free who b (MediaStep.Frame bind (Some i)) vs = init_free (frames.is_invalid i.shape (length i.content)) _ _ (makes_free who.step (PictureOf i.shape) (take (picture_size i.shape) i.content) _ vs)
+came_free who b (MediaStep.Take on bind kind) vs = taken_free who.step b.taken vs
+came_free who b (MediaStep.Clone of bind) vs = there_free (medium_at vs of.step) vs _ (λ m. clone_free who.step m.shape m.held vs)
+came_free who b (MediaStep.CloseData of) vs = there_free (medium_at vs of.step) vs _ (λ m. close_free who of.step m m.held vs)
 came_free who b _ vs = λ p q y comes none. comes

@@ -3,10 +3,8 @@ use Rattle.std.proofs.Common.{ℕ, zero, suc, ◌≡◌, ◌≢◌, ◌<◌, ◌
 use Rattle.std.specs.Prelude.{pos, slice_get, slice_set, option_map}
 use Rattle.std.proofs.lemmas.Bool.{cases_eq}
 use Rattle.std.proofs.lemmas.List.{length-append}
-use Rattle.wc_base.specs.declared.media.SampleFormat.TheVariants as format
-use Rattle.wc_base.specs.declared.who.Who.{Who}
-use Rattle.wc_pool.specs.declared.entry.PoolEntry.{PoolEntry}
-use Rattle.wc_pool.specs.Bag.{resource_of, is_legal_pool}
+use Rattle.wc_base.specs.declared.{media.SampleFormat.SampleFormat, who.Who.Who}
+use Rattle.wc_pool.specs.{declared.entry.PoolEntry.PoolEntry, Bag.resource_of, Bag.is_legal_pool}
 use Rattle.codec_model.specs.declared.entry.Pair.{Pair}
 use Rattle.script_types.specs.declared.steps.MediaStep.{MediaStep}
 use Rattle.media_variables.specs.Variables.{Reference, SoundOf, Medium, Came, Brought, medium_at, variables_of, media_came, entries_of}
@@ -32,7 +30,7 @@ of_pair p = record { resource = p.resource; number = p.reference; bytes = [] }
 
 -- of what shape they are is nothing to it
 abbrev holder : Pair → Option Medium
-holder p = Some (record { shape = SoundOf (record { format = format.U8; rate = 0; channels = 0; frames = 0; timestamp = pos 0 }); held = Some (of_pair p) })
+holder p = Some (record { shape = SoundOf (record { format = SampleFormat.U8; rate = 0; channels = 0; frames = 0; timestamp = pos 0 }); held = Some (of_pair p) })
 
 abbrev holders : List Pair → List (Option Medium)
 holders ps = map holder ps

@@ -3,20 +3,13 @@ use Rattle.std.proofs.Common.{ℕ, zero, suc, ◌≡◌, ◌<◌, inl, inr, ◌�
 use Rattle.std.specs.Prelude.{slice_get, IfSome, option_and_then}
 use Rattle.std.proofs.lemmas.Bool.{eq-eqb, ne_eqb}
 use Rattle.std.proofs.lemmas.Option.{option_and_then_some}
-use Rattle.wc_base.specs.declared.media.Samples.{Samples}
-use Rattle.wc_base.specs.declared.who.Who.{Who}
+use Rattle.wc_base.specs.declared.{media.Samples.Samples, who.Who.Who}
 use Rattle.wc_chunk.specs.declared.chunk.Chunk.{Chunk}
 use Rattle.codec_definitions.specs.declared.unit.Unit as output
 use Rattle.codec_definitions.specs.declared.unit.Unit.TheVariants as unit
-use Rattle.wc_pool.specs.declared.entry.PoolEntry.{PoolEntry}
-use Rattle.wc_pool.specs.declared.reference.MediaRef.{MediaRef}
-use Rattle.wc_pool.specs.Bag.{references_made}
+use Rattle.wc_pool.specs.{declared.entry.PoolEntry.PoolEntry, declared.reference.MediaRef.MediaRef, Bag.references_made}
 use Rattle.wc_audio.specs.Sound.{Sound}
-use Rattle.script_types.specs.declared.steps.VariableKind.{VariableKind}
-use Rattle.script_types.specs.declared.steps.MediaStep.{MediaStep}
-use Rattle.script_types.specs.declared.steps.MediaStep.TheVariants as media
-use Rattle.script_types.specs.declared.steps.Step.{Step}
-use Rattle.script_types.specs.declared.steps.Step.TheVariants as step
+use Rattle.script_types.specs.declared.steps.{VariableKind.VariableKind, MediaStep.MediaStep, Step.Step}
 use Rattle.report_text.specs.declared.result.StepResult.{StepResult}
 use Rattle.media_variables.specs.CameLaws.{EachCame, came_each}
 use Rattle.media_variables.specs.Variables.{Reference, Shape, SoundOf, PictureOf, ChunkOf, Medium, Came, Taken, Brought, medium_at, with_medium, detached, unit_came, chunk_in_medium, sound_in, sound_of, media_ref, media_came}
@@ -97,8 +90,8 @@ module _ (f g : ℕ → Option Samples) (taken : ℕ → Option output.Unit) (n 
 
 -- what is known of a step: the output that it takes, and the samples that it gives its variable
 record IsStep (f g : ℕ → Option Samples) (taken : ℕ → Option output.Unit) (n : ℕ) (b : Brought) (x : MediaStep) : Type 0 where
-  took : (on : ℕ) (bind : List ℕ) (kind : VariableKind) (t : Taken) → x ≡ media.Take on bind kind → b.taken ≡ Some t → taken n ≡ Some t.unit
-  gives : g n ≡ samples_by f (taken n) (step.Media x)
+  took : (on : ℕ) (bind : List ℕ) (kind : VariableKind) (t : Taken) → x ≡ MediaStep.Take on bind kind → b.taken ≡ Some t → taken n ≡ Some t.unit
+  gives : g n ≡ samples_by f (taken n) (Step.Media x)
 
 module _ (p : List PoolEntry) (who : Who) (f g : ℕ → Option Samples) (taken : ℕ → Option output.Unit) (later : Later f g who.step) (vs : List (Option Medium)) (all : AreAll f taken who.step vs) where
   abbrev After : List (Option Medium) → Type 0
@@ -136,12 +129,12 @@ module _ (p : List PoolEntry) (who : Who) (f g : ℕ → Option Samples) (taken 
   came_all (Some y) K each k = each k
 
   step_all : (brings : MediaStep → Brought) (o : Option Step)
-      → ((on : ℕ) (bind : List ℕ) (kind : VariableKind) (t : Taken) → o ≡ Some (step.Media (media.Take on bind kind)) → (brings (media.Take on bind kind)).taken ≡ Some t → taken who.step ≡ Some t.unit)
+      → ((on : ℕ) (bind : List ℕ) (kind : VariableKind) (t : Taken) → o ≡ Some (Step.Media (MediaStep.Take on bind kind)) → (brings (MediaStep.Take on bind kind)).taken ≡ Some t → taken who.step ≡ Some t.unit)
       → g who.step ≡ option_and_then (samples_by f (taken who.step)) o → After (variables_by (option_and_then (λ y. media_came p who (brings y) y vs) (option_and_then media_of o)) vs)
   step_all brings None took gives = same_all
-  step_all brings (Some (step.Media x)) took gives =
+  step_all brings (Some (Step.Media x)) took gives =
       came_all (media_came p who (brings x) x vs) (IsStep f g taken who.step (brings x) x) (came_each p who (brings x) vs _ (each_all (brings x)) x)
-      (record { took = λ on bind kind t is has. took on bind kind t (ap (λ (y : MediaStep). Some (step.Media y)) is) (subst (λ (y : MediaStep). (brings y).taken ≡ Some t) is has); gives = gives })
+      (record { took = λ on bind kind t is has. took on bind kind t (ap (λ (y : MediaStep). Some (Step.Media y)) is) (subst (λ (y : MediaStep). (brings y).taken ≡ Some t) is has); gives = gives })
   step_all brings (Some _) took gives = same_all
 
 -- ---- all steps

@@ -3,19 +3,13 @@ use Rattle.std.proofs.Common.{ℕ, zero, suc, ◌≡◌, ◌≢◌, ◌<◌, Boo
 use Rattle.std.specs.Prelude.{slice_get, slice_set, option_and_then}
 use Rattle.std.proofs.lemmas.Bool.{and_from, le-ltb}
 use Rattle.std.proofs.lemmas.List.{append-nil}
-use Rattle.script_types.specs.declared.script.CallerItem.{CallerItem}
-use Rattle.script_types.specs.declared.steps.MediaStep.{MediaStep}
-use Rattle.script_types.specs.declared.steps.Step.{Step}
-use Rattle.wc_base.specs.declared.who.By.TheVariants as by
-use Rattle.wc_base.specs.declared.who.Who.{Who}
-use Rattle.wc_pool.specs.declared.entry.PoolOp.{PoolOp}
-use Rattle.wc_pool.specs.Bag.{is_legal_next, is_legal_from}
-use Rattle.wc_pool.specs.declared.entry.PoolEntry.{PoolEntry}
-use Rattle.media_variables.specs.Variables.{Medium, Media, Came, Brought, media_came, entries_of, variables_of, medium_at}
-use Rattle.media_variables.specs.Held.{reference_at, AreHeld, StayHeld, DoLegally}
+use Rattle.script_types.specs.declared.{script.CallerItem.CallerItem, steps.MediaStep.MediaStep, steps.Step.Step}
+use Rattle.wc_base.specs.declared.who.{By.By, Who.Who}
+use Rattle.wc_pool.specs.{declared.entry.PoolOp.PoolOp, Bag.is_legal_next, Bag.is_legal_from, declared.entry.PoolEntry.PoolEntry}
+use Rattle.media_variables.specs.Variables.{Medium, Media, Came, Brought, media_came, entries_of, variables_of}
+use Rattle.media_variables.specs.Held.{AreHeld, StayHeld, DoLegally}
 use Rattle.media_accounts.specs.Accounts.{step_by, before_step, media_of, variables_by, owes, came_on, came_in, variables_in, Lending, AreLent, OneMore, MediaStand, NothingStands, StepsStand, OthersStand, LaterStand}
-use Rattle.media_accounts.proofs.Pools.{by_one}
-use Rattle.media_accounts.proofs.Lent.{stay_apart}
+use Rattle.media_accounts.proofs.{Pools.by_one, Lent.stay_apart}
 use Rattle.media_accounts.proofs.Steps.{ComesToo, variables_stay, came_stays, owes_same, comes_there, came_before, came_now, variables_now, variables_others, grown}
 
 -- ---- lists of variables
@@ -48,7 +42,7 @@ none_long (x ∷ xs) = ap suc (none_long xs)
 -- the entry of a step is legal, if it makes one
 entries_legal : (pool : List PoolEntry) (who : Who) (o : Option PoolOp) → ((e : PoolEntry) → entries_of who o ≡ e ∷ [] → is_legal_next pool e ≡ true) → is_legal_from pool (entries_of who o) ≡ true
 entries_legal pool who None legal = refl
-entries_legal pool who (Some o) legal = and_from _ true (legal (record { by = by.Caller who; op = o }) refl) refl
+entries_legal pool who (Some o) legal = and_from _ true (legal (record { by = By.Caller who; op = o }) refl) refl
 
 -- ---- before any step
 

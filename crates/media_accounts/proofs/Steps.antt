@@ -5,13 +5,9 @@ use Rattle.std.specs.Option.{option_to_list}
 use Rattle.std.proofs.lemmas.Bool.{cases_eq, cases_lt, lt-ltb, le-ltb}
 use Rattle.std.proofs.lemmas.List.{length-append}
 use Rattle.std.proofs.lemmas.Option.{slice_get_within}
-use Rattle.wc_base.specs.declared.who.By.TheVariants as by
-use Rattle.wc_base.specs.declared.who.Who.{Who}
-use Rattle.wc_pool.specs.declared.entry.PoolEntry.{PoolEntry}
-use Rattle.wc_pool.specs.declared.entry.PoolOp.{PoolOp}
-use Rattle.wc_pool.specs.Bag.{is_legal_from}
-use Rattle.script_types.specs.declared.steps.MediaStep.{MediaStep}
-use Rattle.script_types.specs.declared.steps.Step.{Step}
+use Rattle.wc_base.specs.declared.who.{By.By, Who.Who}
+use Rattle.wc_pool.specs.{declared.entry.PoolEntry.PoolEntry, declared.entry.PoolOp.PoolOp, Bag.is_legal_from}
+use Rattle.script_types.specs.declared.steps.{MediaStep.MediaStep, Step.Step}
 use Rattle.media_variables.specs.Variables.{Medium, Came, Brought, media_came, entries_of}
 use Rattle.media_accounts.specs.Accounts.{step_by, is_by_step, before_step, ops_by, without_last, media_of, owes, variables_by, is_by_entry, came_on, variables_in, came_in, MediaAreIn, OneMore}
 use Rattle.media_accounts.proofs.Pools.{get_either, by_place, own_place, same_place, other_place, AllBy, its_cause, before_new, before_stays, ops_more, ops_kept, ops_some, legal_from}
@@ -19,7 +15,7 @@ use Rattle.media_accounts.proofs.Free.{came_free}
 
 -- ---- the entry of a step
 
-entries_its : (who : Who) (o : Option PoolOp) → AllBy (by.Caller who) (entries_of who o)
+entries_its : (who : Who) (o : Option PoolOp) → AllBy (By.Caller who) (entries_of who o)
 entries_its who None = tt
 entries_its who (Some o) = (refl, tt)
 
@@ -85,7 +81,7 @@ module _ (steps : ℕ → List Step) (brought : ℕ → ℕ → MediaStep → Br
       → media_came (before_step c (made c) (pool ++ entries_of who o)) who (brought c (made c) x) x vs ≡ Some y
   comes_there x y vs None does comes = came_free who (brought c (made c) x) x vs pool (before_step c (made c) (pool ++ [])) y comes does
   comes_there x y vs (Some o) does comes =
-      ap (λ (b : List PoolEntry). media_came b who (brought c (made c) x) x vs) (before_new c (made c) [] pool (record { by = by.Caller who; op = o }) owed_none (own_place c (made c))) ∙ comes
+      ap (λ (b : List PoolEntry). media_came b who (brought c (made c) x) x vs) (before_new c (made c) [] pool (record { by = By.Caller who; op = o }) owed_none (own_place c (made c))) ∙ comes
 
   module _ (o : Option Came) where
     abbrev new : List PoolEntry
@@ -94,11 +90,11 @@ module _ (steps : ℕ → List Step) (brought : ℕ → ℕ → MediaStep → Br
     abbrev longer : List PoolEntry
     longer = pool ++ new
 
-    its : AllBy (by.Caller who) new
+    its : AllBy (By.Caller who) new
     its = entries_its who (option_and_then (λ (z : Came). z.does) o)
 
     comes_still : (d i : ℕ) → ((d ≡ c) → (i ≡ made c) → ⊥) → ComesToo steps brought brought pool longer d i
-    comes_still d i apart = comes_too steps brought pool longer d i (before_stays d i [] pool new (by.Caller who) its (other_place c d (made c) i apart))
+    comes_still d i apart = comes_too steps brought pool longer d i (before_stays d i [] pool new (By.Caller who) its (other_place c d (made c) i apart))
 
     pub came_before : (d i : ℕ) → i < made d → came_in steps brought longer d i ≡ came_in steps brought pool d i
     came_before d i lt = came_stays steps brought brought pool longer d i (λ k le. comes_still d k (λ same e. (let at = ap made same in omega (arith, lt, le, e, at))))
@@ -129,7 +125,7 @@ module _ (steps : ℕ → List Step) (brought : ℕ → ℕ → MediaStep → Br
       | inl there ↦ elim (get_either pool new n f second) [
         | inl there_too ↦ m.rises d i j p n e f lt there.0 there_too.0 early late
         | inr last ↦ (
-            let step = same_place c d (made c) j (sym (ap (is_by_step d j) (its_cause new (by.Caller who) last.0 f its last.2)) ∙ late) in
+            let step = same_place c d (made c) j (sym (ap (is_by_step d j) (its_cause new (By.Caller who) last.0 f its last.2)) ∙ late) in
             let before = was_made d i p e there.0 early in
             let same = ap made step.0 in
             let at = step.1 in
@@ -147,7 +143,7 @@ module _ (steps : ℕ → List Step) (brought : ℕ → ℕ → MediaStep → Br
 
       owed_apart : (d i : ℕ) → ((d ≡ c) → (i ≡ made c) → ⊥) → ops_by d i longer ≡ owes (ltb i (more d)) (came_in steps brought longer d i)
       owed_apart d i apart =
-          ops_kept (is_by_step d i) (by.Caller who) pool new its (other_place c d (made c) i apart)
+          ops_kept (is_by_step d i) (By.Caller who) pool new its (other_place c d (made c) i apart)
           ∙ (m.owed d i
           ∙ (owes_same i (made d) (came_in steps brought pool d i) (came_in steps brought longer d i) (λ lt. sym (came_before d i lt))
           ∙ ap (λ (b : Bool). owes b (came_in steps brought longer d i)) (sym (made_too made more c d i one apart))))
@@ -164,6 +160,6 @@ module _ (steps : ℕ → List Step) (brought : ℕ → ℕ → MediaStep → Br
       grown legal = record {
         legal = legal_from [] pool new m.legal legal;
         owed = by_place (λ d i. ops_by d i longer ≡ owes (ltb i (more d)) (came_in steps brought longer d i)) c (made c) owed_now owed_apart;
-        codecs = λ k place. ap (map without_last) (ops_kept (is_by_entry k place) (by.Caller who) pool new its refl) ∙ m.codecs k place;
+        codecs = λ k place. ap (map without_last) (ops_kept (is_by_entry k place) (By.Caller who) pool new its refl) ∙ m.codecs k place;
         rises = rises_still;
       }
