@@ -199,18 +199,12 @@ module _ (numbered : LiveAreNumbered) (steps : ℕ → List Step) (brought : ℕ
   left_between l i j p q other at there = left_each (λ x. x.reference ≢ q.reference)
       (λ i x first. st.lent.between k l (parts.keeps.place i) j x q (λ same. other (sym same)) (parts.keeps.at i x first) there) (λ i x added. is_new i x q.reference q.resource added ((st.lent.apart l).lives j q there)) i p at
 
-  holds_left : (l i : ℕ) (p : Pair) → l ≡ k → slice_get (later.holds l) i ≡ Some p → slice_get left i ≡ Some p
-  holds_left l i p same at = ap (λ (ps : List Pair). slice_get ps i) (sym (ap later.holds same ∙ more.holds)) ∙ at
-
-  holds_other : (l i : ℕ) (p : Pair) → l ≢ k → slice_get (later.holds l) i ≡ Some p → slice_get (codecs.holds l) i ≡ Some p
-  holds_other l i p other at = ap (λ (ps : List Pair). slice_get ps i) (sym (more.other_holds l other)) ∙ at
-
   all_between : (a b i j : ℕ) (p q : Pair) → a ≢ b → slice_get (later.holds a) i ≡ Some p → slice_get (later.holds b) j ≡ Some q → p.reference ≢ q.reference
   all_between a b i j p q apart at there same = elim (cases_eq a k) [
-    | inl here ↦ left_between b i j p q (λ e. apart (here ∙ sym e)) (holds_left a i p here at) (holds_other b j q (λ e. apart (here ∙ sym e)) there) same
+    | inl here ↦ left_between b i j p q (λ e. apart (here ∙ sym e)) (rw (here, more.holds) at at) (rw (more.other_holds b (λ e. apart (here ∙ sym e))) at there) same
     | inr other ↦ elim (cases_eq b k) [
-      | inl here ↦ left_between a j i q p other (holds_left b j q here there) (holds_other a i p other at) (sym same)
-      | inr other_too ↦ st.lent.between a b i j p q apart (holds_other a i p other at) (holds_other b j q other_too there) same
+      | inl here ↦ left_between a j i q p other (rw (here, more.holds) at there) (rw (more.other_holds a other) at at) (sym same)
+      | inr other_too ↦ st.lent.between a b i j p q apart (rw (more.other_holds a other) at at) (rw (more.other_holds b other_too) at there) same
     ]
   ]
 

@@ -1,8 +1,8 @@
 -- The references that codecs hold stay live and apart in each step of a caller: they stand as those of one caller more do.
-use Rattle.std.proofs.Common.{ℕ, zero, suc, ◌≡◌, ◌≢◌, ◌<◌, ◌+◌, ◌⊎◌, inl, inr, true, List, [], ◌∷◌, ◌++◌, length, map, Option, Some, None, refl, ap, sym, subst, ◌∙◌, arith}
+use Rattle.std.proofs.Common.{ℕ, zero, suc, ◌≡◌, ◌≢◌, ◌<◌, ◌+◌, ◌⊎◌, inl, inr, true, List, [], ◌∷◌, ◌++◌, length, get_or, map, Option, Some, None, refl, ap, sym, subst, ◌∙◌, arith}
 use Rattle.std.specs.Prelude.{pos, slice_get, slice_set, option_map}
 use Rattle.std.proofs.lemmas.Bool.{cases_eq}
-use Rattle.std.proofs.lemmas.List.{length-append}
+use Rattle.std.proofs.lemmas.List.{length-append, set-append_left}
 use Rattle.wc_base.specs.declared.{media.SampleFormat.SampleFormat, who.Who.Who}
 use Rattle.wc_pool.specs.{declared.entry.PoolEntry.PoolEntry, Bag.resource_of, Bag.is_legal_pool}
 use Rattle.codec_model.specs.declared.entry.Pair.{Pair}
@@ -12,16 +12,16 @@ use Rattle.media_variables.specs.Held.{held_by, reference_at, AreHeld, AreApart,
 
 -- ---- lists of variables
 
+pub variables_at : (k : ℕ) (all : List (List (Option Medium))) → variables_of k all ≡ get_or all k []
+variables_at k [] = refl
+variables_at zero (x ∷ xs) = refl
+variables_at (suc k) (x ∷ xs) = variables_at k xs
+
 variables_before : (k : ℕ) (vs : List (Option Medium)) (all : List (List (Option Medium))) → k ≢ length all → variables_of k (all ++ vs ∷ []) ≡ variables_of k all
 variables_before zero vs [] other = absurd (other refl)
 variables_before (suc k) vs [] other = refl
 variables_before zero vs (x ∷ xs) other = refl
 variables_before (suc k) vs (x ∷ xs) other = variables_before k vs xs (λ e. other (ap suc e))
-
-set_before : (k : ℕ) (us vs : List (Option Medium)) (all : List (List (Option Medium))) → k < length all → slice_set (all ++ vs ∷ []) k us ≡ slice_set all k us ++ vs ∷ []
-set_before k us vs [] lt = absurd (omega (arith, lt))
-set_before zero us vs (x ∷ xs) lt = refl
-set_before (suc k) us vs (x ∷ xs) lt = ap (λ (l : List (List (Option Medium))). x ∷ l) (set_before k us vs xs (omega (arith, lt)))
 
 -- ---- variables that hold these references
 
@@ -113,4 +113,4 @@ stay_apart stay pool who all b x y ps legal lt h a comes =
     let comes_too : media_came pool who b x (variables_of who.caller more) ≡ Some y = ap (media_came pool who b x) here ∙ comes in
     let kept = stay pool who more b x y legal (omega (arith, lt, long)) (add_holders pool all ps h a) comes_too in
     drop_holders (pool ++ entries_of who y.does) (slice_set all who.caller y.variables) ps
-    (subst (λ (l : List (List (Option Medium))). AreHeld (pool ++ entries_of who y.does) l) (set_before who.caller y.variables (holders ps) all lt) kept)
+    (subst (λ (l : List (List (Option Medium))). AreHeld (pool ++ entries_of who y.does) l) (set-append_left all (holders ps ∷ []) who.caller y.variables lt) kept)

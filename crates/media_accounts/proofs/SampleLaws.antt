@@ -64,78 +64,68 @@ handed_on s t u v (PictureOf shape) held r q gives same holds old = tt
 handed_on s t u v (ChunkOf chunk) held r q gives same holds old = (let none = old.0 in absurd cc)
 handed_on s t u v (SoundOf shape) None r q gives same holds old = absurd cc
 
--- ---- one step more
+-- ---- every step
 
 -- what is known of earlier variables stays where one step more is counted
 abbrev Later : (ℕ → Option Samples) → (ℕ → Option Samples) → ℕ → Type 0
 Later f g n = (j : ℕ) → j < n → g j ≡ f j
-
-module _ (f g : ℕ → Option Samples) (taken : ℕ → Option output.Unit) (n : ℕ) (later : Later f g n) (vs : List (Option Medium)) (all : AreAll f taken n vs) where
-  one_more : AreAll g taken (suc n) vs
-  one_more j m is =
-      let old = all j m is in
-      let lt : j < suc n = omega (arith, old.0) in
-      (lt, subst (λ (s : Option Samples). Is s (taken j) m) (sym (later j old.0)) old.1)
-
-  -- the next step gives its variable this
-  given_one : (m : Medium) → Is (g n) (taken n) m → AreAll g taken (suc n) (with_medium n m vs)
-  given_one m new = put_one g taken (suc n) vs n m (omega arith) new one_more
-
-  unit_all : (p : List PoolEntry) (answer : StepResult) (u : output.Unit) → taken n ≡ Some u → g n ≡ option_and_then sound_of_unit (taken n) → AreAll g taken (suc n) (unit_came p n answer u vs).variables
-  unit_all p answer (unit.Sound x) is gives = given_one _ (gives ∙ ap (option_and_then sound_of_unit) is)
-  unit_all p answer (unit.Image x) is gives = given_one _ tt
-  unit_all p answer (unit.Coded chunk config) is gives = given_one _ (refl, ap (option_and_then chunk_of_unit) is)
-
--- ---- every step
 
 -- what is known of a step: the output that it takes, and the samples that it gives its variable
 record IsStep (f g : ℕ → Option Samples) (taken : ℕ → Option output.Unit) (n : ℕ) (b : Brought) (x : MediaStep) : Type 0 where
   took : (on : ℕ) (bind : List ℕ) (kind : VariableKind) (t : Taken) → x ≡ MediaStep.Take on bind kind → b.taken ≡ Some t → taken n ≡ Some t.unit
   gives : g n ≡ samples_by f (taken n) (Step.Media x)
 
-module _ (p : List PoolEntry) (who : Who) (f g : ℕ → Option Samples) (taken : ℕ → Option output.Unit) (later : Later f g who.step) (vs : List (Option Medium)) (all : AreAll f taken who.step vs) where
+module _ (p : List PoolEntry) (who : Who) (f g : ℕ → Option Samples) (taken : ℕ → Option output.Unit) (later : Later f g who.step) where
   abbrev After : List (Option Medium) → Type 0
   After ws = AreAll g taken (suc who.step) ws
 
-  same_all : After vs
-  same_all = one_more f g taken who.step later vs all
+  module _ (vs : List (Option Medium)) (all : AreAll f taken who.step vs) where
+    one_more : After vs
+    one_more j m is =
+        let old = all j m is in
+        let lt : j < suc who.step = omega (arith, old.0) in
+        (lt, subst (λ (s : Option Samples). Is s (taken j) m) (sym (later j old.0)) old.1)
 
-  given : (ws : List (Option Medium)) (m : Medium) → AreAll f taken who.step ws → Is (g who.step) (taken who.step) m → After (with_medium who.step m ws)
-  given ws m known new = given_one f g taken who.step later ws known m new
+    -- the step gives its variable this
+    given_one : (m : Medium) → Is (g who.step) (taken who.step) m → After (with_medium who.step m vs)
+    given_one m new = put_one g taken (suc who.step) vs who.step m (omega arith) new one_more
 
-  without : (i : ℕ) (m : Medium) → medium_at vs i ≡ Some m → AreAll f taken who.step (with_medium i (detached m) vs)
-  without i m is = detached_one f taken who.step vs i m is all
+    unit_all : (answer : StepResult) (u : output.Unit) → taken who.step ≡ Some u → g who.step ≡ option_and_then sound_of_unit (taken who.step) → After (unit_came p who.step answer u vs).variables
+    unit_all answer (unit.Sound x) is gives = given_one _ (gives ∙ ap (option_and_then sound_of_unit) is)
+    unit_all answer (unit.Image x) is gives = given_one _ tt
+    unit_all answer (unit.Coded chunk config) is gives = given_one _ (refl, ap (option_and_then chunk_of_unit) is)
 
-  each_all : (b : Brought) → EachCame p who b vs (λ x y. IsStep f g taken who.step b x → After y.variables)
-  each_all b = record {
-    refuses = λ x e k. same_all;
-    absent = λ x k. same_all;
-    audio = λ bind i k. given vs _ all k.gives;
-    frame = λ bind i k. given vs _ all tt;
-    takes = λ on bind kind t is k. unit_all f g taken who.step later vs all p t.answer t.unit (k.took on bind kind t refl is) k.gives;
-    clones = λ of bind m r is holds k. given vs _ all (handed_on (f of.step) (g who.step) (taken of.step) (taken who.step) m.shape m.held r (record r { number = references_made p }) k.gives refl holds (all of.step m is).1);
-    transfers = λ of bind m r is holds k.
-        given (with_medium of.step (detached m) vs) m (without of.step m is)
-        (subst (IsOf (g who.step) (taken who.step) m.shape) (sym holds) (handed_on (f of.step) (g who.step) (taken of.step) (taken who.step) m.shape m.held r r k.gives refl holds (all of.step m is).1));
-    closed = λ of m is holds k. same_all;
-    closes = λ of m r is holds k. one_more f g taken who.step later (with_medium of.step (detached m) vs) (without of.step m is);
-    copies_chunk = λ of size k. same_all;
-    copies = λ of o size m is k. same_all;
-    sizes = λ of o m is k. same_all;
-  }
+  module _ (vs : List (Option Medium)) (all : AreAll f taken who.step vs) where
+    each_all : (b : Brought) → EachCame p who b vs (λ x y. IsStep f g taken who.step b x → After y.variables)
+    each_all b = record {
+      refuses = λ x e k. one_more vs all;
+      absent = λ x k. one_more vs all;
+      audio = λ bind i k. given_one vs all _ k.gives;
+      frame = λ bind i k. given_one vs all _ tt;
+      takes = λ on bind kind t is k. unit_all vs all t.answer t.unit (k.took on bind kind t refl is) k.gives;
+      clones = λ of bind m r is holds k. given_one vs all _ (handed_on (f of.step) (g who.step) (taken of.step) (taken who.step) m.shape m.held r (record r { number = references_made p }) k.gives refl holds (all of.step m is).1);
+      transfers = λ of bind m r is holds k.
+          given_one (with_medium of.step (detached m) vs) (detached_one f taken who.step vs of.step m is all) m
+          (subst (IsOf (g who.step) (taken who.step) m.shape) (sym holds) (handed_on (f of.step) (g who.step) (taken of.step) (taken who.step) m.shape m.held r r k.gives refl holds (all of.step m is).1));
+      closed = λ of m is holds k. one_more vs all;
+      closes = λ of m r is holds k. one_more (with_medium of.step (detached m) vs) (detached_one f taken who.step vs of.step m is all);
+      copies_chunk = λ of size k. one_more vs all;
+      copies = λ of o size m is k. one_more vs all;
+      sizes = λ of o m is k. one_more vs all;
+    }
 
-  came_all : (o : Option Came) (K : Type 0) → IfSome o (λ y. K → After y.variables) → K → After (variables_by o vs)
-  came_all None K each k = same_all
-  came_all (Some y) K each k = each k
+    came_all : (o : Option Came) (K : Type 0) → IfSome o (λ y. K → After y.variables) → K → After (variables_by o vs)
+    came_all None K each k = one_more vs all
+    came_all (Some y) K each k = each k
 
-  step_all : (brings : MediaStep → Brought) (o : Option Step)
-      → ((on : ℕ) (bind : List ℕ) (kind : VariableKind) (t : Taken) → o ≡ Some (Step.Media (MediaStep.Take on bind kind)) → (brings (MediaStep.Take on bind kind)).taken ≡ Some t → taken who.step ≡ Some t.unit)
-      → g who.step ≡ option_and_then (samples_by f (taken who.step)) o → After (variables_by (option_and_then (λ y. media_came p who (brings y) y vs) (option_and_then media_of o)) vs)
-  step_all brings None took gives = same_all
-  step_all brings (Some (Step.Media x)) took gives =
-      came_all (media_came p who (brings x) x vs) (IsStep f g taken who.step (brings x) x) (came_each p who (brings x) vs _ (each_all (brings x)) x)
-      (record { took = λ on bind kind t is has. took on bind kind t (ap (λ (y : MediaStep). Some (Step.Media y)) is) (subst (λ (y : MediaStep). (brings y).taken ≡ Some t) is has); gives = gives })
-  step_all brings (Some _) took gives = same_all
+    step_all : (brings : MediaStep → Brought) (o : Option Step)
+        → ((on : ℕ) (bind : List ℕ) (kind : VariableKind) (t : Taken) → o ≡ Some (Step.Media (MediaStep.Take on bind kind)) → (brings (MediaStep.Take on bind kind)).taken ≡ Some t → taken who.step ≡ Some t.unit)
+        → g who.step ≡ option_and_then (samples_by f (taken who.step)) o → After (variables_by (option_and_then (λ y. media_came p who (brings y) y vs) (option_and_then media_of o)) vs)
+    step_all brings None took gives = one_more vs all
+    step_all brings (Some (Step.Media x)) took gives =
+        came_all (media_came p who (brings x) x vs) (IsStep f g taken who.step (brings x) x) (came_each p who (brings x) vs _ (each_all (brings x)) x)
+        (record { took = λ on bind kind t is has. took on bind kind t (ap (λ (y : MediaStep). Some (Step.Media y)) is) (subst (λ (y : MediaStep). (brings y).taken ≡ Some t) is has); gives = gives })
+    step_all brings (Some _) took gives = one_more vs all
 
 -- ---- all steps
 

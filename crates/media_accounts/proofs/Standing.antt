@@ -2,42 +2,22 @@
 use Rattle.std.proofs.Common.{ℕ, zero, suc, ◌≡◌, ◌≢◌, ◌<◌, Bool, true, List, [], ◌∷◌, ◌++◌, length, map, Option, Some, None, refl, ap, sym, ◌∙◌, arith}
 use Rattle.std.specs.Prelude.{slice_get, slice_set, option_and_then}
 use Rattle.std.proofs.lemmas.Bool.{and_from, le-ltb}
-use Rattle.std.proofs.lemmas.List.{append-nil}
+use Rattle.std.proofs.lemmas.List.{append-nil, get_or-set_same, get_or-set_other, length-map, length-set}
 use Rattle.script_types.specs.declared.{script.CallerItem.CallerItem, steps.MediaStep.MediaStep, steps.Step.Step}
 use Rattle.wc_base.specs.declared.who.{By.By, Who.Who}
 use Rattle.wc_pool.specs.{declared.entry.PoolOp.PoolOp, Bag.is_legal_next, Bag.is_legal_from, declared.entry.PoolEntry.PoolEntry}
 use Rattle.media_variables.specs.Variables.{Medium, Media, Came, Brought, media_came, entries_of, variables_of}
 use Rattle.media_variables.specs.Held.{AreHeld, StayHeld, DoLegally}
 use Rattle.media_accounts.specs.Accounts.{step_by, before_step, media_of, variables_by, owes, came_on, came_in, variables_in, Lending, AreLent, OneMore, MediaStand, NothingStands, StepsStand, OthersStand, LaterStand}
-use Rattle.media_accounts.proofs.{Pools.by_one, Lent.stay_apart}
+use Rattle.media_accounts.proofs.{Pools.by_one, Lent.variables_at, Lent.stay_apart}
 use Rattle.media_accounts.proofs.Steps.{ComesToo, variables_stay, came_stays, owes_same, comes_there, came_before, came_now, variables_now, variables_others, grown}
 
 -- ---- lists of variables
-
-variables_here : (k : ℕ) (vs : List (Option Medium)) (all : List (List (Option Medium))) → k < length all → variables_of k (slice_set all k vs) ≡ vs
-variables_here k vs [] lt = absurd (omega (arith, lt))
-variables_here zero vs (x ∷ xs) lt = refl
-variables_here (suc k) vs (x ∷ xs) lt = variables_here k vs xs (omega (arith, lt))
-
-variables_else : (d k : ℕ) (vs : List (Option Medium)) (all : List (List (Option Medium))) → d ≢ k → variables_of d (slice_set all k vs) ≡ variables_of d all
-variables_else d k vs [] other = refl
-variables_else zero zero vs (x ∷ xs) other = absurd (other refl)
-variables_else (suc d) (suc k) vs (x ∷ xs) other = variables_else d k vs xs (λ e. other (ap suc e))
-variables_else _ _ vs (x ∷ xs) other = refl
-
-set_long : (k : ℕ) (vs : List (Option Medium)) (all : List (List (Option Medium))) → length (slice_set all k vs) ≡ length all
-set_long k vs [] = refl
-set_long zero vs (x ∷ xs) = refl
-set_long (suc k) vs (x ∷ xs) = ap suc (set_long k vs xs)
 
 none_there : (callers : List CallerItem) (c : ℕ) → variables_of c (map (λ x. []) callers) ≡ []
 none_there [] c = refl
 none_there (x ∷ xs) zero = refl
 none_there (x ∷ xs) (suc c) = none_there xs c
-
-none_long : (callers : List CallerItem) → length {A = List (Option Medium)} (map (λ x. []) callers) ≡ length callers
-none_long [] = refl
-none_long (x ∷ xs) = ap suc (none_long xs)
 
 -- the entry of a step is legal, if it makes one
 entries_legal : (pool : List PoolEntry) (who : Who) (o : Option PoolOp) → ((e : PoolEntry) → entries_of who o ≡ e ∷ [] → is_legal_next pool e ≡ true) → is_legal_from pool (entries_of who o) ≡ true
@@ -67,7 +47,7 @@ nothing_stands steps brought callers = record {
     };
     between = λ k l i j p q other at there. absurd cc;
   };
-  there = none_long callers;
+  there = length-map callers (λ x. []);
 }
 
 -- ---- a step
@@ -103,13 +83,14 @@ step_stands stay legally steps brought codecs made more callers m c x y st lt on
     record {
       stands = stands_after steps brought codecs made more callers m c st one (Some y) (slice_set m.variables c y.variables) came
           (entries_legal m.pool who y.does (λ e made_it. legally m.pool who m.variables (brought c (made c) x) x y e st.accounted.legal st.held comes made_it))
-          (variables_here c y.variables m.variables there) (λ d other. variables_else d c y.variables m.variables other)
+          (variables_at c (slice_set m.variables c y.variables) ∙ get_or-set_same m.variables c y.variables [] there)
+          (λ d other. variables_at d (slice_set m.variables c y.variables) ∙ (get_or-set_other m.variables c d y.variables [] other ∙ sym (variables_at d m.variables)))
           (stay m.pool who m.variables (brought c (made c) x) x y st.accounted.legal there st.held comes)
           (record {
             apart = λ k. stay_apart stay m.pool who m.variables (brought c (made c) x) x y (codecs.holds k) st.accounted.legal there st.held (st.lent.apart k) comes;
             between = st.lent.between;
           })
-          (set_long c y.variables m.variables);
+          (length-set m.variables c y.variables);
       here = came_now steps brought codecs.lends made more m.pool c st.accounted one (Some y) came;
       earlier = came_before steps brought codecs.lends made more m.pool c st.accounted one (Some y);
     }

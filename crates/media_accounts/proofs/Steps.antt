@@ -149,12 +149,7 @@ module _ (steps : ℕ → List Step) (brought : ℕ → ℕ → MediaStep → Br
           ∙ ap (λ (b : Bool). owes b (came_in steps brought longer d i)) (sym (made_too made more c d i one apart))))
 
       owed_now : ops_by c (made c) longer ≡ owes (ltb (made c) (more c)) (came_in steps brought longer c (made c))
-      owed_now =
-          ops_more (is_by_step c (made c)) pool new
-          ∙ (ap (λ (l : List PoolOp). l ++ ops_by c (made c) new) owed_none
-          ∙ (entries_do c (made c) (option_and_then (λ (z : Came). z.does) o)
-          ∙ sym (ap (λ (b : Bool). owes b (came_in steps brought longer c (made c))) (lt-ltb (made c) (more c) (let h = one.here in omega (arith, h)))
-          ∙ ap (owes true) came_now)))
+      owed_now = rw (ops_more (is_by_step c (made c)) pool new, owed_none, entries_do c (made c) (option_and_then (λ (z : Came). z.does) o), lt-ltb (made c) (more c) (let h = one.here in omega (arith, h)), came_now) refl
 
       pub grown : is_legal_from pool new ≡ true → MediaAreIn steps brought lends more longer
       grown legal = record {
