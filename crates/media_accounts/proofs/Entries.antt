@@ -147,13 +147,14 @@ module _ (numbered : LiveAreNumbered) (steps : ℕ → List Step) (brought : ℕ
 
   -- what is added is none of what was live
   is_new : (i : ℕ) (p : Pair) (f r : ℕ) → slice_get (adds_held e) i ≡ Some p → resource_of f m.pool ≡ Some r → p.reference ≢ f
-  is_new i p f r added lives same = (let at = grows.fresh i p added in let lt = below f r lives in omega (arith, at, lt, same))
+  is_new i p f r added lives same = (let at = (grows.adds i p added).1 in let lt = below f r lives in omega (arith, at, lt, same))
 
   abbrev left : List Pair
   left = leaves_held e s ++ adds_held e
 
   -- what holds of what is kept, and of what is added, holds of what is left
-  left_each : (P : Pair → Type 0) → ((i : ℕ) (p : Pair) → slice_get (leaves_held e s) i ≡ Some p → P p) → ((i : ℕ) (p : Pair) → slice_get (adds_held e) i ≡ Some p → P p) → (i : ℕ) (p : Pair) → slice_get left i ≡ Some p → P p
+  left_each : (P : Pair → Type 0) → ((i : ℕ) (p : Pair) → slice_get (leaves_held e s) i ≡ Some p → P p) → ((i : ℕ) (p : Pair) → slice_get (adds_held e) i ≡ Some p → P p)
+      → (i : ℕ) (p : Pair) → slice_get left i ≡ Some p → P p
   left_each P keeps adds i p at = elim (get_either (leaves_held e s) (adds_held e) i p at) [
     | inl first ↦ keeps i p first.0
     | inr added ↦ adds added.0 p added.2
@@ -167,17 +168,20 @@ module _ (numbered : LiveAreNumbered) (steps : ℕ → List Step) (brought : ℕ
     ]
     | inr added ↦ elim (get_either (leaves_held e s) (adds_held e) j q two) [
       | inl second ↦ absurd (is_new added.0 p q.reference q.resource added.2 (kept.lives j q second.0) same)
-      | inr added_too ↦ added.1 ∙ (ap (λ (n : ℕ). length (leaves_held e s) + n) (grows.single added.0 added_too.0 p q added.2 added_too.2) ∙ sym added_too.1)
+      | inr added_too ↦ added.1 ∙ (ap (λ (n : ℕ). length (leaves_held e s) + n) ((grows.adds added.0 p added.2).0 ∙ sym (grows.adds added_too.0 q added_too.2).0) ∙ sym added_too.1)
     ]
   ]
 
   left_apart : AreApart longer m.variables left
   left_apart = record {
     lives = left_each (λ p. resource_of p.reference longer ≡ Some p.resource)
-        (λ i p at. grows.stays p.reference p.resource (kept.lives i p at) (λ j q out same. parts.other i j p q at out (old.once (parts.keeps.place i) (parts.goes.place j) p q (parts.keeps.at i p at) (parts.goes.at j q out) (sym same))))
-        grows.adds;
+        (λ i p at. grows.stays p.reference p.resource (kept.lives i p at)
+            (λ j q out same. parts.other i j p q at out (old.once (parts.keeps.place i) (parts.goes.place j) p q (parts.keeps.at i p at) (parts.goes.at j q out) (sym same))))
+        (λ i p at. (grows.adds i p at).2);
     once = left_once;
-    elsewhere = λ i l j p r at there. left_each (λ q. q.reference ≢ r.number) (λ i q first. kept.elsewhere i l j q r first there) (λ i q added. is_new i q r.number r.resource added (st.held.live l j r there)) i p at;
+    elsewhere = λ i l j p r at there. left_each (λ q. q.reference ≢ r.number)
+        (λ i q first. kept.elsewhere i l j q r first there)
+        (λ i q added. is_new i q r.number r.resource added (st.held.live l j r there)) i p at;
   }
 
   other_apart : (l : ℕ) → l ≢ k → AreApart longer m.variables (codecs.holds l)
@@ -197,7 +201,8 @@ module _ (numbered : LiveAreNumbered) (steps : ℕ → List Step) (brought : ℕ
   -- the codec holds nothing that another one does
   left_between : (l i j : ℕ) (p q : Pair) → l ≢ k → slice_get left i ≡ Some p → slice_get (codecs.holds l) j ≡ Some q → p.reference ≢ q.reference
   left_between l i j p q other at there = left_each (λ x. x.reference ≢ q.reference)
-      (λ i x first. st.lent.between k l (parts.keeps.place i) j x q (λ same. other (sym same)) (parts.keeps.at i x first) there) (λ i x added. is_new i x q.reference q.resource added ((st.lent.apart l).lives j q there)) i p at
+      (λ i x first. st.lent.between k l (parts.keeps.place i) j x q (λ same. other (sym same)) (parts.keeps.at i x first) there)
+      (λ i x added. is_new i x q.reference q.resource added ((st.lent.apart l).lives j q there)) i p at
 
   all_between : (a b i j : ℕ) (p q : Pair) → a ≢ b → slice_get (later.holds a) i ≡ Some p → slice_get (later.holds b) j ≡ Some q → p.reference ≢ q.reference
   all_between a b i j p q apart at there same = elim (cases_eq a k) [

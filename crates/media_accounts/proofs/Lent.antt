@@ -62,7 +62,8 @@ holds_some r None is = absurd cc
 holds_some r (Some p) is = (p, refl, cc)
 
 -- a reference is one of these, or a caller's
-found : (all : List (List (Option Medium))) (ps : List Pair) (k i : ℕ) (r : Reference) → reference_at (with_holders all ps) k i ≡ Some r → ((k ≡ length all) × ((p : Pair) × (slice_get ps i ≡ Some p) × (of_pair p ≡ r))) ⊎ (reference_at all k i ≡ Some r)
+found : (all : List (List (Option Medium))) (ps : List Pair) (k i : ℕ) (r : Reference) → reference_at (with_holders all ps) k i ≡ Some r
+    → ((k ≡ length all) × ((p : Pair) × (slice_get ps i ≡ Some p) × (of_pair p ≡ r))) ⊎ (reference_at all k i ≡ Some r)
 found all ps k i r is = elim (cases_eq k (length all)) [
   | inl last ↦ inl (last, holds_some r (slice_get ps i) (sym (ap (λ (n : ℕ). reference_at (with_holders all ps) n i) last ∙ at_last all ps i) ∙ is))
   | inr other ↦ inr (sym (at_other all ps k i other) ∙ is)

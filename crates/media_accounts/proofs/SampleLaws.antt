@@ -103,7 +103,8 @@ module _ (p : List PoolEntry) (who : Who) (f g : ℕ → Option Samples) (taken 
       audio = λ bind i k. given_one vs all _ k.gives;
       frame = λ bind i k. given_one vs all _ tt;
       takes = λ on bind kind t is k. unit_all vs all t.answer t.unit (k.took on bind kind t refl is) k.gives;
-      clones = λ of bind m r is holds k. given_one vs all _ (handed_on (f of.step) (g who.step) (taken of.step) (taken who.step) m.shape m.held r (record r { number = references_made p }) k.gives refl holds (all of.step m is).1);
+      clones = λ of bind m r is holds k.
+          given_one vs all _ (handed_on (f of.step) (g who.step) (taken of.step) (taken who.step) m.shape m.held r (record r { number = references_made p }) k.gives refl holds (all of.step m is).1);
       transfers = λ of bind m r is holds k.
           given_one (with_medium of.step (detached m) vs) (detached_one f taken who.step vs of.step m is all) m
           (subst (IsOf (g who.step) (taken who.step) m.shape) (sym holds) (handed_on (f of.step) (g who.step) (taken of.step) (taken who.step) m.shape m.held r r k.gives refl holds (all of.step m is).1));
@@ -140,7 +141,8 @@ all_steps steps brought pool c taken (suc n) took =
 -- ---- the laws
 
 -- audio data, and a chunk, by the medium that a variable holds
-sound_kept : (s : Option Samples) (u : Option output.Unit) (shape : Shape) (h : Option Reference) (x : Sound) (r : MediaRef) → IsOf s u shape h → sound_in (record { shape = shape; held = h }) ≡ Some x → x.held ≡ Some r → s ≡ Some (record { shape = x.shape; bytes = r.bytes })
+sound_kept : (s : Option Samples) (u : Option output.Unit) (shape : Shape) (h : Option Reference) (x : Sound) (r : MediaRef) → IsOf s u shape h
+    → sound_in (record { shape = shape; held = h }) ≡ Some x → x.held ≡ Some r → s ≡ Some (record { shape = x.shape; bytes = r.bytes })
 sound_kept s u (SoundOf a) (Some q) x r known sound is =
     let same : sound_of a (Some q) ≡ x = cc in
     let held : Some (media_ref q) ≡ Some r = ap (λ (y : Sound). y.held) same ∙ is in

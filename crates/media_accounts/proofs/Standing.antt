@@ -57,7 +57,8 @@ module _ (steps : ℕ → List Step) (brought : ℕ → ℕ → MediaStep → Br
   abbrev longer : List PoolEntry
   longer = m.pool ++ entries_of (step_by c (made c)) (option_and_then (λ (z : Came). z.does) o)
 
-  stands_after : (us : List (List (Option Medium))) → came_on steps brought longer c (made c) (variables_in steps brought m.pool c (made c)) ≡ o → is_legal_from m.pool (entries_of (step_by c (made c)) (option_and_then (λ (z : Came). z.does) o)) ≡ true
+  stands_after : (us : List (List (Option Medium))) → came_on steps brought longer c (made c) (variables_in steps brought m.pool c (made c)) ≡ o
+      → is_legal_from m.pool (entries_of (step_by c (made c)) (option_and_then (λ (z : Came). z.does) o)) ≡ true
       → variables_of c us ≡ variables_by o (variables_of c m.variables) → ((d : ℕ) → d ≢ c → variables_of d us ≡ variables_of d m.variables)
       → AreHeld longer us → AreLent longer us codecs.holds → length us ≡ length m.variables → MediaStand steps brought codecs more callers (record { variables = us; pool = longer })
   stands_after us comes legal here others held lent long = record {
