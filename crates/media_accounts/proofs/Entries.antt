@@ -176,7 +176,7 @@ module _ (numbered : LiveAreNumbered) (steps : ℕ → List Step) (brought : ℕ
   left_apart = record {
     lives = left_each (λ p. resource_of p.reference longer ≡ Some p.resource)
         (λ i p at. grows.stays p.reference p.resource (kept.lives i p at)
-            (λ j q out same. parts.other i j p q at out (old.once (parts.keeps.place i) (parts.goes.place j) p q (parts.keeps.at i p at) (parts.goes.at j q out) (sym same))))
+        (λ j q out same. parts.other i j p q at out (old.once (parts.keeps.place i) (parts.goes.place j) p q (parts.keeps.at i p at) (parts.goes.at j q out) (sym same))))
         (λ i p at. (grows.adds i p at).2);
     once = left_once;
     elsewhere = λ i l j p r at there. left_each (λ q. q.reference ≢ r.number)

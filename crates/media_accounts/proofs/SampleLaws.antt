@@ -37,9 +37,9 @@ with_at : (i : ℕ) (m : Medium) (vs : List (Option Medium)) (j : ℕ) (x : Medi
 with_at zero m [] zero x h = inl (refl, cc)
 with_at zero m (v ∷ vs) zero x h = inl (refl, cc)
 with_at zero m (v ∷ vs) (suc j) x h = inr h
-with_at (suc i) m [] (suc j) x h = elim (with_at i m [] j x h) [ | inl e ↦ inl (ap suc e.0, e.1) | inr e ↦ inr e ]
+with_at (suc i) m [] (suc j) x h = elim (with_at i m [] j x h) [ inl e ↦ inl (ap suc e.0, e.1) | inr e ↦ inr e ]
 with_at (suc i) m (v ∷ vs) zero x h = inr h
-with_at (suc i) m (v ∷ vs) (suc j) x h = elim (with_at i m vs j x h) [ | inl e ↦ inl (ap suc e.0, e.1) | inr e ↦ inr e ]
+with_at (suc i) m (v ∷ vs) (suc j) x h = elim (with_at i m vs j x h) [ inl e ↦ inl (ap suc e.0, e.1) | inr e ↦ inr e ]
 with_at _ m _ _ x h = absurd cc
 
 put_one : (f : ℕ → Option Samples) (taken : ℕ → Option output.Unit) (n : ℕ) (vs : List (Option Medium)) (i : ℕ) (m : Medium) → i < n → Is (f i) (taken i) m → AreAll f taken n vs → AreAll f taken n (with_medium i m vs)
