@@ -74,7 +74,7 @@ start_holds moves held old new epoch number w working now waiting after is m sta
     let idle = no_pairs s.control.running s.running_held (and_parts (is_none s.control.running) (not s.control.halted) at.0).0 in
     let same : in_order held ≡ in_order (held_of w) = ap (λ (o : Option Pair). in_order o) is in
     let queue : waiting_held s.control ≡ in_order held ++ (behind_held s.control.work ++ messages) =
-        ap (λ l. l ++ messages) (at.2 ∙ ap (λ l. l ++ behind_held s.control.work) (sym same)) ∙ append_assoc (in_order held) (behind_held s.control.work) messages in
+    ap (λ l. l ++ messages) (at.2 ∙ ap (λ l. l ++ behind_held s.control.work) (sym same)) ∙ append_assoc (in_order held) (behind_held s.control.work) messages in
     let taken = takes_at held working now waiting after (behind_held s.control.work ++ messages) takes (h.runs ∙ idle) (h.waits ∙ queue) in
     holds_after moves old new (Entry.Start epoch number) now after m (taken.0 ∙ (same ∙ sym at.1)) taken.1
 
@@ -93,9 +93,13 @@ map_if false waiting = refl
 -- a turn removes where its task closes the codec
 pub turn_holds : HeldMoves → (old new : Codec) (removed : Option RemovedValue) (at : ℕ) (coder : Option Lent) (working : Option MediaRef) (waiting after : List MediaRef) → removed ≡ removed_if (closes_now (state_at old).control) at coder → Makes old new Entry.Turn → after ≡ cond (is_some removed) [] waiting → IsHolding old working waiting → IsHolding new working after
 turn_holds moves old new removed at coder working waiting after is m left h =
-    let some : is_some removed ≡ closes_codec (state_at old).control.tasks = ap (λ (o : Option RemovedValue). is_some o) is ∙ (some_if (closes_now (state_at old).control) at coder ∙ closes_same (state_at old).control.tasks) in
+    let closes = closes_codec (state_at old).control.tasks in
+    let some : is_some removed ≡ closes = ap (λ (o : Option RemovedValue). is_some o) is ∙ (some_if (closes_now (state_at old).control) at coder ∙ closes_same (state_at old).control.tasks) in
     holds_after moves old new Entry.Turn working after m h.runs
-    (ap (map pair_of) (left ∙ ap (λ (b : Bool). cond b [] waiting) some) ∙ (map_if (closes_codec (state_at old).control.tasks) waiting ∙ (ap (cond (closes_codec (state_at old).control.tasks) []) h.waits ∙ sym (append-nil (cond (closes_codec (state_at old).control.tasks) [] (waiting_held (state_at old).control))))))
+    (ap (map pair_of) (left ∙ ap (λ (b : Bool). cond b [] waiting) some)
+    ∙ (map_if closes waiting
+    ∙ (ap (cond closes []) h.waits
+    ∙ sym (append-nil (cond closes [] (waiting_held (state_at old).control))))))
 
 -- what such a turn leaves beside the references
 pub box_if : (b : Bool) (at : ℕ) (coder : Option Lent) → IfSome (removed_if b at coder) (λ r. (r.place ≡ at) × (r.coder ≡ coder))
