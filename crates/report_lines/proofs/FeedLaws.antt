@@ -94,7 +94,7 @@ outcome_plain Outcome.Refused fits = search plain depth 30
 outcome_plain _ fits = search plain depth 30
 
 turn_plain : (t : Option TurnWord) → Plain (turn_text t)
-turn_plain (Some (TurnWord.Close e)) = search plain depth 30
+turn_plain (Some TurnWord.Unblock) = search plain depth 30
 turn_plain _ = search plain depth 30
 
 entry_line_plain : (script : ScriptData) (e : EntryLine) → AreNames script → FitsEntryLine script e → Plain (entry_text script.callers e)

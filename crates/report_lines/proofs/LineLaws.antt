@@ -98,8 +98,7 @@ look_again n len _ rest = refl
 
 -- a state's word is not that of a take without an output
 state_alone : (s : CodecState) (x y : Option StepResult) → cond (bytes_eq (state_text s) (codes "none")) x y ≡ y
-state_alone CodecState.Unconfigured x y = refl
-state_alone _ x y = refl
+state_alone s x y = grind arith
 
 outcome_again : (o : Outcome) (rest : List ℕ) → FitsOutcome o → outcome_at (outcome_text o ++ 10 ∷ rest) ≡ Some o
 unfolding outcome_at
@@ -108,8 +107,8 @@ outcome_again _ rest fits = search fields depth 12
 
 turn_again : (t : Option TurnWord) (rest : List ℕ) → turn_at (turn_text t ++ 10 ∷ rest) ≡ Some t
 unfolding turn_at
-turn_again (Some (TurnWord.Close e)) rest = rw (error_at_again e rest) refl
-turn_again _ rest = refl
+turn_again (Some TurnWord.Unblock) rest = refl
+turn_again _ rest = search error_at_again
 
 -- ---- copies
 
@@ -138,25 +137,14 @@ unfolding layouts_at two_layouts_at
 two_again a b rest first second =
     let regrouped : layouts_text (two a b) ++ 32 ∷ rest ≡ plane a 44 (plane b 32 rest) = simp append_assoc in
     ap layouts_at regrouped
-    ∙ rw (
-      layout_again 44 a (plane b 32 rest) first refl,
-      word_again 58 (decimal b.offset) _ (short_word b.offset second.0) refl,
-      word_again 32 (decimal b.stride) rest (short_word b.stride second.1) refl,
-      layout_again 32 b rest second refl,
-    ) refl
+    ∙ search (layout_again, word_again, short_word) depth 12
 
 three_again : (a b c : PlaneLayout) (rest : List ℕ) → FitsLayout a → FitsLayout b → FitsLayout c → layouts_at (layouts_text (three a b c) ++ 32 ∷ rest) ≡ Some (three a b c, rest)
 unfolding layouts_at three_layouts_at
 three_again a b c rest first second third =
     let regrouped : layouts_text (three a b c) ++ 32 ∷ rest ≡ plane a 44 (plane b 44 (plane c 32 rest)) = simp append_assoc in
     ap layouts_at regrouped
-    ∙ rw (
-      layout_again 44 a (plane b 44 (plane c 32 rest)) first refl,
-      word_again 58 (decimal b.offset) _ (short_word b.offset second.0) refl,
-      word_again 44 (decimal b.stride) _ (short_word b.stride second.1) refl,
-      layout_again 44 b (plane c 32 rest) second refl,
-      layout_again 32 c rest third refl,
-    ) refl
+    ∙ search (layout_again, word_again, short_word) depth 12
 
 two_is : (l : Layouts) → l.count ≡ 2 → l.third ≡ no_layout → two l.first l.second ≡ l
 two_is l count third = rw (sym count, sym third) refl
@@ -185,22 +173,11 @@ layouts_begin l rest fits =
 frame_again : (n : ℕ) (l : Layouts) (bytes rest : List ℕ) → n < 2 ^ 64 → FitsLayouts l → IsBytes bytes
     → copied_at (decimal n ++ 32 ∷ (layouts_text l ++ 32 ∷ (hex_or_dash bytes ++ 10 ∷ rest))) ≡ Some (StepResult.CopiedFrame n l bytes)
 unfolding copied_at copied_frame_at
-frame_again n l bytes rest lt fits are_bytes =
-    rw (
-      number_again 32 n _ lt refl,
-      layouts_begin l (32 ∷ (hex_or_dash bytes ++ 10 ∷ rest)) fits.first,
-      layouts_again l (hex_or_dash bytes ++ 10 ∷ rest) fits,
-      hex_read bytes rest are_bytes,
-    ) refl
+frame_again n l bytes rest lt fits are_bytes = search (number_again, layouts_begin, layouts_again, hex_read, fits.first) depth 12
 
 copied_again : (n : ℕ) (bytes rest : List ℕ) → n < 2 ^ 64 → IsBytes bytes → copied_at (decimal n ++ 32 ∷ (hex_or_dash bytes ++ 10 ∷ rest)) ≡ Some (StepResult.Copied n bytes)
 unfolding copied_at copied_bytes_at
-copied_again n bytes rest lt are_bytes =
-    rw (
-      number_again 32 n _ lt refl,
-      word_again 10 (hex_or_dash bytes) rest (hex_word bytes are_bytes) refl,
-      hex_read bytes rest are_bytes,
-    ) refl
+copied_again n bytes rest lt are_bytes = search (number_again, word_again, hex_word, hex_read) depth 12
 
 -- ---- lines with a number
 
@@ -223,8 +200,7 @@ looked_next script n name rest lt word =
 
 -- an answer is not the word of a copy
 answer_no_copy : (a : Option DomError) (x y : Option Line) → cond (bytes_eq (answer_text a) (codes "copied")) x y ≡ y
-answer_no_copy (Some DomError.QuotaExceeded) x y = refl
-answer_no_copy _ x y = refl
+answer_no_copy a x y = grind arith
 
 worded_answer : (n : ℕ) (a : Option DomError) (rest : List ℕ) → worded_line_at n (answer_text a) rest ≡ Some (Line.Result n (StepResult.Local a))
 unfolding worded_line_at worded_result_at
@@ -250,8 +226,7 @@ result_again script step _ rest names lt fits = search (fields, answer_is_word, 
 -- a call's word is none of the registry's, none of the pool's and none of a take's
 call_alone : (c : CallWord) (v w x y z : Option Line)
     → cond (is_slot_word (call_word c)) v (cond (is_pool_word (call_word c)) w (cond (bytes_eq (call_word c) (codes "unit")) x (cond (bytes_eq (call_word c) (codes "take")) y z))) ≡ z
-call_alone CallWord.Configure v w x y z = refl
-call_alone _ v w x y z = refl
+call_alone c v w x y z = grind arith
 
 entry_again : (script : ScriptData) (place : ℕ) (e : EntryLine) (rest : List ℕ) → AreNames script → place < 2 ^ 64 → FitsEntryLine script e → only_line_at script (numbered_line place (entry_text script.callers e) ++ rest) ≡ Some (Line.Entry place e)
 unfolding only_line_at numbered_line_at dotted_line_at call_at take_at worded_line_at start_at done_at
