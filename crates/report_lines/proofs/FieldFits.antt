@@ -1,4 +1,5 @@
 -- What is read as a field is within its type.
+use Rattle.wc_base.specs.Options.{some_same}
 use Rattle.std.proofs.Common.{◌≡◌, ◌≢◌, ℕ, ◌^◌, ◌<◌, ◌≤◌, Bool, true, false, cond, eqb, ltb, leb, ◌&&◌, List, [], ◌∷◌, length, Option, Some, None, Result, Ok, Err, refl, sym, ◌∙◌, arith, eq-eqb, codes, ℤ}
 use Rattle.std.specs.Prelude.{IfSome}
 use Rattle.std.specs.List.{list_all}
@@ -94,14 +95,8 @@ signed_fits mark bs = bind_any (λ x. mag x.0 < 2 ^ 63) (upto mark bs) _ (λ wor
 
 -- ---- numbers, or `-`
 
-abbrev some : ℕ → Option ℕ
-some n = Some n
-
-some_is : (n k : ℕ) → some n ≡ some k → n ≡ k
-some_is n k e = cc
-
 some_fits : (n : ℕ) → n < 2 ^ 64 → FitsOrAbsent (Some n)
-some_fits n lt k e = let same = some_is n k e in omega (arith, same)
+some_fits n lt k e = let same = some_same n k e in omega (arith, same)
 
 none_fits : FitsOrAbsent None
 none_fits k e = absurd cc

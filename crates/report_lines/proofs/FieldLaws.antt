@@ -1,5 +1,5 @@
 -- Numbers and bytes: what the code does meets the definitions, and what is written is read again.
-use Rattle.std.proofs.Common.{◌≡◌, ◌≢◌, ℕ, zero, suc, ◌-◌, ◌^◌, ◌<◌, Bool, true, false, cond, eqb, ltb, ◌&&◌, ◌||◌, leb, List, [], ◌∷◌, ◌++◌, length, get_or, Option, Some, None, Result, Ok, Err, refl, sym, ap, ◌∙◌, arith, rules, decimal, codes, ℤ, pos, negsuc}
+use Rattle.std.proofs.Common.{◌≡◌, ◌≢◌, ℕ, zero, suc, ◌-◌, ◌^◌, ◌<◌, Bool, true, false, cond, ltb, ◌&&◌, List, [], ◌∷◌, ◌++◌, length, get_or, Option, Some, None, Result, Ok, Err, refl, sym, ap, ◌∙◌, arith, rules, decimal, codes, ℤ, pos, negsuc}
 use Rattle.std.specs.List.{list_all, AllPass}
 use Rattle.std.specs.Char.{is_ascii_digit}
 use Rattle.std.specs.Result.{OkIff, result_ok}
@@ -29,8 +29,7 @@ pub utf8_digits : (w : List ℕ) → list_all is_ascii_digit w ≡ true → IsUt
 utf8_digits w h = IsUtf8-from_ascii w (IsAscii-from_digits w (own.to w h))
 
 none_of : (a b : Bool) (v : ℕ) → ((a ≡ true) → (b ≡ true) → ⊥) → None ≡ cond (a && b) (Some v) None
-none_of true true v h = absurd (h refl refl)
-none_of _ _ v h = refl
+none_of a b v h = grind (arith, h)
 
 value_cases : {E : Type 0} (r : Result ℕ E) (w : List ℕ) → OkIff r ((0 < length w) × (digits_value 10 w < 2 ^ 64)) (digits_value 10 w) → result_ok r ≡ value_of w
 value_cases (Ok n) w h = rw (lt-ltb _ _ h.0.0, lt-ltb _ _ h.0.1) (ap (λ (x : ℕ). Some x) h.1)
@@ -119,12 +118,8 @@ bytes_again t (b ∷ bytes) rest fits dash other =
 
 -- ---- a number is a word
 
-any_or : (a d u e f : Bool) → d ≡ true → ((((a || d) || u) || e) || f) ≡ true
-any_or true d u e f h = refl
-any_or false d u e f h = rw h refl
-
 digit_is_word : (b : ℕ) → is_ascii_digit b ≡ true → is_word_byte b ≡ true
-digit_is_word b h = any_or (leb 97 b && leb b 122) (is_ascii_digit b) (leb 65 b && leb b 90) (eqb b 95) (eqb b 45) h
+digit_is_word b h = grind (arith, h)
 
 word_from_digits : (w : List ℕ) → list_all is_ascii_digit w ≡ true → list_all is_word_byte w ≡ true
 word_from_digits [] h = refl

@@ -1,4 +1,5 @@
 -- What is written as a line is read again.
+use Rattle.wc_base.specs.Options.{some_same}
 use Rattle.std.proofs.Common.{◌≡◌, ℕ, inl, inr, ◌*◌, ◌/◌, ◌<◌, ◌≤◌, ◌^◌, true, false, cond, List, [], ◌∷◌, ◌++◌, length, get_or, Option, Some, None, refl, sym, ap, subst, ◌∙◌, arith, decimal, codes, append_assoc, position, ltb}
 use Rattle.std.specs.List.{list_all, slice_get}
 use Rattle.std.specs.Prelude.{unwrap_or, option_map}
@@ -204,8 +205,7 @@ answer_no_copy a x y = grind arith
 
 worded_answer : (n : ℕ) (a : Option DomError) (rest : List ℕ) → worded_line_at n (answer_text a) rest ≡ Some (Line.Result n (StepResult.Local a))
 unfolding worded_line_at worded_result_at
-worded_answer n (Some DomError.QuotaExceeded) rest = refl
-worded_answer n _ rest = refl
+worded_answer n a rest = grind arith
 
 copied_next : (script : ScriptData) (n : ℕ) (r : StepResult) (text : List ℕ) → n < 2 ^ 64 → copied_at text ≡ Some r → only_line_at script (decimal n ++ 32 ∷ (codes "copied " ++ text)) ≡ Some (Line.Result n r)
 unfolding numbered_line_at copied_line_at
@@ -285,16 +285,10 @@ bind_some : {A B : Type 0} (o : Option A) (f : A → Option B) (y : B) → (o >>
 bind_some None f y e = absurd cc
 bind_some (Some x) f y e = (x, refl, e)
 
-abbrev some : {A : Type 0} → A → Option A
-some x = Some x
-
-some_is : {A : Type 0} (x y : A) → some x ≡ some y → x ≡ y
-some_is x y e = cc
-
 pub line_sound : (script : ScriptData) (bs : List ℕ) (read : Line × List ℕ) → line_at script bs ≡ Some read → bs ≡ line_text script read.0 ++ read.1
 unfolding line_at
 line_sound script bs read e =
     let l = bind_some (only_line_at script bs) (λ x. after (line_text script x) bs >>= λ rest. Some (x, rest)) read e in
     let r = bind_some (after (line_text script l.0) bs) (λ rest. Some (l.0, rest)) read l.2 in
     let made : Line × List ℕ = (l.0, r.0) in
-    subst (λ (z : Line × List ℕ). bs ≡ line_text script z.0 ++ z.1) (some_is made read r.2) (after_only (line_text script l.0) bs r.0 r.1)
+    subst (λ (z : Line × List ℕ). bs ≡ line_text script z.0 ++ z.1) (some_same made read r.2) (after_only (line_text script l.0) bs r.0 r.1)

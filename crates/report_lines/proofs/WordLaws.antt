@@ -15,8 +15,7 @@ pub not_equal : (b t : ℕ) → b ≢ t → eqb b t ≡ false
 not_equal b t h = elim (cases_bool (eqb b t)) [ inl y ↦ absurd (h (eqb-true b t y)) | inr w ↦ w ]
 
 pub and_both : (a b : Bool) → (a && b) ≡ true → (a ≡ true) × (b ≡ true)
-and_both true b e = (refl, e)
-and_both false b e = absurd (false≢true e)
+and_both a b e = grind (arith, e)
 
 -- ---- up to a mark
 
@@ -65,8 +64,7 @@ after_again [] rest = refl
 after_again (b ∷ w) rest = rw (eq-eqb b b refl, after_again w rest) refl
 
 same_head : (q : Bool) (o : Option (List ℕ)) (rest : List ℕ) → cond q o None ≡ Some rest → (q ≡ true) × (o ≡ Some rest)
-same_head true o rest e = (refl, e)
-same_head false o rest e = absurd cc
+same_head q o rest e = grind (arith, e)
 
 pub after_only : (w bs rest : List ℕ) → after w bs ≡ Some rest → bs ≡ w ++ rest
 after_only [] bs rest e = cc
