@@ -8,7 +8,7 @@ use Rattle.wc_base.specs.declared.who.Who.{Who}
 use Rattle.wc_pool.specs.declared.entry.PoolEntry.{PoolEntry}
 use Rattle.wc_pool.specs.declared.entry.PoolOp.{PoolOp}
 use Rattle.wc_pool.specs.declared.entry.PoolOp.TheVariants as op
-use Rattle.wc_pool.specs.Bag.{is_legal_next, is_legal_pool, is_held, references_made}
+use Rattle.wc_pool.specs.Bag.{is_legal_pool, is_held, references_made}
 use Rattle.codec_model.specs.declared.entry.Opening.{Opening}
 use Rattle.codec_model.specs.declared.entry.Entry.{Entry}
 use Rattle.codec_model.specs.declared.entry.Pair.{Pair}
@@ -19,7 +19,7 @@ use Rattle.script_types.specs.declared.steps.MediaStep.{MediaStep}
 use Rattle.script_types.specs.declared.steps.Step.{Step}
 use Rattle.script_types.specs.declared.steps.Step.TheVariants as step
 use Rattle.script_types.specs.declared.script.CallerItem.{CallerItem}
-use Rattle.media_variables.specs.Variables.{Medium, Media, Came, Brought, media_came, entries_of, variables_of, after_came}
+use Rattle.media_variables.specs.Variables.{Medium, Media, Came, Brought, media_came, variables_of, after_came}
 use Rattle.media_variables.specs.Held.{AreHeld, AreApart, clones_of, ends_behind}
 
 -- the step with this number of the caller with this number
@@ -120,20 +120,6 @@ module _ (steps : ℕ → List Step) (brought : ℕ → ℕ → MediaStep → Br
     pub codecs : (k place : ℕ) → ops_of_entry k place pool ≡ lends k place
     pub rises : (c i j m n : ℕ) (d e : PoolEntry) → m < n → slice_get pool m ≡ Some d → slice_get pool n ≡ Some e →
         is_by_step c i d.by ≡ true → is_by_step c j e.by ≡ true → i < j
-
-  -- the next step of a caller is this one on media, and comes to this; what it does to the pool is legal there
-  pub record Next (made : ℕ → ℕ) (pool : List PoolEntry) (c : ℕ) (x : MediaStep) (y : Came) : Type 0 where
-    pub is_step : slice_get (steps c) (made c) ≡ Some (step.Media x)
-    pub comes : media_came pool (step_by c (made c)) (brought c (made c) x) x (variables_in pool c (made c)) ≡ Some y
-    pub legal : (e : PoolEntry) → entries_of (step_by c (made c)) y.does ≡ e ∷ [] → is_legal_next pool e ≡ true
-
-  -- what was in the pool's history stands after that step, and the step came to just that
-  pub record After (lends : ℕ → ℕ → List PoolOp) (made more : ℕ → ℕ) (pool new : List PoolEntry) (c : ℕ) (y : Came) : Type 0 where
-    pub accounted : MediaAreIn lends more new
-    pub here : came_in new c (made c) ≡ Some y
-    pub earlier : (d j : ℕ) → j < made d → came_in new d j ≡ came_in pool d j
-    pub variables : variables_in new c (suc (made c)) ≡ y.variables
-    pub others : (d : ℕ) → d ≢ c → variables_in new d (more d) ≡ variables_in pool d (made d)
 
 -- one caller made one step more
 pub record OneMore (made more : ℕ → ℕ) (c : ℕ) : Type 0 where
