@@ -365,10 +365,6 @@ run_first (t ∷ ts) s = run_task t (record s { tasks = ts })
 abbrev pub run_front : Control → Control
 run_front s = run_first s.tasks s
 
--- a turn, where there is a task
-abbrev pub has_task : Control → Bool
-has_task s = not (length s.tasks == 0)
-
 abbrev pub is_close : Task → Bool
 is_close (task.Close x) = true
 is_close _ = false

@@ -1,6 +1,6 @@
 -- What holds of every state that a legal history reaches, so that no step is ever stuck (our choice; W3C WebCodecs says
 -- it by its algorithms alone).
-use Rattle.std.specs.Prelude.{ℕ, ◌≡◌, ◌≤◌, ◌<◌, ◌+◌, ◌==◌, ◌&&◌, not, Bool, true, false, List, [], ◌∷◌, ◌++◌, count_by, Option, Some, None, IfSome, if◌then◌else◌}
+use Rattle.std.specs.Prelude.{ℕ, ◌≡◌, ◌≤◌, ◌<◌, ◌+◌, ◌==◌, ◌&&◌, Bool, true, false, List, [], ◌∷◌, count_by, Option, Some, None, IfSome, if◌then◌else◌}
 use Rattle.codec_model.specs.declared.entry.Opening.{Opening}
 use Rattle.codec_model.specs.declared.entry.Entry.{Entry}
 use Rattle.codec_model.specs.declared.entry.Entry.TheVariants as entry
@@ -16,10 +16,6 @@ use Rattle.codec_model.specs.Replay.{State, step, replay}
 
 abbrev pub bit : Bool → ℕ
 bit b = if b then 1 else 0
-
--- a dequeue event is queued where none is
-abbrev pub with_event : Bool → Bool → List Task → List Task
-with_event wanted later ts = if wanted && not later then ts ++ task.Dequeue ∷ [] else ts
 
 abbrev pub is_unblock : Task → Bool
 is_unblock task.Unblock = true
