@@ -1,7 +1,6 @@
 -- A list of lists of which one grows at its end, and single elements of a list.
 use Rattle.std.proofs.Common.{ℕ, zero, suc, ◌≡◌, ◌≢◌, ◌≤◌, ◌<◌, ◌⊎◌, inl, inr, List, [], ◌∷◌, ◌++◌, map, length, take, Some, refl, ap, sym, ◌∙◌, arith, append-nil}
 use Rattle.std.specs.Prelude.{slice_get}
-use Rattle.std.proofs.lemmas.Option.{slice_get_within}
 use Rattle.std.proofs.lemmas.List.{take-append-le}
 use Rattle.codec_accounts.specs.Owed.{at, append_at}
 
@@ -91,14 +90,6 @@ result_more c d j x r ls h =
         | inl k ↦ inl k
         | inr k ↦ inr (record { number = p; place = k.0; value = k.1 })
       ]
-    ]
-
--- nothing stands after what is new
-pub new_last : {X : Type 0} (c d j : ℕ) (x r q : X) (ls : List (List X)) (i : ℕ) → IsNew d x ls c i q → slice_get (at c (append_at d x ls)) j ≡ Some r → i < j → ⊥
-new_last c d j x r q ls i new h lt =
-    elim (result_more c d j x r ls h) [
-      | inl k ↦ omega (arith, slice_get_within (at c ls) j r k, new.place)
-      | inr k ↦ omega (arith, k.place, new.place)
     ]
 
 pub take_kept : {X : Type 0} (c d n : ℕ) (x : X) (ls : List (List X)) → n ≤ length (at c ls) → take n (at c (append_at d x ls)) ≡ take n (at c ls)
