@@ -1,13 +1,12 @@
 -- Samples that were given 16 bits, read again.
-use Rattle.std.proofs.Common.{ℕ, suc, ℤ, pos, negsuc, ◌≡◌, ◌≤◌, ◌<◌, ◌^◌, ◌*◌, ◌+◌, ◌-◌, ◌/◌, ◌%◌, ◌*ℤ◌, ◌-ℤ◌, inl, inr, List, length, ap, sym, ◌∙◌, refl, arith, lit<}
-use Rattle.std.proofs.Math.Nat.{pow-le-pow_right}
+use Rattle.std.proofs.Common.{ℕ, suc, ℤ, pos, negsuc, ◌≡◌, ◌≤◌, ◌<◌, ◌^◌, ◌*◌, ◌+◌, ◌-◌, ◌/◌, ◌%◌, ◌*ℤ◌, ◌-ℤ◌, inl, inr, List, length, ap, sym, ◌∙◌, refl, arith}
 use Rattle.std.proofs.Math.IntN.{pos-*ℤ-pos, negsuc-*ℤ-pos}
 use Rattle.std.proofs.lemmas.Bool.{cases_lt, lt-ltb, le-ltb}
 use Rattle.std.specs.Int.{int_div_euclid}
 use Rattle.wc_base.specs.declared.media.SampleFormat.{SampleFormat}
-use Rattle.codec_definitions.specs.Pcm.{little_endian, bytes_of, signed, sample_of, spelled, converted}
+use Rattle.codec_definitions.specs.Pcm.{little_endian, bytes_of, signed, unsigned, sample_of, spelled, converted}
 use Rattle.sample_conversion.specs.Sizes.{AreBytes, SixteenBitsComeBack}
-use Rattle.sample_conversion.proofs.Samples.{little_bound, times_one, negated, unsigned_signed_16}
+use Rattle.sample_conversion.proofs.Samples.{bound_of, times_one, negated, kept_16}
 use Rattle.sample_conversion.proofs.Sizes.{from_middle, signed_low, signed_high}
 
 low_16 : (n : ℕ) → n < 32768 → signed 16 n ≡ pos n
@@ -38,7 +37,7 @@ lowered n small = elim (cases_lt n 2147483648) [
 -- a value of 16 bits is what its two bytes spell
 again : (m : ℕ) → m < 65536 → sample_of 2 (spelled 2 (signed 16 m)) ≡ signed 16 m
 again m small =
-    ap (λ (n : ℕ). sample_of 2 (bytes_of 2 n)) (unsigned_signed_16 m small) ∙ ap (signed 16) (let q : little_endian (bytes_of 2 m) ≡ m = omega (arith, small) in q)
+    ap (λ (n : ℕ). sample_of 2 (bytes_of 2 n)) (ap (unsigned 16) (sym (times_one (signed 16 m))) ∙ kept_16 m small) ∙ ap (signed 16) (let q : little_endian (bytes_of 2 m) ≡ m = omega (arith, small) in q)
 
 again_as : (v : ℤ) (m : ℕ) → m < 65536 → v ≡ signed 16 m → sample_of 2 (spelled 2 v) ≡ v
 again_as v m small e = ap (λ (x : ℤ). sample_of 2 (spelled 2 x)) e ∙ (again m small ∙ sym e)
@@ -47,11 +46,6 @@ of_8 : (n : ℕ) → n < 256 → (m : ℕ) × (m < 65536) × (converted 8 16 (po
 of_8 n small =
     let m = (n + 128) % 256 in
     (m * 256, omega arith, ap (converted 8 16) (from_middle n small) ∙ raised m (omega arith))
-
-bound_of : (s : List ℕ) (k : ℕ) → AreBytes s → length s ≤ k → little_endian s < 256 ^ k
-bound_of s k a short =
-    let p : 256 ^ length s ≤ 256 ^ k = pow-le-pow_right (lit< tt) short in
-    omega (arith, little_bound s a, p)
 
 from_8 : (f : SampleFormat) (s : List ℕ) → AreBytes s → length s ≤ 1 → sample_of 2 (spelled 2 (converted 8 16 (sample_of 1 s))) ≡ converted 8 16 (sample_of 1 s)
 from_8 f s a short =

@@ -1,5 +1,5 @@
 -- Samples of data, copied in another size and layout.
-use Rattle.std.proofs.Common.{ℕ, zero, suc, ◌≡◌, ◌≤◌, ◌<◌, ◌*◌, ◌+◌, ◌-◌, ◌==◌, ◌⊎◌, Bool, true, false, cond, List, [], ◌∷◌, ◌++◌, length, take, drop, refl, ap, sym, subst, ◌∙◌, arith, inl, inr, add-zero, append-nil}
+use Rattle.std.proofs.Common.{ℕ, zero, suc, ◌≡◌, ◌≤◌, ◌<◌, ◌*◌, ◌+◌, ◌-◌, Bool, true, false, cond, List, [], ◌∷◌, ◌++◌, length, take, drop, refl, ap, sym, subst, ◌∙◌, arith, inl, inr, add-zero, append-nil}
 use Rattle.std.specs.List.{flat_map, range_with_len}
 use Rattle.std.proofs.lemmas.Bool.{eqb-true}
 use Rattle.std.proofs.lemmas.Slice.{take-put_mid}
@@ -8,31 +8,11 @@ use Rattle.std.proofs.Math.Nat.{mul-le-mul_left, mul-add, mul-one}
 use borrow.Rule.Slice.PartMut.{put_mid}
 use Rattle.wc_base.specs.declared.media.SoundShape.{SoundShape}
 use Rattle.codec_definitions.specs.Pcm.{format_size, is_planar, is_whole, place_of, resized_at}
-use Rattle.sample_conversion.specs.Sizes.{AreBytes, is_format_size, padded_of}
-use Rattle.sample_conversion.specs.Layouts.{channel_of, frames_of, is_sample_size, last_bytes, resized_sample, strided_samples, plane_frames, frame_step_of}
+use Rattle.sample_conversion.specs.Sizes.{AreBytes, is_format_size}
+use Rattle.sample_conversion.specs.Layouts.{channel_of, frames_of, resized_sample, strided_samples, plane_frames, frame_step_of}
 use Rattle.sample_conversion.proofs.Copied.{shifted, framed as joined_frames}
-use Rattle.sample_conversion.proofs.Narrowed.{or_cases, size_cases, narrowed_1, narrowed_2, narrowed_3, narrowed_4}
+use Rattle.sample_conversion.proofs.Narrowed.{size_cases}
 use Rattle.sample_conversion.proofs.Samples.{IsSame, one_more, same_1, same_2, same_4, same_front}
-
-sample_cases : (n : ℕ) → is_sample_size n ≡ true → (n ≡ 1) ⊎ ((n ≡ 2) ⊎ ((n ≡ 3) ⊎ (n ≡ 4)))
-sample_cases n h = elim (or_cases (is_format_size n) (n == 3) h) [
-  | inl e ↦ elim (size_cases n e) [ inl one ↦ inl one | inr more ↦ elim more [ inl two ↦ inr (inl two) | inr four ↦ inr (inr (inr four)) ] ]
-  | inr three ↦ inr (inr (inl (eqb-true n 3 three)))
-]
-
-pub converted_one : (s : List ℕ) (d : ℕ) → AreBytes s → is_format_size (length s) ≡ true → is_sample_size d ≡ true → last_bytes d (padded_of s) ≡ resized_sample (length s) d s
-converted_one s d a from to =
-    let P : ℕ → Type 0 = λ n. last_bytes n (padded_of s) ≡ resized_sample (length s) n s in
-    elim (sample_cases d to) [
-      | inl one ↦ subst P (sym one) (narrowed_1 s a from)
-      | inr more ↦ elim more [
-        | inl two ↦ subst P (sym two) (narrowed_2 s a from)
-        | inr most ↦ elim most [
-          | inl three ↦ subst P (sym three) (narrowed_3 s a from)
-          | inr four ↦ subst P (sym four) (narrowed_4 s a from)
-        ]
-      ]
-    ]
 
 same_size : (s : ℕ) → is_format_size s ≡ true → IsSame s
 same_size s h = elim (size_cases s h) [

@@ -1,65 +1,13 @@
 -- A sample in another size, byte by byte.
-use Rattle.std.proofs.Common.{ℕ, suc, ℤ, pos, negsuc, ◌≡◌, ◌≤◌, ◌<◌, ◌^◌, ◌*◌, ◌+◌, ◌-◌, ◌/◌, ◌%◌, ◌+ℤ◌, ◌-ℤ◌, ◌*ℤ◌, inl, inr, nat_lt, cond, true, false, ap, sym, ◌∙◌, refl, arith}
-use Rattle.std.proofs.Math.IntN.{pos-*ℤ-pos, negsuc-*ℤ-pos}
+use Rattle.std.proofs.Common.{ℕ, suc, ℤ, pos, negsuc, ◌≡◌, ◌≤◌, ◌<◌, ◌^◌, ◌+◌, ◌-◌, ◌/◌, ◌%◌, ◌+ℤ◌, ◌-ℤ◌, inl, inr, nat_lt, cond, true, false, ap, sym, ◌∙◌, refl, arith}
 use lib.IntN.{sub_ℕ}
 use Rattle.std.proofs.lemmas.Bool.{cases_lt, lt-ltb, le-ltb}
 use Rattle.std.specs.Int.{int_div_euclid}
-use Rattle.codec_definitions.specs.Pcm.{signed, unsigned, converted}
-use Rattle.sample_conversion.proofs.Samples.{times_one, negated, unsigned_signed_16, unsigned_signed_32}
+use Rattle.codec_definitions.specs.Pcm.{signed, unsigned}
 
-pub unsigned_signed_8 : (n : ℕ) → n < 2 ^ 8 → unsigned 8 (signed 8 n) ≡ n
-unsigned_signed_8 n small = elim (nat_lt n (2 ^ 7)) as (λ v. unsigned 8 (cond v (pos n) (negsuc (2 ^ 8 - 1 - n))) ≡ n) [ true ↦ omega (arith, small) | false ↦ omega (arith, small) ]
-
-pub kept_8 : (n : ℕ) → n < 2 ^ 8 → unsigned 8 (converted 8 8 (signed 8 n)) ≡ n
-kept_8 n small = ap (unsigned 8) (times_one (signed 8 n)) ∙ unsigned_signed_8 n small
-
-pub raised_8_16 : (n : ℕ) → n < 2 ^ 8 → unsigned 16 (converted 8 16 (signed 8 n)) ≡ n * 256
-raised_8_16 n small = elim (nat_lt n (2 ^ 7)) as (λ v. unsigned 16 (cond v (pos n) (negsuc (2 ^ 8 - 1 - n)) *ℤ pos 256) ≡ n * 256) [
-  | true ↦ ap (unsigned 16) (pos-*ℤ-pos n 256) ∙ omega (arith, small)
-  | false ↦ ap (unsigned 16) (negsuc-*ℤ-pos (2 ^ 8 - 1 - n) 256 ∙ negated (suc (2 ^ 8 - 1 - n) * 256) (omega arith)) ∙ omega (arith, small)
-]
-
-pub raised_8_24 : (n : ℕ) → n < 2 ^ 8 → unsigned 24 (converted 8 24 (signed 8 n)) ≡ n * 65536
-raised_8_24 n small = elim (nat_lt n (2 ^ 7)) as (λ v. unsigned 24 (cond v (pos n) (negsuc (2 ^ 8 - 1 - n)) *ℤ pos 65536) ≡ n * 65536) [
-  | true ↦ ap (unsigned 24) (pos-*ℤ-pos n 65536) ∙ omega (arith, small)
-  | false ↦ ap (unsigned 24) (negsuc-*ℤ-pos (2 ^ 8 - 1 - n) 65536 ∙ negated (suc (2 ^ 8 - 1 - n) * 65536) (omega arith)) ∙ omega (arith, small)
-]
-
-pub raised_8_32 : (n : ℕ) → n < 2 ^ 8 → unsigned 32 (converted 8 32 (signed 8 n)) ≡ n * 16777216
-raised_8_32 n small = elim (nat_lt n (2 ^ 7)) as (λ v. unsigned 32 (cond v (pos n) (negsuc (2 ^ 8 - 1 - n)) *ℤ pos 16777216) ≡ n * 16777216) [
-  | true ↦ ap (unsigned 32) (pos-*ℤ-pos n 16777216) ∙ omega (arith, small)
-  | false ↦ ap (unsigned 32) (negsuc-*ℤ-pos (2 ^ 8 - 1 - n) 16777216 ∙ negated (suc (2 ^ 8 - 1 - n) * 16777216) (omega arith)) ∙ omega (arith, small)
-]
-
-pub lowered_16_8 : (n : ℕ) → n < 2 ^ 16 → unsigned 8 (converted 16 8 (signed 16 n)) ≡ n / 256
-lowered_16_8 n small = elim (nat_lt n (2 ^ 15)) as (λ v. unsigned 8 (int_div_euclid (cond v (pos n) (negsuc (2 ^ 16 - 1 - n))) (pos 256)) ≡ n / 256) [ true ↦ omega (arith, small) | false ↦ omega (arith, small) ]
-
-pub kept_16 : (n : ℕ) → n < 2 ^ 16 → unsigned 16 (converted 16 16 (signed 16 n)) ≡ n
-kept_16 n small = ap (unsigned 16) (times_one (signed 16 n)) ∙ unsigned_signed_16 n small
-
-pub raised_16_24 : (n : ℕ) → n < 2 ^ 16 → unsigned 24 (converted 16 24 (signed 16 n)) ≡ n * 256
-raised_16_24 n small = elim (nat_lt n (2 ^ 15)) as (λ v. unsigned 24 (cond v (pos n) (negsuc (2 ^ 16 - 1 - n)) *ℤ pos 256) ≡ n * 256) [
-  | true ↦ ap (unsigned 24) (pos-*ℤ-pos n 256) ∙ omega (arith, small)
-  | false ↦ ap (unsigned 24) (negsuc-*ℤ-pos (2 ^ 16 - 1 - n) 256 ∙ negated (suc (2 ^ 16 - 1 - n) * 256) (omega arith)) ∙ omega (arith, small)
-]
-
-pub raised_16_32 : (n : ℕ) → n < 2 ^ 16 → unsigned 32 (converted 16 32 (signed 16 n)) ≡ n * 65536
-raised_16_32 n small = elim (nat_lt n (2 ^ 15)) as (λ v. unsigned 32 (cond v (pos n) (negsuc (2 ^ 16 - 1 - n)) *ℤ pos 65536) ≡ n * 65536) [
-  | true ↦ ap (unsigned 32) (pos-*ℤ-pos n 65536) ∙ omega (arith, small)
-  | false ↦ ap (unsigned 32) (negsuc-*ℤ-pos (2 ^ 16 - 1 - n) 65536 ∙ negated (suc (2 ^ 16 - 1 - n) * 65536) (omega arith)) ∙ omega (arith, small)
-]
-
-pub lowered_32_8 : (n : ℕ) → n < 2 ^ 32 → unsigned 8 (converted 32 8 (signed 32 n)) ≡ n / 16777216
-lowered_32_8 n small = elim (nat_lt n (2 ^ 31)) as (λ v. unsigned 8 (int_div_euclid (cond v (pos n) (negsuc (2 ^ 32 - 1 - n))) (pos 16777216)) ≡ n / 16777216) [ true ↦ omega (arith, small) | false ↦ omega (arith, small) ]
-
-pub lowered_32_16 : (n : ℕ) → n < 2 ^ 32 → unsigned 16 (converted 32 16 (signed 32 n)) ≡ n / 65536
-lowered_32_16 n small = elim (nat_lt n (2 ^ 31)) as (λ v. unsigned 16 (int_div_euclid (cond v (pos n) (negsuc (2 ^ 32 - 1 - n))) (pos 65536)) ≡ n / 65536) [ true ↦ omega (arith, small) | false ↦ omega (arith, small) ]
-
-pub lowered_32_24 : (n : ℕ) → n < 2 ^ 32 → unsigned 24 (converted 32 24 (signed 32 n)) ≡ n / 256
-lowered_32_24 n small = elim (nat_lt n (2 ^ 31)) as (λ v. unsigned 24 (int_div_euclid (cond v (pos n) (negsuc (2 ^ 32 - 1 - n))) (pos 256)) ≡ n / 256) [ true ↦ omega (arith, small) | false ↦ omega (arith, small) ]
-
-pub kept_32 : (n : ℕ) → n < 2 ^ 32 → unsigned 32 (converted 32 32 (signed 32 n)) ≡ n
-kept_32 n small = ap (unsigned 32) (times_one (signed 32 n)) ∙ unsigned_signed_32 n small
+-- what stands for a number in two's complement, divided
+pub lowered : (from to k n w : ℕ) → n / k % 2 ^ to ≡ w → 2 ^ to - 1 - (2 ^ from - 1 - n) / k % 2 ^ to ≡ w → unsigned to (int_div_euclid (signed from n) (pos k)) ≡ w
+lowered from to k n w low high = elim (nat_lt n (2 ^ (from - 1))) as (λ v. unsigned to (int_div_euclid (cond v (pos n) (negsuc (2 ^ from - 1 - n))) (pos k)) ≡ w) [ true ↦ low | false ↦ high ]
 
 pub sub_below : (a b : ℕ) → a < b → sub_ℕ a b ≡ negsuc (b - suc a)
 sub_below a b low = rw (lt-ltb a b low) refl
