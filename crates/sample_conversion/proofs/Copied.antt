@@ -1,22 +1,14 @@
 -- Interleaved data that is coded in its own size keeps its bytes.
-use Rattle.std.proofs.Common.{ℕ, zero, suc, ◌≡◌, ◌≤◌, ◌+◌, ◌*◌, ◌==◌, ◌&&◌, ◌++◌, Bool, true, false, not, List, length, if◌then◌else◌, refl, ap, sym, ◌∙◌, arith, add-one, add-zero, zero-add, append_assoc}
+use Rattle.std.proofs.Common.{ℕ, zero, suc, ◌≡◌, ◌≤◌, ◌+◌, ◌*◌, ◌==◌, ◌++◌, Bool, true, false, not, List, length, if◌then◌else◌, refl, ap, subst, sym, ◌∙◌, arith, add-one, add-zero, zero-add, append_assoc}
 use Rattle.std.proofs.Math.Nat.{zero-mul, mul-zero, suc-mul, mul_comm, add_comm, le_refl}
-use Rattle.std.proofs.lemmas.Bool.{eqb-true}
+use Rattle.std.proofs.lemmas.Bool.{eqb-true, and_parts, not-true}
 use Rattle.std.proofs.lemmas.List.{take_all}
 use Rattle.std.specs.List.{flat_map, range_with_len}
 use Rattle.wc_base.specs.declared.media.{SampleFormat.SampleFormat, SoundShape.SoundShape}
 use Rattle.sample_conversion.specs.declared.size.SampleSize.{SampleSize}
 use Rattle.codec_definitions.specs.Pcm.{resized_at, format_size, is_planar, interleaved, is_whole}
-use Rattle.sample_conversion.proofs.Samples.{IsSame, same_front, same_1, same_2, same_4}
-use Rattle.sample_conversion.specs.Sizes.{AreBytes, size_of, is_same}
-
-no : false ≡ true → ⊥
-no e = cc
-
-both : (a b : Bool) → (a && b) ≡ true → (a ≡ true) × (b ≡ true)
-both true true e = (refl, refl)
-both true false e = absurd (no e)
-both false b e = absurd (no e)
+use Rattle.sample_conversion.proofs.{Samples.IsSame, Samples.same_front, Narrowed.same_size}
+use Rattle.sample_conversion.specs.Sizes.{AreBytes, size_of, is_format_size, is_same}
 
 pub shifted : (f : ℕ → List ℕ) (b a n : ℕ) → flat_map (λ i. f (b + i)) (range_with_len a n) ≡ flat_map f (range_with_len (b + a) n)
 shifted f b a zero = refl
@@ -55,26 +47,16 @@ interleaved_same size shape bytes same small turn sizes whole =
     let room : size * (0 + samples) ≤ length bytes = rw (zero-add samples, count) (le_refl (length bytes)) in
     placed size (format_size shape.format) (is_planar shape.format) shape.frames shape.channels bytes turn sizes ∙ (framed (resized_at size size bytes) shape.channels 0 shape.frames ∙ (ap (λ (k : ℕ). flat_map (resized_at size size bytes) (range_with_len k samples)) (zero-mul shape.channels) ∙ (same_front size bytes same small 0 samples room ∙ rw (count, mul-zero size) (take_all (length bytes) bytes (le_refl (length bytes))))))
 
-no_three : (f : SampleFormat) → format_size f ≡ 3 → ⊥
-no_three SampleFormat.U8 e = omega (arith, e)
-no_three SampleFormat.S16 e = omega (arith, e)
-no_three SampleFormat.S32 e = omega (arith, e)
-no_three SampleFormat.U8Planar e = omega (arith, e)
-no_three SampleFormat.S16Planar e = omega (arith, e)
-no_three SampleFormat.S32Planar e = omega (arith, e)
-
-kept : (k : SampleSize) (f : SampleFormat) → format_size f ≡ size_of k → IsSame (size_of k)
-kept SampleSize.One f e = same_1
-kept SampleSize.Two f e = same_2
-kept SampleSize.Three f e = absurd (no_three f e)
-kept SampleSize.Four f e = same_4
-
-not_true : (b : Bool) → not b ≡ true → b ≡ false
-not_true true e = absurd (no e)
-not_true false e = refl
+format_sized : (f : SampleFormat) → is_format_size (format_size f) ≡ true
+format_sized SampleFormat.U8 = refl
+format_sized SampleFormat.S16 = refl
+format_sized SampleFormat.S32 = refl
+format_sized SampleFormat.U8Planar = refl
+format_sized SampleFormat.S16Planar = refl
+format_sized SampleFormat.S32Planar = refl
 
 pub copied : (k : SampleSize) (shape : SoundShape) (bytes : List ℕ) → AreBytes bytes → is_same k shape.format ≡ true → is_whole shape bytes ≡ true → bytes ≡ interleaved (size_of k) shape bytes
 copied k shape bytes small same whole =
-    let parts = both (not (is_planar shape.format)) (format_size shape.format == size_of k) same in
+    let parts = and_parts (not (is_planar shape.format)) (format_size shape.format == size_of k) same in
     let sizes : format_size shape.format ≡ size_of k = eqb-true (format_size shape.format) (size_of k) parts.1 in
-    sym (interleaved_same (size_of k) shape bytes (kept k shape.format sizes) small (not_true (is_planar shape.format) parts.0) sizes whole)
+    sym (interleaved_same (size_of k) shape bytes (subst IsSame sizes (same_size (format_size shape.format) (format_sized shape.format))) small (not-true (is_planar shape.format) parts.0) sizes whole)

@@ -11,14 +11,8 @@ use Rattle.codec_definitions.specs.Pcm.{format_size, is_planar, is_whole, place_
 use Rattle.sample_conversion.specs.Sizes.{AreBytes, is_format_size}
 use Rattle.sample_conversion.specs.Layouts.{channel_of, frames_of, resized_sample, strided_samples, plane_frames, frame_step_of}
 use Rattle.sample_conversion.proofs.Copied.{shifted, framed as joined_frames}
-use Rattle.sample_conversion.proofs.Narrowed.{size_cases}
-use Rattle.sample_conversion.proofs.Samples.{IsSame, one_more, same_1, same_2, same_4, same_front}
-
-same_size : (s : ℕ) → is_format_size s ≡ true → IsSame s
-same_size s h = elim (size_cases s h) [
-  | inl one ↦ subst IsSame (sym one) same_1
-  | inr more ↦ elim more [ inl two ↦ subst IsSame (sym two) same_2 | inr four ↦ subst IsSame (sym four) same_4 ]
-]
+use Rattle.sample_conversion.proofs.Narrowed.{size_cases, same_size}
+use Rattle.sample_conversion.proofs.Samples.{one_more, same_front}
 
 pub size_some : (n : ℕ) → is_format_size n ≡ true → 1 ≤ n
 size_some n h = elim (size_cases n h) [ inl one ↦ omega (arith, one) | inr more ↦ elim more [ inl two ↦ omega (arith, two) | inr four ↦ omega (arith, four) ] ]
