@@ -15,17 +15,17 @@ sub_below a b low = rw (lt-ltb a b low) refl
 pub sub_above : (a b : ℕ) → b ≤ a → sub_ℕ a b ≡ pos (a - b)
 sub_above a b high = rw (le-ltb a b high) refl
 
-pub signed_low : (n : ℕ) → n < 128 → signed 8 n ≡ pos n
-signed_low n low = rw (lt-ltb n 128 low) refl
+pub signed_low : (bits n : ℕ) → n < 2 ^ (bits - 1) → signed bits n ≡ pos n
+signed_low bits n low = rw (lt-ltb n (2 ^ (bits - 1)) low) refl
 
-pub signed_high : (n : ℕ) → 128 ≤ n → signed 8 n ≡ negsuc (255 - n)
-signed_high n high = rw (le-ltb n 128 high) refl
+pub signed_high : (bits n : ℕ) → 2 ^ (bits - 1) ≤ n → signed bits n ≡ negsuc (2 ^ bits - 1 - n)
+signed_high bits n high = rw (le-ltb n (2 ^ (bits - 1)) high) refl
 
 -- a byte with its middle at 128 is one in two's complement with its first bit turned
 pub from_middle : (a : ℕ) → a < 256 → pos a -ℤ pos 128 ≡ signed 8 ((a + 128) % 256)
 from_middle a small = elim (cases_lt a 128) [
-  | inl low ↦ sub_below a 128 low ∙ (ap negsuc (omega (arith, low)) ∙ sym (signed_high ((a + 128) % 256) (omega (arith, low))))
-  | inr high ↦ sub_above a 128 high ∙ (ap pos (omega (arith, high, small)) ∙ sym (signed_low ((a + 128) % 256) (omega (arith, high, small))))
+  | inl low ↦ sub_below a 128 low ∙ (ap negsuc (omega (arith, low)) ∙ sym (signed_high 8 ((a + 128) % 256) (omega (arith, low))))
+  | inr high ↦ sub_above a 128 high ∙ (ap pos (omega (arith, high, small)) ∙ sym (signed_low 8 ((a + 128) % 256) (omega (arith, high, small))))
 ]
 
 pub to_middle : (v : ℤ) → unsigned 8 (v +ℤ pos 128) ≡ (unsigned 8 v + 128) % 256
