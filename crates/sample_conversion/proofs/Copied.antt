@@ -1,5 +1,5 @@
 -- Interleaved data that is coded in its own size keeps its bytes.
-use Rattle.std.proofs.Common.{ℕ, zero, suc, ◌≡◌, ◌≤◌, ◌+◌, ◌*◌, ◌==◌, ◌++◌, Bool, true, false, not, List, length, if◌then◌else◌, refl, ap, subst, sym, ◌∙◌, arith, add-one, add-zero, zero-add, append_assoc}
+use Rattle.std.proofs.Common.{ℕ, zero, suc, ◌≡◌, ◌≤◌, ◌+◌, ◌*◌, ◌==◌, ◌++◌, Bool, true, false, not, List, length, if◌then◌else◌, refl, ap, subst, sym, ◌∙◌, arith, add-one, add-zero, zero-add}
 use Rattle.std.proofs.Math.Nat.{zero-mul, mul-zero, suc-mul, mul_comm, add_comm, le_refl}
 use Rattle.std.proofs.lemmas.Bool.{eqb-true, and_parts, not-true}
 use Rattle.std.proofs.lemmas.List.{take_all}
@@ -7,7 +7,7 @@ use Rattle.std.specs.List.{flat_map, range_with_len}
 use Rattle.wc_base.specs.declared.media.{SampleFormat.SampleFormat, SoundShape.SoundShape}
 use Rattle.sample_conversion.specs.declared.size.SampleSize.{SampleSize}
 use Rattle.codec_definitions.specs.Pcm.{resized_at, format_size, is_planar, interleaved, is_whole}
-use Rattle.sample_conversion.proofs.{Samples.IsSame, Samples.same_front, Narrowed.same_size}
+use Rattle.sample_conversion.proofs.{Samples.IsSame, Samples.same_front, Samples.joined, Narrowed.same_size}
 use Rattle.sample_conversion.specs.Sizes.{AreBytes, size_of, is_format_size, is_same}
 
 pub shifted : (f : ℕ → List ℕ) (b a n : ℕ) → flat_map (λ i. f (b + i)) (range_with_len a n) ≡ flat_map f (range_with_len (b + a) n)
@@ -15,13 +15,6 @@ shifted f b a zero = refl
 shifted f b a (suc n) =
     let next : b + (a + 1) ≡ b + a + 1 = omega arith in
     ap (λ (l : List ℕ). f (b + a) ++ l) (shifted f b (a + 1) n ∙ ap (λ (k : ℕ). flat_map f (range_with_len k n)) next)
-
-joined : (f : ℕ → List ℕ) (a m n : ℕ) → flat_map f (range_with_len a (m + n)) ≡ flat_map f (range_with_len a m) ++ flat_map f (range_with_len (a + m) n)
-joined f a zero n = rw (zero-add n, add-zero a) refl
-joined f a (suc m) n =
-    let count : suc m + n ≡ suc (m + n) = omega arith in
-    let place : a + 1 + m ≡ a + suc m = omega arith in
-    ap (λ (k : ℕ). flat_map f (range_with_len a k)) count ∙ (ap (λ (l : List ℕ). f a ++ l) (joined f (a + 1) m n) ∙ (sym (append_assoc (f a) (flat_map f (range_with_len (a + 1) m)) (flat_map f (range_with_len (a + 1 + m) n))) ∙ ap (λ (k : ℕ). flat_map f (range_with_len a (suc m)) ++ flat_map f (range_with_len k n)) place))
 
 -- frames of `c` samples are all samples in order
 pub framed : (f : ℕ → List ℕ) (c a n : ℕ) → flat_map (λ frame. flat_map (λ channel. f (frame * c + channel)) (range_with_len 0 c)) (range_with_len a n) ≡ flat_map f (range_with_len (a * c) (n * c))

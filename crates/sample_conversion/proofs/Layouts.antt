@@ -1,9 +1,9 @@
 -- Samples of data, copied in another size and layout.
-use Rattle.std.proofs.Common.{ℕ, zero, suc, ◌≡◌, ◌≤◌, ◌<◌, ◌*◌, ◌+◌, ◌-◌, Bool, true, false, cond, List, [], ◌∷◌, ◌++◌, length, take, drop, refl, ap, sym, subst, ◌∙◌, arith, inl, inr, add-zero, append-nil}
+use Rattle.std.proofs.Common.{ℕ, zero, suc, ◌≡◌, ◌≤◌, ◌<◌, ◌*◌, ◌+◌, ◌-◌, Bool, true, false, cond, List, [], ◌++◌, length, take, drop, refl, ap, sym, subst, ◌∙◌, arith, inl, inr, add-zero, append-nil}
 use Rattle.std.specs.List.{flat_map, range_with_len}
 use Rattle.std.proofs.lemmas.Bool.{eqb-true}
 use Rattle.std.proofs.lemmas.Slice.{take-put_mid}
-use Rattle.std.proofs.lemmas.List.{length-drop, length-take-le}
+use Rattle.std.proofs.lemmas.List.{nil_from_length, length-drop, length-take-le}
 use Rattle.std.proofs.Math.Nat.{mul-le-mul_left, mul-add, mul-one}
 use borrow.Rule.Slice.PartMut.{put_mid}
 use Rattle.wc_base.specs.declared.media.SoundShape.{SoundShape}
@@ -47,10 +47,6 @@ minus a n = omega arith
 pub place_small : (s x n : ℕ) → 1 ≤ s → s * x + s ≤ n → x ≤ n
 place_small s x n some h = omega (arith, mul-le-mul_left x some, h)
 
-pub none_left : (xs : List ℕ) → length xs ≡ 0 → xs ≡ []
-none_left [] e = refl
-none_left (x ∷ xs) e = absurd (omega (arith, e))
-
 flat_same : (f g : ℕ → List ℕ) → ((i : ℕ) → f i ≡ g i) → (a n : ℕ) → flat_map f (range_with_len a n) ≡ flat_map g (range_with_len a n)
 flat_same f g h a zero = refl
 flat_same f g h a (suc n) = ap (λ l. l ++ flat_map f (range_with_len (a + 1) n)) (h a) ∙ ap (λ l. g a ++ l) (flat_same f g h (a + 1) n)
@@ -63,7 +59,7 @@ pub no_channels : (s d first step frames channels : ℕ) (bytes to : List ℕ) �
 no_channels s d first step frames channels bytes to none room =
     let nothing : d * 0 * frames ≡ 0 = omega arith in
     let short : length to ≡ 0 = room ∙ (ap (λ (k : ℕ). d * k * frames) none ∙ nothing) in
-    none_left to short ∙ sym (ap (λ (k : ℕ). plane_frames s d bytes first step frames k) none ∙ flat_none (λ k. strided_samples s d bytes (first + k) step 0) (λ k. refl) 0 frames)
+    nil_from_length to short ∙ sym (ap (λ (k : ℕ). plane_frames s d bytes first step frames k) none ∙ flat_none (λ k. strided_samples s d bytes (first + k) step 0) (λ k. refl) 0 frames)
 
 -- counted from a place on
 from_place : (f : ℕ → List ℕ) (first n : ℕ) → flat_map (λ i. f (first + i)) (range_with_len 0 n) ≡ flat_map f (range_with_len first n)
@@ -92,14 +88,14 @@ whole_length shape bytes whole = eqb-true (length bytes) (shape.frames * shape.c
 pub format_some : (shape : SoundShape) (n : ℕ) → n ≡ format_size shape.format → is_format_size n ≡ true → 1 ≤ format_size shape.format
 format_some shape n value size = size_some (format_size shape.format) (subst (λ (k : ℕ). is_format_size k ≡ true) value size)
 
--- there are no more samples than bytes
-pub samples_few : (shape : SoundShape) (bytes : List ℕ) → is_whole shape bytes ≡ true → 1 ≤ format_size shape.format → shape.frames * shape.channels ≤ length bytes
-samples_few shape bytes whole some =
-    let n : ℕ = shape.frames * shape.channels in
-    omega (arith, mul-le-mul_left n some, mul-one n, whole_length shape bytes whole)
-
 pub part_few : (a b c : ℕ) → a ≤ b → a * c ≤ b * c
 part_few a b c h = omega (arith, mul-le-mul_left c h)
+
+-- there are no more samples than bytes
+pub samples_few : (shape : SoundShape) (bytes : List ℕ) (n size : ℕ) → is_whole shape bytes ≡ true → size ≡ format_size shape.format → is_format_size size ≡ true → n ≤ shape.frames → n * shape.channels ≤ length bytes
+samples_few shape bytes n size whole value sized within =
+    let all : ℕ = shape.frames * shape.channels in
+    omega (arith, part_few n shape.frames shape.channels within, mul-le-mul_left all (format_some shape size value sized), mul-one all, whole_length shape bytes whole)
 
 spot : (b : Bool) (frames channels frame ch : ℕ) → frame + 1 ≤ frames → ch + 1 ≤ channels → cond b (ch * frames + frame) (frame * channels + ch) + 1 ≤ frames * channels
 spot true frames channels frame ch f c = omega (arith, mul-le-mul_left frames c, f)
@@ -128,16 +124,16 @@ channel_there shape bytes first i ch whole f c =
     subst P (plane_at (is_planar shape.format) shape.frames shape.channels first i ch) (place_there shape bytes (first + i) ch whole f c)
 
 -- all channels of planes
-planes_in : (b : Bool) (s d frames channels first count : ℕ) (bytes : List ℕ) → b ≡ true → plane_frames s d bytes first frames count channels ≡ flat_map (λ frame. flat_map (λ ch. resized_at s d bytes (cond b (ch * frames + frame) (frame * channels + ch))) (range_with_len 0 channels)) (range_with_len first count)
-planes_in b s d frames channels first count bytes planar =
+pub planes_copied : (shape : SoundShape) (bytes : List ℕ) (d first count : ℕ) → is_planar shape.format ≡ true → plane_frames (format_size shape.format) d bytes first shape.frames count shape.channels ≡ frames_of d shape bytes first count
+planes_copied shape bytes d first count planar =
+    let s : ℕ = format_size shape.format in
+    let frames : ℕ = shape.frames in
+    let channels : ℕ = shape.channels in
     let f : ℕ → List ℕ = resized_at s d bytes in
     let g : ℕ → List ℕ = λ frame. flat_map (λ ch. f (ch * frames + frame)) (range_with_len 0 channels) in
     let one : (k : ℕ) → strided_samples s d bytes (first + k) frames channels ≡ g (first + k) = λ k. flat_same (λ i. f (first + k + i * frames)) (λ ch. f (ch * frames + (first + k))) (λ i. ap f (omega arith)) 0 channels in
     let whole = flat_same (λ k. strided_samples s d bytes (first + k) frames channels) (λ k. g (first + k)) one 0 count ∙ from_place g first count in
     whole ∙ ap (λ (c : Bool). flat_map (λ frame. flat_map (λ ch. f (cond c (ch * frames + frame) (frame * channels + ch))) (range_with_len 0 channels)) (range_with_len first count)) (sym planar)
-
-pub planes_copied : (shape : SoundShape) (bytes : List ℕ) (d first count : ℕ) → is_planar shape.format ≡ true → plane_frames (format_size shape.format) d bytes first shape.frames count shape.channels ≡ frames_of d shape bytes first count
-planes_copied shape bytes d first count planar = planes_in (is_planar shape.format) (format_size shape.format) d shape.frames shape.channels first count bytes planar
 
 pub planes_there : (shape : SoundShape) (bytes : List ℕ) (first k i : ℕ) → is_planar shape.format ≡ true → is_whole shape bytes ≡ true → first + k + 1 ≤ shape.frames → i + 1 ≤ shape.channels → format_size shape.format * (first + k + i * shape.frames) + format_size shape.format ≤ length bytes
 planes_there shape bytes first k i planar whole f c =
@@ -146,14 +142,14 @@ planes_there shape bytes first k i planar whole f c =
     subst (λ (n : ℕ). s * n + s ≤ length bytes) at (place_there shape bytes (first + k) i whole f c)
 
 -- all channels of interleaved data
-rows_in : (b : Bool) (s d frames channels first count : ℕ) (bytes : List ℕ) → b ≡ false → strided_samples s d bytes (first * channels) 1 (count * channels) ≡ flat_map (λ frame. flat_map (λ ch. resized_at s d bytes (cond b (ch * frames + frame) (frame * channels + ch))) (range_with_len 0 channels)) (range_with_len first count)
-rows_in b s d frames channels first count bytes rows =
+pub rows_copied : (shape : SoundShape) (bytes : List ℕ) (d first count : ℕ) → is_planar shape.format ≡ false → strided_samples (format_size shape.format) d bytes (first * shape.channels) 1 (count * shape.channels) ≡ frames_of d shape bytes first count
+rows_copied shape bytes d first count rows =
+    let s : ℕ = format_size shape.format in
+    let frames : ℕ = shape.frames in
+    let channels : ℕ = shape.channels in
     let f : ℕ → List ℕ = resized_at s d bytes in
     let whole = one_by_one f (first * channels) (count * channels) ∙ sym (joined_frames f channels first count) in
     whole ∙ ap (λ (c : Bool). flat_map (λ frame. flat_map (λ ch. f (cond c (ch * frames + frame) (frame * channels + ch))) (range_with_len 0 channels)) (range_with_len first count)) (sym rows)
-
-pub rows_copied : (shape : SoundShape) (bytes : List ℕ) (d first count : ℕ) → is_planar shape.format ≡ false → strided_samples (format_size shape.format) d bytes (first * shape.channels) 1 (count * shape.channels) ≡ frames_of d shape bytes first count
-rows_copied shape bytes d first count rows = rows_in (is_planar shape.format) (format_size shape.format) d shape.frames shape.channels first count bytes rows
 
 pub rows_there : (shape : SoundShape) (bytes : List ℕ) (first count i : ℕ) → is_whole shape bytes ≡ true → first + count ≤ shape.frames → i < count * shape.channels → format_size shape.format * (first * shape.channels + i * 1) + format_size shape.format ≤ length bytes
 rows_there shape bytes first count i whole within below =

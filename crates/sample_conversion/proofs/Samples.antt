@@ -1,5 +1,5 @@
 -- Samples that are spelled by the bytes that spelled them.
-use Rattle.std.proofs.Common.{ℕ, zero, suc, ℤ, pos, negsuc, ◌≡◌, ◌≤◌, ◌<◌, ◌^◌, ◌*◌, ◌+◌, ◌-◌, ◌/◌, ◌%◌, ◌*ℤ◌, nat_lt, cond, true, false, List, [], ◌∷◌, ◌++◌, length, take, drop, ap, subst, sym, ◌∙◌, refl, lit<, arith, add-one, add_comm, zero-add, add-zero, append-nil, append_assoc, ◌+ℤ◌, ◌-ℤ◌, neg_ℤ}
+use Rattle.std.proofs.Common.{ℕ, zero, suc, ℤ, pos, negsuc, ◌≡◌, ◌≤◌, ◌<◌, ◌^◌, ◌*◌, ◌+◌, ◌-◌, ◌/◌, ◌%◌, ◌*ℤ◌, nat_lt, cond, true, false, List, [], ◌∷◌, ◌++◌, length, take, drop, ap, subst, sym, ◌∙◌, refl, lit<, arith, add_comm, zero-add, add-zero, append-nil, append_assoc, ◌+ℤ◌, ◌-ℤ◌, neg_ℤ}
 use Rattle.std.proofs.Math.IntN.{one, *ℤ-one, -ℤ-+ℤ_cancel, pos-*ℤ-pos, negsuc-*ℤ-pos}
 use Rattle.std.proofs.Math.Nat.{pow-suc, suc-mul, pow-le-pow_right, mul-suc, mul-zero, mul-add, mul-one, div-add-mod, le_refl, mod-mod_of_dvd, dvd-mul_right, zero-mod}
 use Rattle.std.proofs.Math.Seq.{take-add}
@@ -9,17 +9,13 @@ use Rattle.std.specs.List.{flat_map, range_with_len}
 use Rattle.sample_conversion.specs.Sizes.{AreBytes}
 use Rattle.codec_definitions.specs.Pcm.{little_endian, bytes_of, signed, unsigned, sample_of, spelled, converted, resized_at, resized}
 
-pub low_byte : (b r : ℕ) → b < 256 → (b + 256 * r) % 256 ≡ b
-low_byte b r small = omega (arith, small)
-
-pub high_bytes : (b r : ℕ) → b < 256 → (b + 256 * r) / 256 ≡ r
-high_bytes b r small = omega (arith, small)
-
 pub bytes_of_little : (xs : List ℕ) → AreBytes xs → bytes_of (length xs) (little_endian xs) ≡ xs
 bytes_of_little [] a = refl
 bytes_of_little (b ∷ bs) a =
     let small : b < 256 = All-head (λ (x : ℕ). x < 256) b bs a in
-    rw (low_byte b (little_endian bs) small, high_bytes b (little_endian bs) small) (ap (λ (l : List ℕ). b ∷ l) (bytes_of_little bs (All-tail (λ (x : ℕ). x < 256) b bs a)))
+    let low : (b + 256 * little_endian bs) % 256 ≡ b = omega (arith, small) in
+    let high : (b + 256 * little_endian bs) / 256 ≡ little_endian bs = omega (arith, small) in
+    rw (low, high) (ap (λ (l : List ℕ). b ∷ l) (bytes_of_little bs (All-tail (λ (x : ℕ). x < 256) b bs a)))
 
 pub little_bound : (xs : List ℕ) → AreBytes xs → little_endian xs < 256 ^ length xs
 little_bound [] a = lit< tt
@@ -57,13 +53,16 @@ resized_same size bytes same small some whole =
     let room : size * (0 + length bytes / size) ≤ length bytes = rw (zero-add (length bytes / size), count) (le_refl (length bytes)) in
     same_front size bytes same small 0 (length bytes / size) room ∙ rw (count, mul-zero size) (take_all (length bytes) bytes (le_refl (length bytes)))
 
--- one more of what stands one after another
-pub more : {A : Type 0} (f : ℕ → List A) (a n j : ℕ) → a + n ≡ j → flat_map f (range_with_len a (suc n)) ≡ flat_map f (range_with_len a n) ++ f j
-more f a zero j e = append-nil (f a) ∙ ap f (sym (add-zero a) ∙ e)
-more f a (suc n) j e = ap (λ l. f a ++ l) (more f (a + 1) n j (omega (arith, e))) ∙ sym (append_assoc (f a) (flat_map f (range_with_len (a + 1) n)) (f j))
+pub joined : (f : ℕ → List ℕ) (a m n : ℕ) → flat_map f (range_with_len a (m + n)) ≡ flat_map f (range_with_len a m) ++ flat_map f (range_with_len (a + m) n)
+joined f a zero n = rw (zero-add n, add-zero a) refl
+joined f a (suc m) n =
+    let count : suc m + n ≡ suc (m + n) = omega arith in
+    let place : a + 1 + m ≡ a + suc m = omega arith in
+    ap (λ (k : ℕ). flat_map f (range_with_len a k)) count ∙ (ap (λ (l : List ℕ). f a ++ l) (joined f (a + 1) m n) ∙ (sym (append_assoc (f a) (flat_map f (range_with_len (a + 1) m)) (flat_map f (range_with_len (a + 1 + m) n))) ∙ ap (λ (k : ℕ). flat_map f (range_with_len a (suc m)) ++ flat_map f (range_with_len k n)) place))
 
-pub one_more : {A : Type 0} (f : ℕ → List A) (n : ℕ) → flat_map f (range_with_len 0 (n + 1)) ≡ flat_map f (range_with_len 0 n) ++ f n
-one_more f n = ap (λ (k : ℕ). flat_map f (range_with_len 0 k)) (add-one n) ∙ more f 0 n n (zero-add n)
+-- one more of what stands one after another
+pub one_more : (f : ℕ → List ℕ) (n : ℕ) → flat_map f (range_with_len 0 (n + 1)) ≡ flat_map f (range_with_len 0 n) ++ f n
+one_more f n = joined f 0 n 1 ∙ ap (λ (l : List ℕ). flat_map f (range_with_len 0 n) ++ l) (append-nil (f (0 + n)) ∙ ap f (zero-add n))
 
 -- a whole number of frames is a whole number of samples
 pub whole_samples : (n size channels : ℕ) → n % (size * channels) ≡ 0 → n % size ≡ 0

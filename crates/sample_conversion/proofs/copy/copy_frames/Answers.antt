@@ -1,7 +1,7 @@
 use Rattle.std.proofs.Common.{◌≡◌, ◌∙◌, true, false, arith, sym}
 use Rattle.codec_definitions.specs.Pcm.{is_planar}
 use Rattle.sample_conversion.specs.Sizes.{size_of}
-use Rattle.sample_conversion.proofs.Layouts.{format_some, samples_few, part_few, planes_there, planes_copied, rows_there, rows_copied}
+use Rattle.sample_conversion.proofs.Layouts.{samples_few, planes_there, planes_copied, rows_there, rows_copied}
 use Rattle.sample_conversion.proofs.copy.copy_frames.Goals as goal
 
 pub copy_planes-requires-clause-there : goal.copy_planes-requires-clause-there
@@ -16,18 +16,10 @@ returns-then-is_planar c =
     c.copy_planes.ensures ∙ rw c.format_size-s.ensures.value (planes_copied c.args.shape.now c.args.bytes.now (size_of c.args.size) c.args.first c.args.count planar)
 
 pub overflow_mul-first : goal.overflow_mul-first
-overflow_mul-first c =
-    let shape = c.args.shape.now in
-    let few = samples_few shape c.args.bytes.now c.requires.whole (format_some shape c.format_size-s.result c.format_size-s.ensures.value c.format_size-s.ensures.size) in
-    let part = part_few c.args.first shape.frames shape.channels (omega (arith, c.requires.frames)) in
-    omega (arith, few, part)
+overflow_mul-first c = omega (arith, samples_few c.args.shape.now c.args.bytes.now c.args.first c.format_size-s.result c.requires.whole c.format_size-s.ensures.value c.format_size-s.ensures.size (omega (arith, c.requires.frames)))
 
 pub overflow_mul-count : goal.overflow_mul-count
-overflow_mul-count c =
-    let shape = c.args.shape.now in
-    let few = samples_few shape c.args.bytes.now c.requires.whole (format_some shape c.format_size-s.result c.format_size-s.ensures.value c.format_size-s.ensures.size) in
-    let part = part_few c.args.count shape.frames shape.channels (omega (arith, c.requires.frames)) in
-    omega (arith, few, part)
+overflow_mul-count c = omega (arith, samples_few c.args.shape.now c.args.bytes.now c.args.count c.format_size-s.result c.requires.whole c.format_size-s.ensures.value c.format_size-s.ensures.size (omega (arith, c.requires.frames)))
 
 pub copy_run-requires-clause-there : goal.copy_run-requires-clause-there
 copy_run-requires-clause-there c = λ i below.
