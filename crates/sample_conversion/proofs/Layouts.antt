@@ -17,10 +17,21 @@ use Rattle.sample_conversion.proofs.Samples.{one_more, same_front}
 pub size_some : (n : ℕ) → is_format_size n ≡ true → 1 ≤ n
 size_some n h = elim (size_cases n h) [ inl one ↦ omega (arith, one) | inr more ↦ elim more [ inl two ↦ omega (arith, two) | inr four ↦ omega (arith, four) ] ]
 
+pub minus : (a n : ℕ) → a + n - a ≡ n
+minus a n = omega arith
+
+pub part_len : (xs : List ℕ) (a n : ℕ) → a + n ≤ length xs → length (take (a + n - a) (drop a xs)) ≡ n
+part_len xs a n within = ap (λ (k : ℕ). length (take k (drop a xs))) (minus a n) ∙ length-take-le n (drop a xs) (let d = length-drop a xs in omega (arith, d, within))
+
+pub part_at : (d i n long : ℕ) → i < n → long ≡ d * n → d * i + d ≤ long
+part_at d i n long below e = omega (arith, mul-le-mul_left d (let next : i + 1 ≤ n = omega (arith, below) in next), e)
+
 -- one piece more of what a loop has written
-pub one_piece : (f : ℕ → List ℕ) (to piece : List ℕ) (at k m i : ℕ) → take at to ≡ flat_map f (range_with_len 0 i) → piece ≡ f i → m ≡ at + length piece → at ≤ length to → take m (put_mid at k to piece) ≡ flat_map f (range_with_len 0 (i + 1))
-one_piece f to piece at k m i before is end within =
-    take-put_mid at k to piece m end within ∙ (ap (λ (l : List ℕ). l ++ piece) before ∙ (ap (λ (l : List ℕ). flat_map f (range_with_len 0 i) ++ l) is ∙ sym (one_more f i)))
+pub one_piece : (f : ℕ → List ℕ) (to piece : List ℕ) (d i n : ℕ) → take (d * i) to ≡ flat_map f (range_with_len 0 i) → piece ≡ f i → i < n → length to ≡ d * n → length piece ≡ length (take (d * i + d - d * i) (drop (d * i) to)) → take (d * (i + 1)) (put_mid (d * i) (d * i + d - d * i) to piece) ≡ flat_map f (range_with_len 0 (i + 1))
+one_piece f to piece d i n before is below room long =
+    let within : d * i + d ≤ length to = part_at d i n (length to) below room in
+    let end : d * (i + 1) ≡ d * i + length piece = omega (arith, long, part_len to (d * i) d within) in
+    take-put_mid (d * i) (d * i + d - d * i) to piece (d * (i + 1)) end (omega (arith, within)) ∙ (ap (λ (l : List ℕ). l ++ piece) before ∙ (ap (λ (l : List ℕ). flat_map f (range_with_len 0 i) ++ l) is ∙ sym (one_more f i)))
 
 -- the sample that is read
 pub piece_is : (from part new : List ℕ) (s d e n : ℕ) → part ≡ take s (drop (s * n) from) → length part ≡ s → e ≡ d → new ≡ resized_sample (length part) e part → new ≡ resized_at s d from n
@@ -36,12 +47,6 @@ pair_is from one other new s d a b step is long next step_on here =
     let first : a ≡ a + 0 * step = omega arith in
     let second : b ≡ a + 1 * step = omega (arith, step_on) in
     here ∙ (ap (λ (l : List ℕ). l ++ resized_sample (length one) d other) (front ∙ ap f first) ∙ ap (λ (l : List ℕ). f (a + 0 * step) ++ l) (back ∙ (ap f second ∙ sym (append-nil (f (a + 1 * step))))))
-
-pub part_len : (xs : List ℕ) (a n m : ℕ) → m ≡ n → a + n ≤ length xs → length (take m (drop a xs)) ≡ n
-part_len xs a n m e within = ap (λ (k : ℕ). length (take k (drop a xs))) e ∙ length-take-le n (drop a xs) (let d = length-drop a xs in omega (arith, d, within))
-
-pub minus : (a n : ℕ) → a + n - a ≡ n
-minus a n = omega arith
 
 -- a place is below the bytes that are read there
 pub place_small : (s x n : ℕ) → 1 ≤ s → s * x + s ≤ n → x ≤ n

@@ -1,7 +1,7 @@
 -- Samples that are spelled by the bytes that spelled them.
 use Rattle.std.proofs.Common.{ℕ, zero, suc, ℤ, pos, negsuc, ◌≡◌, ◌≤◌, ◌<◌, ◌^◌, ◌*◌, ◌+◌, ◌-◌, ◌/◌, ◌%◌, ◌*ℤ◌, nat_lt, cond, true, false, List, [], ◌∷◌, ◌++◌, length, take, drop, ap, subst, sym, ◌∙◌, refl, lit<, arith, add_comm, zero-add, add-zero, append-nil, append_assoc, ◌+ℤ◌, ◌-ℤ◌, neg_ℤ}
 use Rattle.std.proofs.Math.IntN.{one, *ℤ-one, -ℤ-+ℤ_cancel, pos-*ℤ-pos, negsuc-*ℤ-pos}
-use Rattle.std.proofs.Math.Nat.{pow-suc, suc-mul, pow-le-pow_right, mul-suc, mul-zero, mul-add, mul-one, div-add-mod, le_refl, mod-mod_of_dvd, dvd-mul_right, zero-mod}
+use Rattle.std.proofs.Math.Nat.{pow-suc, suc-mul, pow-le-pow_right, mul-suc, mul-zero, mul-add, mul-one, div-add-mod, le_refl}
 use Rattle.std.proofs.Math.Seq.{take-add}
 use Rattle.std.proofs.lemmas.List.{drop-drop, length-drop, length-take-le, take_all}
 use Rattle.std.proofs.lemmas.List.Elements.{All-take, All-drop, All-head, All-tail}
@@ -63,10 +63,6 @@ joined f a (suc m) n =
 -- one more of what stands one after another
 pub one_more : (f : ℕ → List ℕ) (n : ℕ) → flat_map f (range_with_len 0 (n + 1)) ≡ flat_map f (range_with_len 0 n) ++ f n
 one_more f n = joined f 0 n 1 ∙ ap (λ (l : List ℕ). flat_map f (range_with_len 0 n) ++ l) (append-nil (f (0 + n)) ∙ ap f (zero-add n))
-
--- a whole number of frames is a whole number of samples
-pub whole_samples : (n size channels : ℕ) → n % (size * channels) ≡ 0 → n % size ≡ 0
-whole_samples n size channels whole = sym (mod-mod_of_dvd size n (dvd-mul_right size channels)) ∙ (ap (λ (k : ℕ). k % size) whole ∙ zero-mod size)
 
 pub negated : (k : ℕ) → 0 < k → neg_ℤ (pos k) ≡ negsuc (k - 1)
 negated zero some = absurd (omega (arith, some))
