@@ -4,7 +4,7 @@ use Rattle.std.specs.List.{flat_map, range_with_len}
 use Rattle.std.proofs.lemmas.Bool.{eqb-true}
 use Rattle.std.proofs.lemmas.Slice.{take-put_mid}
 use Rattle.std.proofs.lemmas.List.{nil_from_length, length-drop, length-take-le}
-use Rattle.std.proofs.Math.Nat.{mul-le-mul_left, mul-add, mul-one}
+use Rattle.std.proofs.Math.Nat.{mul-le-mul_left, mul-le-mul_right, mul-add, mul-one}
 use borrow.Rule.Slice.PartMut.{put_mid}
 use Rattle.wc_base.specs.declared.media.SoundShape.{SoundShape}
 use Rattle.codec_definitions.specs.Pcm.{format_size, is_planar, is_whole, place_of, resized_at}
@@ -93,14 +93,11 @@ whole_length shape bytes whole = eqb-true (length bytes) (shape.frames * shape.c
 pub format_some : (shape : SoundShape) (n : ℕ) → n ≡ format_size shape.format → is_format_size n ≡ true → 1 ≤ format_size shape.format
 format_some shape n value size = size_some (format_size shape.format) (subst (λ (k : ℕ). is_format_size k ≡ true) value size)
 
-pub part_few : (a b c : ℕ) → a ≤ b → a * c ≤ b * c
-part_few a b c h = omega (arith, mul-le-mul_left c h)
-
 -- there are no more samples than bytes
 pub samples_few : (shape : SoundShape) (bytes : List ℕ) (n size : ℕ) → is_whole shape bytes ≡ true → size ≡ format_size shape.format → is_format_size size ≡ true → n ≤ shape.frames → n * shape.channels ≤ length bytes
 samples_few shape bytes n size whole value sized within =
     let all : ℕ = shape.frames * shape.channels in
-    omega (arith, part_few n shape.frames shape.channels within, mul-le-mul_left all (format_some shape size value sized), mul-one all, whole_length shape bytes whole)
+    omega (arith, mul-le-mul_right shape.channels within, mul-le-mul_left all (format_some shape size value sized), mul-one all, whole_length shape bytes whole)
 
 spot : (b : Bool) (frames channels frame ch : ℕ) → frame + 1 ≤ frames → ch + 1 ≤ channels → cond b (ch * frames + frame) (frame * channels + ch) + 1 ≤ frames * channels
 spot true frames channels frame ch f c = omega (arith, mul-le-mul_left frames c, f)
@@ -160,6 +157,6 @@ pub rows_there : (shape : SoundShape) (bytes : List ℕ) (first count i : ℕ) �
 rows_there shape bytes first count i whole within below =
     let s : ℕ = format_size shape.format in
     let c : ℕ = shape.channels in
-    let all : (first + count) * c ≤ shape.frames * c = part_few (first + count) shape.frames c within in
+    let all : (first + count) * c ≤ shape.frames * c = mul-le-mul_right c within in
     let at : first * c + i * 1 + 1 ≤ shape.frames * c = omega (arith, all, below) in
     omega (arith, mul-le-mul_left s at, whole_length shape bytes whole)
