@@ -23,12 +23,11 @@ lowered n small = elim (cases_lt n 2147483648) [
 ]
 
 -- a value of 16 bits is what its two bytes spell
-again : (m : ℕ) → m < 65536 → sample_of 2 (spelled 2 (signed 16 m)) ≡ signed 16 m
-again m small =
-    ap (λ (n : ℕ). sample_of 2 (bytes_of 2 n)) (ap (unsigned 16) (sym (times_one (signed 16 m))) ∙ kept_16 m small) ∙ ap (signed 16) (let q : little_endian (bytes_of 2 m) ≡ m = omega (arith, small) in q)
-
 again_as : (v : ℤ) (m : ℕ) → m < 65536 → v ≡ signed 16 m → sample_of 2 (spelled 2 v) ≡ v
-again_as v m small e = ap (λ (x : ℤ). sample_of 2 (spelled 2 x)) e ∙ (again m small ∙ sym e)
+again_as v m small e =
+    let number : unsigned 16 (signed 16 m) ≡ m = ap (unsigned 16) (sym (times_one (signed 16 m))) ∙ kept_16 m small in
+    let bytes : little_endian (bytes_of 2 m) ≡ m = omega (arith, small) in
+    ap (λ (x : ℤ). sample_of 2 (spelled 2 x)) e ∙ (ap (λ (n : ℕ). sample_of 2 (bytes_of 2 n)) number ∙ (ap (signed 16) bytes ∙ sym e))
 
 from_8 : (s : List ℕ) → AreBytes s → length s ≤ 1 → sample_of 2 (spelled 2 (converted 8 16 (sample_of 1 s))) ≡ converted 8 16 (sample_of 1 s)
 from_8 s a short =
