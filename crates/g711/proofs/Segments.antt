@@ -1,5 +1,5 @@
 -- Intervals whose widths are powers of two.
-use Rattle.std.proofs.Common.{ℕ, suc, ◌≡◌, ◌≤◌, ◌<◌, ◌^◌, ◌*◌, ◌+◌, ◌-◌, ◌/◌, ◌%◌, inl, inr, subst, sym, lit<, arith}
+use Rattle.std.proofs.Common.{ℕ, suc, ◌≡◌, ◌≤◌, ◌<◌, ◌^◌, ◌*◌, ◌+◌, ◌-◌, ◌/◌, ◌%◌, inl, inr, subst, lit<, arith}
 use Rattle.std.proofs.Math.Nat.{pow-suc, pow-le-pow_right, mul-le-mul_left, div-add-mod, mod-lt}
 use Rattle.std.proofs.lemmas.Bool.{cases_lt, cases_order}
 use Rattle.std.proofs.lemmas.Nat.{pow_pos, pow-add, le-div, div_below, leading_top}
@@ -25,23 +25,15 @@ beyond_exponent e f m n small less =
     let all : 2 ^ e * m ≤ 2 ^ e * 15 = mul-le-mul_left (2 ^ e) (omega (arith, small)) in
     omega (arith, twice, pow-suc 2 e, all)
 
+-- numbers of which neither is below the other
+level : (m n : ℕ) → (m < n → ⊥) → (n < m → ⊥) → m ≡ n
+level m n below above = elim (cases_order m n) [ inl same ↦ same | inr o ↦ elim o [ inl less ↦ absurd (below less) | inr more ↦ absurd (above more) ] ]
+
 one_mantissa : (e m n k : ℕ) → IsInSegment e m k → IsInSegment e n k → m ≡ n
-one_mantissa e m n k a b = elim (cases_order m n) [
-  | inl same ↦ same
-  | inr o ↦ elim o [
-    | inl less ↦ absurd (omega (arith, beyond_mantissa e m n less, a.high, b.low))
-    | inr more ↦ absurd (omega (arith, beyond_mantissa e n m more, b.high, a.low))
-  ]
-]
+one_mantissa e m n k a b = level m n (λ less. omega (arith, beyond_mantissa e m n less, a.high, b.low)) (λ more. omega (arith, beyond_mantissa e n m more, b.high, a.low))
 
 one_exponent : (e f m n k : ℕ) → m < 16 → n < 16 → IsInSegment e m k → IsInSegment f n k → e ≡ f
-one_exponent e f m n k sm sn a b = elim (cases_order e f) [
-  | inl same ↦ same
-  | inr o ↦ elim o [
-    | inl less ↦ absurd (omega (arith, beyond_exponent e f m n sm less, a.high, b.low))
-    | inr more ↦ absurd (omega (arith, beyond_exponent f e n m sn more, b.high, a.low))
-  ]
-]
+one_exponent e f m n k sm sn a b = level e f (λ less. omega (arith, beyond_exponent e f m n sm less, a.high, b.low)) (λ more. omega (arith, beyond_exponent f e n m sn more, b.high, a.low))
 
 -- intervals meet nowhere
 pub one_segment : (e f m n k : ℕ) → m < 16 → n < 16 → IsInSegment e m k → IsInSegment f n k → (e ≡ f) × (m ≡ n)
@@ -59,8 +51,8 @@ pub record IsSegmented (n e : ℕ) : Type 0 where
 in_quotient : (p n q m : ℕ) → q ≡ m + 16 → (p * 8) * q ≤ n → n < (p * 8) * (q + 1) → ((8 * m + 128) * p ≤ n) × (n < (8 * m + 136) * p)
 in_quotient p n q m e low high = (omega (arith, subst (λ (x : ℕ). (p * 8) * x ≤ n) e low), omega (arith, subst (λ (x : ℕ). n < (p * 8) * (x + 1)) e high))
 
-segmented_from : (n e : ℕ) → e ≤ 7 → 2 ^ (e + 7) ≤ n → n < 2 * 2 ^ (e + 7) → (16 ≤ n / 2 ^ (e + 3)) × (n / 2 ^ (e + 3) < 32) × IsInSegment e (n / 2 ^ (e + 3) - 16) n
-segmented_from n e room low high =
+pub segmented : (n e : ℕ) → e ≤ 7 → 2 ^ (e + 7) ≤ n → n < 2 * 2 ^ (e + 7) → IsSegmented n e
+segmented n e room low high =
     let p = 2 ^ e in
     let d = 2 ^ (e + 3) in
     let q = n / d in
@@ -74,12 +66,7 @@ segmented_from n e room low high =
     let floor : (p * 8) * q ≤ n = subst (λ (x : ℕ). x * q ≤ n) step (omega (arith, parts)) in
     let ceiling : n < (p * 8) * (q + 1) = subst (λ (x : ℕ). n < x * (q + 1)) step (omega (arith, parts, short)) in
     let both : ((8 * (q - 16) + 128) * p ≤ n) × (n < (8 * (q - 16) + 136) * p) = in_quotient p n q (q - 16) (omega (arith, least)) floor ceiling in
-    (least, most, record { low = both.0; high = both.1 })
-
-pub segmented : (n e : ℕ) → e ≤ 7 → 2 ^ (e + 7) ≤ n → n < 2 * 2 ^ (e + 7) → IsSegmented n e
-segmented n e room low high =
-    let parts = segmented_from n e room low high in
-    record { exponent = room; mantissa_low = parts.0; mantissa_high = parts.1; segment = parts.2 }
+    record { exponent = room; mantissa_low = least; mantissa_high = most; segment = record { low = both.0; high = both.1 } }
 
 -- the top bit of a number of 8 to 15 bits is that of its first eight, seven places higher
 pub exponent_small : (n e : ℕ) → n < 2 ^ 15 → 2 ^ e ≤ n / 128 → e ≤ 7
@@ -94,19 +81,13 @@ top_low n e low = let p : 2 ^ (e + 7) ≡ 2 ^ e * 128 = pow-add 2 e 7 in omega (
 pub top_high : (n e : ℕ) → n / 128 < 2 * 2 ^ e → n < 2 * 2 ^ (e + 7)
 top_high n e high = let p : 2 ^ (e + 7) ≡ 2 ^ e * 128 = pow-add 2 e 7 in omega (arith, p, high)
 
-pub exponent_in : (e m : ℕ) → e < 8 → m < 16 → exponent_of (e * 16 + m) ≡ e
-exponent_in e m se sm = omega (arith, se, sm)
-
-pub mantissa_in : (e m : ℕ) → m < 16 → mantissa_of (e * 16 + m) ≡ m
-mantissa_in e m sm = omega (arith, sm)
-
 -- the bits that say a number's exponent and mantissa
 pub bits_segment : (n e : ℕ) → IsSegmented n e → IsInSegment (exponent_of (e * 16 + (n / 2 ^ (e + 3) - 16))) (mantissa_of (e * 16 + (n / 2 ^ (e + 3) - 16))) n
 bits_segment n e s =
     let m = n / 2 ^ (e + 3) - 16 in
     let se : e < 8 = omega (arith, s.exponent) in
     let sm : m < 16 = omega (arith, s.mantissa_low, s.mantissa_high) in
-    subst (λ (x : ℕ). IsInSegment x (mantissa_of (e * 16 + m)) n) (sym (exponent_in e m se sm)) (subst (λ (x : ℕ). IsInSegment e x n) (sym (mantissa_in e m sm)) s.segment)
+    subst (λ (x : ℕ). IsInSegment x (mantissa_of (e * 16 + m)) n) (omega (arith, se, sm)) (subst (λ (x : ℕ). IsInSegment e x n) (omega (arith, sm)) s.segment)
 
 -- each number of 8 to 15 bits lies in an interval
 pub some_segment : (n : ℕ) → 128 ≤ n → n < 2 ^ 15 → (bits : ℕ) × (bits < 128) × IsInSegment (exponent_of bits) (mantissa_of bits) n

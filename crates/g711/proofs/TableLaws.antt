@@ -1,26 +1,18 @@
 -- Tables, looked up.
-use Rattle.std.proofs.Common.{ℕ, ℤ, pos, ◌≡◌, ◌≤◌, ◌<◌, ◌^◌, ◌*◌, ◌+◌, ◌==◌, ◌&&◌, zero, suc, nat_le, nat_lt, Bool, true, false, inl, inr, List, [], ◌∷◌, length, get_or, map, arith, ap, ◌∙◌, refl}
+use Rattle.std.proofs.Common.{ℕ, ℤ, pos, ◌≡◌, ◌≤◌, ◌<◌, ◌^◌, ◌*◌, ◌+◌, ◌==◌, ◌&&◌, zero, suc, nat_le, nat_lt, true, inl, inr, List, [], ◌∷◌, length, get_or, map, arith, ap, ◌∙◌}
 use Rattle.std.proofs.lemmas.List.FromFn.{get_or-map-range_with_len}
-use Rattle.std.proofs.lemmas.Bool.{leb-true, ltb-true, eqb-true, or_cases}
+use Rattle.std.proofs.lemmas.Bool.{leb-true, ltb-true, eqb-true, and_parts, or_cases}
 use Rattle.std.specs.List.{range_with_len}
 use Rattle.g711.specs.Tables.{is_top_bit, are_top_bits}
 
 pub value_at : (f : ℕ → ℤ) (n i : ℕ) → i < n → get_or (map f (range_with_len 0 n)) i (pos 0) ≡ f i
 value_at f n i h = get_or-map-range_with_len f 0 n i i (pos 0) h (omega arith)
 
-no : false ≡ true → ⊥
-no e = cc
-
-both : (a b : Bool) → (a && b) ≡ true → (a ≡ true) × (b ≡ true)
-both true true e = (refl, refl)
-both true false e = absurd (no e)
-both false b e = absurd (no e)
-
 -- what the table says of a number
 top_at : (n i : ℕ) (tops : List ℕ) → are_top_bits n tops ≡ true → i < length tops → is_top_bit (n + i) (get_or tops i 0) ≡ true
 top_at n i [] h l = absurd (omega (arith, l))
-top_at n zero (t ∷ ts) h l = ap (λ (k : ℕ). is_top_bit k t) (let q : n + 0 ≡ n = omega arith in q) ∙ (both (is_top_bit n t) (are_top_bits (n + 1) ts) h).0
-top_at n (suc i) (t ∷ ts) h l = ap (λ (k : ℕ). is_top_bit k (get_or ts i 0)) (let q : n + suc i ≡ n + 1 + i = omega arith in q) ∙ top_at (n + 1) i ts (both (is_top_bit n t) (are_top_bits (n + 1) ts) h).1 (omega (arith, l))
+top_at n zero (t ∷ ts) h l = ap (λ (k : ℕ). is_top_bit k t) (let q : n + 0 ≡ n = omega arith in q) ∙ (and_parts (is_top_bit n t) (are_top_bits (n + 1) ts) h).0
+top_at n (suc i) (t ∷ ts) h l = ap (λ (k : ℕ). is_top_bit k (get_or ts i 0)) (let q : n + suc i ≡ n + 1 + i = omega arith in q) ∙ top_at (n + 1) i ts (and_parts (is_top_bit n t) (are_top_bits (n + 1) ts) h).1 (omega (arith, l))
 
 pub top_of : (tops : List ℕ) (i : ℕ) → are_top_bits 0 tops ≡ true → i < length tops → 0 < i → (2 ^ get_or tops i 0 ≤ i) × (i < 2 * 2 ^ get_or tops i 0)
 top_of tops i h l some =
@@ -28,5 +20,5 @@ top_of tops i h l some =
     let here : is_top_bit i t ≡ true = ap (λ (k : ℕ). is_top_bit k t) (let q : i ≡ 0 + i = omega arith in q) ∙ top_at 0 i tops h l in
     elim (or_cases (i == 0) (nat_le (2 ^ t) i && nat_lt i (2 * 2 ^ t)) here) [
       | inl e ↦ absurd (omega (arith, eqb-true i 0 e, some))
-      | inr e ↦ (leb-true (2 ^ t) i (both (nat_le (2 ^ t) i) (nat_lt i (2 * 2 ^ t)) e).0, ltb-true i (2 * 2 ^ t) (both (nat_le (2 ^ t) i) (nat_lt i (2 * 2 ^ t)) e).1)
+      | inr e ↦ (leb-true (2 ^ t) i (and_parts (nat_le (2 ^ t) i) (nat_lt i (2 * 2 ^ t)) e).0, ltb-true i (2 * 2 ^ t) (and_parts (nat_le (2 ^ t) i) (nat_lt i (2 * 2 ^ t)) e).1)
     ]

@@ -11,17 +11,8 @@ use Rattle.g711.proofs.Codes.{first_bit, behind, passes, passed, first_byte}
 use Rattle.g711.proofs.Segments.{grows, one_segment, some_segment}
 
 -- a mu-law interval is a segment, 132 lower
-in_segment : (e m k : ℕ) → ulaw_low e m ≤ k → k < ulaw_high e m → IsInSegment e m (k + 132)
-in_segment e m k low high = record { low = omega (arith, low); high = omega (arith, high) }
-
-low_from : (e m k : ℕ) → IsInSegment e m (k + 132) → ulaw_low e m ≤ k
-low_from e m k s = omega (arith, s.low)
-
-high_from : (e m k : ℕ) → IsInSegment e m (k + 132) → k < ulaw_high e m
-high_from e m k s = omega (arith, s.high)
-
 code_segment : (code k : ℕ) → IsInUlawInterval code k → IsInSegment (exponent_of (ulaw_bits code)) (mantissa_of (ulaw_bits code)) (k + 132)
-code_segment code k i = in_segment (exponent_of (ulaw_bits code)) (mantissa_of (ulaw_bits code)) k i.low i.high
+code_segment code k i = record { low = omega (arith, i.low); high = omega (arith, i.high) }
 
 pub ulaw_apart : UlawIntervalsAreApart
 ulaw_apart negative k code other a b =
@@ -44,7 +35,7 @@ ulaw_coded negative k b code small s made =
     record {
       byte = omega (arith, made);
       sign = ap (λ (x : ℕ). nat_le 128 x) bits ∙ own.sign;
-      interval = record { low = low_from (exponent_of (ulaw_bits code)) (mantissa_of (ulaw_bits code)) k segment; high = high_from (exponent_of (ulaw_bits code)) (mantissa_of (ulaw_bits code)) k segment };
+      interval = record { low = omega (arith, segment.low); high = omega (arith, segment.high) };
     }
 
 pub ulaw_cover : UlawIntervalsCover
