@@ -7,7 +7,7 @@ use Rattle.std.specs.Int.Signed.{lt_z}
 use Rattle.std.proofs.Math.Nat.{pow-suc, mul-le-mul_left, mod-eq_of_lt}
 use Rattle.codec_definitions.specs.G711.{exponent_of, mantissa_of, is_negative, signed, alaw_bits, alaw_is_negative, alaw_low, alaw_high, alaw_level, alaw_value, alaw_magnitude, IsAlawCodeOf, IsAlawCode, is_alaw_code, alaw_code}
 use Rattle.g711.specs.Segments.{IsInSegment}
-use Rattle.g711.specs.Laws.{AlawIntervalsAreApart, AlawIntervalsCover, AlawEncodes, AlawEncodesOnce, AlawDecodesWithin, AlawComesBack}
+use Rattle.g711.specs.Laws.{AlawIntervalsAreApart, AlawIntervalsCover, AlawEncodes, AlawDecodesWithin, AlawComesBack}
 use Rattle.g711.proofs.Bits.{small_mantissa, same_bits}
 use Rattle.g711.proofs.Segments.{grows, one_segment, some_segment}
 use Rattle.g711.proofs.Codes.{first_bit, behind, passes, passed, first_byte}
@@ -34,12 +34,6 @@ segment_twice n e = rw (pow-suc 2 e) (omega arith)
 -- above the first sixteen, an A-law interval is a segment
 in_segment : (e m k : ℕ) → alaw_low (suc e) m ≤ k → k < alaw_high (suc e) m → IsInSegment (suc e) m k
 in_segment e m k low high = record { low = omega (arith, low, low_above e m, segment_twice (m + 16) e); high = omega (arith, high, high_above e m, segment_twice (m + 17) e) }
-
-segment_low : (e m k : ℕ) → IsInSegment (suc e) m k → alaw_low (suc e) m ≤ k
-segment_low e m k s = omega (arith, s.low, low_above e m, segment_twice (m + 16) e)
-
-segment_high : (e m k : ℕ) → IsInSegment (suc e) m k → k < alaw_high (suc e) m
-segment_high e m k s = omega (arith, s.high, high_above e m, segment_twice (m + 17) e)
 
 first_low : (f n k : ℕ) → alaw_low (suc f) n ≤ k → 256 ≤ k
 first_low f n k low = omega (arith, low, low_above f n, pow_pos f)
@@ -79,15 +73,10 @@ alaw_coded negative k b code small low high made =
     let all = b + first_bit (not negative) in
     let own = behind (not negative) b small in
     let bits : alaw_bits code ≡ all = ap (λ (x : ℕ). bit_xor x 0x55) made ∙ turned_back all in
-    let e : exponent_of (alaw_bits code) ≡ exponent_of b = ap (λ (x : ℕ). exponent_of x) bits ∙ own.exponent in
-    let m : mantissa_of (alaw_bits code) ≡ mantissa_of b = ap (λ (x : ℕ). mantissa_of x) bits ∙ own.mantissa in
     record {
       byte = subst (λ (x : ℕ). x < 256) (sym made) (turned_byte all own.byte);
       sign = ap (λ (x : ℕ). not (nat_le 128 x)) bits ∙ ap not own.sign ∙ not-not negative;
-      interval = record {
-        low = subst (λ (x : ℕ). alaw_low x (mantissa_of (alaw_bits code)) ≤ k) (sym e) (subst (λ (x : ℕ). alaw_low (exponent_of b) x ≤ k) (sym m) low);
-        high = subst (λ (x : ℕ). k < alaw_high x (mantissa_of (alaw_bits code))) (sym e) (subst (λ (x : ℕ). k < alaw_high (exponent_of b) x) (sym m) high);
-      };
+      interval = record { low = rw (bits, own.exponent, own.mantissa) low; high = rw (bits, own.exponent, own.mantissa) high };
     }
 
 pub record IsInterval (b k : ℕ) : Type 0 where
@@ -108,7 +97,7 @@ first_interval k small =
 
 some_exponent : (e m k : ℕ) → m < 16 → 256 ≤ k → IsInSegment e m k → (alaw_low e m ≤ k) × (k < alaw_high e m)
 some_exponent zero m k sm high s = absurd (omega (arith, sm, high, s.high))
-some_exponent (suc e) m k sm high s = (segment_low e m k s, segment_high e m k s)
+some_exponent (suc e) m k sm high s = (omega (arith, s.low, low_above e m, segment_twice (m + 16) e), omega (arith, s.high, high_above e m, segment_twice (m + 17) e))
 
 -- and those above
 pub later_interval : (b k : ℕ) → b < 128 → 256 ≤ k → IsInSegment (exponent_of b) (mantissa_of b) k → IsInterval b k
@@ -138,17 +127,10 @@ alaw_encodes value fits =
     let found : (code : ℕ) × IsAlawCodeOf (is_negative value) (alaw_magnitude value) code = alaw_cover (is_negative value) (alaw_magnitude value) fits in
     subst (λ (x : ℕ). IsAlawCode value x) (sym (alaw_code_is value found.0 found.1)) found.1
 
-pub alaw_encodes_once : AlawEncodesOnce
-alaw_encodes_once value code c = sym (alaw_code_is value code c)
-
 -- the level of an interval, and the number below it
-low_level : (e m : ℕ) → alaw_low e m + 1 ≤ alaw_level e m
-low_level zero m = omega arith
-low_level (suc e) m = omega (arith, low_above e m, level_above e m, pow_pos e)
-
-high_level : (e m : ℕ) → alaw_level e m < alaw_high e m
-high_level zero m = omega arith
-high_level (suc e) m = omega (arith, high_above e m, level_above e m, pow_pos e)
+level_within : (e m : ℕ) → (alaw_low e m + 1 ≤ alaw_level e m) × (alaw_level e m < alaw_high e m)
+level_within zero m = (omega arith, omega arith)
+level_within (suc e) m = (omega (arith, low_above e m, level_above e m, pow_pos e), omega (arith, high_above e m, level_above e m, pow_pos e))
 
 pub small_level : (e m : ℕ) → e < 8 → m < 16 → alaw_level e m < 2 ^ 15
 small_level zero m se sm = omega (arith, sm)
@@ -167,15 +149,10 @@ level_shifted (suc e) m r se sm same some =
     let shift : (16 * r + 8 + 256) * 2 ^ (suc e - 1) ≡ (16 * m + 264) * 2 ^ e = rw (less_one e, same) (omega arith) in
     ap (λ (x : ℕ). x % 65536) shift ∙ (mod-eq_of_lt within ∙ sym (level_above e m))
 
-magnitude_low : (negative : Bool) (n : ℕ) → n ≤ alaw_magnitude (signed negative n) + 1
-magnitude_low false n = omega arith
-magnitude_low true zero = omega arith
-magnitude_low true (suc n) = omega arith
-
-magnitude_high : (negative : Bool) (n : ℕ) → alaw_magnitude (signed negative n) ≤ n
-magnitude_high false n = omega arith
-magnitude_high true zero = omega arith
-magnitude_high true (suc n) = omega arith
+magnitude_near : (negative : Bool) (n : ℕ) → (n ≤ alaw_magnitude (signed negative n) + 1) × (alaw_magnitude (signed negative n) ≤ n)
+magnitude_near false n = (omega arith, omega arith)
+magnitude_near true zero = (omega arith, omega arith)
+magnitude_near true (suc n) = (omega arith, omega arith)
 
 pub alaw_decodes_within : AlawDecodesWithin
 alaw_decodes_within code byte =
@@ -184,14 +161,14 @@ alaw_decodes_within code byte =
     let m = mantissa_of bits in
     let n = alaw_level e m in
     record {
-      low = omega (arith, low_level e m, magnitude_low (alaw_is_negative code) n);
-      high = omega (arith, high_level e m, magnitude_high (alaw_is_negative code) n);
+      low = omega (arith, (level_within e m).0, (magnitude_near (alaw_is_negative code) n).0);
+      high = omega (arith, (level_within e m).1, (magnitude_near (alaw_is_negative code) n).1);
     }
 
 pub alaw_comes_back : AlawComesBack
 alaw_comes_back code byte =
     let bits = alaw_bits code in
-    let some : 0 < alaw_level (exponent_of bits) (mantissa_of bits) = omega (arith, low_level (exponent_of bits) (mantissa_of bits)) in
+    let some : 0 < alaw_level (exponent_of bits) (mantissa_of bits) = omega (arith, (level_within (exponent_of bits) (mantissa_of bits)).0) in
     alaw_code_is (alaw_value code) code (record { byte = byte; sign = sym (keeps_sign (alaw_is_negative code) (alaw_level (exponent_of bits) (mantissa_of bits)) some); interval = alaw_decodes_within code byte })
 
 below_zero : (value : ℤ) → lt_z value (pos 0) ≡ is_negative value

@@ -1,12 +1,15 @@
 -- Tables, looked up.
-use Rattle.std.proofs.Common.{ℕ, ℤ, pos, ◌≡◌, ◌≤◌, ◌<◌, ◌^◌, ◌*◌, ◌+◌, ◌==◌, ◌&&◌, zero, suc, nat_le, nat_lt, true, inl, inr, List, [], ◌∷◌, length, get_or, map, arith, ap, ◌∙◌}
+use mir.Val.{SFits}
+use Rattle.std.proofs.lemmas.Int.{to_z-of_z}
+use Rattle.std.proofs.Common.{w16, to_z, of_z, ℕ, ℤ, pos, ◌≡◌, ◌≤◌, ◌<◌, ◌^◌, ◌*◌, ◌+◌, ◌==◌, ◌&&◌, zero, suc, nat_le, nat_lt, true, inl, inr, List, [], ◌∷◌, length, get_or, map, arith, ap, ◌∙◌}
 use Rattle.std.proofs.lemmas.List.FromFn.{get_or-map-range_with_len}
 use Rattle.std.proofs.lemmas.Bool.{leb-true, ltb-true, eqb-true, and_parts, or_cases}
 use Rattle.std.specs.List.{range_with_len}
 use Rattle.g711.specs.Tables.{is_top_bit, are_top_bits}
 
-pub value_at : (f : ℕ → ℤ) (n i : ℕ) → i < n → get_or (map f (range_with_len 0 n)) i (pos 0) ≡ f i
-value_at f n i h = get_or-map-range_with_len f 0 n i i (pos 0) h (omega arith)
+pub looked_up : (f : ℕ → ℤ) (values : List ℤ) (i : ℕ) → i < 256 → SFits w16 (get_or values i (pos 0)) → values ≡ map f (range_with_len 0 256) → to_z w16 (of_z w16 (get_or values i (pos 0))) ≡ f i
+looked_up f values i h fits table =
+    to_z-of_z w16 (get_or values i (pos 0)) fits ∙ ap (λ (xs : List ℤ). get_or xs i (pos 0)) table ∙ get_or-map-range_with_len f 0 256 i i (pos 0) h (omega arith)
 
 -- what the table says of a number
 top_at : (n i : ℕ) (tops : List ℕ) → are_top_bits n tops ≡ true → i < length tops → is_top_bit (n + i) (get_or tops i 0) ≡ true

@@ -5,7 +5,7 @@ use Rattle.std.proofs.lemmas.Nat.{pow_pos}
 use Rattle.std.proofs.Math.Nat.{mul-le-mul_left, min-le_right}
 use Rattle.codec_definitions.specs.G711.{exponent_of, mantissa_of, is_negative, signed, ulaw_bits, ulaw_is_negative, ulaw_low, ulaw_high, ulaw_level, ulaw_value, ulaw_magnitude, IsInUlawInterval, IsUlawCodeOf, IsUlawCode, is_ulaw_code, ulaw_code}
 use Rattle.g711.specs.Segments.{IsInSegment}
-use Rattle.g711.specs.Laws.{UlawIntervalsAreApart, UlawIntervalsCover, UlawEncodes, UlawEncodesOnce, UlawDecodesWithin, UlawComesBack}
+use Rattle.g711.specs.Laws.{UlawIntervalsAreApart, UlawIntervalsCover, UlawEncodes, UlawDecodesWithin, UlawComesBack}
 use Rattle.g711.proofs.Bits.{small_exponent, small_mantissa, same_bits}
 use Rattle.g711.proofs.Codes.{first_bit, behind, passes, passed, first_byte}
 use Rattle.g711.proofs.Segments.{grows, one_segment, some_segment}
@@ -28,10 +28,7 @@ pub ulaw_coded : (negative : Bool) (k b code : ℕ) → b < 128 → IsInSegment 
 ulaw_coded negative k b code small s made =
     let own = behind negative b small in
     let bits : ulaw_bits code ≡ b + first_bit negative = omega (arith, made, own.byte) in
-    let e : exponent_of (ulaw_bits code) ≡ exponent_of b = ap (λ (x : ℕ). exponent_of x) bits ∙ own.exponent in
-    let m : mantissa_of (ulaw_bits code) ≡ mantissa_of b = ap (λ (x : ℕ). mantissa_of x) bits ∙ own.mantissa in
-    let segment : IsInSegment (exponent_of (ulaw_bits code)) (mantissa_of (ulaw_bits code)) (k + 132) =
-    subst (λ (x : ℕ). IsInSegment x (mantissa_of (ulaw_bits code)) (k + 132)) (sym e) (subst (λ (x : ℕ). IsInSegment (exponent_of b) x (k + 132)) (sym m) s) in
+    let segment : IsInSegment (exponent_of (ulaw_bits code)) (mantissa_of (ulaw_bits code)) (k + 132) = rw (bits, own.exponent, own.mantissa) s in
     record {
       byte = omega (arith, made);
       sign = ap (λ (x : ℕ). nat_le 128 x) bits ∙ own.sign;
@@ -58,16 +55,6 @@ ulaw_encodes value =
     let found : (code : ℕ) × IsUlawCodeOf (is_negative value) (ulaw_magnitude value) code = ulaw_cover (is_negative value) (ulaw_magnitude value) (clipped value) in
     subst (λ (x : ℕ). IsUlawCode value x) (sym (ulaw_code_is value found.0 found.1)) found.1
 
-pub ulaw_encodes_once : UlawEncodesOnce
-ulaw_encodes_once value code c = sym (ulaw_code_is value code c)
-
--- the level of an interval
-low_level : (e m : ℕ) → ulaw_low e m ≤ ulaw_level e m
-low_level e m = omega arith
-
-high_level : (e m : ℕ) → ulaw_level e m < ulaw_high e m
-high_level e m = omega (arith, pow_pos e)
-
 pub small_level : (e m : ℕ) → e < 8 → m < 16 → ulaw_level e m ≤ 32124
 small_level e m se sm =
     let top : 2 ^ e ≤ 2 ^ 7 = grows e 7 (omega (arith, se)) in
@@ -86,7 +73,7 @@ ulaw_decodes_within code byte =
     let m = mantissa_of bits in
     let small : ulaw_level e m ≤ 32124 = small_level e m (small_exponent bits) (small_mantissa bits) in
     let same : ulaw_magnitude (ulaw_value code) ≡ ulaw_level e m = magnitude_signed (ulaw_is_negative code) (ulaw_level e m) (omega (arith, small)) in
-    record { low = subst (λ (x : ℕ). ulaw_low e m ≤ x) (sym same) (low_level e m); high = subst (λ (x : ℕ). x < ulaw_high e m) (sym same) (high_level e m) }
+    record { low = subst (λ (x : ℕ). ulaw_low e m ≤ x) (sym same) (omega arith); high = subst (λ (x : ℕ). x < ulaw_high e m) (sym same) (omega (arith, pow_pos e)) }
 
 -- a level above 0 keeps its sign
 pub keeps_sign : (negative : Bool) (n : ℕ) → 0 < n → is_negative (signed negative n) ≡ negative

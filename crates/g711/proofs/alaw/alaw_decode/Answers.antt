@@ -1,13 +1,7 @@
-use Rattle.std.proofs.Common.{ℤ, pos, List, get_or, ap, ◌∙◌, arith, rules}
-use mir.Syntax.{w16}
-use mir.Val.{SFits}
-use Rattle.std.proofs.lemmas.Int.{to_z-of_z}
+use Rattle.std.proofs.Common.{arith, rules}
 use Rattle.codec_definitions.specs.G711.{alaw_value}
-use Rattle.g711.proofs.TableLaws.{value_at}
+use Rattle.g711.proofs.TableLaws.{looked_up}
 use Rattle.g711.proofs.alaw.alaw_decode.Goals as goal
 
 pub returns : goal.returns
-returns c =
-    let value = get_or c.values.result.now c.args.code (pos 0) in
-    let fits : SFits w16 value = search rules in
-    to_z-of_z w16 value fits ∙ ap (λ (xs : List ℤ). get_or xs c.args.code (pos 0)) c.values.ensures ∙ value_at alaw_value 256 c.args.code (omega arith)
+returns c = looked_up alaw_value c.values.result.now c.args.code (omega arith) (search rules) c.values.ensures
