@@ -67,22 +67,22 @@ alaw_apart negative k code other a b =
     let same : x ≡ y = same_bits x y (turned_byte code a.byte) (turned_byte other b.byte) (same_not (nat_le 128 x) (nat_le 128 y) (a.sign ∙ sym b.sign)) parts.0 parts.1 in
     sym (turned_back code) ∙ (ap (λ (n : ℕ). bit_xor n 0x55) same ∙ turned_back other)
 
--- the code that a sign and seven bits make
-pub alaw_coded : (negative : Bool) (k b code : ℕ) → b < 128 → alaw_low (exponent_of b) (mantissa_of b) ≤ k → k < alaw_high (exponent_of b) (mantissa_of b) → code ≡ bit_xor (b + first_bit (not negative)) 0x55 → IsAlawCodeOf negative k code
-alaw_coded negative k b code small low high made =
-    let all = b + first_bit (not negative) in
-    let own = behind (not negative) b small in
-    let bits : alaw_bits code ≡ all = ap (λ (x : ℕ). bit_xor x 0x55) made ∙ turned_back all in
-    record {
-      byte = subst (λ (x : ℕ). x < 256) (sym made) (turned_byte all own.byte);
-      sign = ap (λ (x : ℕ). not (nat_le 128 x)) bits ∙ ap not own.sign ∙ not-not negative;
-      interval = record { low = rw (bits, own.exponent, own.mantissa) low; high = rw (bits, own.exponent, own.mantissa) high };
-    }
-
 pub record IsInterval (b k : ℕ) : Type 0 where
   pub bits : b < 128
   pub low : alaw_low (exponent_of b) (mantissa_of b) ≤ k
   pub high : k < alaw_high (exponent_of b) (mantissa_of b)
+
+-- the code that a sign and seven bits make
+pub alaw_coded : (negative : Bool) (k b code : ℕ) → IsInterval b k → code ≡ bit_xor (b + first_bit (not negative)) 0x55 → IsAlawCodeOf negative k code
+alaw_coded negative k b code i made =
+    let all = b + first_bit (not negative) in
+    let own = behind (not negative) b i.bits in
+    let bits : alaw_bits code ≡ all = ap (λ (x : ℕ). bit_xor x 0x55) made ∙ turned_back all in
+    record {
+      byte = subst (λ (x : ℕ). x < 256) (sym made) (turned_byte all own.byte);
+      sign = ap (λ (x : ℕ). not (nat_le 128 x)) bits ∙ ap not own.sign ∙ not-not negative;
+      interval = record { low = rw (bits, own.exponent, own.mantissa) i.low; high = rw (bits, own.exponent, own.mantissa) i.high };
+    }
 
 -- the first sixteen intervals
 pub first_interval : (k : ℕ) → k < 256 → IsInterval (k / 16) k
@@ -114,7 +114,7 @@ some_interval k most = elim (cases_lt k 256) [
 pub alaw_cover : AlawIntervalsCover
 alaw_cover negative k most =
     let found : (b : ℕ) × IsInterval b k = some_interval k most in
-    (bit_xor (found.0 + first_bit (not negative)) 0x55, alaw_coded negative k found.0 (bit_xor (found.0 + first_bit (not negative)) 0x55) found.1.bits found.1.low found.1.high refl)
+    (bit_xor (found.0 + first_bit (not negative)) 0x55, alaw_coded negative k found.0 (bit_xor (found.0 + first_bit (not negative)) 0x55) found.1 refl)
 
 pub alaw_code_is : (value : ℤ) (code : ℕ) → IsAlawCode value code → alaw_code value ≡ code
 unfolding alaw_code
@@ -178,7 +178,7 @@ below_zero (negsuc n) = refl
 -- the code of a value: its sign's, with the bits of an interval that holds its magnitude
 pub alaw_encoded : (value seen : ℤ) (negative : Bool) (b all magnitude : ℕ) → seen ≡ value → lt_z seen (pos 0) ≡ negative → magnitude ≡ alaw_magnitude seen → b < 128 → alaw_low (exponent_of b) (mantissa_of b) ≤ magnitude → magnitude < alaw_high (exponent_of b) (mantissa_of b) → all ≡ b + first_bit (not negative) → bit_xor all 0x55 ≡ alaw_code value
 alaw_encoded value seen negative b all magnitude same sign size small low high whole =
-    let made : IsAlawCodeOf negative magnitude (bit_xor all 0x55) = alaw_coded negative magnitude b (bit_xor all 0x55) small low high (ap (λ (x : ℕ). bit_xor x 0x55) whole) in
+    let made : IsAlawCodeOf negative magnitude (bit_xor all 0x55) = alaw_coded negative magnitude b (bit_xor all 0x55) (record { bits = small; low = low; high = high }) (ap (λ (x : ℕ). bit_xor x 0x55) whole) in
     let signed_so : negative ≡ is_negative value = sym sign ∙ (below_zero seen ∙ ap (λ (v : ℤ). is_negative v) same) in
     let sized : magnitude ≡ alaw_magnitude value = size ∙ ap (λ (v : ℤ). alaw_magnitude v) same in
     sym (alaw_code_is value (bit_xor all 0x55) (subst (λ (s : Bool). IsAlawCodeOf s (alaw_magnitude value) (bit_xor all 0x55)) signed_so (subst (λ (n : ℕ). IsAlawCodeOf negative n (bit_xor all 0x55)) sized made)))

@@ -6,17 +6,13 @@ use Rattle.std.proofs.lemmas.Nat.{pow_pos, pow-add, le-div, div_below, leading_t
 use Rattle.codec_definitions.specs.G711.{exponent_of, mantissa_of}
 use Rattle.g711.specs.Segments.{IsInSegment}
 
-two_pos : 0 < 2
-two_pos = lit< tt
-
 -- powers of two grow
 pub grows : (i j : ℕ) → i ≤ j → 2 ^ i ≤ 2 ^ j
-grows i j up = pow-le-pow_right two_pos up
+grows i j up = pow-le-pow_right (lit< tt) up
 
 beyond_mantissa : (e m n : ℕ) → m < n → (8 * m + 136) * 2 ^ e ≤ (8 * n + 128) * 2 ^ e
 beyond_mantissa e m n less =
-    let next : m + 1 ≤ n = omega (arith, less) in
-    let wide : 2 ^ e * (m + 1) ≤ 2 ^ e * n = mul-le-mul_left (2 ^ e) next in
+    let wide : 2 ^ e * (m + 1) ≤ 2 ^ e * n = mul-le-mul_left (2 ^ e) (omega (arith, less)) in
     omega (arith, wide)
 
 beyond_exponent : (e f m n : ℕ) → m < 16 → e < f → (8 * m + 136) * 2 ^ e ≤ (8 * n + 128) * 2 ^ f
