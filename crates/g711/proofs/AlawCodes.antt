@@ -143,9 +143,7 @@ small_level (suc e) m se sm =
 pub level_shifted : (e m r : ℕ) → e < 8 → m < 16 → r ≡ m → (e ≡ 0 → ⊥) → (16 * r + 8 + 256) * 2 ^ (e - 1) % 65536 ≡ alaw_level e m
 level_shifted zero m r se sm same some = absurd (some refl)
 level_shifted (suc e) m r se sm same some =
-    let top : 2 ^ e ≤ 2 ^ 6 = grows e 6 (omega (arith, se)) in
-    let all : 2 ^ e * m ≤ 2 ^ e * 15 = mul-le-mul_left (2 ^ e) (omega (arith, sm)) in
-    let within : (16 * m + 264) * 2 ^ e < 65536 = omega (arith, top, all) in
+    let within : (16 * m + 264) * 2 ^ e < 65536 = omega (arith, small_level (suc e) m se sm, level_above e m) in
     let shift : (16 * r + 8 + 256) * 2 ^ (suc e - 1) ≡ (16 * m + 264) * 2 ^ e = rw (less_one e, same) (omega arith) in
     ap (λ (x : ℕ). x % 65536) shift ∙ (mod-eq_of_lt within ∙ sym (level_above e m))
 
