@@ -1,7 +1,7 @@
 -- Tables, looked up.
+use Rattle.std.proofs.Common.{w16, to_z, of_z, ℕ, ℤ, pos, ◌≡◌, ◌≤◌, ◌<◌, ◌^◌, ◌*◌, ◌+◌, ◌==◌, ◌&&◌, zero, suc, nat_le, nat_lt, true, inl, inr, List, [], ◌∷◌, length, get_or, map, arith, ap, ◌∙◌}
 use mir.Val.{SFits}
 use Rattle.std.proofs.lemmas.Int.{to_z-of_z}
-use Rattle.std.proofs.Common.{w16, to_z, of_z, ℕ, ℤ, pos, ◌≡◌, ◌≤◌, ◌<◌, ◌^◌, ◌*◌, ◌+◌, ◌==◌, ◌&&◌, zero, suc, nat_le, nat_lt, true, inl, inr, List, [], ◌∷◌, length, get_or, map, arith, ap, ◌∙◌}
 use Rattle.std.proofs.lemmas.List.FromFn.{get_or-map-range_with_len}
 use Rattle.std.proofs.lemmas.Bool.{leb-true, ltb-true, eqb-true, and_parts, or_cases}
 use Rattle.std.specs.List.{range_with_len}
