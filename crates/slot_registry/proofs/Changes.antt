@@ -1,33 +1,16 @@
 -- What an acquire, a refusal and a give make of a registry.
-use Rattle.std.proofs.Common.{ℕ, ◌+◌, ◌<◌, ◌≤◌, ◌≡◌, Bool, true, false, not, List, [], ◌∷◌, ◌++◌, Option, Some, take, length, get_or, set, slice_get, refl, ap, sym, subst, ◌∙◌, arith}
+use Rattle.std.proofs.Common.{ℕ, ◌+◌, ◌<◌, ◌≤◌, ◌≡◌, true, false, not, List, [], ◌∷◌, ◌++◌, Option, Some, take, length, get_or, set, slice_get, refl, ap, sym, subst, ◌∙◌, arith}
 use Rattle.std.specs.List.{count_by}
-use Rattle.std.proofs.lemmas.List.{length-map, get_or_default}
+use Rattle.std.proofs.lemmas.List.{get_or_default}
 use Rattle.std.proofs.lemmas.Bool.{false≢true}
-use Rattle.std.proofs.lemmas.Option.{get_or_from_slice_get, slice_get_within}
 use Rattle.wc_base.specs.declared.who.By.{By}
 use Rattle.wc_config.specs.declared.codec.CoderId.{CoderId}
 use Rattle.coder_api.specs.{declared.slot.SlotEntry.SlotEntry, declared.slot.SlotOp.SlotOp, Lent.Lent, Meaning.Meaning}
 use Rattle.slot_registry.specs.Boxes.{holder_of, is_out, made_of, out_of, least_free}
-use Rattle.slot_registry.specs.Slots.{SlotsValue, IsLeastFree, recorded, acquired, acquire_op, given_back, is_later}
+use Rattle.slot_registry.specs.Slots.{SlotsValue, IsLeastFree, recorded, acquired, acquire_op, given_back}
 use Rattle.slot_registry.specs.Places.{Placed, ids_of, is_away, IsInStep, IsKept}
-use Rattle.slot_registry.specs.{IdLaws.ids_of-set, NumberLaws.find_fails}
-use Rattle.slot_registry.proofs.Kept.{place_id, moves_keep, acquire_moves, give_moves, away_falls}
-
--- a place of an id, which has the box with this number
-pub record IsPlaceOf (places : List Placed) (id : CoderId) (k number : ℕ) : Type 0 where
-  pub at : slice_get (ids_of places) k ≡ Some id
-  pub before : number ≡ made_of id (take k (ids_of places))
-
-pub place_within : (places : List Placed) (id : CoderId) (k number : ℕ) → IsPlaceOf places id k number → k < length places
-place_within places id k number place = omega (arith, slice_get_within (ids_of places) k id place.at, length-map places (λ (p : Placed). p.id))
-
--- the id of a place is the one that is looked for
-pub same_id : (places : List Placed) (id : CoderId) (k number : ℕ) (p : Placed) → IsPlaceOf places id k number → p ≡ get_or places k p → id ≡ p.id
-same_id places id k number p place here =
-    let at = place_id places k p (place_within places id k number place) in
-    let got : get_or (ids_of places) k id ≡ (get_or places k p).id = get_or_from_slice_get (ids_of places) k (get_or places k p).id id at in
-    let is : get_or (ids_of places) k id ≡ id = get_or_from_slice_get (ids_of places) k id id place.at in
-    sym is ∙ got ∙ ap (λ (q : Placed). q.id) (sym here)
+use Rattle.slot_registry.specs.{NumberLaws.find_fails}
+use Rattle.slot_registry.proofs.Kept.{IsPlaceOf, place_within, same_id, value_after, away_falls}
 
 -- the place has its coder where its box is not out
 pub home_at : (places : List Placed) (history : List SlotEntry) (id : CoderId) (k number : ℕ) (p : Placed) → IsKept places history → IsPlaceOf places id k number → p ≡ get_or places k p → p.is_home ≡ not (is_out id number history)
@@ -43,32 +26,6 @@ pub free_is_home : (places : List Placed) (history : List SlotEntry) (id : Coder
 free_is_home places history id k number p kept place least here =
     home_at places history id k number p kept place here ∙ ap not (find_fails (λ m. is_out id m history) (made_of id (ids_of places)) number least)
 
--- the free box of least number goes out
-pub acquire_keeps : (places : List Placed) (history new : List SlotEntry) (id : CoderId) (k number : ℕ) (p q : Placed) (cause : By) → IsKept places history → IsPlaceOf places id k number → least_free id (ids_of places) history ≡ Some number → p ≡ get_or places k p → q ≡ record p { is_home = false } → new ≡ history ++ record { by = cause; op = SlotOp.Acquire id number } ∷ [] → IsKept (set places k q) new
-acquire_keeps places history new id k number p q cause kept place least here left more =
-    let same : id ≡ q.id = same_id places id k number p place here ∙ ap (λ (r : Placed). r.id) (sym left) in
-    let ids = ids_of places in
-    let At : CoderId → Type 0 = λ x. slice_get ids k ≡ Some x in
-    let Before : CoderId → Type 0 = λ x. number ≡ made_of x (take k ids) in
-    let Least : CoderId → Type 0 = λ x. least_free x ids history ≡ Some number in
-    let moves = acquire_moves places history k number q cause (subst At same place.at) (subst Before same place.before) (subst Least same least) (ap (λ (r : Placed). r.is_home) left) in
-    let P : CoderId → Type 0 = λ x. IsKept (set places k q) (history ++ record { by = cause; op = SlotOp.Acquire x number } ∷ []) in
-    let H : List SlotEntry → Type 0 = λ h. IsKept (set places k q) h in
-    subst H (sym more) (subst P (sym same) (moves_keep places history k q (record { by = cause; op = SlotOp.Acquire q.id number }) kept moves))
-
--- a box comes back
-pub give_keeps : (places : List Placed) (history new : List SlotEntry) (id : CoderId) (k number : ℕ) (p q : Placed) (holder cause : By) → IsKept places history → IsPlaceOf places id k number → holder_of id number history ≡ Some holder → is_later holder cause ≡ true → p ≡ get_or places k p → q ≡ record p { is_home = true } → new ≡ history ++ record { by = cause; op = SlotOp.Give id number } ∷ [] → IsKept (set places k q) new
-give_keeps places history new id k number p q holder cause kept place held later here back more =
-    let same : id ≡ q.id = same_id places id k number p place here ∙ ap (λ (r : Placed). r.id) (sym back) in
-    let ids = ids_of places in
-    let At : CoderId → Type 0 = λ x. slice_get ids k ≡ Some x in
-    let Before : CoderId → Type 0 = λ x. number ≡ made_of x (take k ids) in
-    let Held : CoderId → Type 0 = λ x. holder_of x number history ≡ Some holder in
-    let moves = give_moves places history k number q holder cause (subst At same place.at) (subst Before same place.before) (subst Held same held) later (ap (λ (r : Placed). r.is_home) back) in
-    let P : CoderId → Type 0 = λ x. IsKept (set places k q) (history ++ record { by = cause; op = SlotOp.Give x number } ∷ []) in
-    let H : List SlotEntry → Type 0 = λ h. IsKept (set places k q) h in
-    subst H (sym more) (subst P (sym same) (moves_keep places history k q (record { by = cause; op = SlotOp.Give q.id number }) kept moves))
-
 -- one box less is out then
 pub away_after : (places : List Placed) (history : List SlotEntry) (id : CoderId) (k number : ℕ) (p q : Placed) → IsKept places history → IsPlaceOf places id k number → is_out id number history ≡ true → p ≡ get_or places k p → q.is_home ≡ true → count_by is_away (set places k q) + 1 ≡ count_by is_away places
 away_after places history id k number p q kept place out here back =
@@ -83,14 +40,6 @@ room_at places history id k number p kept place out here =
     let less = away_after places history id k number p (record p { is_home = true }) kept place out here refl in
     omega (arith, less)
 
--- the registry's value after a place and the history changed
-pub value_after : (s : SlotsValue) (places : List Placed) (history new : List SlotEntry) (k : ℕ) (id : CoderId) (number : ℕ) (p q : Placed) (home : Bool) (e : SlotEntry) → record { made = ids_of places; history = history } ≡ s → IsPlaceOf places id k number → p ≡ get_or places k p → q ≡ record p { is_home = home } → new ≡ history ++ e ∷ [] → record { made = ids_of (set places k q); history = new } ≡ recorded e s
-value_after s places history new k id number p q home e view place here change more =
-    let same : id ≡ q.id = same_id places id k number p place here ∙ ap (λ (r : Placed). r.id) (sym change) in
-    let At : CoderId → Type 0 = λ x. slice_get (ids_of places) k ≡ Some x in
-    let ids = ids_of-set places k q (subst At same place.at) in
-    ap (λ (l : List CoderId). record { made = l; history = new }) ids ∙ ap (λ (h : List SlotEntry). record { made = ids_of places; history = h }) more ∙ ap (recorded e) view
-
 -- no box is out at the beginning
 pub opens_kept : (places : List Placed) → ((k : ℕ) (d : Placed) → k < length places → (get_or places k d).is_home ≡ true) → IsKept places []
 opens_kept places home = record {
@@ -102,7 +51,7 @@ opens_kept places home = record {
 -- the registry after a give, whose entry names the box as the caller does
 pub give_after : (s : SlotsValue) (places : List Placed) (history new : List SlotEntry) (k : ℕ) (id asked : CoderId) (number wanted : ℕ) (p q : Placed) (cause : By) → record { made = ids_of places; history = history } ≡ s → IsPlaceOf places id k number → p ≡ get_or places k p → q ≡ record p { is_home = true } → new ≡ history ++ record { by = cause; op = SlotOp.Give id number } ∷ [] → id ≡ asked → number ≡ wanted → record { made = ids_of (set places k q); history = new } ≡ given_back cause asked wanted s
 give_after s places history new k id asked number wanted p q cause view place here back more same_id same_number =
-    value_after s places history new k id number p q true (record { by = cause; op = SlotOp.Give id number }) view place here back more ∙ ap (λ (x : CoderId). given_back cause x number s) same_id ∙ ap (λ (n : ℕ). given_back cause asked n s) same_number
+    value_after place here back (record { by = cause; op = SlotOp.Give id number }) more s view ∙ ap (λ (x : CoderId). given_back cause x number s) same_id ∙ ap (λ (n : ℕ). given_back cause asked n s) same_number
 
 -- who holds a box, as the registry's fields say
 pub held_inside : (s : SlotsValue) (places : List Placed) (history : List SlotEntry) (id asked : CoderId) (number wanted : ℕ) (holder : By) → record { made = ids_of places; history = history } ≡ s → id ≡ asked → number ≡ wanted → holder_of asked wanted s.history ≡ Some holder → holder_of id number history ≡ Some holder
@@ -113,7 +62,7 @@ held_inside s places history id asked number wanted holder view same_id same_num
 pub acquire_after : (s : SlotsValue) (places : List Placed) (history new : List SlotEntry) (k : ℕ) (id : CoderId) (number : ℕ) (p q : Placed) (cause : By) → record { made = ids_of places; history = history } ≡ s → IsPlaceOf places id k number → least_free id (ids_of places) history ≡ Some number → p ≡ get_or places k p → q ≡ record p { is_home = false } → new ≡ history ++ record { by = cause; op = SlotOp.Acquire id number } ∷ [] → record { made = ids_of (set places k q); history = new } ≡ acquired cause id s
 acquire_after s places history new k id number p q cause view place least here left more =
     let free : least_free id s.made s.history ≡ Some number = ap (λ (v : SlotsValue). least_free id v.made v.history) (sym view) ∙ least in
-    value_after s places history new k id number p q false (record { by = cause; op = SlotOp.Acquire id number }) view place here left more ∙ ap (λ (o : Option ℕ). recorded (record { by = cause; op = acquire_op id (out_of id s.made s.history) (made_of id s.made) o }) s) (sym free)
+    value_after place here left (record { by = cause; op = SlotOp.Acquire id number }) more s view ∙ ap (λ (o : Option ℕ). recorded (record { by = cause; op = acquire_op id (out_of id s.made s.history) (made_of id s.made) o }) s) (sym free)
 
 -- a place, as a call with the registry's value finds it
 pub place_inside : (s : SlotsValue) (places : List Placed) (history : List SlotEntry) (id : CoderId) (k number : ℕ) → record { made = ids_of places; history = history } ≡ s → slice_get s.made k ≡ Some id → number ≡ made_of id (take k s.made) → IsPlaceOf places id k number

@@ -1,12 +1,13 @@
 -- Who holds a box after one more entry.
-use Rattle.std.proofs.Common.{ℕ, ◌≡◌, ◌==◌, Bool, true, false, cond, Option, Some, None, is_some, refl, ap, sym, ◌∙◌}
-use Rattle.std.proofs.lemmas.Bool.{false_from_ne_true, false≢true, and_parts, eqb-true}
+use Rattle.std.proofs.Common.{ℕ, ◌≡◌, Bool, true, false, cond, Option, Some, None, is_some, refl, ap, sym, ◌∙◌}
+use Rattle.std.proofs.lemmas.Bool.{false_from_ne_true, false≢true}
 use Rattle.wc_base.specs.declared.who.By.{By}
 use Rattle.wc_config.specs.declared.codec.CoderId.{CoderId}
-use Rattle.coder_api.specs.{Lent.Lent, Meaning.is_id, declared.slot.SlotEntry.SlotEntry, declared.slot.SlotOp.SlotOp}
+use Rattle.coder_api.specs.{Lent.Lent, declared.slot.SlotEntry.SlotEntry, declared.slot.SlotOp.SlotOp}
 use Rattle.slot_registry.specs.Boxes.{is_box, holder_of, is_out, made_of, out_of, least_free}
 use Rattle.slot_registry.specs.Slots.{SlotsValue, recorded, acquired, acquire_op, given_back, IsHeld, KeepsBoxes, KeepsOthers, IsLeastFree}
-use Rattle.slot_registry.specs.{IdLaws.id_is, NumberLaws.find_fails, HistoryLaws.holder_more, HistoryLaws.box_same}
+use Rattle.slot_registry.proofs.Kept.{box_is}
+use Rattle.slot_registry.specs.{NumberLaws.find_fails, HistoryLaws.holder_more, HistoryLaws.box_same}
 
 -- the box that goes out is held by its cause
 pub acquired_is_held : (s new : SlotsValue) (cause : By) (id : CoderId) (lent : Lent) → IsLeastFree cause id s lent → new ≡ acquired cause id s → IsHeld new lent
@@ -20,11 +21,9 @@ acquired_is_held s new cause id lent least is =
 -- a box that is not out is none of those that are held
 free_apart : (s : SlotsValue) (id : CoderId) (number : ℕ) (lent : Lent) → is_out id number s.history ≡ false → IsHeld s lent → is_box lent.id lent.number id number ≡ false
 free_apart s id number lent free held = false_from_ne_true (is_box lent.id lent.number id number) (λ (same : is_box lent.id lent.number id number ≡ true).
-    let parts = and_parts (is_id lent.id id) (lent.number == number) same in
-    let one = id_is lent.id id parts.0 in
-    let equal = eqb-true lent.number number parts.1 in
+    let parts = box_is lent.id id lent.number number same in
     let out : is_out lent.id lent.number s.history ≡ true = ap is_some held in
-    let out_too : is_out id number s.history ≡ true = ap (λ (x : CoderId). is_out x number s.history) (sym one) ∙ ap (λ (n : ℕ). is_out lent.id n s.history) (sym equal) ∙ out in
+    let out_too : is_out id number s.history ≡ true = ap (λ (x : CoderId). is_out x number s.history) (sym parts.0) ∙ ap (λ (n : ℕ). is_out lent.id n s.history) (sym parts.1) ∙ out in
     false≢true (sym free ∙ out_too))
 
 op_keeps_boxes : (s : SlotsValue) (cause : By) (id : CoderId) (out all : ℕ) (free : Option ℕ) → least_free id s.made s.history ≡ free → (lent : Lent) → IsHeld s lent → IsHeld (recorded (record { by = cause; op = acquire_op id out all free }) s) lent

@@ -26,14 +26,11 @@ pub nothing_left : {X : Type 0} (l : List X) → length l ≡ 0 → l ≡ []
 nothing_left [] h = refl
 nothing_left (x ∷ xs) h = absurd (omega arith)
 
-abbrev one_if : Bool → ℕ
-one_if b = cond b 1 0
-
 -- no coder is out
 pub away_none : (places : List Placed) → ((k : ℕ) (d : Placed) → k < length places → (get_or places k d).is_home ≡ true) → count_by is_away places ≡ 0
 away_none [] home = refl
 away_none (p ∷ rest) home =
-    let here = ap (λ (b : Bool). one_if (not b)) (home 0 p (omega arith)) in
-    let split = sum_by-cons (λ q. one_if (is_away q)) p rest in
+    let here = ap {B = ℕ} (λ (b : Bool). cond (not b) 1 0) (home 0 p (omega arith)) in
+    let split = sum_by-cons (λ q. cond (is_away q) 1 0) p rest in
     let others = away_none rest (λ k d low. home (suc k) d (omega arith)) in
     omega (arith, here, split, others)

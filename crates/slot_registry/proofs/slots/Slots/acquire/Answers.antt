@@ -3,33 +3,36 @@ use Rattle.std.proofs.lemmas.List.{length-set}
 use Rattle.coder_api.specs.declared.slot.{SlotOp.SlotOp, SlotEntry.SlotEntry}
 use Rattle.std.proofs.lemmas.Bool.{false≢true}
 use Rattle.slot_registry.specs.Places.{ids_of, IsKept, IsFreeAt, AreAllOut}
-use Rattle.slot_registry.proofs.{Kept.away_is_within, Kept.refusal_keeps, Holders.acquired_is_held, Holders.acquire_keeps_boxes}
-use Rattle.slot_registry.proofs.Changes.{IsPlaceOf, same_id, free_is_home, acquire_keeps, acquire_after, least_inside}
+use Rattle.slot_registry.proofs.{Kept.IsPlaceOf, Kept.same_id, Kept.moves_keep, Kept.goes, Kept.away_is_within, Kept.refusal_keeps, Holders.acquired_is_held, Holders.acquire_keeps_boxes}
+use Rattle.slot_registry.proofs.Changes.{free_is_home, acquire_after, least_inside}
 use Rattle.slot_registry.specs.Slots.{SlotsValue, KeepsBoxes}
+use Rattle.slot_registry.proofs.slots.Slots.acquire.Given.{Over}
 use Rattle.slot_registry.proofs.slots.Slots.acquire.Goals as goal
 
 pub unreachable-requires : goal.unreachable-requires
 unreachable-requires g c =
-    let places = c.self.inside.places.items in
-    let history = c.reserve.new.self.items in
-    let H : List SlotEntry → Type 0 = λ h. IsKept places h in
-    let kept = subst H (sym c.reserve.ensures.items) c.self.invariant.0 in
-    let free : IsFreeAt c.args.id (record { made = ids_of places; history = history }) c.in-Free.place c.in-Free.number = c.in-Free.ensures in
-    let place : IsPlaceOf places c.args.id c.in-Free.place c.in-Free.number = record { at = free.at; before = free.before } in
-    let home = free_is_home places history c.args.id c.in-Free.place c.in-Free.number c.index_mut.result.now kept place free.least c.index_mut.ensures.value in
+    let i = c.self.inside in
+    let F : List SlotEntry → Type 0 = λ h. IsFreeAt c.args.id (record { made = ids_of i.places.items; history = h }) c.in-Free.place c.in-Free.number in
+    let free = subst F c.reserve.ensures.items c.in-Free.ensures in
+    let home = free_is_home i.places.items i.entries.items c.args.id c.in-Free.place c.in-Free.number c.index_mut.result.now c.self.invariant.0 (record { at = free.at; before = free.before }) free.least c.index_mut.ensures.value in
     false≢true (sym (ap is_some c.in_default.is) ∙ c.take.ensures.some ∙ home)
+
+-- the free box that the search found, in the history before the room was made
+free : (g : Over) (c : goal.After-new g) → IsFreeAt c.args.id (record { made = ids_of c.self.inside.places.items; history = c.self.inside.entries.items }) c.in-Free.place c.in-Free.number
+free g c = let F : List SlotEntry → Type 0 = λ h. IsFreeAt c.args.id (record { made = ids_of c.self.inside.places.items; history = h }) c.in-Free.place c.in-Free.number in subst F c.reserve.ensures.items c.in-Free.ensures
+
+at : (g : Over) (c : goal.After-new g) → IsPlaceOf c.self.inside.places.items c.args.id c.in-Free.place c.in-Free.number
+at g c = record { at = (free g c).at; before = (free g c).before }
+
+more : (g : Over) (c : goal.After-new g) → c.push_reserved.new.self.items ≡ c.self.inside.entries.items ++ record { by = c.args.by; op = SlotOp.Acquire c.args.id c.in-Free.number } ∷ []
+more g c = c.push_reserved.ensures.items ∙ ap (λ (h : List SlotEntry). h ++ record { by = c.args.by; op = SlotOp.Acquire c.args.id c.in-Free.number } ∷ []) c.reserve.ensures.items
 
 pub invariant_of-self-in-Free : goal.invariant_of-self-in-Free
 invariant_of-self-in-Free g c =
     let places = c.self.inside.places.items in
-    let history = c.reserve.new.self.items in
-    let H : List SlotEntry → Type 0 = λ h. IsKept places h in
-    let kept = subst H (sym c.reserve.ensures.items) c.self.invariant.0 in
-    let free : IsFreeAt c.args.id (record { made = ids_of places; history = history }) c.in-Free.place c.in-Free.number = c.in-Free.ensures in
-    let place : IsPlaceOf places c.args.id c.in-Free.place c.in-Free.number = record { at = free.at; before = free.before } in
     let enough : c.in_ok-needed.needed ≡ c.len.result + 1 = search rules in
     let ok : vec_len c.reserve.new.self + c.in_ok-needed.needed ≤ vec_capacity c.reserve.new.self = c.in_ok-reserve.ensures.ok in
-    (acquire_keeps places history c.push_reserved.new.self.items c.args.id c.in-Free.place c.in-Free.number c.index_mut.result.now c.take.new.self c.args.by kept place free.least c.index_mut.ensures.value c.take.ensures.left c.push_reserved.ensures.items, omega (arith, away_is_within (set places c.in-Free.place c.take.new.self), length-set places c.in-Free.place c.take.new.self, enough, ok, c.push_reserved.ensures.len, c.push_reserved.ensures.capacity))
+    (moves_keep (at g c) c.index_mut.ensures.value c.take.ensures.left (more g c) c.self.invariant.0 (goes _ c.self.inside.entries.items c.args.id c.in-Free.number c.args.by (free g c).least), omega (arith, away_is_within (set places c.in-Free.place c.take.new.self), length-set places c.in-Free.place c.take.new.self, enough, ok, c.push_reserved.ensures.len, c.push_reserved.ensures.capacity))
 
 pub invariant_of-self-in-AllOut : goal.invariant_of-self-in-AllOut
 invariant_of-self-in-AllOut g c =
@@ -44,31 +47,12 @@ invariant_of-self-in-AllOut g c =
 
 pub returns-in-Some-clause-least : goal.returns-in-Some-clause-least
 returns-in-Some-clause-least g c =
-    let places = c.self.inside.places.items in
-    let history = c.self.inside.entries.items in
-    let id = c.args.id in
-    let k = c.in-Free.place in
-    let number = c.in-Free.number in
-    let p = c.index_mut.result.now in
-    let F : List SlotEntry → Type 0 = λ h. IsFreeAt id (record { made = ids_of places; history = h }) k number in
-    let free = subst F c.reserve.ensures.items c.in-Free.ensures in
-    let place : IsPlaceOf places id k number = record { at = free.at; before = free.before } in
-    let told : g.C.Coder.coder c.in-Some.coder ≡ p.id = c.in-Some.ensures.id in
-    least_inside c.args.self.now places history id number c.new.result c.args.by (g.C.Coder.meaning c.in-Some.coder) c.self.view_is free.least (g.C.Coder.coder c.in-Some.coder) (told ∙ sym (same_id places id k number p place c.index_mut.ensures.value)) c.new.ensures
+    let i = c.self.inside in
+    let told : g.C.Coder.coder c.in-Some.coder ≡ c.index_mut.result.now.id = c.in-Some.ensures.id in
+    least_inside c.args.self.now i.places.items i.entries.items c.args.id c.in-Free.number c.new.result c.args.by (g.C.Coder.meaning c.in-Some.coder) c.self.view_is (free g c).least (g.C.Coder.coder c.in-Some.coder) (told ∙ sym (same_id i.places.items c.args.id c.in-Free.place c.in-Free.number c.index_mut.result.now (at g c) c.index_mut.ensures.value)) c.new.ensures
 
 pub returns-in-Some-clause-acquired : goal.returns-in-Some-clause-acquired
-returns-in-Some-clause-acquired g c =
-    let places = c.self.inside.places.items in
-    let history = c.self.inside.entries.items in
-    let id = c.args.id in
-    let k = c.in-Free.place in
-    let number = c.in-Free.number in
-    let p = c.index_mut.result.now in
-    let F : List SlotEntry → Type 0 = λ h. IsFreeAt id (record { made = ids_of places; history = h }) k number in
-    let free = subst F c.reserve.ensures.items c.in-Free.ensures in
-    let place : IsPlaceOf places id k number = record { at = free.at; before = free.before } in
-    let more = c.push_reserved.ensures.items ∙ ap (λ (h : List SlotEntry). h ++ record { by = c.args.by; op = SlotOp.Acquire id number } ∷ []) c.reserve.ensures.items in
-    acquire_after c.args.self.now places history c.push_reserved.new.self.items k id number p c.take.new.self c.args.by c.self.view_is place free.least c.index_mut.ensures.value c.take.ensures.left more
+returns-in-Some-clause-acquired g c = acquire_after c.args.self.now c.self.inside.places.items c.self.inside.entries.items c.push_reserved.new.self.items c.in-Free.place c.args.id c.in-Free.number c.index_mut.result.now c.take.new.self c.args.by c.self.view_is (at g c) (free g c).least c.index_mut.ensures.value c.take.ensures.left (more g c)
 
 pub returns-in-Some-clause-held : goal.returns-in-Some-clause-held
 returns-in-Some-clause-held g c = acquired_is_held c.args.self.now _ c.args.by c.args.id c.new.result (returns-in-Some-clause-least g c) (returns-in-Some-clause-acquired g c)
