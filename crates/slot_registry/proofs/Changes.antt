@@ -1,16 +1,15 @@
 -- What an acquire, a refusal and a give make of a registry.
-use Rattle.std.proofs.Common.{ℕ, ◌+◌, ◌<◌, ◌≤◌, ◌≡◌, true, false, not, List, [], ◌∷◌, ◌++◌, Option, Some, take, length, get_or, set, slice_get, refl, ap, sym, subst, ◌∙◌, arith}
+use Rattle.std.proofs.Common.{ℕ, ◌+◌, ◌≤◌, ◌≡◌, true, not, List, Some, take, get_or, set, slice_get, refl, ap, sym, subst, ◌∙◌, arith}
 use Rattle.std.specs.List.{count_by}
 use Rattle.std.proofs.lemmas.List.{get_or_default}
-use Rattle.std.proofs.lemmas.Bool.{false≢true}
 use Rattle.wc_base.specs.declared.who.By.{By}
 use Rattle.wc_config.specs.declared.codec.CoderId.{CoderId}
-use Rattle.coder_api.specs.{declared.slot.SlotEntry.SlotEntry, declared.slot.SlotOp.SlotOp, Lent.Lent, Meaning.Meaning}
-use Rattle.slot_registry.specs.Boxes.{holder_of, is_out, made_of, out_of, least_free}
-use Rattle.slot_registry.specs.Slots.{SlotsValue, IsLeastFree, recorded, acquired, acquire_op, given_back}
+use Rattle.coder_api.specs.{declared.slot.SlotEntry.SlotEntry, Lent.Lent, Meaning.Meaning}
+use Rattle.slot_registry.specs.Boxes.{holder_of, is_out, made_of, least_free}
+use Rattle.slot_registry.specs.Slots.{SlotsValue, IsLeastFree}
 use Rattle.slot_registry.specs.Places.{Placed, ids_of, is_away, IsInStep, IsKept}
 use Rattle.slot_registry.specs.{NumberLaws.find_fails}
-use Rattle.slot_registry.proofs.Kept.{IsPlaceOf, place_within, same_id, value_after, away_falls}
+use Rattle.slot_registry.proofs.Kept.{IsPlaceOf, place_within, same_id, away_falls}
 
 -- the place has its coder where its box is not out
 pub home_at : (places : List Placed) (history : List SlotEntry) (id : CoderId) (k number : ℕ) (p : Placed) → IsKept places history → IsPlaceOf places id k number → p ≡ get_or places k p → p.is_home ≡ not (is_out id number history)
@@ -40,29 +39,10 @@ room_at places history id k number p kept place out here =
     let less = away_after places history id k number p (record p { is_home = true }) kept place out here refl in
     omega (arith, less)
 
--- no box is out at the beginning
-pub opens_kept : (places : List Placed) → ((k : ℕ) (d : Placed) → k < length places → (get_or places k d).is_home ≡ true) → IsKept places []
-opens_kept places home = record {
-  in_step = home;
-  made = λ id number out. absurd (false≢true out);
-  legal = refl;
-}
-
--- the registry after a give, whose entry names the box as the caller does
-pub give_after : (s : SlotsValue) (places : List Placed) (history new : List SlotEntry) (k : ℕ) (id asked : CoderId) (number wanted : ℕ) (p q : Placed) (cause : By) → record { made = ids_of places; history = history } ≡ s → IsPlaceOf places id k number → p ≡ get_or places k p → q ≡ record p { is_home = true } → new ≡ history ++ record { by = cause; op = SlotOp.Give id number } ∷ [] → id ≡ asked → number ≡ wanted → record { made = ids_of (set places k q); history = new } ≡ given_back cause asked wanted s
-give_after s places history new k id asked number wanted p q cause view place here back more same_id same_number =
-    value_after place here back (record { by = cause; op = SlotOp.Give id number }) more s view ∙ ap (λ (x : CoderId). given_back cause x number s) same_id ∙ ap (λ (n : ℕ). given_back cause asked n s) same_number
-
 -- who holds a box, as the registry's fields say
 pub held_inside : (s : SlotsValue) (places : List Placed) (history : List SlotEntry) (id asked : CoderId) (number wanted : ℕ) (holder : By) → record { made = ids_of places; history = history } ≡ s → id ≡ asked → number ≡ wanted → holder_of asked wanted s.history ≡ Some holder → holder_of id number history ≡ Some holder
 held_inside s places history id asked number wanted holder view same_id same_number held =
     ap (λ (x : CoderId). holder_of x number history) same_id ∙ ap (λ (n : ℕ). holder_of asked n history) same_number ∙ ap (λ (v : SlotsValue). holder_of asked wanted v.history) view ∙ held
-
--- the registry after the free box of least number went out
-pub acquire_after : (s : SlotsValue) (places : List Placed) (history new : List SlotEntry) (k : ℕ) (id : CoderId) (number : ℕ) (p q : Placed) (cause : By) → record { made = ids_of places; history = history } ≡ s → IsPlaceOf places id k number → least_free id (ids_of places) history ≡ Some number → p ≡ get_or places k p → q ≡ record p { is_home = false } → new ≡ history ++ record { by = cause; op = SlotOp.Acquire id number } ∷ [] → record { made = ids_of (set places k q); history = new } ≡ acquired cause id s
-acquire_after s places history new k id number p q cause view place least here left more =
-    let free : least_free id s.made s.history ≡ Some number = ap (λ (v : SlotsValue). least_free id v.made v.history) (sym view) ∙ least in
-    value_after place here left (record { by = cause; op = SlotOp.Acquire id number }) more s view ∙ ap (λ (o : Option ℕ). recorded (record { by = cause; op = acquire_op id (out_of id s.made s.history) (made_of id s.made) o }) s) (sym free)
 
 -- a place, as a call with the registry's value finds it
 pub place_inside : (s : SlotsValue) (places : List Placed) (history : List SlotEntry) (id : CoderId) (k number : ℕ) → record { made = ids_of places; history = history } ≡ s → slice_get s.made k ≡ Some id → number ≡ made_of id (take k s.made) → IsPlaceOf places id k number

@@ -9,12 +9,16 @@ use Rattle.slot_registry.specs.Slots.{SlotsValue, recorded, acquired, acquire_op
 use Rattle.slot_registry.proofs.Kept.{box_is}
 use Rattle.slot_registry.specs.{NumberLaws.find_fails, HistoryLaws.holder_more, HistoryLaws.box_same}
 
+-- an acquire has the entry of the free box of least number
+pub acquired_at : (s : SlotsValue) (cause : By) (id : CoderId) (number : ℕ) → least_free id s.made s.history ≡ Some number → acquired cause id s ≡ recorded (record { by = cause; op = SlotOp.Acquire id number }) s
+acquired_at s cause id number least = ap (λ (o : Option ℕ). recorded (record { by = cause; op = acquire_op id (out_of id s.made s.history) (made_of id s.made) o }) s) least
+
 -- the box that goes out is held by its cause
 pub acquired_is_held : (s new : SlotsValue) (cause : By) (id : CoderId) (lent : Lent) → IsLeastFree cause id s lent → new ≡ acquired cause id s → IsHeld new lent
 acquired_is_held s new cause id lent least is =
     let e : SlotEntry = record { by = cause; op = SlotOp.Acquire id lent.number } in
     let after : SlotsValue = recorded e s in
-    let op : new ≡ after = is ∙ ap (λ (o : Option ℕ). recorded (record { by = cause; op = acquire_op id (out_of id s.made s.history) (made_of id s.made) o }) s) least.number in
+    let op : new ≡ after = is ∙ acquired_at s cause id lent.number least.number in
     let here : holder_of id lent.number after.history ≡ Some cause = holder_more id lent.number s.history e ∙ ap (λ (b : Bool). cond b (Some cause) (holder_of id lent.number s.history)) (box_same id lent.number) in
     ap (λ (v : SlotsValue). holder_of lent.id lent.number v.history) op ∙ ap (λ (x : CoderId). holder_of x lent.number after.history) least.id ∙ here ∙ ap Some (sym least.by)
 

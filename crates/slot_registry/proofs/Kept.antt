@@ -1,5 +1,5 @@
 -- The places stay in step with the history.
-use Rattle.std.proofs.Common.{ℕ, ◌+◌, ◌<◌, ◌≤◌, ◌≡◌, ◌≢◌, ◌==◌, Bool, true, false, cond, not, List, [], ◌∷◌, ◌++◌, Option, Some, None, take, length, get_or, set, slice_get, refl, ap, sym, subst, ◌∙◌, arith, inl, inr}
+use Rattle.std.proofs.Common.{ℕ, ◌+◌, ◌<◌, ◌≤◌, ◌≡◌, ◌≢◌, ◌==◌, Bool, true, false, cond, not, List, [], ◌∷◌, ◌++◌, Option, Some, None, take, length, get_or, set, slice_get, ap, sym, subst, ◌∙◌, arith, inl, inr}
 use Rattle.std.specs.List.{count_by}
 use Rattle.std.proofs.lemmas.Bool.{and_parts, eqb-true, false_from_ne_true, cases_order, cases_Bool, cases_eq}
 use Rattle.std.proofs.lemmas.List.{get_or-set_same, get_or-set_other, length-set, length-map}
@@ -21,17 +21,17 @@ pub record IsPlaceOf (places : List Placed) (id : CoderId) (k number : ℕ) : Ty
 
 -- an entry that sends out or brings back this box alone, whose coder is at home after it or not
 pub record Moves (ids : List CoderId) (history : List SlotEntry) (id : CoderId) (number : ℕ) (home : Bool) (e : SlotEntry) : Type 0 where
-  pub this : is_out id number (history ++ e ∷ []) ≡ not home
+  pub this : home ≡ not (is_out id number (history ++ e ∷ []))
   pub others : (other : CoderId) (m : ℕ) → is_box other m id number ≡ false → is_out other m (history ++ e ∷ []) ≡ is_out other m history
   pub legal : is_legal_next ids history e ≡ true
 
 -- the free box of least number goes out
 pub goes : (ids : List CoderId) (history : List SlotEntry) (id : CoderId) (number : ℕ) (cause : By) → least_free id ids history ≡ Some number → Moves ids history id number false (record { by = cause; op = SlotOp.Acquire id number })
-goes ids history id number cause least = record { this = goes_out id number history cause; others = stays_at_acquire id number history cause; legal = acquire_is_legal ids history cause id number least }
+goes ids history id number cause least = record { this = ap not (sym (goes_out id number history cause)); others = stays_at_acquire id number history cause; legal = acquire_is_legal ids history cause id number least }
 
 -- a box comes back
 pub comes : (ids : List CoderId) (history : List SlotEntry) (id : CoderId) (number : ℕ) (holder cause : By) → holder_of id number history ≡ Some holder → is_later holder cause ≡ true → Moves ids history id number true (record { by = cause; op = SlotOp.Give id number })
-comes ids history id number holder cause held later = record { this = comes_back id number history cause; others = stays_at_give id number history cause; legal = give_is_legal ids history holder cause id number held later }
+comes ids history id number holder cause held later = record { this = ap not (sym (comes_back id number history cause)); others = stays_at_give id number history cause; legal = give_is_legal ids history holder cause id number held later }
 
 -- the id and the number of a box
 pub box_is : (a b : CoderId) (m n : ℕ) → is_box a m b n ≡ true → (a ≡ b) × (m ≡ n)
@@ -60,10 +60,6 @@ same_id places id k number p place here =
     let is : get_or (ids_of places) k id ≡ id = get_or_from_slice_get (ids_of places) k id id place.at in
     sym is ∙ got ∙ ap (λ (q : Placed). q.id) (sym here)
 
-not-not : (b : Bool) → b ≡ not (not b)
-not-not true = refl
-not-not false = refl
-
 -- the place of a box that goes out or comes back is written, and the history has the entry
 module _ {places : List Placed} {id : CoderId} {k number : ℕ} {p q : Placed} {home : Bool} (place : IsPlaceOf places id k number) (here : p ≡ get_or places k p) (change : q ≡ record p { is_home = home }) where
   written_id : id ≡ q.id
@@ -80,13 +76,14 @@ module _ {places : List Placed} {id : CoderId} {k number : ℕ} {p q : Placed} {
   in_step_after : {history : List SlotEntry} {e : SlotEntry} → IsKept places history → Moves (ids_of places) history id number home e → (j : ℕ) (d : Placed) → j < length places → IsInStep (ids_of places) (history ++ e ∷ []) j (get_or (set places k q) j d)
   in_step_after {history} {e} kept moves j d within =
       let P : Placed → Type 0 = λ r. IsInStep (ids_of places) (history ++ e ∷ []) j r in
-      elim (cases_eq j k) [ inl same ↦ (let at : get_or (set places k q) j d ≡ q = ap (λ (i : ℕ). get_or (set places k q) i d) same ∙ get_or-set_same places k q d (omega arith) in let Q : ℕ → Type 0 = λ i. IsInStep (ids_of places) (history ++ e ∷ []) i q in subst P (sym at) (subst Q (sym same) this_in_step)) | inr apart ↦ subst P (sym (get_or-set_other places k j q d apart)) (kept.in_step j d within ∙ ap not (sym (moves.others (get_or places j d).id (made_of (get_or places j d).id (take j (ids_of places))) (box_apart (ids_of places) j k number (get_or places j d).id id apart (place_id places j d within) place.at place.before)))) ]
+      let other = get_or places j d in
+      let box = λ (apart : j ≢ k). box_apart (ids_of places) j k number other.id id apart (place_id places j d within) place.at place.before in
+      elim (cases_eq j k) [ inl same ↦ (let at : get_or (set places k q) j d ≡ q = ap (λ (i : ℕ). get_or (set places k q) i d) same ∙ get_or-set_same places k q d (omega arith) in let Q : ℕ → Type 0 = λ i. IsInStep (ids_of places) (history ++ e ∷ []) i q in subst P (sym at) (subst Q (sym same) this_in_step)) | inr apart ↦ subst P (sym (get_or-set_other places k j q d apart)) (kept.in_step j d within ∙ ap not (sym (moves.others other.id _ (box apart)))) ]
     where
       this_in_step : IsInStep (ids_of places) (history ++ e ∷ []) k q
       this_in_step =
           let H : CoderId → Type 0 = λ x. q.is_home ≡ not (is_out x (made_of x (take k (ids_of places))) (history ++ e ∷ [])) in
-          let out = ap (λ (m : ℕ). is_out id m (history ++ e ∷ [])) (sym place.before) ∙ moves.this in
-          subst H written_id (ap (λ (r : Placed). r.is_home) change ∙ not-not home ∙ ap not (sym out))
+          subst H written_id (ap (λ (r : Placed). r.is_home) change ∙ moves.this ∙ ap (λ (m : ℕ). not (is_out id m (history ++ e ∷ []))) place.before)
 
   -- only boxes that were made are out after it
   made_after : {history : List SlotEntry} {e : SlotEntry} → IsKept places history → Moves (ids_of places) history id number home e → (other : CoderId) (m : ℕ) → is_out other m (history ++ e ∷ []) ≡ true → m < made_of other (ids_of places)

@@ -7,10 +7,10 @@ use Rattle.std.proofs.lemmas.List.Sums.{count_by_more_no}
 use Rattle.wc_config.specs.declared.codec.CoderId.{CoderId}
 use Rattle.coder_api.specs.{declared.slot.SlotEntry.SlotEntry, Meaning.is_id}
 use Rattle.slot_registry.specs.{Boxes.is_out, Boxes.made_of, Slots.SlotsValue}
-use Rattle.slot_registry.specs.Places.{Placed, ids_of, IsInStep, IsKept, IsFreeAt, AreAllOut}
+use Rattle.slot_registry.specs.Places.{Placed, ids_of, IsKept, IsFreeAt, AreAllOut}
 use Rattle.slot_registry.specs.IdLaws.{id_is, made_of_more, number_made}
 use Rattle.slot_registry.specs.NumberLaws.{find-all, find-first, count_by-all}
-use Rattle.slot_registry.proofs.Kept.{place_id}
+use Rattle.slot_registry.proofs.{Kept.place_id, Changes.place_inside, Changes.home_at}
 
 -- the walk is at a place of these ids
 pub record IsWalkAt (places : List Placed) (made : List CoderId) (k : ℕ) (p : Placed) : Type 0 where
@@ -42,13 +42,8 @@ counts_no places made id k n p walk count other =
 -- whether the box of a place is out
 pub out_at : (places : List Placed) (made : List CoderId) (history : List SlotEntry) (id : CoderId) (k n : ℕ) (p : Placed) → IsWalkAt places made k p → IsKept places history → n ≡ made_of id (take k made) → is_id id p.id ≡ true → p.is_home ≡ not (is_out id n history)
 out_at places made history id k n p walk kept count same =
-    let step : Placed → Type 0 = λ q. IsInStep (ids_of places) history k q in
-    let here = subst step (sym walk.here) (kept.in_step k p walk.within) in
-    let P : List CoderId → Type 0 = λ ids. p.is_home ≡ not (is_out p.id (made_of p.id (take k ids)) history) in
-    let at = subst P walk.same here in
-    let Q : CoderId → Type 0 = λ x. p.is_home ≡ not (is_out x (made_of x (take k made)) history) in
-    let R : ℕ → Type 0 = λ m. p.is_home ≡ not (is_out id m history) in
-    subst R (sym count) (subst Q (sym (id_is id p.id same)) at)
+    let place = place_inside (record { made = made; history = history }) places history id k n (ap (λ (ids : List CoderId). record { made = ids; history = history }) walk.same) (found_at places made id k p walk same) count in
+    home_at places history id k n p kept place walk.here
 
 -- one more box that is out
 pub one_more_out : (history : List SlotEntry) (id : CoderId) (n : ℕ) (home : Bool) → ((m : ℕ) → m < n → is_out id m history ≡ true) → home ≡ false → home ≡ not (is_out id n history) → (m : ℕ) → m < n + 1 → is_out id m history ≡ true

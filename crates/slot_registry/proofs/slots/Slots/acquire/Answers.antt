@@ -3,9 +3,10 @@ use Rattle.std.proofs.lemmas.List.{length-set}
 use Rattle.coder_api.specs.declared.slot.{SlotOp.SlotOp, SlotEntry.SlotEntry}
 use Rattle.std.proofs.lemmas.Bool.{false≢true}
 use Rattle.slot_registry.specs.Places.{ids_of, IsKept, IsFreeAt, AreAllOut}
-use Rattle.slot_registry.proofs.{Kept.IsPlaceOf, Kept.same_id, Kept.moves_keep, Kept.goes, Kept.away_is_within, Kept.refusal_keeps, Holders.acquired_is_held, Holders.acquire_keeps_boxes}
-use Rattle.slot_registry.proofs.Changes.{free_is_home, acquire_after, least_inside}
+use Rattle.slot_registry.proofs.{Kept.IsPlaceOf, Kept.same_id, Kept.moves_keep, Kept.value_after, Holders.acquired_at, Kept.goes, Kept.away_is_within, Kept.refusal_keeps, Holders.acquired_is_held, Holders.acquire_keeps_boxes}
+use Rattle.slot_registry.proofs.Changes.{free_is_home, least_inside}
 use Rattle.slot_registry.specs.Slots.{SlotsValue, KeepsBoxes}
+use Rattle.slot_registry.specs.Boxes.{least_free}
 use Rattle.slot_registry.proofs.slots.Slots.acquire.Given.{Over}
 use Rattle.slot_registry.proofs.slots.Slots.acquire.Goals as goal
 
@@ -52,7 +53,9 @@ returns-in-Some-clause-least g c =
     least_inside c.args.self.now i.places.items i.entries.items c.args.id c.in-Free.number c.new.result c.args.by (g.C.Coder.meaning c.in-Some.coder) c.self.view_is (free g c).least (g.C.Coder.coder c.in-Some.coder) (told ∙ sym (same_id i.places.items c.args.id c.in-Free.place c.in-Free.number c.index_mut.result.now (at g c) c.index_mut.ensures.value)) c.new.ensures
 
 pub returns-in-Some-clause-acquired : goal.returns-in-Some-clause-acquired
-returns-in-Some-clause-acquired g c = acquire_after c.args.self.now c.self.inside.places.items c.self.inside.entries.items c.push_reserved.new.self.items c.in-Free.place c.args.id c.in-Free.number c.index_mut.result.now c.take.new.self c.args.by c.self.view_is (at g c) (free g c).least c.index_mut.ensures.value c.take.ensures.left (more g c)
+returns-in-Some-clause-acquired g c =
+    let least = ap (λ (v : SlotsValue). least_free c.args.id v.made v.history) (sym c.self.view_is) ∙ (free g c).least in
+    value_after (at g c) c.index_mut.ensures.value c.take.ensures.left _ (more g c) c.args.self.now c.self.view_is ∙ sym (acquired_at c.args.self.now c.args.by c.args.id c.in-Free.number least)
 
 pub returns-in-Some-clause-held : goal.returns-in-Some-clause-held
 returns-in-Some-clause-held g c = acquired_is_held c.args.self.now _ c.args.by c.args.id c.new.result (returns-in-Some-clause-least g c) (returns-in-Some-clause-acquired g c)

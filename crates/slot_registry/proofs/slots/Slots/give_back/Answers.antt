@@ -1,9 +1,10 @@
-use Rattle.std.proofs.Common.{◌≡◌, Some, sym, subst, ap, arith, is_some}
+use Rattle.std.proofs.Common.{◌≡◌, ◌∙◌, ℕ, Some, sym, subst, ap, arith, is_some}
 use Rattle.wc_base.specs.declared.who.By.{By}
+use Rattle.wc_config.specs.declared.codec.CoderId.{CoderId}
 use Rattle.std.specs.Prelude.{Option}
-use Rattle.slot_registry.proofs.Changes.{place_inside, room_at, give_after, held_inside, away_after}
-use Rattle.slot_registry.specs.Slots.{SlotsValue, KeepsOthers}
-use Rattle.slot_registry.proofs.{Kept.IsPlaceOf, Kept.moves_keep, Kept.comes, Holders.give_keeps_others}
+use Rattle.slot_registry.proofs.Changes.{place_inside, room_at, held_inside, away_after}
+use Rattle.slot_registry.specs.Slots.{SlotsValue, KeepsOthers, given_back}
+use Rattle.slot_registry.proofs.{Kept.IsPlaceOf, Kept.moves_keep, Kept.value_after, Kept.comes, Holders.give_keeps_others}
 use Rattle.slot_registry.specs.Boxes.{holder_of}
 use Rattle.slot_registry.proofs.slots.Slots.give_back.Given.{Over}
 use Rattle.slot_registry.proofs.slots.Slots.give_back.Goals as goal
@@ -31,7 +32,8 @@ invariant_of-self g c =
 
 pub returns-clause-given : goal.returns-clause-given
 returns-clause-given g c =
-    give_after c.args.self.now c.self.inside.places.items c.self.inside.entries.items c.push_reserved.new.self.items c.place_of-place.result c.id-id.result c.args.slot.id c.number-number.result c.args.slot.number c.index_mut.result.now c.put.new.self c.args.by c.self.view_is (at g c) c.index_mut.ensures.value c.put.ensures c.push_reserved.ensures.items c.id-id.ensures c.number-number.ensures
+    let s = c.args.self.now in
+    value_after (at g c) c.index_mut.ensures.value c.put.ensures _ c.push_reserved.ensures.items s c.self.view_is ∙ ap (λ (x : CoderId). given_back c.args.by x c.number-number.result s) c.id-id.ensures ∙ ap (λ (n : ℕ). given_back c.args.by c.args.slot.id n s) c.number-number.ensures
 
 pub returns-clause-kept : goal.returns-clause-kept
 returns-clause-kept g c =

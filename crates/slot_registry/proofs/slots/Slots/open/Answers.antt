@@ -1,10 +1,10 @@
-use Rattle.std.proofs.Common.{◌≡◌, sym, ap, ◌∙◌, ◌++◌, arith, subst, length, map, List, [], ◌∷◌}
+use Rattle.std.proofs.Common.{◌≡◌, refl, sym, ap, ◌∙◌, ◌++◌, arith, subst, length, map, List, [], ◌∷◌}
 use Rattle.std.specs.Vec.Iter.{into_iter_items}
 use Rattle.slot_registry.proofs.Opens.{ids_step, ids_end, home_step, nothing_left, away_none}
 use Rattle.slot_registry.specs.{Places.Placed, Places.IsKept, Slots.SlotsValue}
 use Rattle.coder_api.specs.declared.slot.SlotEntry.{SlotEntry}
 use Rattle.wc_config.specs.declared.codec.CoderId.{CoderId}
-use Rattle.slot_registry.proofs.Changes.{opens_kept}
+use Rattle.std.proofs.lemmas.Bool.{false≢true}
 use Rattle.slot_registry.proofs.slots.Slots.open.Goals as goal
 
 pub loop-coder-preserved : goal.loop-coder-preserved
@@ -27,7 +27,7 @@ invariant_of-result g c =
     let places = c.loop-coder.places.items in
     let home = c.loop-coder.invariant.home in
     let H : List SlotEntry → Type 0 = λ h. IsKept places h in
-    (subst H (sym c.new.ensures.items) (opens_kept places home), omega (arith, away_none places home, c.new.ensures.len))
+    (subst H (sym c.new.ensures.items) (record { in_step = home; made = λ id number out. absurd (false≢true out); legal = refl }), omega (arith, away_none places home, c.new.ensures.len))
 
 pub returns : goal.returns
 returns g c =
