@@ -20,11 +20,6 @@ home_at places history id k number p kept place here =
     let R : ℕ → Type 0 = λ m. p.is_home ≡ not (is_out id m history) in
     subst R (sym place.before) (subst Q (sym (same_id places id k number p place here)) at)
 
--- the free box of least number is at home
-pub free_is_home : (places : List Placed) (history : List SlotEntry) (id : CoderId) (k number : ℕ) (p : Placed) → IsKept places history → IsPlaceOf places id k number → least_free id (ids_of places) history ≡ Some number → p ≡ get_or places k p → p.is_home ≡ true
-free_is_home places history id k number p kept place least here =
-    home_at places history id k number p kept place here ∙ ap not (find_fails (λ m. is_out id m history) (made_of id (ids_of places)) number least)
-
 -- one box less is out then
 pub away_after : (places : List Placed) (history : List SlotEntry) (id : CoderId) (k number : ℕ) (p q : Placed) → IsKept places history → IsPlaceOf places id k number → is_out id number history ≡ true → p ≡ get_or places k p → q.is_home ≡ true → count_by is_away (set places k q) + 1 ≡ count_by is_away places
 away_after places history id k number p q kept place out here back =

@@ -1,10 +1,10 @@
 -- The places stay in step with the history.
-use Rattle.std.proofs.Common.{ℕ, ◌+◌, ◌<◌, ◌≤◌, ◌≡◌, ◌≢◌, ◌==◌, Bool, true, false, cond, not, List, [], ◌∷◌, ◌++◌, Option, Some, None, take, length, get_or, set, slice_get, ap, sym, subst, ◌∙◌, arith, inl, inr}
+use Rattle.std.proofs.Common.{ℕ, ◌+◌, ◌<◌, ◌≡◌, ◌≢◌, ◌==◌, Bool, true, false, cond, not, List, [], ◌∷◌, ◌++◌, Option, Some, None, take, length, get_or, set, slice_get, ap, sym, subst, ◌∙◌, arith, inl, inr}
 use Rattle.std.specs.List.{count_by}
 use Rattle.std.proofs.lemmas.Bool.{and_parts, eqb-true, false_from_ne_true, cases_order, cases_Bool, cases_eq}
 use Rattle.std.proofs.lemmas.List.{get_or-set_same, get_or-set_other, length-set, length-map}
 use Rattle.std.proofs.lemmas.Option.{slice_get-get_or, slice_get-map, get_or_from_slice_get, slice_get_within}
-use Rattle.std.proofs.lemmas.List.Sums.{sum_by-set, count_by-le-length}
+use Rattle.std.proofs.lemmas.List.Sums.{sum_by-set}
 use Rattle.wc_base.specs.declared.who.By.{By}
 use Rattle.wc_config.specs.declared.codec.CoderId.{CoderId}
 use Rattle.coder_api.specs.{declared.slot.SlotEntry.SlotEntry, declared.slot.SlotOp.SlotOp, Meaning.is_id}
@@ -113,10 +113,6 @@ refusal_keeps places history id all cause kept out made = record {
   made = λ other number is. kept.made other number (sym (stays_at_refusal id all all history cause other number) ∙ is);
   legal = legal_more (ids_of places) history (record { by = cause; op = SlotOp.Refused id all all }) kept.legal (refusal_is_legal (ids_of places) history cause id all out made);
 }
-
--- so many boxes are out
-pub away_is_within : (places : List Placed) → count_by is_away places ≤ length places
-away_is_within places = count_by-le-length is_away places
 
 -- one box less is out once it came back
 pub away_falls : (places : List Placed) (k : ℕ) (p : Placed) → k < length places → is_away (get_or places k p) ≡ true → is_away p ≡ false → count_by is_away (set places k p) + 1 ≡ count_by is_away places

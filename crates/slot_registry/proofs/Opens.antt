@@ -22,10 +22,6 @@ home_step places new p before home more k d low =
     let P : List Placed → Type 0 = λ l. (get_or l k d).is_home ≡ true in
     subst P (sym more) (elim (cases_eq (length places) k) [ inl last ↦ ap (λ (q : Placed). q.is_home) (get_or_push places p d k last) ∙ home | inr other ↦ (let within : k < length places = omega (arith, long) in ap (λ (q : Placed). q.is_home) (get_or_append_left places (p ∷ []) d k within) ∙ before k d within) ])
 
-pub nothing_left : {X : Type 0} (l : List X) → length l ≡ 0 → l ≡ []
-nothing_left [] h = refl
-nothing_left (x ∷ xs) h = absurd (omega arith)
-
 -- no coder is out
 pub away_none : (places : List Placed) → ((k : ℕ) (d : Placed) → k < length places → (get_or places k d).is_home ≡ true) → count_by is_away places ≡ 0
 away_none [] home = refl

@@ -1,10 +1,10 @@
 use Rattle.std.proofs.Common.{◌≡◌, refl, sym, ap, ◌∙◌, ◌++◌, arith, subst, length, map, List, [], ◌∷◌}
 use Rattle.std.specs.Vec.Iter.{into_iter_items}
-use Rattle.slot_registry.proofs.Opens.{ids_step, ids_end, home_step, nothing_left, away_none}
+use Rattle.slot_registry.proofs.Opens.{ids_step, ids_end, home_step, away_none}
 use Rattle.slot_registry.specs.{Places.Placed, Places.IsKept, Slots.SlotsValue}
 use Rattle.coder_api.specs.declared.slot.SlotEntry.{SlotEntry}
 use Rattle.wc_config.specs.declared.codec.CoderId.{CoderId}
-use Rattle.std.proofs.lemmas.Bool.{false≢true}
+use Rattle.std.proofs.lemmas.{Bool.false≢true, List.nil_from_length}
 use Rattle.slot_registry.proofs.slots.Slots.open.Goals as goal
 
 pub loop-coder-preserved : goal.loop-coder-preserved
@@ -33,7 +33,7 @@ pub returns : goal.returns
 returns g c =
     let at = c.loop-coder in
     let ids = map g.C.Coder.coder c.args.coders.items in
-    let none = nothing_left (into_iter_items at.coder-iterator) (sym at.invariant.long ∙ c.in-None.ensures.steps.0) in
+    let none = nil_from_length (into_iter_items at.coder-iterator) (sym at.invariant.long ∙ c.in-None.ensures.steps.0) in
     let all = ids_end g.C.Coder.coder at.places.items (into_iter_items at.coder-iterator) c.args.coders.items at.invariant.ids none in
     let left : SlotsValue = record { made = ids; history = [] } in
     ap (λ (l : List CoderId). record left { made = l; history = c.new.result.items }) all ∙ ap (λ (h : List SlotEntry). record left { made = ids; history = h }) c.new.ensures.items
