@@ -7,18 +7,17 @@ use Rattle.wc_config.specs.declared.codec.CoderId.{CoderId}
 use Rattle.coder_api.specs.{declared.slot.SlotEntry.SlotEntry, Lent.Lent, Meaning.Meaning}
 use Rattle.slot_registry.specs.Boxes.{holder_of, is_out, made_of, least_free}
 use Rattle.slot_registry.specs.Slots.{SlotsValue, IsLeastFree}
-use Rattle.slot_registry.specs.Places.{Placed, ids_of, is_away, IsInStep, IsKept}
+use Rattle.slot_registry.specs.Places.{Placed, ids_of, is_away, IsKept}
 use Rattle.slot_registry.specs.{NumberLaws.find_fails}
 use Rattle.slot_registry.proofs.Kept.{IsPlaceOf, place_within, same_id, away_falls}
 
 -- the place has its coder where its box is not out
 pub home_at : (places : List Placed) (history : List SlotEntry) (id : CoderId) (k number : ℕ) (p : Placed) → IsKept places history → IsPlaceOf places id k number → p ≡ get_or places k p → p.is_home ≡ not (is_out id number history)
 home_at places history id k number p kept place here =
-    let step : Placed → Type 0 = λ q. IsInStep (ids_of places) history k q in
-    let at = subst step (sym here) (kept.in_step k p (place_within places id k number place)) in
-    let Q : CoderId → Type 0 = λ x. p.is_home ≡ not (is_out x (made_of x (take k (ids_of places))) history) in
-    let R : ℕ → Type 0 = λ m. p.is_home ≡ not (is_out id m history) in
-    subst R (sym place.before) (subst Q (sym (same_id places id k number p place here)) at)
+    let at = kept.in_step k p (place_within places id k number place) in
+    let same = same_id places id k number p place here in
+    let before = place.before in
+    cc
 
 -- one box less is out then
 pub away_after : (places : List Placed) (history : List SlotEntry) (id : CoderId) (k number : ℕ) (p q : Placed) → IsKept places history → IsPlaceOf places id k number → is_out id number history ≡ true → p ≡ get_or places k p → q.is_home ≡ true → count_by is_away (set places k q) + 1 ≡ count_by is_away places

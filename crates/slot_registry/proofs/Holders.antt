@@ -1,6 +1,6 @@
 -- Who holds a box after one more entry.
 use Rattle.std.proofs.Common.{ℕ, ◌≡◌, Bool, true, false, cond, Option, Some, None, is_some, refl, ap, sym, ◌∙◌}
-use Rattle.std.proofs.lemmas.Bool.{false_from_ne_true, false≢true}
+use Rattle.std.proofs.lemmas.Bool.{false_from_ne_true}
 use Rattle.wc_base.specs.declared.who.By.{By}
 use Rattle.wc_config.specs.declared.codec.CoderId.{CoderId}
 use Rattle.coder_api.specs.{Lent.Lent, declared.slot.SlotEntry.SlotEntry, declared.slot.SlotOp.SlotOp}
@@ -27,8 +27,7 @@ free_apart : (s : SlotsValue) (id : CoderId) (number : ℕ) (lent : Lent) → is
 free_apart s id number lent free held = false_from_ne_true (is_box lent.id lent.number id number) (λ (same : is_box lent.id lent.number id number ≡ true).
     let parts = box_is lent.id id lent.number number same in
     let out : is_out lent.id lent.number s.history ≡ true = ap is_some held in
-    let out_too : is_out id number s.history ≡ true = ap (λ (x : CoderId). is_out x number s.history) (sym parts.0) ∙ ap (λ (n : ℕ). is_out lent.id n s.history) (sym parts.1) ∙ out in
-    false≢true (sym free ∙ out_too))
+    absurd cc)
 
 op_keeps_boxes : (s : SlotsValue) (cause : By) (id : CoderId) (out all : ℕ) (free : Option ℕ) → least_free id s.made s.history ≡ free → (lent : Lent) → IsHeld s lent → IsHeld (recorded (record { by = cause; op = acquire_op id out all free }) s) lent
 op_keeps_boxes s cause id out all None free lent held = holder_more lent.id lent.number s.history (record { by = cause; op = SlotOp.Refused id out all }) ∙ held

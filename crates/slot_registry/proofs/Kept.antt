@@ -3,7 +3,7 @@ use Rattle.std.proofs.Common.{ℕ, ◌+◌, ◌<◌, ◌≡◌, ◌≢◌, ◌==
 use Rattle.std.specs.List.{count_by}
 use Rattle.std.proofs.lemmas.Bool.{and_parts, eqb-true, false_from_ne_true, cases_order, cases_Bool, cases_eq}
 use Rattle.std.proofs.lemmas.List.{get_or-set_same, get_or-set_other, length-set, length-map}
-use Rattle.std.proofs.lemmas.Option.{slice_get-get_or, slice_get-map, get_or_from_slice_get, slice_get_within}
+use Rattle.std.proofs.lemmas.Option.{slice_get-get_or, slice_get-map, slice_get_within}
 use Rattle.std.proofs.lemmas.List.Sums.{sum_by-set}
 use Rattle.wc_base.specs.declared.who.By.{By}
 use Rattle.wc_config.specs.declared.codec.CoderId.{CoderId}
@@ -56,9 +56,8 @@ place_within places id k number place = omega (arith, slice_get_within (ids_of p
 pub same_id : (places : List Placed) (id : CoderId) (k number : ℕ) (p : Placed) → IsPlaceOf places id k number → p ≡ get_or places k p → id ≡ p.id
 same_id places id k number p place here =
     let at = place_id places k p (place_within places id k number place) in
-    let got : get_or (ids_of places) k id ≡ (get_or places k p).id = get_or_from_slice_get (ids_of places) k (get_or places k p).id id at in
-    let is : get_or (ids_of places) k id ≡ id = get_or_from_slice_get (ids_of places) k id id place.at in
-    sym is ∙ got ∙ ap (λ (q : Placed). q.id) (sym here)
+    let is = place.at in
+    cc
 
 -- the place of a box that goes out or comes back is written, and the history has the entry
 module _ {places : List Placed} {id : CoderId} {k number : ℕ} {p q : Placed} {home : Bool} (place : IsPlaceOf places id k number) (here : p ≡ get_or places k p) (change : q ≡ record p { is_home = home }) where
