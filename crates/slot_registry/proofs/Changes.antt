@@ -30,8 +30,7 @@ away_after places history id k number p q kept place out here back =
 -- a box that is out leaves room for its return
 pub room_at : (places : List Placed) (history : List SlotEntry) (id : CoderId) (k number : ℕ) (p : Placed) → IsKept places history → IsPlaceOf places id k number → is_out id number history ≡ true → p ≡ get_or places k p → 1 ≤ count_by is_away places
 room_at places history id k number p kept place out here =
-    let less = away_after places history id k number p (record p { is_home = true }) kept place out here refl in
-    omega (arith, less)
+    omega (arith, away_after places history id k number p (record p { is_home = true }) kept place out here refl)
 
 -- who holds a box, as the registry's fields say
 pub held_inside : (s : SlotsValue) (places : List Placed) (history : List SlotEntry) (id asked : CoderId) (number wanted : ℕ) (holder : By) → record { made = ids_of places; history = history } ≡ s → id ≡ asked → number ≡ wanted → holder_of asked wanted s.history ≡ Some holder → holder_of id number history ≡ Some holder

@@ -117,6 +117,4 @@ refusal_keeps places history id all cause kept out made = record {
 pub away_falls : (places : List Placed) (k : ℕ) (p : Placed) → k < length places → is_away (get_or places k p) ≡ true → is_away p ≡ false → count_by is_away (set places k p) + 1 ≡ count_by is_away places
 away_falls places k p within old new =
     let change = sum_by-set (λ q. cond (is_away q) 1 0) places k p p within in
-    let before = ap {B = ℕ} (λ (b : Bool). cond b 1 0) old in
-    let after = ap {B = ℕ} (λ (b : Bool). cond b 1 0) new in
-    omega (arith, change, before, after)
+    grind (arith, change, old, new)

@@ -1,5 +1,5 @@
 -- The places of coders that were handed in.
-use Rattle.std.proofs.Common.{ℕ, ◌+◌, ◌<◌, ◌≡◌, Bool, true, cond, not, suc, List, [], ◌∷◌, ◌++◌, length, get_or, map, refl, ap, sym, subst, ◌∙◌, arith, append_assoc, append-nil, inl, inr}
+use Rattle.std.proofs.Common.{ℕ, ◌+◌, ◌<◌, ◌≡◌, true, cond, suc, List, [], ◌∷◌, ◌++◌, length, get_or, map, refl, ap, sym, subst, ◌∙◌, arith, append_assoc, append-nil, inl, inr}
 use Rattle.std.proofs.lemmas.List.{map_push, get_or_push, get_or_append_left, length_push}
 use Rattle.std.proofs.lemmas.Bool.{cases_eq}
 use Rattle.wc_config.specs.declared.codec.CoderId.{CoderId}
@@ -26,7 +26,7 @@ home_step places new p before home more k d low =
 pub away_none : (places : List Placed) → ((k : ℕ) (d : Placed) → k < length places → (get_or places k d).is_home ≡ true) → count_by is_away places ≡ 0
 away_none [] home = refl
 away_none (p ∷ rest) home =
-    let here = ap {B = ℕ} (λ (b : Bool). cond (not b) 1 0) (home 0 p (omega arith)) in
+    let here : p.is_home ≡ true = home 0 p (omega arith) in
     let split = sum_by-cons (λ q. cond (is_away q) 1 0) p rest in
     let others = away_none rest (λ k d low. home (suc k) d (omega arith)) in
-    omega (arith, here, split, others)
+    grind (arith, here, split, others)

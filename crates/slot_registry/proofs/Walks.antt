@@ -29,15 +29,13 @@ found_at places made id k p walk same = id_at places made k p walk ∙ ap Some (
 
 pub counts_yes : (places : List Placed) (made : List CoderId) (id : CoderId) (k n : ℕ) (p : Placed) → IsWalkAt places made k p → n ≡ made_of id (take k made) → is_id id p.id ≡ true → n + 1 ≡ made_of id (take (k + 1) made)
 counts_yes places made id k n p walk count same =
-    let more = made_of_more id made k (found_at places made id k p walk same) in
-    omega (arith, more, count)
+    omega (arith, count, made_of_more id made k (found_at places made id k p walk same))
 
 pub counts_no : (places : List Placed) (made : List CoderId) (id : CoderId) (k n : ℕ) (p : Placed) → IsWalkAt places made k p → n ≡ made_of id (take k made) → is_id id p.id ≡ false → n ≡ made_of id (take (k + 1) made)
 counts_no places made id k n p walk count other =
     let at = id_at places made k p walk in
     let here : is_id id (get_or made k p.id) ≡ false = ap (is_id id) (get_or_from_slice_get made k p.id p.id at) ∙ other in
-    let more = count_by_more_no (is_id id) made k p.id (slice_get_within made k p.id at) here in
-    count ∙ sym more
+    count ∙ sym (count_by_more_no (is_id id) made k p.id (slice_get_within made k p.id at) here)
 
 -- whether the box of a place is out
 pub out_at : (places : List Placed) (made : List CoderId) (history : List SlotEntry) (id : CoderId) (k n : ℕ) (p : Placed) → IsWalkAt places made k p → IsKept places history → n ≡ made_of id (take k made) → is_id id p.id ≡ true → p.is_home ≡ not (is_out id n history)
