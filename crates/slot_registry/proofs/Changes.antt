@@ -1,5 +1,5 @@
 -- What an acquire, a refusal and a give make of a registry.
-use Rattle.std.proofs.Common.{ℕ, ◌+◌, ◌≤◌, ◌≡◌, true, not, List, Some, take, get_or, set, slice_get, refl, ap, sym, subst, ◌∙◌, arith}
+use Rattle.std.proofs.Common.{ℕ, ◌+◌, ◌≤◌, ◌≡◌, true, not, List, Some, take, get_or, set, slice_get, refl, ap, sym, ◌∙◌, arith}
 use Rattle.std.specs.List.{count_by}
 use Rattle.std.proofs.lemmas.List.{get_or_default}
 use Rattle.wc_base.specs.declared.who.By.{By}
@@ -40,9 +40,8 @@ held_inside s places history id asked number wanted holder view same_id same_num
 -- a place, as a call with the registry's value finds it
 pub place_inside : (s : SlotsValue) (places : List Placed) (history : List SlotEntry) (id : CoderId) (k number : ℕ) → record { made = ids_of places; history = history } ≡ s → slice_get s.made k ≡ Some id → number ≡ made_of id (take k s.made) → IsPlaceOf places id k number
 place_inside s places history id k number view at before =
-    let At : SlotsValue → Type 0 = λ v. slice_get v.made k ≡ Some id in
-    let Before : SlotsValue → Type 0 = λ v. number ≡ made_of id (take k v.made) in
-    record { at = subst At (sym view) at; before = subst Before (sym view) before }
+    let same : ids_of places ≡ s.made = ap (λ (v : SlotsValue). v.made) view in
+    record { at = rw same at; before = rw same before }
 
 -- the box that goes out is the free one of least number
 pub least_inside : (s : SlotsValue) (places : List Placed) (history : List SlotEntry) (id : CoderId) (number : ℕ) (lent : Lent) (cause : By) (meaning : Meaning) → record { made = ids_of places; history = history } ≡ s → least_free id (ids_of places) history ≡ Some number → (i : CoderId) → i ≡ id → lent ≡ record { id = i; meaning = meaning; number = number; by = cause } → IsLeastFree cause id s lent
