@@ -92,8 +92,7 @@ module _ {places : List Placed} {id : CoderId} {k number : ℕ} {p q : Placed} {
   -- the places are in step then
   pub moves_keep : {history new : List SlotEntry} {e : SlotEntry} → new ≡ history ++ e ∷ [] → IsKept places history → Moves (ids_of places) history id number home e → IsKept (set places k q) new
   moves_keep {history} {new} {e} more kept moves =
-      let H : List SlotEntry → Type 0 = λ h. IsKept (set places k q) h in
-      subst H (sym more) (record {
+      subst (IsKept (set places k q)) (sym more) (record {
         in_step = λ j d within.
             let P : List CoderId → Type 0 = λ ids. IsInStep ids (history ++ e ∷ []) j (get_or (set places k q) j d) in
             subst P (sym ids_stay) (in_step_after kept moves j d (omega (arith, within, length-set places k q)));

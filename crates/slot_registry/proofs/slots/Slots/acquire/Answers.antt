@@ -40,12 +40,11 @@ pub invariant_of-self-in-AllOut : goal.invariant_of-self-in-AllOut
 invariant_of-self-in-AllOut g c =
     let places = c.self.inside.places.items in
     let history = c.reserve.new.self.items in
-    let H : List SlotEntry → Type 0 = λ h. IsKept places h in
-    let kept = subst H (sym c.reserve.ensures.items) c.self.invariant.0 in
+    let kept = subst (IsKept places) (sym c.reserve.ensures.items) c.self.invariant.0 in
     let all : AreAllOut c.args.id (record { made = ids_of places; history = history }) c.in-AllOut.made = c.in-AllOut.ensures in
     let enough : c.in_ok-needed.needed ≡ c.len.result + 1 = search rules in
     let ok : vec_len c.reserve.new.self + c.in_ok-needed.needed ≤ vec_capacity c.reserve.new.self = c.in_ok-reserve.ensures.ok in
-    (subst H (sym c.push_reserved-in-AllOut.ensures.items) (refusal_keeps places history c.args.id c.in-AllOut.made c.args.by kept all.out all.made), omega (arith, count_by-le-length is_away places, enough, ok, c.push_reserved-in-AllOut.ensures.len, c.push_reserved-in-AllOut.ensures.capacity))
+    (subst (IsKept places) (sym c.push_reserved-in-AllOut.ensures.items) (refusal_keeps places history c.args.id c.in-AllOut.made c.args.by kept all.out all.made), omega (arith, count_by-le-length is_away places, enough, ok, c.push_reserved-in-AllOut.ensures.len, c.push_reserved-in-AllOut.ensures.capacity))
 
 pub returns-in-Some-clause-least : goal.returns-in-Some-clause-least
 returns-in-Some-clause-least g c =
@@ -62,6 +61,4 @@ pub returns-in-Some-clause-held : goal.returns-in-Some-clause-held
 returns-in-Some-clause-held g c = acquired_is_held c.args.self.now _ c.args.by c.args.id c.new.result (returns-in-Some-clause-least g c) (returns-in-Some-clause-acquired g c)
 
 pub returns-in-Some-clause-kept : goal.returns-in-Some-clause-kept
-returns-in-Some-clause-kept g c =
-    let K : SlotsValue → Type 0 = λ v. KeepsBoxes c.args.self.now v in
-    subst K (sym (returns-in-Some-clause-acquired g c)) (acquire_keeps_boxes c.args.by c.args.id c.args.self.now)
+returns-in-Some-clause-kept g c = subst (KeepsBoxes c.args.self.now) (sym (returns-in-Some-clause-acquired g c)) (acquire_keeps_boxes c.args.by c.args.id c.args.self.now)

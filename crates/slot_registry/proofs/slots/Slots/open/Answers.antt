@@ -26,8 +26,7 @@ pub invariant_of-result : goal.invariant_of-result
 invariant_of-result g c =
     let places = c.loop-coder.places.items in
     let home = c.loop-coder.invariant.home in
-    let H : List SlotEntry → Type 0 = λ h. IsKept places h in
-    (subst H (sym c.new.ensures.items) (record { in_step = home; made = λ id number out. absurd (false≢true out); legal = refl }), omega (arith, away_none places home, c.new.ensures.len))
+    (subst (IsKept places) (sym c.new.ensures.items) (record { in_step = home; made = λ id number out. absurd (false≢true out); legal = refl }), omega (arith, away_none places home, c.new.ensures.len))
 
 pub returns : goal.returns
 returns g c =
