@@ -59,7 +59,7 @@ one_more_chunk [] chunk bytes middle rest p q = (rest, subst (λ (l : List ℕ).
 one_more_chunk (a ∷ cs) chunk bytes middle rest p q = (p.0, p.1, one_more_chunk cs chunk p.0 middle rest p.2 q)
 
 -- a chunk is as long as its header and its own bytes
-begun_length : (chunk : Chunk) (bytes rest : List ℕ) → BeginsWith chunk bytes rest → length bytes ≡ 22 + (length chunk.bytes + length rest)
+pub begun_length : (chunk : Chunk) (bytes rest : List ℕ) → BeginsWith chunk bytes rest → length bytes ≡ 22 + (length chunk.bytes + length rest)
 begun_length chunk bytes rest p = let e = ap length p.content in omega (arith, p.header, length-drop 22 bytes, length-append chunk.bytes rest)
 
 -- one more chunk, read at a place

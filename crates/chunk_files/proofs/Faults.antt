@@ -1,5 +1,5 @@
 -- Bytes that begin with a chunk have no fault there.
-use Rattle.std.proofs.Common.{◌≡◌, ◌≤◌, ◌+◌, ◌==◌, ℕ, Bool, true, false, nat_lt, List, [], ◌∷◌, ◌++◌, length, drop, take, zero, suc, slice_index, Option, Some, None, if◌then◌else◌, codes, refl, sym, ap, ◌∙◌, arith, length-append, length-drop}
+use Rattle.std.proofs.Common.{◌≡◌, ◌≤◌, ◌+◌, ◌==◌, ℕ, Bool, true, false, nat_lt, List, [], ◌∷◌, ◌++◌, length, drop, take, zero, suc, slice_index, Option, Some, None, if◌then◌else◌, codes, refl, sym, ap, subst, ◌∙◌, arith, length-drop}
 use Rattle.std.proofs.lemmas.Bool.Decides.{nat_tests}
 use Rattle.std.proofs.lemmas.List.{take-append-drop, drop-drop, length-take}
 use Rattle.byteorder.specs.Endian.{big_number}
@@ -7,7 +7,7 @@ use Rattle.wc_chunk.specs.declared.chunk.Chunk.{Chunk}
 use Rattle.chunk_files.specs.declared.fault.ChunkFault.{ChunkFault}
 use Rattle.chunk_files.specs.Layout.{type_byte, IsDuration, BeginsWith}
 use Rattle.chunk_files.specs.Grammar.{agreeing, chunk_fault, marked, BeginsWithAll, IsFirstFault}
-use Rattle.chunk_files.proofs.Chunks.{IsEnd}
+use Rattle.chunk_files.proofs.Chunks.{IsEnd, begun_length}
 
 -- the fields of a chunk are whole, and its two bytes with a meaning are 0 or 1
 pub record IsWhole (bytes : List ℕ) : Type 0 where
@@ -27,12 +27,11 @@ flag_small (Some d) bytes p = omega arith
 pub begun_is_whole : (chunk : Chunk) (bytes rest : List ℕ) → BeginsWith chunk bytes rest → IsWhole bytes
 begun_is_whole chunk bytes rest p =
     let small = type_small chunk.key in
-    let lengths : length bytes ≡ 22 + (length chunk.bytes + length rest) = let e = ap length p.content in omega (arith, p.header, length-drop 22 bytes, length-append chunk.bytes rest) in
     record {
       header = p.header;
       chunk_type = omega (arith, p.chunk_type);
       flag = flag_small chunk.duration bytes p.duration;
-      content = omega (arith, p.count);
+      content = omega (arith, p.count, begun_length chunk bytes rest p);
     }
 
 not_less : (a b : ℕ) → b ≤ a → nat_lt a b ≡ false
@@ -58,39 +57,29 @@ pub fault_ends : (place : ℕ) (bytes : List ℕ) (found : ChunkFault) → chunk
 fault_ends place bytes found e = record { none = λ chunk rest p. let none = whole_has_no_fault place bytes (begun_is_whole chunk bytes rest p) in cc }
 
 -- a chunk's fault is none of the mark
-record IsOfChunk (fault_of : Option ChunkFault) : Type 0 where
-  mark : (at : ℕ) → fault_of ≡ Some (ChunkFault.BadMark at) → ⊥
+abbrev IsOfChunk : Option ChunkFault → Type 0
+IsOfChunk (Some (ChunkFault.BadMark at)) = ⊥
+IsOfChunk _ = Unit {0}
 
 tested : (b : Bool) (x y : Option ChunkFault) → IsOfChunk x → IsOfChunk y → IsOfChunk (if b then x else y)
 tested true x y p q = p
 tested false x y p q = q
 
-no_fault : IsOfChunk None
-no_fault = record { mark = λ at e. absurd cc }
-
-kind : (at found : ℕ) → IsOfChunk (Some (ChunkFault.BadKind at found))
-kind at found = record { mark = λ at e. absurd cc }
-
-short : (at : ℕ) → IsOfChunk (Some (ChunkFault.Short at))
-short at = record { mark = λ at e. absurd cc }
-
 of_chunk : (place : ℕ) (bytes : List ℕ) → IsOfChunk (chunk_fault place bytes)
 of_chunk place bytes =
-    tested (length bytes == 0) _ _ no_fault (
-    tested (nat_lt 1 (slice_index bytes 0)) _ _ (kind place (slice_index bytes 0)) (
-    tested (nat_lt (length bytes) 9) _ _ (short (place + 1)) (
-    tested (nat_lt (length bytes) 10) _ _ (short (place + 9)) (
-    tested (nat_lt 1 (slice_index bytes 9)) _ _ (kind (place + 9) (slice_index bytes 9)) (
-    tested (nat_lt (length bytes) 18) _ _ (short (place + 10)) (
-    tested (nat_lt (length bytes) 22) _ _ (short (place + 18)) (
-    tested (nat_lt (length bytes) (22 + big_number 4 (drop 18 bytes))) _ _ (short (place + 22)) no_fault)))))))
+    tested (length bytes == 0) _ _ tt (
+    tested (nat_lt 1 (slice_index bytes 0)) _ _ tt (
+    tested (nat_lt (length bytes) 9) _ _ tt (
+    tested (nat_lt (length bytes) 10) _ _ tt (
+    tested (nat_lt 1 (slice_index bytes 9)) _ _ tt (
+    tested (nat_lt (length bytes) 18) _ _ tt (
+    tested (nat_lt (length bytes) 22) _ _ tt (
+    tested (nat_lt (length bytes) (22 + big_number 4 (drop 18 bytes))) _ _ tt tt)))))))
 
-pub fault_is_first : (bytes : List ℕ) (chunks : List Chunk) (at : ℕ) (found : ChunkFault) → marked bytes ≡ 4 → at ≤ length bytes → BeginsWithAll chunks (drop 4 bytes) (drop at bytes) → chunk_fault at (drop at bytes) ≡ Some found → IsFirstFault bytes found
-fault_is_first bytes chunks at (ChunkFault.BadMark p) mark le before e = absurd ((of_chunk at (drop at bytes)).mark p e)
-fault_is_first bytes chunks at (ChunkFault.BadKind p x) mark le before e =
-    record { mark = mark; chunks = chunks; rest = drop at bytes; before = before; place = at; is_place = omega (arith, length-drop at bytes); fault = e }
-fault_is_first bytes chunks at (ChunkFault.Short p) mark le before e =
-    record { mark = mark; chunks = chunks; rest = drop at bytes; before = before; place = at; is_place = omega (arith, length-drop at bytes); fault = e }
+pub fault_here : (bytes : List ℕ) (chunks : List Chunk) (rest : List ℕ) (place : ℕ) (e : ChunkFault) → marked bytes ≡ 4 → BeginsWithAll chunks (drop 4 bytes) rest → place + length rest ≡ length bytes → chunk_fault place rest ≡ Some e → IsFirstFault bytes e
+fault_here bytes chunks rest place (ChunkFault.BadMark at) mark before is h = absurd (subst IsOfChunk h (of_chunk place rest))
+fault_here bytes chunks rest place (ChunkFault.BadKind at found) mark before is h = record { mark = mark; chunks = chunks; rest = rest; before = before; place = place; is_place = is; fault = h }
+fault_here bytes chunks rest place (ChunkFault.Short at) mark before is h = record { mark = mark; chunks = chunks; rest = rest; before = before; place = place; is_place = is; fault = h }
 
 pub type_back : (n : ℕ) → n ≤ 1 → n ≡ type_byte (n == 0)
 type_back zero h = refl
@@ -104,15 +93,17 @@ content_of bytes content n is within =
     let whole : drop 22 bytes ≡ content ++ drop n (drop 22 bytes) = sym (take-append-drop n (drop 22 bytes)) ∙ ap (λ (l : List ℕ). l ++ drop n (drop 22 bytes)) (sym is) in
     (count, whole ∙ ap (λ (l : List ℕ). content ++ l) (drop-drop n 22 bytes ∙ ap (λ (k : ℕ). drop (22 + k) bytes) (sym count)))
 
-agreed : (b : Bool) (n k : ℕ) → n ≤ k → (if b then n + 1 else 0) ≤ k + 1
+agreed : (b : Bool) (n k : ℕ) → n ≤ k → (if b then n + 1 else 0) ≤ suc k
 agreed true n k h = omega arith
 agreed false n k h = omega arith
 
-agreeing_within : (ms bs : List ℕ) → agreeing ms bs ≤ length ms
-agreeing_within [] bs = omega arith
-agreeing_within (m ∷ ms) [] = omega arith
-agreeing_within (m ∷ ms) (b ∷ bs) = let more = agreed (b == m) (agreeing ms bs) (length ms) (agreeing_within ms bs) in omega (arith, more)
+pub agreeing_within : (ms bs : List ℕ) → (agreeing ms bs ≤ length ms) × (agreeing ms bs ≤ length bs)
+agreeing_within [] bs = (omega arith, omega arith)
+agreeing_within (m ∷ ms) [] = (omega arith, omega arith)
+agreeing_within (m ∷ ms) (b ∷ bs) =
+    let within = agreeing_within ms bs in
+    (agreed (b == m) (agreeing ms bs) (length ms) within.0, agreed (b == m) (agreeing ms bs) (length bs) within.1)
 
 -- no more bytes agree than the mark has
 pub marks_agree : (bytes : List ℕ) → 4 ≤ marked bytes → marked bytes ≡ 4
-marks_agree bytes h = let within : marked bytes ≤ 4 = agreeing_within (codes "WCC1") bytes in omega arith
+marks_agree bytes h = let within : marked bytes ≤ 4 = (agreeing_within (codes "WCC1") bytes).0 in omega arith

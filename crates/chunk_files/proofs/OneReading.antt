@@ -1,5 +1,5 @@
 -- Bytes are the file of one list of chunks, or have one first fault.
-use Rattle.std.proofs.Common.{Result, Ok, Err, IfOk, IfErr, IsErr, ◌≢◌, ◌≡◌, ℕ, List, [], length, drop, Some, refl, sym, ap, ◌∙◌, arith}
+use Rattle.std.proofs.Common.{Result, Ok, Err, IfOk, IfErr, IsErr, ◌≡◌, ℕ, List, [], length, drop, Some, refl, sym, ap, ◌∙◌, arith}
 use Rattle.wc_chunk.specs.declared.chunk.Chunk.{Chunk}
 use Rattle.chunk_files.specs.{declared.fault.ChunkFault.ChunkFault, declared.fault.Stop.Stop, Stops.IfFault}
 use Rattle.chunk_files.specs.Grammar.{IsChunkFile, FollowsChunks, IsFirstFault, chunk_fault}

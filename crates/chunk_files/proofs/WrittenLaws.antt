@@ -34,13 +34,11 @@ written_begins key t (Some d) bytes rest fits small short =
       content = refl;
     }
 
-one_more : (cs : List Chunk) (chunk : Chunk) (rest : List ℕ) → flat_map written_chunk (cs ++ chunk ∷ []) ++ rest ≡ flat_map written_chunk cs ++ (written_chunk chunk ++ rest)
-one_more [] chunk rest = append_assoc (written_chunk chunk) [] rest
-one_more (c ∷ cs) chunk rest =
-    append_assoc (written_chunk c) (flat_map written_chunk (cs ++ chunk ∷ [])) rest ∙ (ap (λ (l : List ℕ). written_chunk c ++ l) (one_more cs chunk rest) ∙ sym (append_assoc (written_chunk c) (flat_map written_chunk cs) (written_chunk chunk ++ rest)))
-
 one_chunk_more : (cs : List Chunk) (chunk : Chunk) → flat_map written_chunk (cs ++ chunk ∷ []) ≡ flat_map written_chunk cs ++ written_chunk chunk
 one_chunk_more cs chunk = flat_map-append written_chunk cs (chunk ∷ []) ∙ ap (λ (l : List ℕ). flat_map written_chunk cs ++ l) (append-nil (written_chunk chunk))
+
+one_more : (cs : List Chunk) (chunk : Chunk) (rest : List ℕ) → flat_map written_chunk (cs ++ chunk ∷ []) ++ rest ≡ flat_map written_chunk cs ++ (written_chunk chunk ++ rest)
+one_more cs chunk rest = ap (λ (l : List ℕ). l ++ rest) (one_chunk_more cs chunk) ∙ append_assoc (flat_map written_chunk cs) (written_chunk chunk) rest
 
 -- what is written for the first chunks, and one more
 pub written_more : (cs : List Chunk) (i : ℕ) (chunk : Chunk) → i < length cs → chunk ≡ get_or cs i chunk → written (take (i + 1) cs) ≡ written (take i cs) ++ written_chunk chunk

@@ -1,13 +1,13 @@
-use Rattle.std.proofs.Common.{◌≡◌, ◌+◌, List, ◌∷◌, [], ◌++◌, drop, arith, sym, ap, ◌∙◌, subst, Some}
+use Rattle.std.proofs.Common.{◌≡◌, ◌+◌, List, ◌∷◌, [], ◌++◌, drop, arith, sym, ap, ◌∙◌, subst, Some, length-drop}
 use Rattle.wc_chunk.specs.declared.chunk.Chunk.{Chunk}
 use Rattle.chunk_files.specs.Grammar.{BeginsWithAll, chunk_fault}
-use Rattle.chunk_files.proofs.{Faults.fault_is_first, Faults.marks_agree, Chunks.read_more}
+use Rattle.chunk_files.proofs.{Faults.fault_here, Faults.marks_agree, Chunks.read_more}
 use Rattle.chunk_files.proofs.read.read_all.Goals as goal
 
 pub returns-in-Some-clause-fault : goal.returns-in-Some-clause-fault
 returns-in-Some-clause-fault c =
     let found : chunk_fault c.loop-at.at (drop c.loop-at.at c.args.bytes.now) ≡ Some c.in-Some.fault = sym (c.in-Some.ensures ∙ ap (chunk_fault c.loop-at.at) c.tail-rest.ensures) in
-    fault_is_first _ _ c.loop-at.at _ (marks_agree c.args.bytes.now (omega (arith, c.if-agreeing-lt4.false, c.agreeing-agreeing.ensures))) c.loop-at.invariant.within c.loop-at.invariant.before found
+    fault_here c.args.bytes.now _ (drop c.loop-at.at c.args.bytes.now) c.loop-at.at _ (marks_agree c.args.bytes.now (omega (arith, c.if-agreeing-lt4.false, c.agreeing-agreeing.ensures))) c.loop-at.invariant.before (omega (arith, c.loop-at.invariant.within, length-drop c.loop-at.at c.args.bytes.now)) found
 
 pub loop-at-preserved : goal.loop-at-preserved
 loop-at-preserved c =
