@@ -1,5 +1,5 @@
 -- Bytes that begin with a chunk have no fault there.
-use Rattle.std.proofs.Common.{◌≡◌, ◌≤◌, ◌+◌, ◌==◌, ℕ, Bool, true, false, nat_lt, List, [], ◌∷◌, ◌++◌, length, drop, take, zero, suc, slice_index, Option, Some, None, if◌then◌else◌, codes, refl, sym, ap, subst, ◌∙◌, arith, length-drop}
+use Rattle.std.proofs.Common.{◌≡◌, ◌≤◌, ◌+◌, ◌==◌, ℕ, Bool, true, false, List, [], ◌∷◌, ◌++◌, length, drop, take, zero, suc, slice_index, Option, Some, None, if◌then◌else◌, codes, refl, sym, ap, ◌∙◌, arith, length-drop}
 use Rattle.std.proofs.lemmas.Bool.Decides.{nat_tests}
 use Rattle.std.proofs.lemmas.List.{take-append-drop, drop-drop, length-take}
 use Rattle.byteorder.specs.Endian.{big_number}
@@ -34,50 +34,19 @@ begun_is_whole chunk bytes rest p =
       content = omega (arith, p.count, begun_length chunk bytes rest p);
     }
 
-not_less : (a b : ℕ) → b ≤ a → nat_lt a b ≡ false
-not_less a b h = grind (arith, nat_tests)
-
-not_empty : (n : ℕ) → 1 ≤ n → (n == 0) ≡ false
-not_empty n h = grind (arith, nat_tests)
-
 -- the tests of a chunk's fault, one after the other
 pub whole_has_no_fault : (place : ℕ) (bytes : List ℕ) → IsWhole bytes → chunk_fault place bytes ≡ None
-whole_has_no_fault place bytes h =
-    let some = not_empty (length bytes) (omega (arith, h.header)) in
-    let first = not_less 1 (slice_index bytes 0) h.chunk_type in
-    let nine = not_less (length bytes) 9 (omega (arith, h.header)) in
-    let ten = not_less (length bytes) 10 (omega (arith, h.header)) in
-    let flag = not_less 1 (slice_index bytes 9) h.flag in
-    let eighteen = not_less (length bytes) 18 (omega (arith, h.header)) in
-    let header = not_less (length bytes) 22 h.header in
-    let content = not_less (length bytes) (22 + big_number 4 (drop 18 bytes)) h.content in
-    rw (some, first, nine, ten, flag, eighteen, header, content) refl
+whole_has_no_fault place bytes h = grind (arith, nat_tests, h.header, h.chunk_type, h.flag, h.content)
 
 pub fault_ends : (place : ℕ) (bytes : List ℕ) (found : ChunkFault) → chunk_fault place bytes ≡ Some found → IsEnd bytes
 fault_ends place bytes found e = record { none = λ chunk rest p. let none = whole_has_no_fault place bytes (begun_is_whole chunk bytes rest p) in cc }
 
 -- a chunk's fault is none of the mark
-abbrev IsOfChunk : Option ChunkFault → Type 0
-IsOfChunk (Some (ChunkFault.BadMark at)) = ⊥
-IsOfChunk _ = Unit {0}
-
-tested : (b : Bool) (x y : Option ChunkFault) → IsOfChunk x → IsOfChunk y → IsOfChunk (if b then x else y)
-tested true x y p q = p
-tested false x y p q = q
-
-of_chunk : (place : ℕ) (bytes : List ℕ) → IsOfChunk (chunk_fault place bytes)
-of_chunk place bytes =
-    tested (length bytes == 0) _ _ tt (
-    tested (nat_lt 1 (slice_index bytes 0)) _ _ tt (
-    tested (nat_lt (length bytes) 9) _ _ tt (
-    tested (nat_lt (length bytes) 10) _ _ tt (
-    tested (nat_lt 1 (slice_index bytes 9)) _ _ tt (
-    tested (nat_lt (length bytes) 18) _ _ tt (
-    tested (nat_lt (length bytes) 22) _ _ tt (
-    tested (nat_lt (length bytes) (22 + big_number 4 (drop 18 bytes))) _ _ tt tt)))))))
+no_mark_fault : (place : ℕ) (bytes : List ℕ) (at : ℕ) → chunk_fault place bytes ≡ Some (ChunkFault.BadMark at) → ⊥
+no_mark_fault place bytes at h = grind (arith, nat_tests, h)
 
 pub fault_here : (bytes : List ℕ) (chunks : List Chunk) (rest : List ℕ) (place : ℕ) (e : ChunkFault) → marked bytes ≡ 4 → BeginsWithAll chunks (drop 4 bytes) rest → place + length rest ≡ length bytes → chunk_fault place rest ≡ Some e → IsFirstFault bytes e
-fault_here bytes chunks rest place (ChunkFault.BadMark at) mark before is h = absurd (subst IsOfChunk h (of_chunk place rest))
+fault_here bytes chunks rest place (ChunkFault.BadMark at) mark before is h = absurd (no_mark_fault place rest at h)
 fault_here bytes chunks rest place (ChunkFault.BadKind at found) mark before is h = record { mark = mark; chunks = chunks; rest = rest; before = before; place = place; is_place = is; fault = h }
 fault_here bytes chunks rest place (ChunkFault.Short at) mark before is h = record { mark = mark; chunks = chunks; rest = rest; before = before; place = place; is_place = is; fault = h }
 

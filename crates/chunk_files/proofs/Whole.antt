@@ -1,5 +1,5 @@
 -- Each list of bytes is a chunk file or has a first fault.
-use Rattle.std.proofs.Common.{◌≡◌, ◌≤◌, ◌+◌, ◌==◌, inl, inr, ℕ, zero, suc, Bool, true, false, nat_lt, List, [], ◌∷◌, ◌++◌, length, drop, take, slice_index, Option, Some, None, if◌then◌else◌, codes, refl, sym, arith, length-drop}
+use Rattle.std.proofs.Common.{◌≡◌, ◌≤◌, ◌+◌, ◌==◌, inl, inr, ℕ, zero, suc, Bool, true, false, nat_lt, List, [], ◌∷◌, ◌++◌, length, drop, take, slice_index, Option, Some, None, codes, refl, sym, arith, length-drop}
 use Rattle.std.specs.Int.{cast_signed, w64}
 use Rattle.std.proofs.lemmas.Bool.Decides.{nat_tests}
 use Rattle.std.proofs.lemmas.List.{take-append-drop, length-take-le}
@@ -15,24 +15,14 @@ use Rattle.chunk_files.proofs.{Chunks.one_more_chunk, Chunks.begun_length, Fault
 at_least : (a b : ℕ) → nat_lt a b ≡ false → b ≤ a
 at_least a b h = grind (arith, nat_tests)
 
--- a test that gives no fault does not hold, and no later one does
-passed : (a b : ℕ) (e : ChunkFault) (rest : Option ChunkFault) → (if nat_lt a b then Some e else rest) ≡ None → (b ≤ a) × (rest ≡ None)
-passed a b e rest h = by_test (nat_lt a b) refl h
-  where
-    by_test : (t : Bool) → nat_lt a b ≡ t → (if t then Some e else rest) ≡ None → (b ≤ a) × (rest ≡ None)
-    by_test true is h = absurd cc
-    by_test false is h = (at_least a b is, h)
-
 no_fault : (place : ℕ) (bytes : List ℕ) → (length bytes == 0) ≡ false → chunk_fault place bytes ≡ None → IsWhole bytes
 no_fault place bytes some h =
-    let kind = passed 1 (slice_index bytes 0) _ _ (rw some at h) in
-    let nine = passed (length bytes) 9 _ _ kind.1 in
-    let ten = passed (length bytes) 10 _ _ nine.1 in
-    let flag = passed 1 (slice_index bytes 9) _ _ ten.1 in
-    let eighteen = passed (length bytes) 18 _ _ flag.1 in
-    let header = passed (length bytes) 22 _ _ eighteen.1 in
-    let content = passed (length bytes) (22 + big_number 4 (drop 18 bytes)) _ _ header.1 in
-    record { header = header.0; chunk_type = kind.0; flag = flag.0; content = content.0 }
+    record {
+      header = grind (arith, nat_tests, some, h);
+      chunk_type = grind (arith, nat_tests, some, h);
+      flag = grind (arith, nat_tests, some, h);
+      content = grind (arith, nat_tests, some, h);
+    }
 
 duration_by : (bytes : List ℕ) (n : ℕ) → slice_index bytes 9 ≡ n → n ≤ 1 → (d : Option ℕ) × IsDuration d bytes
 duration_by bytes zero is h = (None, is)
