@@ -1,21 +1,15 @@
 -- Bytes begin with one chunk at most, and so with one list of chunks up to a given end.
-use Rattle.std.proofs.Common.{◌≡◌, ◌≤◌, ◌+◌, ℕ, Bool, true, false, List, [], ◌∷◌, ◌++◌, length, drop, Option, Some, None, ℤ, refl, sym, ap, subst, ◌∙◌, arith, length-drop, length-append}
+use Rattle.std.proofs.Common.{◌≡◌, ◌≤◌, ◌+◌, ℕ, Bool, List, [], ◌∷◌, ◌++◌, length, drop, Option, refl, sym, ap, subst, ◌∙◌, arith, length-drop, length-append}
 use Rattle.std.proofs.lemmas.List.{drop-drop}
 use Rattle.wc_chunk.specs.declared.chunk.Chunk.{Chunk}
 use Rattle.chunk_files.specs.Layout.{type_byte, IsDuration, BeginsWith}
 use Rattle.chunk_files.specs.Grammar.{BeginsWithAll}
 
 same_type : (a b : Bool) → type_byte a ≡ type_byte b → a ≡ b
-same_type true true e = refl
-same_type true false e = absurd (omega arith)
-same_type false true e = absurd (omega arith)
-same_type false false e = refl
+same_type a b e = grind (arith, e)
 
 same_duration : (a b : Option ℕ) (bytes : List ℕ) → IsDuration a bytes → IsDuration b bytes → a ≡ b
-same_duration None None bytes p q = refl
-same_duration None (Some d) bytes p q = absurd (omega arith)
-same_duration (Some d) None bytes p q = absurd (omega arith)
-same_duration (Some d) (Some e) bytes p q = ap Some (p.1 ∙ sym q.1)
+same_duration a b bytes p q = grind (arith, p, q)
 
 same_front : (a b r s : List ℕ) → length a ≡ length b → a ++ r ≡ b ++ s → (a ≡ b) × (r ≡ s)
 same_front [] [] r s n e = (refl, e)
@@ -26,16 +20,13 @@ same_front (x ∷ a) (y ∷ b) r s n e =
     let both : (a ≡ b) × (r ≡ s) = same_front a b r s (omega arith) rest in
     (cc, both.1)
 
-same_fields : (k l : Bool) (t u : ℤ) (d e : Option ℕ) (x y : List ℕ) → k ≡ l → t ≡ u → d ≡ e → x ≡ y → ◌≡◌ {A = Chunk} (record { key = k; timestamp = t; duration = d; bytes = x }) (record { key = l; timestamp = u; duration = e; bytes = y })
-same_fields k l t u d e x y p q r s = cc
-
 pub same_chunk : (a b : Chunk) (bytes r s : List ℕ) → BeginsWith a bytes r → BeginsWith b bytes s → (a ≡ b) × (r ≡ s)
 same_chunk a b bytes r s p q =
     let key : a.key ≡ b.key = same_type a.key b.key (sym p.chunk_type ∙ q.chunk_type) in
     let timestamp : a.timestamp ≡ b.timestamp = p.timestamp ∙ sym q.timestamp in
     let duration : a.duration ≡ b.duration = same_duration a.duration b.duration bytes p.duration q.duration in
     let both : (a.bytes ≡ b.bytes) × (r ≡ s) = same_front a.bytes b.bytes r s (p.count ∙ sym q.count) (sym p.content ∙ q.content) in
-    (same_fields a.key b.key a.timestamp b.timestamp a.duration b.duration a.bytes b.bytes key timestamp duration both.0, both.1)
+    (grind (arith, key, timestamp, duration, both.0), both.1)
 
 -- no chunk begins the bytes
 pub record IsEnd (bytes : List ℕ) : Type 0 where

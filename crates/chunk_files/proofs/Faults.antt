@@ -1,11 +1,11 @@
 -- Bytes that begin with a chunk have no fault there.
-use Rattle.std.proofs.Common.{◌≡◌, ◌≤◌, ◌+◌, ◌==◌, ℕ, Bool, true, false, List, [], ◌∷◌, ◌++◌, length, drop, take, zero, suc, slice_index, Option, Some, None, if◌then◌else◌, codes, refl, sym, ap, ◌∙◌, arith, length-drop}
+use Rattle.std.proofs.Common.{◌≡◌, ◌≤◌, ◌+◌, ◌==◌, ℕ, List, [], ◌∷◌, ◌++◌, length, drop, take, zero, suc, slice_index, Some, None, codes, refl, sym, ap, ◌∙◌, arith, length-drop}
 use Rattle.std.proofs.lemmas.Bool.Decides.{nat_tests}
 use Rattle.std.proofs.lemmas.List.{take-append-drop, drop-drop, length-take}
 use Rattle.byteorder.specs.Endian.{big_number}
 use Rattle.wc_chunk.specs.declared.chunk.Chunk.{Chunk}
 use Rattle.chunk_files.specs.declared.fault.ChunkFault.{ChunkFault}
-use Rattle.chunk_files.specs.Layout.{type_byte, IsDuration, BeginsWith}
+use Rattle.chunk_files.specs.Layout.{type_byte, BeginsWith}
 use Rattle.chunk_files.specs.Grammar.{agreeing, chunk_fault, marked, BeginsWithAll, IsFirstFault}
 use Rattle.chunk_files.proofs.Chunks.{IsEnd, begun_length}
 
@@ -16,21 +16,12 @@ pub record IsWhole (bytes : List ℕ) : Type 0 where
   pub flag : slice_index bytes 9 ≤ 1
   pub content : 22 + big_number 4 (drop 18 bytes) ≤ length bytes
 
-type_small : (key : Bool) → type_byte key ≤ 1
-type_small true = omega arith
-type_small false = omega arith
-
-flag_small : (duration : Option ℕ) (bytes : List ℕ) → IsDuration duration bytes → slice_index bytes 9 ≤ 1
-flag_small None bytes p = omega arith
-flag_small (Some d) bytes p = omega arith
-
 pub begun_is_whole : (chunk : Chunk) (bytes rest : List ℕ) → BeginsWith chunk bytes rest → IsWhole bytes
 begun_is_whole chunk bytes rest p =
-    let small = type_small chunk.key in
     record {
       header = p.header;
-      chunk_type = omega (arith, p.chunk_type);
-      flag = flag_small chunk.duration bytes p.duration;
+      chunk_type = grind (arith, p.chunk_type);
+      flag = grind (arith, p.duration);
       content = omega (arith, p.count, begun_length chunk bytes rest p);
     }
 
@@ -62,16 +53,12 @@ content_of bytes content n is within =
     let whole : drop 22 bytes ≡ content ++ drop n (drop 22 bytes) = sym (take-append-drop n (drop 22 bytes)) ∙ ap (λ (l : List ℕ). l ++ drop n (drop 22 bytes)) (sym is) in
     (count, whole ∙ ap (λ (l : List ℕ). content ++ l) (drop-drop n 22 bytes ∙ ap (λ (k : ℕ). drop (22 + k) bytes) (sym count)))
 
-agreed : (b : Bool) (n k : ℕ) → n ≤ k → (if b then n + 1 else 0) ≤ suc k
-agreed true n k h = omega arith
-agreed false n k h = omega arith
-
 pub agreeing_within : (ms bs : List ℕ) → (agreeing ms bs ≤ length ms) × (agreeing ms bs ≤ length bs)
 agreeing_within [] bs = (omega arith, omega arith)
 agreeing_within (m ∷ ms) [] = (omega arith, omega arith)
 agreeing_within (m ∷ ms) (b ∷ bs) =
     let within = agreeing_within ms bs in
-    (agreed (b == m) (agreeing ms bs) (length ms) within.0, agreed (b == m) (agreeing ms bs) (length bs) within.1)
+    (grind (arith, within.0), grind (arith, within.1))
 
 -- no more bytes agree than the mark has
 pub marks_agree : (bytes : List ℕ) → 4 ≤ marked bytes → marked bytes ≡ 4
