@@ -1,5 +1,5 @@
 -- Bytes that begin with a chunk have no fault there.
-use Rattle.std.proofs.Common.{◌≡◌, ◌≤◌, ◌+◌, ◌==◌, ℕ, List, [], ◌∷◌, ◌++◌, length, drop, take, zero, suc, slice_index, Some, None, codes, refl, sym, ap, ◌∙◌, arith, length-drop}
+use Rattle.std.proofs.Common.{◌≡◌, ◌≤◌, ◌+◌, ◌==◌, ℕ, List, [], ◌∷◌, ◌++◌, length, drop, take, slice_index, Some, None, codes, sym, ap, ◌∙◌, arith, length-drop}
 use Rattle.std.proofs.lemmas.Bool.Decides.{nat_tests}
 use Rattle.std.proofs.lemmas.List.{take-append-drop, drop-drop, length-take}
 use Rattle.byteorder.specs.Endian.{big_number}
@@ -42,9 +42,7 @@ fault_here bytes chunks rest place (ChunkFault.BadKind at found) mark before is 
 fault_here bytes chunks rest place (ChunkFault.Short at) mark before is h = record { mark = mark; chunks = chunks; rest = rest; before = before; place = place; is_place = is; fault = h }
 
 pub type_back : (n : ℕ) → n ≤ 1 → n ≡ type_byte (n == 0)
-type_back zero h = refl
-type_back (suc zero) h = refl
-type_back (suc (suc n)) h = absurd (omega arith)
+type_back n h = grind (arith, nat_tests, h)
 
 -- the bytes that stand behind a header of 22 bytes
 pub content_of : (bytes content : List ℕ) (n : ℕ) → content ≡ take n (drop 22 bytes) → 22 + n ≤ length bytes → (length content ≡ n) × (drop 22 bytes ≡ content ++ drop (22 + length content) bytes)

@@ -18,14 +18,11 @@ one_follows bytes e f p q =
 
 pub one_fault : (bytes : List ℕ) (e f : ChunkFault) → IsFirstFault bytes e → IsFirstFault bytes f → e ≡ f
 one_fault bytes (ChunkFault.BadMark a) (ChunkFault.BadMark b) p q = ap ChunkFault.BadMark (p.1 ∙ sym q.1)
-one_fault bytes (ChunkFault.BadMark a) (ChunkFault.BadKind b x) p q = absurd (omega (arith, p.0, p.1, q.mark))
-one_fault bytes (ChunkFault.BadMark a) (ChunkFault.Short b) p q = absurd (omega (arith, p.0, p.1, q.mark))
-one_fault bytes (ChunkFault.BadKind a x) (ChunkFault.BadMark b) p q = absurd (omega (arith, q.0, q.1, p.mark))
 one_fault bytes (ChunkFault.BadKind a x) (ChunkFault.BadKind b y) p q = one_follows bytes _ _ p q
 one_fault bytes (ChunkFault.BadKind a x) (ChunkFault.Short b) p q = one_follows bytes _ _ p q
-one_fault bytes (ChunkFault.Short a) (ChunkFault.BadMark b) p q = absurd (omega (arith, q.0, q.1, p.mark))
 one_fault bytes (ChunkFault.Short a) (ChunkFault.BadKind b y) p q = one_follows bytes _ _ p q
 one_fault bytes (ChunkFault.Short a) (ChunkFault.Short b) p q = one_follows bytes _ _ p q
+one_fault bytes _ _ p q = absurd (grind (arith, p, q))
 
 not_following : (bytes : List ℕ) (cs : List Chunk) (e : ChunkFault) → IsChunkFile cs bytes → FollowsChunks bytes e → ⊥
 not_following bytes cs e p q =
@@ -49,9 +46,8 @@ file_is_read items bytes (Err (Stop.Fault e)) a chunks h = absurd (not_both byte
 file_is_read items bytes (Err Stop.NoMemory) a chunks h = refl
 
 pub fault_is_told : {A : Type 0} (items : A → List Chunk) (bytes : List ℕ) (answer : Result A (Stop ChunkFault)) → Answers items bytes answer → (e : ChunkFault) → IsFirstFault bytes e → IfErr answer (λ f. IfFault f (λ x. x ≡ e))
-fault_is_told items bytes (Ok v) a e h = tt
 fault_is_told items bytes (Err (Stop.Fault f)) a e h = one_fault bytes f e a.fault h
-fault_is_told items bytes (Err Stop.NoMemory) a e h = tt
+fault_is_told items bytes _ a e h = tt
 
 pub faulty_is_refused : {A : Type 0} (items : A → List Chunk) (bytes : List ℕ) (answer : Result A (Stop ChunkFault)) → Answers items bytes answer → (e : ChunkFault) → IsFirstFault bytes e → IsErr answer
 faulty_is_refused items bytes (Ok v) a e h = absurd (not_both bytes (items v) e a.chunks h)

@@ -12,9 +12,6 @@ use Rattle.chunk_files.proofs.{Chunks.one_more_chunk, Chunks.begun_length, Fault
 
 -- ---- the chunk that begins bytes in which there is no fault
 
-at_least : (a b : ℕ) → nat_lt a b ≡ false → b ≤ a
-at_least a b h = grind (arith, nat_tests)
-
 no_fault : (place : ℕ) (bytes : List ℕ) → (length bytes == 0) ≡ false → chunk_fault place bytes ≡ None → IsWhole bytes
 no_fault place bytes some h =
     record {
@@ -49,9 +46,6 @@ chunk_of bytes h =
 
 -- ---- a file from a place on
 
-not_empty : (x : ℕ) (xs : List ℕ) → (length (x ∷ xs) == 0) ≡ false
-not_empty x xs = grind (arith, nat_tests)
-
 read_on : (n : ℕ) (bytes : List ℕ) (chunks : List Chunk) (rest : List ℕ) (place : ℕ) → length rest ≤ n → marked bytes ≡ 4 → BeginsWithAll chunks (drop 4 bytes) rest → place + length rest ≡ length bytes → IsRead bytes
 read_on n bytes chunks [] place le mark before is = inl (chunks, record { mark = mark; content = before })
 read_on zero bytes chunks (x ∷ xs) place le mark before is = absurd (omega arith)
@@ -64,14 +58,14 @@ read_on (suc n) bytes chunks (x ∷ xs) place le mark before is =
   where
     by_fault : (o : Option ChunkFault) → chunk_fault place (x ∷ xs) ≡ o → ((chunk : Chunk) (more : List ℕ) → BeginsWith chunk (x ∷ xs) more → IsRead bytes) → IsRead bytes
     by_fault (Some e) h next = inr (e, fault_here bytes chunks (x ∷ xs) place e mark before is h)
-    by_fault None h next = let chunk = chunk_of (x ∷ xs) (no_fault place (x ∷ xs) (not_empty x xs) h) in next chunk.0 chunk.1 chunk.2
+    by_fault None h next = let chunk = chunk_of (x ∷ xs) (no_fault place (x ∷ xs) (grind (arith, nat_tests)) h) in next chunk.0 chunk.1 chunk.2
 
 -- ---- the mark
 
 by_mark : (bytes : List ℕ) (b : Bool) → nat_lt (marked bytes) 4 ≡ b → IsRead bytes
 by_mark bytes true h = inr (ChunkFault.BadMark (marked bytes), ((grind (arith, nat_tests)), refl))
 by_mark bytes false h =
-    let least : 4 ≤ marked bytes = at_least (marked bytes) 4 h in
+    let least : 4 ≤ marked bytes = grind (arith, nat_tests, h) in
     let long : marked bytes ≤ length bytes = (agreeing_within (codes "WCC1") bytes).1 in
     read_on (length bytes) bytes [] (drop 4 bytes) 4 (omega (arith, length-drop 4 bytes)) (marks_agree bytes least) refl (omega (arith, length-drop 4 bytes, least, long))
 
