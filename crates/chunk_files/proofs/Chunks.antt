@@ -1,6 +1,7 @@
 -- Bytes begin with one chunk at most, and so with one list of chunks up to a given end.
-use Rattle.std.proofs.Common.{◌≡◌, ◌≤◌, ◌+◌, ℕ, Bool, List, [], ◌∷◌, ◌++◌, length, drop, Option, refl, sym, ap, subst, ◌∙◌, arith, length-drop, length-append}
+use Rattle.std.proofs.Common.{◌≡◌, ◌≤◌, ◌+◌, ℕ, Bool, List, [], ◌∷◌, ◌++◌, length, drop, take, Option, refl, sym, ap, subst, ◌∙◌, arith, length-drop, length-append}
 use Rattle.std.proofs.lemmas.List.{drop-drop}
+use Rattle.std.proofs.Math.Seq.{take-append_seam, drop-append_seam}
 use Rattle.wc_chunk.specs.declared.chunk.Chunk.{Chunk}
 use Rattle.chunk_files.specs.Layout.{type_byte, IsDuration, BeginsWith}
 use Rattle.chunk_files.specs.Grammar.{BeginsWithAll}
@@ -12,13 +13,10 @@ same_duration : (a b : Option ℕ) (bytes : List ℕ) → IsDuration a bytes →
 same_duration a b bytes p q = grind (arith, p, q)
 
 same_front : (a b r s : List ℕ) → length a ≡ length b → a ++ r ≡ b ++ s → (a ≡ b) × (r ≡ s)
-same_front [] [] r s n e = (refl, e)
-same_front [] (y ∷ b) r s n e = absurd (omega arith)
-same_front (x ∷ a) [] r s n e = absurd (omega arith)
-same_front (x ∷ a) (y ∷ b) r s n e =
-    let rest : a ++ r ≡ b ++ s = cc in
-    let both : (a ≡ b) × (r ≡ s) = same_front a b r s (omega arith) rest in
-    (cc, both.1)
+same_front a b r s n e =
+    let front = sym (take-append_seam a r) ∙ ap (take (length a)) e ∙ ap (λ (k : ℕ). take k (b ++ s)) n ∙ take-append_seam b s in
+    let back = sym (drop-append_seam a r) ∙ ap (drop (length a)) e ∙ ap (λ (k : ℕ). drop k (b ++ s)) n ∙ drop-append_seam b s in
+    (front, back)
 
 pub same_chunk : (a b : Chunk) (bytes r s : List ℕ) → BeginsWith a bytes r → BeginsWith b bytes s → (a ≡ b) × (r ≡ s)
 same_chunk a b bytes r s p q =
