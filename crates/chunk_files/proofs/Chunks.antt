@@ -1,16 +1,10 @@
 -- Bytes begin with one chunk at most, and so with one list of chunks up to a given end.
-use Rattle.std.proofs.Common.{◌≡◌, ◌≤◌, ◌+◌, ℕ, Bool, List, [], ◌∷◌, ◌++◌, length, drop, take, Option, refl, sym, ap, subst, ◌∙◌, arith, length-drop, length-append}
+use Rattle.std.proofs.Common.{◌≡◌, ◌≤◌, ◌+◌, ℕ, List, [], ◌∷◌, ◌++◌, length, drop, take, refl, sym, ap, subst, ◌∙◌, arith, length-drop, length-append}
 use Rattle.std.proofs.lemmas.List.{drop-drop}
 use Rattle.std.proofs.Math.Seq.{take-append_seam, drop-append_seam}
 use Rattle.wc_chunk.specs.declared.chunk.Chunk.{Chunk}
-use Rattle.chunk_files.specs.Layout.{type_byte, IsDuration, BeginsWith}
+use Rattle.chunk_files.specs.Layout.{BeginsWith}
 use Rattle.chunk_files.specs.Grammar.{BeginsWithAll}
-
-same_type : (a b : Bool) → type_byte a ≡ type_byte b → a ≡ b
-same_type a b e = grind (arith, e)
-
-same_duration : (a b : Option ℕ) (bytes : List ℕ) → IsDuration a bytes → IsDuration b bytes → a ≡ b
-same_duration a b bytes p q = grind (arith, p, q)
 
 same_front : (a b r s : List ℕ) → length a ≡ length b → a ++ r ≡ b ++ s → (a ≡ b) × (r ≡ s)
 same_front a b r s n e =
@@ -20,9 +14,9 @@ same_front a b r s n e =
 
 pub same_chunk : (a b : Chunk) (bytes r s : List ℕ) → BeginsWith a bytes r → BeginsWith b bytes s → (a ≡ b) × (r ≡ s)
 same_chunk a b bytes r s p q =
-    let key : a.key ≡ b.key = same_type a.key b.key (sym p.chunk_type ∙ q.chunk_type) in
+    let key : a.key ≡ b.key = grind (arith, p.chunk_type, q.chunk_type) in
     let timestamp : a.timestamp ≡ b.timestamp = p.timestamp ∙ sym q.timestamp in
-    let duration : a.duration ≡ b.duration = same_duration a.duration b.duration bytes p.duration q.duration in
+    let duration : a.duration ≡ b.duration = grind (arith, p.duration, q.duration) in
     let both : (a.bytes ≡ b.bytes) × (r ≡ s) = same_front a.bytes b.bytes r s (p.count ∙ sym q.count) (sym p.content ∙ q.content) in
     (grind (arith, key, timestamp, duration, both.0), both.1)
 
