@@ -4,28 +4,24 @@ use Rattle.std.specs.List.{list_any, position_or_len}
 use Rattle.std.proofs.lemmas.Bool.{eq-eqb}
 use Rattle.std.proofs.lemmas.List.{append_assoc, append-nil, length-append}
 use Rattle.script_types.specs.Sound.{next_file, are_apart}
+use Rattle.script_steps.proofs.Positions.{found_from}
 use Rattle.script_steps.specs.Files.{file_number, with_file}
 
 -- ---- counts
 
-found_from : {X : Type 0} (p : X → Bool) (xs : List X) → nat_lt (position_or_len p xs) (length xs) ≡ list_any p xs
-found_from p [] = refl
-found_from p (x ∷ xs) = grind (arith, found_from p xs)
-
 not_below : (n : ℕ) → nat_lt n n ≡ false
 not_below n = grind arith
 
-counted : (files more : List (List ℕ)) (at : ℕ) (below any : Bool) → nat_lt at (length files) ≡ below → below ≡ any → length more ≡ length files + 1
-    → next_file (length files) (unwrap_or (cond below (Some at) None) (length files)) ≡ Some (length (if any then files else more))
-counted files more at true true h e l = rw h refl
-counted files more at false false h e l = rw (not_below (length files)) (rw (eq-eqb (length files) (length files) refl) (ap (λ n. Some n) (sym l)))
-counted files more at true false h e l = absurd cc
-counted files more at false true h e l = absurd cc
+counted : (files more : List (List ℕ)) (at : ℕ) (below : Bool) → nat_lt at (length files) ≡ below → length more ≡ length files + 1
+    → next_file (length files) (unwrap_or (cond below (Some at) None) (length files)) ≡ Some (length (if below then files else more))
+counted files more at true h l = rw h refl
+counted files more at false h l = rw (not_below (length files)) (rw (eq-eqb (length files) (length files) refl) (ap (λ n. Some n) (sym l)))
 
 pub file_is_counted : (files : List (List ℕ)) (name : List ℕ) → next_file (length files) (file_number files name) ≡ Some (length (with_file files name))
 file_is_counted files name =
     let p : List ℕ → Bool = λ f. bytes_eq f name in
-    counted files (files ++ name ∷ []) (position_or_len p files) _ (list_any p files) refl (found_from p files) (length-append files (name ∷ []))
+    counted files (files ++ name ∷ []) (position_or_len p files) _ refl (length-append files (name ∷ []))
+    ∙ ap (λ (b : Bool). Some (length (if b then files else files ++ name ∷ []))) (found_from p files)
 
 -- ---- names that differ
 

@@ -1,5 +1,5 @@
 -- What is known of the references of a step that was read.
-use Rattle.std.proofs.Common.{◌≡◌, ℕ, codes, Bool, true, List, Result, Ok, subst}
+use Rattle.std.proofs.Common.{◌≡◌, ℕ, codes, Bool, true, ◌&&◌, List, Result, Ok, subst, ◌∙◌}
 use Rattle.serde_json.specs.Data.{Data}
 use Rattle.wc_config.specs.declared.kind.Kind.{Kind}
 use Rattle.script_types.specs.declared.{script.CodecItem.CodecItem, found.FoundCodec.FoundCodec, steps.Step.Step, steps.Variable.Variable}
@@ -7,7 +7,7 @@ use Rattle.chunk_files.specs.declared.fault.Stop.{Stop}
 use Rattle.script_types.specs.{declared.fault.Wrong.Wrong, Names.codec_named, Names.is_medium}
 use Rattle.script_types.specs.Sound.{is_codec, any_kind, is_variable, is_free}
 use Rattle.script_steps.specs.Members.{and_then, known, name_in}
-use Rattle.script_steps.specs.{declared.references.Needed.Needed, Chains.same_Ok, Chains.chain}
+use Rattle.script_steps.specs.{declared.references.Needed.Needed, Chains.same_Ok, Chains.chain, Chains.all_true}
 use Rattle.script_steps.specs.References.{is_right, unused, codec_if, variable_if, variable_in, on_of, bound_on, given_to, bound_from}
 use Rattle.script_steps.specs.NameLaws.{name_is_name, name_is_free, codec_is_there, codec_is_right, variable_is_right}
 
@@ -30,27 +30,18 @@ on_sound codecs d on h =
     let codec = chain (known (codec_named codecs name.value)) _ on name.rest in
     subst (λ n. is_codec codecs any_kind n ≡ true) (same_Ok _ on codec.rest) (codec_is_there codecs any_kind name.value codec.value codec.first)
 
-pub record BoundOn (codecs : List CodecItem) (before : List Step) (b : FoundCodec × List ℕ) : Type 0 where
-  pub codec : (right : Kind → Bool) → is_codec codecs right b.0.number ≡ right b.0.kind
-  pub free : is_free before b.1 ≡ true
-
-pub bound_on_sound : (codecs : List CodecItem) (before : List Step) (d : Data) (b : FoundCodec × List ℕ) → bound_on codecs before d ≡ Ok b → BoundOn codecs before b
+pub bound_on_sound : (codecs : List CodecItem) (before : List Step) (d : Data) (b : FoundCodec × List ℕ) → bound_on codecs before d ≡ Ok b
+    → (right : Kind → Bool) → right b.0.kind ≡ true → (is_codec codecs right b.0.number && is_free before b.1) ≡ true
 bound_on_sound codecs before d b h =
     let on = chain (name_in (codes "on") d) _ b h in
     let name = chain (name_in (codes "as") d) _ b on.rest in
     let bind = chain (unused before name.value) _ b name.rest in
     let codec = chain (known (codec_named codecs on.value)) _ b bind.rest in
-    subst (λ x. BoundOn codecs before x) (same_Ok _ b codec.rest) (record {
-      codec = λ right. codec_is_there codecs right on.value codec.value codec.first;
-      free = name_is_free before name.value bind.value (name_is_name (codes "as") name.value d name.first) bind.first;
-    })
-
-pub record GivenTo (codecs : List CodecItem) (right : Kind → Bool) (before : List Step) (kind : Needed) (g : ℕ × Variable) : Type 0 where
-  pub codec : is_codec codecs right g.0 ≡ true
-  pub variable : is_variable before (is_right kind) g.1 ≡ true
+    subst (λ x. (right : Kind → Bool) → right x.0.kind ≡ true → (is_codec codecs right x.0.number && is_free before x.1) ≡ true) (same_Ok _ b codec.rest) (λ right e.
+    all_true _ _ (codec_is_there codecs right on.value codec.value codec.first ∙ e) (name_is_free before name.value bind.value (name_is_name (codes "as") name.value d name.first) bind.first))
 
 pub given_to_sound : (right : Kind → Bool) (key : List ℕ) (kind : Needed) (codecs : List CodecItem) (before : List Step) (d : Data) (g : ℕ × Variable)
-    → given_to right key kind codecs before d ≡ Ok g → GivenTo codecs right before kind g
+    → given_to right key kind codecs before d ≡ Ok g → (is_codec codecs right g.0 && is_variable before (is_right kind) g.1) ≡ true
 given_to_sound right key kind codecs before d g h =
     let on = chain (name_in (codes "on") d) _ g h in
     let name = chain (name_in key d) _ g on.rest in
@@ -58,23 +49,17 @@ given_to_sound right key kind codecs before d g h =
     let maybe_variable = chain (variable_if kind before name.value) _ g maybe_codec.rest in
     let codec = chain (known maybe_codec.value) _ g maybe_variable.rest in
     let found = chain (known maybe_variable.value) _ g codec.rest in
-    subst (λ x. GivenTo codecs right before kind x) (same_Ok _ g found.rest) (record {
-      codec = codec_is_right codecs right on.value maybe_codec.value codec.value maybe_codec.first codec.first;
-      variable = (variable_is_right before kind name.value maybe_variable.value found.value maybe_variable.first found.first).variable;
-    })
+    subst (λ x. (is_codec codecs right x.0 && is_variable before (is_right kind) x.1) ≡ true) (same_Ok _ g found.rest) (all_true _ _
+    (codec_is_right codecs right on.value maybe_codec.value codec.value maybe_codec.first codec.first)
+    (variable_is_right before kind name.value maybe_variable.value found.value maybe_variable.first found.first).variable)
 
-pub record BoundFrom (before : List Step) (b : Variable × List ℕ) : Type 0 where
-  pub variable : is_variable before is_medium b.0 ≡ true
-  pub free : is_free before b.1 ≡ true
-
-pub bound_from_sound : (before : List Step) (d : Data) (b : Variable × List ℕ) → bound_from before d ≡ Ok b → BoundFrom before b
+pub bound_from_sound : (before : List Step) (d : Data) (b : Variable × List ℕ) → bound_from before d ≡ Ok b → (is_variable before is_medium b.0 && is_free before b.1) ≡ true
 bound_from_sound before d b h =
     let of = chain (name_in (codes "of") d) _ b h in
     let name = chain (name_in (codes "as") d) _ b of.rest in
     let maybe = chain (variable_if Needed.Medium before of.value) _ b name.rest in
     let bind = chain (unused before name.value) _ b maybe.rest in
     let found = chain (known maybe.value) _ b bind.rest in
-    subst (λ x. BoundFrom before x) (same_Ok _ b found.rest) (record {
-      variable = (variable_is_right before Needed.Medium of.value maybe.value found.value maybe.first found.first).variable;
-      free = name_is_free before name.value bind.value (name_is_name (codes "as") name.value d name.first) bind.first;
-    })
+    subst (λ x. (is_variable before is_medium x.0 && is_free before x.1) ≡ true) (same_Ok _ b found.rest) (all_true _ _
+    (variable_is_right before Needed.Medium of.value maybe.value found.value maybe.first found.first).variable
+    (name_is_free before name.value bind.value (name_is_name (codes "as") name.value d name.first) bind.first))

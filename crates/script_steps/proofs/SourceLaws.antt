@@ -1,14 +1,15 @@
 -- What is made of an init holds no more than the inline data.
-use Rattle.std.proofs.Common.{◌≡◌, ◌≤◌, ℕ, ℤ, codes, Bool, true, false, if◌then◌else◌, List, Option, Some, None, option_and_then, Ok, sym, ap, subst, ◌∙◌, arith}
-use Rattle.std.proofs.lemmas.Option.{same_Some}
+use Rattle.std.proofs.Common.{◌≡◌, ◌≤◌, ℕ, ℤ, codes, Bool, true, false, List, Option, Some, None, option_and_then, Ok, sym, ap, subst, ◌∙◌, arith}
 use Rattle.serde_json.specs.{Data.Data, Find.get}
 use Rattle.wc_base.specs.declared.media.{SampleFormat.SampleFormat, PictureFormat.PictureFormat}
 use Rattle.script_types.specs.declared.steps.{ChunkInit.ChunkInit, SoundInit.SoundInit, PictureInit.PictureInit}
 use Rattle.script_types.specs.Sound.{bytes_of_chunk, bytes_of_source, bytes_of_sound, bytes_of_picture}
 use Rattle.script_steps.specs.{declared.source.SourceWords.SourceWords, Words.byte_count, Steps.numbered}
-use Rattle.script_steps.specs.Members.{needed, word_of, required, u32_of, hex_of, checked_object, is_object, object_in, text_in}
+use Rattle.script_steps.specs.Members.{and_then, needed, word_of, required, u32_of, hex_of, checked_object, is_object, object_in, text_in}
 use Rattle.script_steps.specs.Media.{data_value, data_of_init, data_of_step, timestamp_in, duration_in, content_in, key_of, chunk_with, chunk_of, sample_format_of, sound_with, sound_of, picture_format_of, picture_with, picture_of}
 use Rattle.script_steps.specs.Sources.{has, index_in, made_of, taken_of, source_by, source_of}
+use Rattle.wc_base.specs.Options.{cond_is}
+use Rattle.script_steps.proofs.ReferenceLaws.{made}
 use Rattle.script_steps.specs.Chains.{same_Ok, chain, needed_some}
 
 -- ---- the content of an init
@@ -24,15 +25,18 @@ pub chunk_content : (key : Option Bool) (timestamp : Option ℤ) (duration : Opt
 chunk_content (Some key) (Some timestamp) (Some duration) (Some content) = omega arith
 chunk_content _ _ _ _ = omega arith
 
+-- an init that is made of its content is no greater than its data
+of_content : {A : Type 0} (bytes : A → ℕ) (d : Data) (make : Option (List ℕ) → A) (init : A) → ((c : Option (List ℕ)) → bytes (make c) ≤ byte_count c) → and_then (content_in d) (λ c. Ok (make c)) ≡ Ok init
+    → bytes init ≤ byte_count (data_of_init d)
+of_content bytes d make init small h =
+    made (λ i. bytes i ≤ byte_count (data_of_init d)) (content_in d) make init (λ c e. subst (λ x. bytes (make c) ≤ byte_count x) (content_is (get (codes "data") d) c e) (small c)) h
+
 pub chunk_bytes : (d : Data) (init : Option ChunkInit) → chunk_of d ≡ Ok init → bytes_of_chunk init ≤ byte_count (data_of_init d)
 chunk_bytes d init h =
     let key = chain (required (word_of key_of) (get (codes "type") d)) _ init h in
     let timestamp = chain (timestamp_in d) _ init key.rest in
     let duration = chain (duration_in d) _ init timestamp.rest in
-    let content = chain (content_in d) _ init duration.rest in
-    subst (λ i. bytes_of_chunk i ≤ byte_count (data_of_init d)) (same_Ok _ init content.rest)
-    (subst (λ c. bytes_of_chunk (chunk_with key.value timestamp.value duration.value content.value) ≤ byte_count c) (content_is (get (codes "data") d) content.value content.first)
-    (chunk_content key.value timestamp.value duration.value content.value))
+    of_content bytes_of_chunk d (chunk_with key.value timestamp.value duration.value) init (chunk_content key.value timestamp.value duration.value) duration.rest
 
 sound_content : (format : Option SampleFormat) (rate frames channels : Option ℕ) (timestamp : Option ℤ) (content : Option (List ℕ))
     → bytes_of_sound (sound_with format rate frames channels timestamp content) ≤ byte_count content
@@ -46,10 +50,7 @@ sound_bytes d init h =
     let frames = chain (required u32_of (get (codes "numberOfFrames") d)) _ init rate.rest in
     let channels = chain (required u32_of (get (codes "numberOfChannels") d)) _ init frames.rest in
     let timestamp = chain (timestamp_in d) _ init channels.rest in
-    let content = chain (content_in d) _ init timestamp.rest in
-    subst (λ i. bytes_of_sound i ≤ byte_count (data_of_init d)) (same_Ok _ init content.rest)
-    (subst (λ c. bytes_of_sound (sound_with format.value rate.value frames.value channels.value timestamp.value content.value) ≤ byte_count c) (content_is (get (codes "data") d) content.value content.first)
-    (sound_content format.value rate.value frames.value channels.value timestamp.value content.value))
+    of_content bytes_of_sound d (sound_with format.value rate.value frames.value channels.value timestamp.value) init (sound_content format.value rate.value frames.value channels.value timestamp.value) timestamp.rest
 
 picture_content : (format : Option PictureFormat) (width height : Option ℕ) (timestamp : Option ℤ) (duration : Option (Option ℕ)) (content : Option (List ℕ))
     → bytes_of_picture (picture_with format width height timestamp duration content) ≤ byte_count content
@@ -63,20 +64,13 @@ picture_bytes d init h =
     let height = chain (required u32_of (get (codes "codedHeight") d)) _ init width.rest in
     let timestamp = chain (timestamp_in d) _ init height.rest in
     let duration = chain (duration_in d) _ init timestamp.rest in
-    let content = chain (content_in d) _ init duration.rest in
-    subst (λ i. bytes_of_picture i ≤ byte_count (data_of_init d)) (same_Ok _ init content.rest)
-    (subst (λ c. bytes_of_picture (picture_with format.value width.value height.value timestamp.value duration.value content.value) ≤ byte_count c) (content_is (get (codes "data") d) content.value content.first)
-    (picture_content format.value width.value height.value timestamp.value duration.value content.value))
+    of_content bytes_of_picture d (picture_with format.value width.value height.value timestamp.value duration.value) init (picture_content format.value width.value height.value timestamp.value duration.value) duration.rest
 
 -- ---- the init of a step
 
-same_object : (b : Bool) (x o : Data) → (if b then Some x else None) ≡ Some o → x ≡ o
-same_object true x o h = same_Some x o h
-same_object false x o h = absurd cc
-
 object_there : (m : Option Data) (o : Data) → option_and_then checked_object m ≡ Some o → m ≡ Some o
 object_there None o h = absurd cc
-object_there (Some x) o h = ap (λ y. Some y) (same_object (is_object x) x o h)
+object_there (Some x) o h = (cond_is (is_object x) (Some x) o h).1
 
 -- the step's inline data is that of its init
 pub step_data : (d init : Data) → object_in (codes "init") d ≡ Ok init → data_of_init init ≡ data_of_step d

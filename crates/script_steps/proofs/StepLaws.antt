@@ -1,17 +1,17 @@
 -- What is known of a step that was read.
 use Rattle.std.proofs.Common.{◌≡◌, ◌≤◌, ℕ, codes, true, List, [], length, Some, Result, Ok, refl, sym, ap, subst, ◌∙◌, arith}
 use Rattle.serde_json.specs.Data.{Data}
-use Rattle.script_types.specs.declared.{script.CodecItem.CodecItem, steps.Step.Step, steps.Variable.Variable, fault.Wrong.Wrong}
-use Rattle.script_types.specs.Names.{codec_named, decodes, is_promise}
-use Rattle.script_types.specs.Sound.{suits, is_codec, any_kind, is_variable, is_sound_step, bytes_of_step, file_after, source_after, are_apart}
+use Rattle.script_types.specs.declared.{script.CodecItem.CodecItem, steps.Step.Step, fault.Wrong.Wrong}
+use Rattle.script_types.specs.Names.{codec_named, decodes}
+use Rattle.script_types.specs.Sound.{suits, is_codec, any_kind, is_sound_step, bytes_of_step, file_after, source_after, are_apart}
 use Rattle.script_steps.specs.{declared.source.SourceWords.SourceWords, ConfigRead.config_of, Sources.source_of, declared.words.StepWord.StepWord}
 use Rattle.chunk_files.specs.declared.fault.Stop.{Stop}
 use Rattle.script_steps.specs.Members.{and_then, needed as there, known, name_in, object_in}
 use Rattle.script_steps.specs.{declared.references.Needed.Needed, Soundness.StepsAreSound}
 use Rattle.script_steps.specs.Words.{word_in, data_of_word, inline_data, byte_count}
 use Rattle.script_steps.specs.References.{unused, on_of}
-use Rattle.script_steps.specs.Steps.{configure_of, promise_in, numbered, chunk_step_of, no_file, step_by}
-use Rattle.script_steps.specs.Chains.{same_Ok, chain, needed_some, all_true}
+use Rattle.script_steps.specs.Steps.{configure_of, numbered, chunk_step_of, no_file, step_by}
+use Rattle.script_steps.specs.Chains.{same_Ok, chain, needed_some}
 use Rattle.script_steps.proofs.{ConfigLaws.config_suits, FileLaws.file_is_counted, FileLaws.files_are_apart, MediaLaws.media_sound}
 use Rattle.script_steps.specs.NameLaws.{name_is_name, name_is_free, codec_is_there}
 use Rattle.script_steps.proofs.ReferenceLaws.{made, variable_sound, on_sound, bound_on_sound, given_to_sound}
@@ -40,9 +40,6 @@ configure codecs before d s h =
 of_part : {A : Type 0} (codecs : List CodecItem) (before : List Step) (d : Data) (w : StepWord) (r : Result A (Stop Wrong)) (make : A → Step) → ((a : A) → r ≡ Ok a → is_sound_step codecs before (make a) ≡ true)
     → ((a : A) → bytes_of_step (make a) ≤ byte_count (data_of_word (Some w) d)) → ((a : A) (n : ℕ) → file_after n (make a) ≡ Some n) → (s : Step) → and_then r (λ a. Ok (make a)) ≡ Ok s → Plain codecs before d w s
 of_part codecs before d w r make sound bytes count s h = made (Plain codecs before d w) r make s (λ a e. record { sound = sound a e; bytes = bytes a; count = count a }) h
-
-promise : (before : List Step) (d : Data) (v : Variable) → promise_in before d ≡ Ok v → is_variable before is_promise v ≡ true
-promise before d v h = variable_sound (codes "promise") Needed.Promise before d v h
 
 on_codec : (codecs : List CodecItem) (before : List Step) (d : Data) (w : StepWord) (make : ℕ → Step) → ((on : ℕ) → is_sound_step codecs before (make on) ≡ is_codec codecs any_kind on)
     → ((on : ℕ) → bytes_of_step (make on) ≤ byte_count (data_of_word (Some w) d)) → ((on n : ℕ) → file_after n (make on) ≡ Some n) → (s : Step) → and_then (on_of codecs d) (λ on. Ok (make on)) ≡ Ok s → Plain codecs before d w s
@@ -89,13 +86,11 @@ by_word : (codecs : List CodecItem) (files : List (List ℕ)) (before : List Ste
 by_word codecs files before d StepWord.Configure r h = plain codecs files before d StepWord.Configure _ r (configure codecs before d) h
 by_word codecs files before d StepWord.Chunk r h = chunk codecs files before d r h
 by_word codecs files before d StepWord.Decode r h =
-    let given = given_to_sound decodes (codes "chunk") Needed.Chunk codecs before d in
-    plain codecs files before d StepWord.Decode _ r (of_part codecs before d StepWord.Decode _ _ (λ g e. all_true _ _ (given g e).codec (given g e).variable) (λ g. omega arith) (λ g n. refl)) h
+    plain codecs files before d StepWord.Decode _ r (of_part codecs before d StepWord.Decode _ _ (given_to_sound decodes (codes "chunk") Needed.Chunk codecs before d) (λ g. omega arith) (λ g n. refl)) h
 by_word codecs files before d StepWord.Flush r h =
-    let bound = bound_on_sound codecs before d in
-    plain codecs files before d StepWord.Flush _ r (of_part codecs before d StepWord.Flush _ _ (λ b e. all_true _ _ ((bound b e).codec (λ k. true)) (bound b e).free) (λ b. omega arith) (λ b n. refl)) h
-by_word codecs files before d StepWord.Poll r h = plain codecs files before d StepWord.Poll _ r (of_part codecs before d StepWord.Poll _ _ (promise before d) (λ v. omega arith) (λ v n. refl)) h
-by_word codecs files before d StepWord.Await r h = plain codecs files before d StepWord.Await _ r (of_part codecs before d StepWord.Await _ _ (promise before d) (λ v. omega arith) (λ v n. refl)) h
+    plain codecs files before d StepWord.Flush _ r (of_part codecs before d StepWord.Flush _ _ (λ b e. bound_on_sound codecs before d b e any_kind refl) (λ b. omega arith) (λ b n. refl)) h
+by_word codecs files before d StepWord.Poll r h = plain codecs files before d StepWord.Poll _ r (of_part codecs before d StepWord.Poll _ _ (variable_sound (codes "promise") Needed.Promise before d) (λ v. omega arith) (λ v n. refl)) h
+by_word codecs files before d StepWord.Await r h = plain codecs files before d StepWord.Await _ r (of_part codecs before d StepWord.Await _ _ (variable_sound (codes "promise") Needed.Promise before d) (λ v. omega arith) (λ v n. refl)) h
 by_word codecs files before d StepWord.Reset r h = plain codecs files before d StepWord.Reset _ r (on_codec codecs before d StepWord.Reset _ (λ on. refl) (λ on. omega arith) (λ on n. refl)) h
 by_word codecs files before d StepWord.Close r h = plain codecs files before d StepWord.Close _ r (on_codec codecs before d StepWord.Close _ (λ on. refl) (λ on. omega arith) (λ on n. refl)) h
 by_word codecs files before d StepWord.State r h = plain codecs files before d StepWord.State _ r (on_codec codecs before d StepWord.State _ (λ on. refl) (λ on. omega arith) (λ on n. refl)) h
