@@ -1,5 +1,5 @@
 -- What a table has at each name after a name was put into it, and after its list has one item more.
-use Rattle.std.proofs.Common.{◌≡◌, ◌+◌, ℕ, List, [], ◌∷◌, ◌++◌, length, Bool, true, false, cond, bytes_eq, Option, Some, None, string_bytes, refl, sym, ap, subst, ◌∙◌, nat_lt, arith}
+use Rattle.std.proofs.Common.{◌≡◌, ◌+◌, ℕ, List, [], ◌∷◌, ◌++◌, length, Bool, true, false, cond, bytes_eq, Option, Some, None, is_some, string_bytes, refl, sym, ap, subst, ◌∙◌, nat_lt, arith}
 use Rattle.std.specs.List.{position, position_or_len}
 use Rattle.std.specs.declared.alloc.Global.{Global}
 use Rattle.std.specs.declared.string.String.{String}
@@ -58,29 +58,16 @@ table_put p xs y m n name t free names puts = record {
       ∙ ap (λ b. first_of (position (p q) xs) (place_if b (length xs))) (sym (names q)) ∙ sym (place_push (p q) xs y);
 }
 
-old_at : (name q : List ℕ) (o : Option ℕ) (n k : ℕ) → (bytes_eq name q ≡ true → o ≡ Some k) → o ≡ first_of o (place_if (bytes_eq name q) n)
-old_at name q None n k h = grind (arith, h)
-old_at name q (Some j) n k h = refl
+kept_at : (b : Bool) (o : Option ℕ) (n : ℕ) → (b ≡ true → is_some o ≡ true) → o ≡ first_of o (place_if b n)
+kept_at false None n h = refl
+kept_at true None n h = absurd (cc (h refl))
+kept_at b (Some k) n h = refl
 
--- the table of a list with one more item, which has a name that an item before has
-pub table_old : {X : Type 0} (p : List ℕ → X → Bool) (xs : List X) (y : X) (m : Table) (name : List ℕ) (k : ℕ)
-    → IsTable m (λ q. position (p q) xs) → get_by_text m name ≡ Some k → ((q : List ℕ) → p q y ≡ bytes_eq name q)
-    → IsTable m (λ q. position (p q) (xs ++ y ∷ []))
-table_old p xs y m name k t there names = record {
+-- the table of a list with one more item, which has no name but those that are there
+pub table_kept : {X : Type 0} (p : List ℕ → X → Bool) (xs : List X) (y : X) (m : Table)
+    → IsTable m (λ q. position (p q) xs) → ((q : List ℕ) → p q y ≡ true → is_some (get_by_text m q) ≡ true) → IsTable m (λ q. position (p q) (xs ++ y ∷ []))
+table_kept p xs y m t there = record {
   at = λ q.
-      t.at q ∙ old_at name q (position (p q) xs) (length xs) k (λ e. sym (t.at q) ∙ ap (get_by_text m) (sym ((bytes_eq-Decides name q).0 e)) ∙ there)
-      ∙ ap (λ b. first_of (position (p q) xs) (place_if b (length xs))) (sym (names q)) ∙ sym (place_push (p q) xs y);
-}
-
-nothing : (o : Option ℕ) (n : ℕ) → o ≡ first_of o (place_if false n)
-nothing None n = refl
-nothing (Some k) n = refl
-
--- the table of a list with one more item, which has no name
-pub table_same : {X : Type 0} (p : List ℕ → X → Bool) (xs : List X) (y : X) (m : Table)
-    → IsTable m (λ q. position (p q) xs) → ((q : List ℕ) → p q y ≡ false) → IsTable m (λ q. position (p q) (xs ++ y ∷ []))
-table_same p xs y m t none = record {
-  at = λ q.
-      t.at q ∙ nothing (position (p q) xs) (length xs)
-      ∙ ap (λ b. first_of (position (p q) xs) (place_if b (length xs))) (sym (none q)) ∙ sym (place_push (p q) xs y);
+      t.at q ∙ kept_at (p q y) (position (p q) xs) (length xs) (λ e. ap is_some (sym (t.at q)) ∙ there q e)
+      ∙ sym (place_push (p q) xs y);
 }
