@@ -4,15 +4,12 @@ use Rattle.serde_json.specs.Data.{Data}
 use Rattle.script_types.specs.declared.{options.Options.Options, found.FoundVariable.FoundVariable, steps.VariableKind.VariableKind}
 use Rattle.script_types.specs.{Names.is_copied, Names.is_medium, Sound.are_options_of}
 use Rattle.script_steps.specs.{Members.known, Members.object_if_there, MediaSteps.options_in, Chains.same_Ok, Chains.chain}
+use Rattle.script_steps.proofs.ReferenceLaws.{made}
 use Rattle.script_steps.specs.CopyOptions.{audio_options_of, frame_options_of, options_by, options_for}
 
 by_kind : (kind : VariableKind) (d : Option Data) (o : Options) → is_copied kind ≡ true → options_by kind d ≡ Ok o → are_options_of o kind ≡ true
-by_kind VariableKind.Audio d o k h =
-    let a = chain (audio_options_of d) _ o h in
-    subst (λ x. are_options_of x VariableKind.Audio ≡ true) (same_Ok _ o a.rest) refl
-by_kind VariableKind.Frame d o k h =
-    let a = chain (frame_options_of d) _ o h in
-    subst (λ x. are_options_of x VariableKind.Frame ≡ true) (same_Ok _ o a.rest) refl
+by_kind VariableKind.Audio d o k h = made (λ x. are_options_of x VariableKind.Audio ≡ true) (audio_options_of d) _ o (λ a e. refl) h
+by_kind VariableKind.Frame d o k h = made (λ x. are_options_of x VariableKind.Frame ≡ true) (frame_options_of d) _ o (λ a e. refl) h
 by_kind VariableKind.Chunk d o k h = subst (λ x. are_options_of x VariableKind.Chunk ≡ true) (same_Ok Options.Nothing o h) refl
 by_kind VariableKind.Promise d o k h = absurd cc
 

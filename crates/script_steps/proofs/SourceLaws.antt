@@ -83,15 +83,13 @@ step_data d init h =
 made_bytes : (files : List (List ℕ)) (d : Data) (s : SourceWords) → made_of d ≡ Ok s → bytes_of_source (numbered files s).0 ≤ byte_count (data_of_step d)
 made_bytes files d s h =
     let object = chain (object_in (codes "init") d) _ s h in
-    let init = chain (chunk_of object.value) _ s object.rest in
-    subst (λ x. bytes_of_source (numbered files x).0 ≤ byte_count (data_of_step d)) (same_Ok _ s init.rest)
-    (subst (λ c. bytes_of_chunk init.value ≤ byte_count c) (step_data d object.value object.first) (chunk_bytes object.value init.value init.first))
+    made (λ x. bytes_of_source (numbered files x).0 ≤ byte_count (data_of_step d)) (chunk_of object.value) _ s
+    (λ i e. subst (λ c. bytes_of_chunk i ≤ byte_count c) (step_data d object.value object.first) (chunk_bytes object.value i e)) object.rest
 
 taken_bytes : (files : List (List ℕ)) (d : Data) (s : SourceWords) → taken_of d ≡ Ok s → bytes_of_source (numbered files s).0 ≤ byte_count (data_of_step d)
 taken_bytes files d s h =
     let file = chain (needed (text_in (codes "file") d)) _ s h in
-    let index = chain (index_in d) _ s file.rest in
-    subst (λ x. bytes_of_source (numbered files x).0 ≤ byte_count (data_of_step d)) (same_Ok _ s index.rest) (omega arith)
+    made (λ x. bytes_of_source (numbered files x).0 ≤ byte_count (data_of_step d)) (index_in d) _ s (λ i e. omega arith) file.rest
 
 bytes_by : (init file index : Bool) (files : List (List ℕ)) (d : Data) (s : SourceWords) → source_by init file index d ≡ Ok s
     → bytes_of_source (numbered files s).0 ≤ byte_count (data_of_step d)

@@ -56,9 +56,7 @@ record SoundBy (codecs : List CodecItem) (files : List (List ℕ)) (before : Lis
 plain : (codecs : List CodecItem) (files : List (List ℕ)) (before : List Step) (d : Data) (w : StepWord) (t : Result Step (Stop Wrong)) (r : Step × List (List ℕ))
     → ((s : Step) → t ≡ Ok s → Plain codecs before d w s) → no_file files t ≡ Ok r → SoundBy codecs files before d w r
 plain codecs files before d w t r k h =
-    let s = chain t _ r h in
-    let p = k s.value s.first in
-    subst (λ x. SoundBy codecs files before d w x) (same_Ok _ r s.rest) (record { sound = p.sound; bytes = p.bytes; count = p.count (length files); apart = λ a. a })
+    made (SoundBy codecs files before d w) t _ r (λ s e. let p = k s e in record { sound = p.sound; bytes = p.bytes; count = p.count (length files); apart = λ a. a }) h
 
 source_count : (files : List (List ℕ)) (s : SourceWords) → source_after (length files) (numbered files s).0 ≡ Some (length (numbered files s).1)
 source_count files (SourceWords.Init init) = refl
