@@ -28,7 +28,8 @@ SoundBy codecs before d w = (s : MediaStep) → media_by codecs before d w ≡ O
 
 -- a step that gives a name to what is made of an init
 of_init : {A : Type 0} (codecs : List CodecItem) (before : List Step) (d : Data) (w : MediaWord) (read : Data → Result A (Stop Wrong)) (make : List ℕ → A → MediaStep) → data_of_step d ≡ data_of_word (Some (StepWord.Media w)) d
-    → ((bind : List ℕ) (init : A) → is_sound_media codecs before (make bind init) ≡ is_free before bind) → ((bind : List ℕ) (object : Data) (init : A) → read object ≡ Ok init → bytes_of_media (make bind init) ≤ byte_count (data_of_init object)) → (s : MediaStep)
+    → ((bind : List ℕ) (init : A) → is_sound_media codecs before (make bind init) ≡ is_free before bind) → ((bind : List ℕ) (object : Data) (init : A) → read object ≡ Ok init → bytes_of_media (make bind init) ≤ byte_count (data_of_init object))
+    → (s : MediaStep)
     → and_then (name_in (codes "as") d) (λ name. and_then (object_in (codes "init") d) (λ object. and_then (read object) (λ init. and_then (unused before name) (λ bind. Ok (make bind init))))) ≡ Ok s → SoundMedia codecs before d w s
 of_init codecs before d w read make same sound bytes s h =
     let name = chain (name_in (codes "as") d) _ s h in
@@ -61,7 +62,8 @@ size_is_small d size h = size_of_natural (option_and_then natural_of (get (codes
 
 -- a step with a variable, and with options of what it holds
 of_options : (codecs : List CodecItem) (before : List Step) (d : Data) (w : MediaWord) (needed : Needed) (of : List ℕ) (make : Variable → Options → MediaStep) → ((k : VariableKind) → is_right needed k ≡ true → is_copied k ≡ true)
-    → ((v : Variable) (o : Options) → is_variable before (is_right needed) v ≡ true → are_options_of o v.kind ≡ true → is_sound_media codecs before (make v o) ≡ true) → ((v : Variable) (o : Options) → bytes_of_media (make v o) ≤ byte_count (data_of_word (Some (StepWord.Media w)) d)) → (s : MediaStep)
+    → ((v : Variable) (o : Options) → is_variable before (is_right needed) v ≡ true → are_options_of o v.kind ≡ true → is_sound_media codecs before (make v o) ≡ true)
+    → ((v : Variable) (o : Options) → bytes_of_media (make v o) ≤ byte_count (data_of_word (Some (StepWord.Media w)) d)) → (s : MediaStep)
     → and_then (variable_if needed before of) (λ m. and_then (options_in m d) (λ o. and_then (known m) (λ found. Ok (make (variable_of of found) o)))) ≡ Ok s → SoundMedia codecs before d w s
 of_options codecs before d w needed of make copied sound bytes s h =
     let maybe = chain (variable_if needed before of) _ s h in
