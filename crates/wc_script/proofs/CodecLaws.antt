@@ -1,8 +1,7 @@
 -- Nothing is at fault in codecs that were read.
-use Rattle.std.proofs.Common.{◌≡◌, ℕ, ◌+◌, ◌&&◌, not, nat_le, true, List, [], ◌∷◌, ◌++◌, length, codes, Option, Some, None, option_and_then, Ok, refl, ap, subst, arith}
-use Rattle.std.proofs.lemmas.List.{length_push}
+use Rattle.std.proofs.Common.{◌≡◌, ℕ, ◌&&◌, not, nat_le, true, List, [], codes, Option, Some, None, option_and_then, Ok, refl, ap, subst}
 use Rattle.std.proofs.lemmas.Option.{same_Some}
-use Rattle.serde_json.specs.Data.{Data, Items, no_items, item}
+use Rattle.serde_json.specs.Data.{Data, Items}
 use Rattle.serde_json.specs.Find.{get}
 use Rattle.script_types.specs.{declared.fault.Place.Place, declared.script.CodecItem.CodecItem, Names.is_name, Names.is_codec_name}
 use Rattle.wc_base.specs.Options.{cond_is}
@@ -10,9 +9,8 @@ use Rattle.script_types.specs.{Sound.is_sound_codec, Sound.are_sound_codecs}
 use Rattle.script_steps.specs.Members.{needed, text_in, name_in, natural_of}
 use Rattle.script_steps.specs.Chains.{same_Ok, chain, needed_some, all_true}
 use Rattle.script_steps.specs.NameLaws.{name_is_name}
-use Rattle.wc_script.specs.{Faults.at, Walk.count_of}
 use Rattle.wc_script.specs.Codecs.{kind_of, checked_saturation, saturation_of, codec_of, codecs_of}
-use Rattle.wc_script.proofs.Proceeds.{proceeds, read_at, unless, each_more}
+use Rattle.wc_script.proofs.Proceeds.{unless, each_more, IsWalked, walked}
 
 -- ---- one codec
 
@@ -40,20 +38,8 @@ codec_sound before d c h =
 
 -- ---- all
 
-pub record SoundCodecs (before : List CodecItem) (ds : Items) (cs : List CodecItem) : Type 0 where
-  pub sound : are_sound_codecs [] cs ≡ true
-  pub count : length cs ≡ length before + count_of ds
-
 pub codecs_sound : (i : ℕ) (before : List CodecItem) (ds : Items) (cs : List CodecItem) → are_sound_codecs [] before ≡ true → codecs_of i before ds ≡ Ok cs
-    → SoundCodecs before ds cs
-codecs_sound i before no_items cs s h =
-    let e : before ≡ cs = same_Ok before cs h in
-    let n : length before ≡ length cs = ap length e in
-    record { sound = subst (λ l. are_sound_codecs [] l ≡ true) e s; count = omega arith }
-codecs_sound i before (item d ds) cs s h =
-    let c = proceeds (at (Place.Codec i) (codec_of before d)) _ cs h in
-    let one = codec_sound before d c.value (read_at (Place.Codec i) (codec_of before d) c.value c.first) in
-    let t = codecs_sound (i + 1) (before ++ c.value ∷ []) ds cs (each_more is_sound_codec are_sound_codecs (λ b. refl) (λ b x xs. refl) [] before c.value s one) c.rest in
-    let n = length_push before c.value in
-    let m = t.count in
-    record { sound = t.sound; count = omega arith }
+    → IsWalked (λ l. are_sound_codecs [] l ≡ true) before ds cs
+codecs_sound =
+    walked _ Place.Codec codec_of codecs_of (λ i b. refl) (λ i b d ds. refl)
+    (λ b d c s e. each_more is_sound_codec are_sound_codecs (λ l. refl) (λ l x xs. refl) [] b c s (codec_sound b d c e))

@@ -1,20 +1,20 @@
 -- The items of an order that was read name what is there.
-use Rattle.std.proofs.Common.{◌≡◌, ℕ, ◌+◌, nat_lt, true, List, [], ◌∷◌, ◌++◌, length, codes, Option, Some, None, option_and_then, Ok, subst, arith, zero, suc}
+use Rattle.std.proofs.Common.{◌≡◌, ℕ, nat_lt, true, List, [], ◌∷◌, length, codes, Option, Some, None, option_and_then, Result, Ok, refl, subst, arith, zero, suc}
 use Rattle.std.specs.List.{list_all}
-use Rattle.std.proofs.lemmas.List.{length_push}
 use Rattle.std.proofs.lemmas.Option.{same_Some}
-use Rattle.serde_json.specs.Data.{Data, Items, no_items, item}
+use Rattle.serde_json.specs.Data.{Data, Items}
 use Rattle.serde_json.specs.Find.{get, as_str}
-use Rattle.script_types.specs.declared.{fault.Place.Place, script.CodecItem.CodecItem, script.CallerItem.CallerItem, script.OrderItem.OrderItem}
+use Rattle.chunk_files.specs.declared.fault.Stop.{Stop}
+use Rattle.script_types.specs.declared.{fault.Place.Place, fault.Wrong.Wrong, script.CodecItem.CodecItem, script.CallerItem.CallerItem, script.OrderItem.OrderItem}
 use Rattle.script_types.specs.{declared.found.FoundCodec.FoundCodec, Names.codec_named, Names.caller_named}
 use Rattle.script_types.specs.Sound.{any_kind, is_codec, is_sound_item}
-use Rattle.script_steps.specs.Members.{needed, known, checked_name, name_in, natural_of}
+use Rattle.script_steps.specs.Members.{and_then, needed, known, checked_name, name_in, natural_of}
 use Rattle.script_steps.specs.Chains.{same_Ok, chain, known_some}
 use Rattle.script_steps.specs.NameLaws.{codec_is_there}
-use Rattle.wc_script.specs.{declared.order.OrderWord.OrderWord, Faults.at, Walk.count_of}
+use Rattle.wc_script.specs.{declared.order.OrderWord.OrderWord}
 use Rattle.wc_script.specs.Order.{order_word_of, codec_in, codec_at, order_by, order_from, order_item_of, order_of}
 use Rattle.wc_base.specs.Options.{cond_is}
-use Rattle.wc_script.proofs.Proceeds.{proceeds, read_at, all_more}
+use Rattle.wc_script.proofs.Proceeds.{all_more, IsWalked, walked}
 
 -- ---- codecs and callers
 
@@ -48,19 +48,15 @@ at_below key codecs d r h =
 abbrev IsSoundItem : List CodecItem → List CallerItem → OrderItem → Type 0
 IsSoundItem codecs callers x = is_sound_item (length codecs) (length callers) x ≡ true
 
+-- an item that is made of one part that was read
+made : {A : Type 0} (codecs : List CodecItem) (callers : List CallerItem) (r : Result A (Stop Wrong)) (make : A → OrderItem) (x : OrderItem) → ((a : A) → r ≡ Ok a → IsSoundItem codecs callers (make a)) → and_then r (λ a. Ok (make a)) ≡ Ok x → IsSoundItem codecs callers x
+made codecs callers r make x sound h = let a = chain r _ x h in subst (IsSoundItem codecs callers) (same_Ok _ x a.rest) (sound a.value a.first)
+
 by_word : (codecs : List CodecItem) (callers : List CallerItem) (d : Data) (w : OrderWord) (x : OrderItem) → order_by codecs d w ≡ Ok x → IsSoundItem codecs callers x
-by_word codecs callers d OrderWord.Start x h =
-    let n = chain (codec_in (codes "start") codecs d) _ x h in
-    subst (IsSoundItem codecs callers) (same_Ok _ x n.rest) (in_below (codes "start") codecs d n.value n.first)
-by_word codecs callers d OrderWord.Done x h =
-    let c = chain (codec_at (codes "done") codecs d) _ x h in
-    subst (IsSoundItem codecs callers) (same_Ok _ x c.rest) (at_below (codes "done") codecs d c.value c.first)
-by_word codecs callers d OrderWord.Turn x h =
-    let n = chain (codec_in (codes "turn") codecs d) _ x h in
-    subst (IsSoundItem codecs callers) (same_Ok _ x n.rest) (in_below (codes "turn") codecs d n.value n.first)
-by_word codecs callers d OrderWord.Reclaim x h =
-    let c = chain (codec_at (codes "reclaim") codecs d) _ x h in
-    subst (IsSoundItem codecs callers) (same_Ok _ x c.rest) (at_below (codes "reclaim") codecs d c.value c.first)
+by_word codecs callers d OrderWord.Start x h = made codecs callers _ OrderItem.Start x (in_below (codes "start") codecs d) h
+by_word codecs callers d OrderWord.Done x h = made codecs callers _ (λ c. OrderItem.Done c.0 c.1) x (at_below (codes "done") codecs d) h
+by_word codecs callers d OrderWord.Turn x h = made codecs callers _ OrderItem.Turn x (in_below (codes "turn") codecs d) h
+by_word codecs callers d OrderWord.Reclaim x h = made codecs callers _ (λ c. OrderItem.Reclaim c.0 c.1) x (at_below (codes "reclaim") codecs d) h
 
 by_text : (codecs : List CodecItem) (callers : List CallerItem) (d : Data) (o : Option (List ℕ)) (x : OrderItem) → order_from codecs callers d o ≡ Ok x → IsSoundItem codecs callers x
 by_text codecs callers d (Some text) x h =
@@ -77,17 +73,8 @@ item_sound codecs callers d x h = by_text codecs callers d (as_str d) x h
 
 -- ---- all items
 
-pub record SoundItems (codecs : List CodecItem) (callers : List CallerItem) (before : List OrderItem) (ds : Items) (xs : List OrderItem) : Type 0 where
-  pub sound : list_all (is_sound_item (length codecs) (length callers)) xs ≡ true
-  pub count : length xs ≡ length before + count_of ds
-
 pub items_sound : (codecs : List CodecItem) (callers : List CallerItem) (i : ℕ) (before : List OrderItem) (ds : Items) (xs : List OrderItem)
-    → list_all (is_sound_item (length codecs) (length callers)) before ≡ true → order_of codecs callers i before ds ≡ Ok xs → SoundItems codecs callers before ds xs
-items_sound codecs callers i before no_items xs s h =
-    subst (λ l. SoundItems codecs callers before no_items l) (same_Ok before xs h) (record { sound = s; count = omega arith })
-items_sound codecs callers i before (item d ds) xs s h =
-    let x = proceeds (at (Place.Order i) (order_item_of codecs callers d)) _ xs h in
-    let one = item_sound codecs callers d x.value (read_at (Place.Order i) (order_item_of codecs callers d) x.value x.first) in
-    let t = items_sound codecs callers (i + 1) (before ++ x.value ∷ []) ds xs (all_more (is_sound_item (length codecs) (length callers)) before x.value s one) x.rest in
-    let n = length_push before x.value in
-    record { sound = t.sound; count = omega (arith, n, t.count) }
+    → list_all (is_sound_item (length codecs) (length callers)) before ≡ true → order_of codecs callers i before ds ≡ Ok xs → IsWalked (λ l. list_all (is_sound_item (length codecs) (length callers)) l ≡ true) before ds xs
+items_sound codecs callers =
+    walked _ Place.Order (λ b. order_item_of codecs callers) (order_of codecs callers) (λ i b. refl) (λ i b d ds. refl)
+    (λ b d x s e. all_more (is_sound_item (length codecs) (length callers)) b x s (item_sound codecs callers d x e))

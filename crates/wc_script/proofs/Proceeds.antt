@@ -1,12 +1,13 @@
 -- What is known of a walk that ended well.
-use Rattle.std.proofs.Common.{◌≡◌, Bool, true, false, ◌&&◌, if◌then◌else◌, List, [], ◌∷◌, ◌++◌, Option, Some, None, option_and_then, Result, Ok, Err, refl, sym, ap, ◌∙◌}
-use Rattle.std.proofs.lemmas.List.{append_assoc, append-nil}
+use Rattle.std.proofs.Common.{◌≡◌, ℕ, ◌+◌, Bool, true, false, ◌&&◌, if◌then◌else◌, List, [], ◌∷◌, ◌++◌, length, Option, Some, None, option_and_then, Result, Ok, Err, refl, sym, ap, subst, ◌∙◌, arith}
+use Rattle.std.proofs.lemmas.List.{append_assoc, append-nil, length_push}
 use Rattle.std.proofs.lemmas.Option.{same_Some}
 use Rattle.std.specs.List.{list_all}
+use Rattle.serde_json.specs.Data.{Data, Items, no_items, item}
 use Rattle.script_types.specs.declared.fault.{Place.Place, Fault.Fault, Wrong.Wrong}
 use Rattle.chunk_files.specs.declared.fault.Stop.{Stop}
 use Rattle.script_steps.specs.Chains.{same_Ok, all_true}
-use Rattle.wc_script.specs.Faults.{at, proceed}
+use Rattle.wc_script.specs.{Faults.at, Faults.proceed, Walk.count_of}
 
 -- the first part gave a value, and the rest went on with it
 pub record Proceeds {A B : Type 0} (r : Result A (Stop Fault)) (f : A → Result B (Stop Fault)) (b : B) : Type 0 where
@@ -60,3 +61,19 @@ fold_more one all none next n [] x m k h e =
     next n x [] ∙ (ap (option_and_then (λ i. all i [])) (ap (λ i. one i x) (same_Some n m (sym (none n) ∙ h)) ∙ e) ∙ none k)
 fold_more one all none next n (y ∷ ys) x m k h e =
     next n y (ys ++ x ∷ []) ∙ then_more (λ i. all i ys) (λ i. all i (ys ++ x ∷ [])) (one n y) m k (λ i g. fold_more one all none next i ys x m k g e) (sym (next n y ys) ∙ h)
+
+-- the items of an array were read, each after those before it
+pub record IsWalked {X : Type 0} (Good : List X → Type 0) (before : List X) (ds : Items) (xs : List X) : Type 0 where
+  pub sound : Good xs
+  pub count : length xs ≡ length before + count_of ds
+
+pub walked : {X : Type 0} (Good : List X → Type 0) (place : ℕ → Place) (one : List X → Data → Result X (Stop Wrong)) (walk : ℕ → List X → Items → Result (List X) (Stop Fault))
+    → ((i : ℕ) (b : List X) → walk i b no_items ≡ Ok b) → ((i : ℕ) (b : List X) (d : Data) (ds : Items) → walk i b (item d ds) ≡ proceed (at (place i) (one b d)) (λ x. walk (i + 1) (b ++ x ∷ []) ds))
+    → ((b : List X) (d : Data) (x : X) → Good b → one b d ≡ Ok x → Good (b ++ x ∷ [])) → (i : ℕ) (before : List X) (ds : Items) (xs : List X) → Good before → walk i before ds ≡ Ok xs → IsWalked Good before ds xs
+walked Good place one walk none next more i before no_items xs s h =
+    subst (λ l. IsWalked Good before no_items l) (same_Ok before xs (sym (none i before) ∙ h)) (record { sound = s; count = omega arith })
+walked Good place one walk none next more i before (item d ds) xs s h =
+    let x = proceeds (at (place i) (one before d)) _ xs (sym (next i before d ds) ∙ h) in
+    let t = walked Good place one walk none next more (i + 1) (before ++ x.value ∷ []) ds xs (more before d x.value s (read_at (place i) (one before d) x.value x.first)) x.rest in
+    let n = length_push before x.value in
+    record { sound = t.sound; count = omega (arith, n, t.count) }
