@@ -61,8 +61,7 @@ by_word codecs callers d OrderWord.Reclaim x h = made codecs callers _ (λ c. Or
 by_text : (codecs : List CodecItem) (callers : List CallerItem) (d : Data) (o : Option (List ℕ)) (x : OrderItem) → order_from codecs callers d o ≡ Ok x → IsSoundItem codecs callers x
 by_text codecs callers d (Some text) x h =
     let name = chain (needed (checked_name text)) _ x h in
-    let i = chain (known (caller_named callers name.value)) _ x name.rest in
-    subst (IsSoundItem codecs callers) (same_Ok _ x i.rest) (caller_below callers name.value i.value i.first)
+    made codecs callers _ OrderItem.Caller x (caller_below callers name.value) name.rest
 by_text codecs callers d None x h =
     let w = chain (needed (order_word_of d)) _ x h in
     by_word codecs callers d w.value x w.rest

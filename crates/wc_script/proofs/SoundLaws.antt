@@ -1,5 +1,5 @@
 -- Nothing is at fault in a script that was read.
-use Rattle.std.proofs.Common.{◌≡◌, ℕ, ◌-◌, nat_le, Bool, true, false, List, [], length, codes, sum_by, Option, Some, None, Ok, refl, ap, subst, ◌∙◌, arith}
+use Rattle.std.proofs.Common.{◌≡◌, ◌-◌, nat_le, Bool, true, false, List, [], length, codes, sum_by, Option, Some, None, Ok, refl, ap, subst, ◌∙◌, arith}
 use Rattle.std.specs.List.{list_all}
 use Rattle.std.proofs.lemmas.Bool.{le-leb, eq-eqb}
 use Rattle.std.proofs.lemmas.Option.{same_Some}
@@ -7,7 +7,7 @@ use Rattle.serde_json.specs.Data.{Data, Items}
 use Rattle.script_types.specs.declared.{fault.Place.Place, fault.Counted.Counted, script.CodecItem.CodecItem}
 use Rattle.script_types.specs.declared.script.{CallerItem.CallerItem, OrderItem.OrderItem, ScriptData.ScriptData}
 use Rattle.script_types.specs.{Limits.limit_of}
-use Rattle.script_types.specs.Sound.{most_codecs, most_callers, most_steps, most_order, most_media, are_sound_codecs, are_sound_callers, are_small, bytes_of_caller, files_in, is_count, are_apart, are_sound_files, counts_agree, is_sound_order, are_few, is_small_media, is_sound}
+use Rattle.script_types.specs.Sound.{most_codecs, most_callers, most_steps, most_order, most_media, are_sound_codecs, are_sound_callers, are_small, bytes_of_caller, is_count, are_apart, are_sound_files, counts_agree, is_sound_order, are_few, is_small_media, is_sound}
 use Rattle.script_steps.specs.{Members.needed, Members.array_in, Sources.has, Soundness.StepsAreSound}
 use Rattle.script_steps.specs.Chains.{same_Ok, chain, needed_some, all_true}
 use Rattle.wc_script.specs.{Codecs.codecs_of, Callers.callers_of, Order.order_of}
@@ -68,10 +68,6 @@ order_sound codecs callers (Some ds) o k h =
 no_callers : (codecs : List CodecItem) → SoundCallers codecs [] [] whole_room
 no_callers codecs = record { callers = refl; steps = refl; small = refl; media = omega arith; files = refl; apart = refl }
 
-counted_files : (n : ℕ) (o : Option ℕ) → o ≡ Some n → is_count n o ≡ true
-counted_files n None h = absurd cc
-counted_files n (Some m) h = eq-eqb m n (same_Some m n h)
-
 pub walk_is_sound : StepsAreSound → (d : Data) (s : ScriptData) → walk_of d ≡ Ok s → is_sound s ≡ true
 unfolding walk_of
 walk_is_sound law d s h =
@@ -92,7 +88,7 @@ walk_is_sound law d s h =
     (all_true (nat_le (length r.value.0) most_callers) _ (ap (λ n. nat_le n most_callers) b ∙ few_are.callers) steps) in
     let small : is_small_media (most_media - r.value.1.1.media) r.value.0 ≡ true = all_true (list_all are_small r.value.0) _ t.sound.small (all_true (nat_le (sum_by bytes_of_caller r.value.0) (most_media - r.value.1.1.media)) _ media within) in
     let files : are_sound_files r.value.1.0 r.value.0 ≡ true =
-    all_true (are_apart [] r.value.1.0) _ t.sound.apart (counted_files (length r.value.1.0) (files_in 0 r.value.0) t.sound.files) in
+    all_true (are_apart [] r.value.1.0) _ t.sound.apart (ap (is_count (length r.value.1.0)) t.sound.files ∙ eq-eqb (length r.value.1.0) _ refl) in
     let last = order_sound codecs.value r.value.0 parts.value.order order.value few_are.order order.first in
     subst (λ x. is_sound x ≡ true) (same_Ok _ s order.rest)
     (all_true (are_sound_codecs [] codecs.value) _ cs.sound
