@@ -1,6 +1,6 @@
 -- The headline, from how a call ends and from what its last step writes.
 use Rattle.std.proofs.Common.{◌≡◌, ◌≢◌, ℕ, List, [], ◌++◌, Option, None, ◌⊎◌, inl, inr, refl, sym, subst, ◌∙◌, arith}
-use Rattle.wc_base.specs.Told.{AppendsPart}
+use Rattle.wc_base.specs.{Causes.Rose, Told.AppendsPart}
 use Rattle.wcrun.proofs.Parts.{one_after_another, then_a_part}
 use Rattle.wc_config.specs.declared.codec.CoderId.{CoderId}
 use Rattle.script_types.specs.declared.fault.Fault.{Fault}
@@ -12,17 +12,7 @@ use Rattle.wcrun.specs.{Writing.WritesText, Writing.WritesLine, Stops.MayStop}
 -- no fault has status 0
 not_zero : (x : Fault) → status_of x ≢ 0
 not_zero Fault.NotJson = λ e. omega arith
-not_zero (Fault.At p w) = λ e. omega arith
-not_zero (Fault.TooMany what) = λ e. omega arith
-not_zero (Fault.Unread name) = λ e. omega arith
-not_zero (Fault.Chunks name f) = λ e. omega arith
-not_zero (Fault.NoIndex name p) = λ e. omega arith
-
-not_five : (n : ℕ) → n ≡ 0 → n ≢ 5
-not_five n e = λ q. omega arith
-
-not_six : (n : ℕ) → n ≡ 0 → n ≢ 6
-not_six n e = λ q. omega arith
+not_zero _ = λ e. omega arith
 
 -- the line for want of memory, with no report before it
 cut_nothing : (r : Reading) (ids : List CoderId) → IsCut r ids memory_line
@@ -50,16 +40,16 @@ headline_of_report r ids w text k p = record {
 }
 
 -- a failed write of a line, or of the line for want of memory
-failed_line : (r : Reading) (ids : List CoderId) (w : Writing) (status : ℕ) (line : List ℕ) → IsRefusal r status line → WritesLine status line w → w.answer ≡ 5
+failed_line : (r : Reading) (ids : List CoderId) (w : Writing) (line : List ℕ) → IsCut r ids line ⊎ ((status : ℕ) × IsRefusal r status line) → Rose w.faults_before w.faults_after
     → AppendsPart w.before line w.after ⊎ AppendsPart w.before memory_line w.after → SinkFailed r ids w
-failed_line r ids w status line k p e (inl q) = record { rose = p.failed e; text = line; allowed = inr (inr (status, k)); part = q }
-failed_line r ids w status line k p e (inr q) = record { rose = p.failed e; text = memory_line; allowed = inr (inl (cut_nothing r ids)); part = q }
+failed_line r ids w line k rose (inl q) = record { rose = rose; text = line; allowed = inr k; part = q }
+failed_line r ids w line k rose (inr q) = record { rose = rose; text = memory_line; allowed = inr (inl (cut_nothing r ids)); part = q }
 
 headline_of_line : (r : Reading) (ids : List CoderId) (w : Writing) (status : ℕ) (line : List ℕ) → status ≢ 0 → IsRefusal r status line → WritesLine status line w → Headline r ids w
 headline_of_line r ids w status line some k p = record {
-  written = λ e. absurd (some (sym (p.done (not_five w.answer e) (not_six w.answer e)) ∙ e));
+  written = λ e. absurd (some (sym (p.done (λ five. omega arith) (λ six. omega arith)) ∙ e));
   out_of_memory = λ e. record { text = memory_line; cut = cut_nothing r ids; told = p.memory e };
-  sink_failed = λ e. failed_line r ids w status line k p e (p.part e);
+  sink_failed = λ e. failed_line r ids w line (inr (status, k)) (p.failed e) (p.part e);
   refused = λ n0 n5 n6. record {
     text = line;
     line = subst (λ n. IsRefusal r n line) (sym (p.done n5 n6)) k;
@@ -75,15 +65,11 @@ pub headline_of_usage : (r : Reading) (ids : List CoderId) (w : Writing) → r.c
 headline_of_usage r ids w k p =
     headline_of_line r ids w 2 usage_line (λ e. omega arith) (inl (record { comes = k; is_status = refl; is_line = refl })) p
 
-failed_memory : (r : Reading) (ids : List CoderId) (w : Writing) → WritesLine 6 memory_line w → w.answer ≡ 5 → AppendsPart w.before memory_line w.after ⊎ AppendsPart w.before memory_line w.after → SinkFailed r ids w
-failed_memory r ids w p e (inl q) = record { rose = p.failed e; text = memory_line; allowed = inr (inl (cut_nothing r ids)); part = q }
-failed_memory r ids w p e (inr q) = record { rose = p.failed e; text = memory_line; allowed = inr (inl (cut_nothing r ids)); part = q }
-
 pub headline_of_memory : (r : Reading) (ids : List CoderId) (w : Writing) → WritesLine 6 memory_line w → Headline r ids w
 headline_of_memory r ids w p = record {
-  written = λ e. let n6 : w.answer ≢ 6 = not_six w.answer e in absurd (n6 (p.done (not_five w.answer e) n6));
+  written = λ e. let n6 : w.answer ≢ 6 = λ six. omega arith in absurd (n6 (p.done (λ five. omega arith) n6));
   out_of_memory = λ e. record { text = memory_line; cut = cut_nothing r ids; told = p.memory e };
-  sink_failed = λ e. failed_memory r ids w p e (p.part e);
+  sink_failed = λ e. failed_line r ids w memory_line (inl (cut_nothing r ids)) (p.failed e) (p.part e);
   refused = λ n0 n5 n6. absurd (n6 (p.done n5 n6));
 }
 

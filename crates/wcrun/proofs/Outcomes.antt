@@ -1,15 +1,15 @@
 -- The bytes of a script file come to one outcome, and so the status is decided.
-use Rattle.std.proofs.Common.{◌≡◌, ◌≢◌, ◌⊎◌, inl, inr, ℕ, zero, suc, List, Option, Some, None, Result, Ok, Err, refl, sym, ap, ◌∙◌, arith}
+use Rattle.std.proofs.Common.{◌≡◌, ◌≢◌, ◌⊎◌, inl, inr, ℕ, zero, suc, List, Option, Some, None, Ok, Err, refl, sym, ap, ◌∙◌, arith}
 use Rattle.std.specs.Prelude.{IsSomeAnd}
 use Rattle.wc_base.specs.Causes.{Rose}
-use Rattle.script_types.specs.declared.{script.ScriptData.ScriptData, fault.Counted.Counted, fault.Fault.Fault}
+use Rattle.script_types.specs.declared.{fault.Counted.Counted, fault.Fault.Fault}
 use Rattle.media_files.specs.Laws.{OneReading, SomeReading}
 use Rattle.chunk_files.specs.declared.fault.Stop.{Stop}
 use Rattle.wcrun.specs.Refusals.{status_of, line_of, usage_line, memory_line}
 use Rattle.wcrun.specs.Outcome.{Ready, Outcome, Playable, playable_of, ready_of, Becomes, IsOutcome}
 use Rattle.wcrun.specs.Headline.{Reading, Writing, Holding, IfFile, ComesTo, Comes, Decides, IsComplete, status_for}
 use Rattle.wcrun.specs.Writing.{WritesText, WritesLine}
-use Rattle.wcrun.proofs.Files.{of_there, told, if_file, of_file}
+use Rattle.wcrun.proofs.Files.{if_file, of_file}
 
 same_becomes : OneReading → (files : Holding) (p : Playable) (a b : Outcome) → Becomes files p a → Becomes files p b → a ≡ b
 same_becomes one files (Ok s) a b (m, h, is) (n, g, js) = is ∙ (ap (ready_of s) (one files s m n h g) ∙ sym js)
@@ -36,11 +36,8 @@ Caused r x files bytes = ((status_of x ≡ 4) × Rose r.faults_before r.faults_a
 caused : (r : Reading) (x : Fault) (name : List ℕ) (files : Holding) (bytes : List ℕ) → Comes r x
     → r.command ≡ Some name → r.content ≡ Some files → files name ≡ Some bytes → Caused r x files bytes
 caused r (Fault.Unread n) name files bytes (named, failed) is holds there = inl (refl, failed.0)
-caused r (Fault.TooMany Counted.Script) name files bytes h is holds there =
-    inr (of_there (List ℕ) _ (files name) bytes (told _ _ r.content files (of_there (List ℕ) _ r.command name h is) holds) there)
-caused r (Fault.TooMany Counted.File) name files bytes h is holds there =
-    inr (of_there (List ℕ) _ (files name) bytes (told _ _ r.content files (of_there (List ℕ) _ r.command name h is) holds) there)
-caused r x name files bytes h is holds there = inr (of_file r _ name files bytes h is holds there)
+caused r (Fault.TooMany Counted.Script) name files bytes h is holds there = inr (of_file r _ _ name files bytes h is holds there)
+caused r x name files bytes h is holds there = inr (of_file r _ _ name files bytes h is holds there)
 
 zero_of : (n : ℕ) → (n ≢ 0 → n ≢ 6 → n ≡ 5) → n ≢ 5 → n ≢ 6 → n ≡ 0
 zero_of zero only n5 n6 = refl
@@ -57,7 +54,7 @@ pub decides_report : OneReading → SomeReading → (r : Reading) (w : Writing) 
 decides_report one some r w ready text c p = record {
   words = λ none n5 n6. absurd (no_usage _ r.command c none);
   file = if_file r _ (λ name files bytes is holds there outcome h n4 n5 n6.
-      zero_of w.answer p.only n5 n6 ∙ sym (ap status_for (one_outcome one files bytes outcome (Ok ready) h (of_file r _ name files bytes c is holds there))));
+      zero_of w.answer p.only n5 n6 ∙ sym (ap status_for (one_outcome one files bytes outcome (Ok ready) h (of_file r _ _ name files bytes c is holds there))));
   some = some_outcome some r;
 }
 
@@ -75,7 +72,6 @@ has_command : (r : Reading) (x : Fault) → Comes r x → r.command ≡ None →
 has_command r (Fault.Unread n) (inl c, rose) none = not_none r n none c
 has_command r (Fault.Unread n) (inr c, rose) none = no_usage _ r.command c none
 has_command r (Fault.TooMany Counted.Script) c none = no_usage _ r.command c none
-has_command r (Fault.TooMany Counted.File) c none = no_usage _ r.command c none
 has_command r x c none = no_usage _ r.command c none
 
 pub decides_fault : OneReading → SomeReading → (r : Reading) (w : Writing) (x : Fault) → Comes r x → WritesLine (status_of x) (line_of x) w → Decides r w

@@ -1,5 +1,5 @@
 -- How a script is read, from its file and its chunk files.
-use Rattle.std.proofs.Common.{◌≡◌, ◌≢◌, ◌<◌, ◌≤◌, inr, ℕ, List, [], ◌∷◌, ◌++◌, length, Bool, true, false, Option, Some, None, IfSome, Result, Ok, Err, refl, sym, ap, subst, ◌∙◌, arith}
+use Rattle.std.proofs.Common.{◌≡◌, ◌≢◌, ◌<◌, ◌≤◌, inr, ℕ, List, [], ◌∷◌, ◌++◌, length, Bool, true, Option, Some, None, IfSome, Ok, Err, refl, sym, ap, subst, ◌∙◌, arith}
 use Rattle.std.specs.Prelude.{IsSomeAnd, MatchOption, nat_lt, if◌then◌else◌}
 use Rattle.wc_base.specs.Causes.{RoseBy}
 use Rattle.script_types.specs.declared.{fault.Counted.Counted, fault.Fault.Fault, script.ScriptData.ScriptData}
@@ -9,37 +9,23 @@ use Rattle.wc_script.specs.{Faults.IsOfScript, Read.script_of}
 use Rattle.wcrun.specs.Headline.{Reading, reading, Holding, ComesTo, Comes}
 use Rattle.wcrun.specs.Outcome.{Outcome, playable_of, if_spelled, Becomes, IsOutcome}
 use Rattle.wcrun.specs.Stops.{MayStop, MayStopFor}
-use Rattle.wcrun.proofs.Files.{rose_since}
+use Rattle.wcrun.proofs.Files.{told_more, there_more, rose_since}
 
 -- the script of the named file, where it can be replayed
 abbrev pub Spells : Option Holding → List ℕ → ScriptData → Type 0
 Spells content name s = IfSome content (λ held. IsSomeAnd (held name) (λ bytes. playable_of bytes ≡ Ok s))
 
-at_name : (held : Holding) (s : ScriptData) (outcome : Outcome) (b : Option (List ℕ)) → IsSomeAnd b (λ bytes. playable_of bytes ≡ Ok s) → Becomes held (Ok s) outcome → IsSomeAnd b (λ bytes. IsOutcome held bytes outcome)
-at_name held s outcome None h g = elim h [ ]
-at_name held s outcome (Some bytes) h g = subst (λ p. Becomes held p outcome) (sym h) g
-
-pub comes_to : (content : Option Holding) (name : List ℕ) (s : ScriptData) (outcome : Outcome) → Spells content name s → IfSome content (λ held. Becomes held (Ok s) outcome) → IfSome content (λ files. IsSomeAnd (files name) (λ bytes. IsOutcome files bytes outcome))
-comes_to None name s outcome h g = tt
-comes_to (Some held) name s outcome h g = at_name held s outcome (held name) h g
-
-long_file : (content : Option Holding) (name : List ℕ) (s : ScriptData) (outcome : Outcome) (a b c : ℕ) → a ≤ b → Spells content name s → MatchOption content (RoseBy 268435457 b c) (λ held. Becomes held (Ok s) outcome) → MatchOption content (RoseBy 268435457 a c) (λ files. IsSomeAnd (files name) (λ bytes. IsOutcome files bytes outcome))
-long_file None name s outcome a b c le h g = rose_since 268435457 a b c le g
-long_file (Some held) name s outcome a b c le h g = at_name held s outcome (held name) h g
-
-named_at : (content : Option Holding) (s : ScriptData) (name : List ℕ) (b : Option (List ℕ)) → IsSomeAnd b (λ bytes. playable_of bytes ≡ Ok s) → IsReached content s name → IsSomeAnd b (λ bytes. (t : ScriptData) × (playable_of bytes ≡ Ok t) × IsReached content t name)
-named_at content s name None h m = elim h [ ]
-named_at content s name (Some bytes) h m = (s, h, m)
+comes_to : (content : Option Holding) (name : List ℕ) (s : ScriptData) (outcome : Outcome) (P Q : Type 0) → (P → Q) → Spells content name s → MatchOption content P (λ held. Becomes held (Ok s) outcome) → MatchOption content Q (λ files. IsSomeAnd (files name) (λ bytes. IsOutcome files bytes outcome))
+comes_to None name s outcome P Q f h g = f g
+comes_to (Some held) name s outcome P Q f h g = there_more _ _ (held name) (λ bytes e. subst (λ p. Becomes held p outcome) (sym e) g) h
 
 named_in : (content : Option Holding) (file name : List ℕ) (s : ScriptData) → Spells content file s → IsReached content s name → IfSome content (λ held. IsSomeAnd (held file) (λ bytes. (t : ScriptData) × (playable_of bytes ≡ Ok t) × IsReached content t name))
-named_in None file name s h m = tt
-named_in (Some held) file name s h m = named_at (Some held) s name (held file) h m
+named_in content file name s h m = told_more (Unit {0}) (λ held. IsSomeAnd (held file) (λ bytes. playable_of bytes ≡ Ok s)) _ content (λ held. there_more _ _ (held file) (λ bytes e. (s, e, m))) h
 
 -- what is known of names after an error, whatever else the answer could have held
 pub failed_as : (T : Type 0) (xb xc : List (List ℕ)) (e : Stop Fault) → FailedBy {T = T} xb xc (Err e) → FailedBy {T = Unit {0}} xb xc (Err e)
-failed_as T xb xc Stop.NoMemory h = h
 failed_as T xb xc (Stop.Fault (Fault.Unread n)) h = h
-failed_as T xb xc (Stop.Fault x) h = h
+failed_as T xb xc _ h = h
 
 -- why there is no replay of a script that can be replayed
 pub stops : (content : Option Holding) (name : List ℕ) (s : ScriptData) (fa fb fc ba bb bc : ℕ) (xa xb xc : List (List ℕ)) (e : Stop Fault) → fa ≤ fb → ba ≤ bb → xb ≡ xa → Spells content name s
@@ -48,28 +34,22 @@ stops content name s fa fb fc ba bb bc xa xb xc Stop.NoMemory le le' same h g f 
 stops content name s fa fb fc ba bb bc xa xb xc (Stop.Fault (Fault.Unread n)) le le' same h (m, rose) f =
     (inr (named_in content name n s h m), (rose_since 1 fa fb fc le rose, f ∙ ap (λ (l : List (List ℕ)). l ++ n ∷ []) same))
 stops content name s fa fb fc ba bb bc xa xb xc (Stop.Fault (Fault.TooMany Counted.Script)) le le' same h g f = elim g [ ]
-stops content name s fa fb fc ba bb bc xa xb xc (Stop.Fault (Fault.TooMany Counted.File)) le le' same h g f = long_file content name s _ ba bb bc le' h g
-stops content name s fa fb fc ba bb bc xa xb xc (Stop.Fault x) le le' same h g f = comes_to content name s _ h g
+stops content name s fa fb fc ba bb bc xa xb xc (Stop.Fault (Fault.TooMany Counted.File)) le le' same h g f = comes_to content name s _ _ _ (rose_since 268435457 ba bb bc le') h g
+stops content name s fa fb fc ba bb bc xa xb xc (Stop.Fault x) le le' same h g f = comes_to content name s _ (Unit {0}) (Unit {0}) (λ u. u) h g
 
 -- ---- the chunk files
 
-becomes : (content : Option Holding) (s : ScriptData) (e : Stop Fault) → IfSome content (λ files. GivesMedia files s (Err e)) → IfSome content (λ files. Becomes files (Ok s) (Err e))
-becomes None s e h = tt
-becomes (Some files) s e h = (Err e, h, refl)
-
-long_becomes : (content : Option Holding) (s : ScriptData) (e : Stop Fault) (P : Type 0) → MatchOption content P (λ files. GivesMedia files s (Err e))
-    → MatchOption content P (λ files. Becomes files (Ok s) (Err e))
-long_becomes None s e P h = h
-long_becomes (Some files) s e P h = (Err e, h, refl)
+becomes : (content : Option Holding) (s : ScriptData) (e : Stop Fault) (P : Type 0) → MatchOption content P (λ files. GivesMedia files s (Err e)) → MatchOption content P (λ files. Becomes files (Ok s) (Err e))
+becomes content s e P h = told_more P _ _ content (λ files m. (Err e, m, refl)) h
 
 -- a fault of the chunk files
 pub media_stops : (content : Option Holding) (s : ScriptData) (fb fc bb bc : ℕ) (e : Stop Fault) → MayFail content s fb fc bb bc e → MayStopFor content s fb fc bb bc e
 media_stops content s fb fc bb bc Stop.NoMemory h = tt
 media_stops content s fb fc bb bc (Stop.Fault (Fault.Unread n)) h = h
-media_stops content s fb fc bb bc (Stop.Fault (Fault.TooMany Counted.File)) h = long_becomes content s _ _ h
-media_stops content s fb fc bb bc (Stop.Fault (Fault.Chunks n f)) h = becomes content s _ h
-media_stops content s fb fc bb bc (Stop.Fault (Fault.TooMany Counted.Chunk)) h = becomes content s _ h
-media_stops content s fb fc bb bc (Stop.Fault (Fault.TooMany Counted.Media)) h = becomes content s _ h
+media_stops content s fb fc bb bc (Stop.Fault (Fault.TooMany Counted.File)) h = becomes content s _ _ h
+media_stops content s fb fc bb bc (Stop.Fault (Fault.Chunks n f)) h = becomes content s _ (Unit {0}) h
+media_stops content s fb fc bb bc (Stop.Fault (Fault.TooMany Counted.Chunk)) h = becomes content s _ (Unit {0}) h
+media_stops content s fb fc bb bc (Stop.Fault (Fault.TooMany Counted.Media)) h = becomes content s _ (Unit {0}) h
 media_stops content s fb fc bb bc e h = elim h [ ]
 
 -- ---- a script that can not be replayed
@@ -95,16 +75,13 @@ script_stops content name bytes fa fc ba bc xa xc Stop.NoMemory h o k = tt
 script_stops content name bytes fa fc ba bc xa xc (Stop.Fault x) h o k =
     by_script (reading (Some name) content fa fc ba bc xa xc) x o (refused_in content name bytes (Stop.Fault x) h (k (λ is. absurd cc)))
 
-long_at : (held : Holding) (b : Option (List ℕ)) → IsSomeAnd b (λ bytes. 16777216 < length bytes) → IsSomeAnd b (λ bytes. IsOutcome held bytes (Err (Stop.Fault (Fault.TooMany Counted.Script))))
-long_at held None h = elim h [ ]
-long_at held (Some bytes) h = subst (λ p. Becomes held p (Err (Stop.Fault (Fault.TooMany Counted.Script)))) (sym (long bytes h)) refl
-  where
-    long : (bytes : List ℕ) → 16777216 < length bytes → playable_of bytes ≡ Err (Stop.Fault (Fault.TooMany Counted.Script))
-    long bytes lt =
-        let many : nat_lt 16777216 (length bytes) ≡ true = search arith in
-        ap (λ (b : Bool). if b then Err (Stop.Fault (Fault.TooMany Counted.Script)) else if_spelled (script_of bytes)) many
+long : (bytes : List ℕ) → 16777216 < length bytes → playable_of bytes ≡ Err (Stop.Fault (Fault.TooMany Counted.Script))
+long bytes lt =
+    let many : nat_lt 16777216 (length bytes) ≡ true = search arith in
+    ap (λ (b : Bool). if b then Err (Stop.Fault (Fault.TooMany Counted.Script)) else if_spelled (script_of bytes)) many
 
 -- a script file that is too long
 pub script_is_long : (content : Option Holding) (name : List ℕ) (b c : ℕ) → MatchOption content (RoseBy 16777217 b c) (λ files. IsSomeAnd (files name) (λ bytes. 16777216 < length bytes)) → MatchOption content (RoseBy 16777217 b c) (λ files. IsSomeAnd (files name) (λ bytes. IsOutcome files bytes (Err (Stop.Fault (Fault.TooMany Counted.Script)))))
-script_is_long None name b c h = h
-script_is_long (Some held) name b c h = long_at held (held name) h
+script_is_long content name b c h =
+    let e : Outcome = Err (Stop.Fault (Fault.TooMany Counted.Script)) in
+    told_more _ _ _ content (λ held. there_more _ _ (held name) (λ bytes lt. subst (λ p. Becomes held p e) (sym (long bytes lt)) refl)) h
