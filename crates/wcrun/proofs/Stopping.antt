@@ -59,8 +59,7 @@ refused_at held e bytes b is q = subst (λ o. IsSomeAnd o (λ bytes. IsOutcome h
 
 refused_in : (content : Option Holding) (name bytes : List ℕ) (e : Stop Fault) → IfSome content (λ held. held name ≡ Some bytes) → playable_of bytes ≡ Err e
     → IfSome content (λ files. IsSomeAnd (files name) (λ bytes. IsOutcome files bytes (Err e)))
-refused_in None name bytes e h q = tt
-refused_in (Some held) name bytes e h q = refused_at held e bytes (held name) h q
+refused_in content name bytes e h q = told_more _ _ _ content (λ held is. refused_at held e bytes (held name) is q) h
 
 by_script : (r : Reading) (x : Fault) → IsOfScript (Stop.Fault x) → ComesTo r (Err (Stop.Fault x)) → Comes r x
 by_script r (Fault.Unread n) o h = elim o [ ]
