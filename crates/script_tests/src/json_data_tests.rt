@@ -50,10 +50,7 @@ fn arrays_nest_to_127(rt: HostRuntime) -> Result<(), Fail> {
 }
 
 // The number of a text as a natural and as a signed integer; none where the text is no value.
-fn integers(
-    alloc: Global,
-    text: &str,
-) -> Result<Option<(Option<u64>, Option<i64>)>, NoMemory> {
+fn integers(alloc: Global, text: &str) -> Result<Option<(Option<u64>, Option<i64>)>, NoMemory> {
     let mut scratch = Scratch::new(alloc);
     match read(alloc, text.as_bytes(), &mut scratch)? {
         Some(value) => Ok(Some((as_natural(&value), as_signed(&value)))),
@@ -67,7 +64,11 @@ fn integers_have_their_ranges(rt: HostRuntime) -> Result<(), Fail> {
         ("0", Some(0), Some(0)),
         ("-0", None, None),
         ("-1", None, Some(-1)),
-        ("9223372036854775807", Some(9223372036854775807), Some(i64::MAX)),
+        (
+            "9223372036854775807",
+            Some(9223372036854775807),
+            Some(i64::MAX),
+        ),
         ("9223372036854775808", Some(9223372036854775808), None),
         ("-9223372036854775808", None, Some(i64::MIN)),
         ("-9223372036854775809", None, None),
@@ -79,7 +80,11 @@ fn integers_have_their_ranges(rt: HostRuntime) -> Result<(), Fail> {
         ("[1]", None, None),
     ];
     for (text, natural, signed) in rows {
-        assert_eq!(rt; integers(rt.alloc(), text), Ok(Some((natural, signed))), "{text}");
+        assert_eq!(rt;
+            integers(rt.alloc(), text),
+            Ok(Some((natural, signed))),
+            "{text}"
+        );
     }
     Ok(())
 }
@@ -150,7 +155,11 @@ fn values_have_one_shape(rt: HostRuntime) -> Result<(), Fail> {
         ("17", false, None, None),
     ];
     for (text, object, items, length) in rows {
-        assert_eq!(rt; shape(rt.alloc(), text), Ok(Some((object, items, length))), "{text}");
+        assert_eq!(rt;
+            shape(rt.alloc(), text),
+            Ok(Some((object, items, length))),
+            "{text}"
+        );
     }
     Ok(())
 }
