@@ -1,5 +1,5 @@
 -- The boxes of one codec: which entries ask for one, and by which it goes back (our choice).
-use Rattle.std.specs.Prelude.{ℕ, suc, ◌≡◌, nat_le, Bool, true, false, cond, List, [], ◌∷◌, ◌++◌, map, slice_get, Option, Some, None, is_some, is_none, option_and_then, unwrap_or}
+use Rattle.std.specs.Prelude.{ℕ, suc, ◌≡◌, nat_le, Bool, true, false, cond, List, [], ◌∷◌, ◌++◌, map, slice_get, Option, Some, None, is_some, option_and_then, unwrap_or}
 use Rattle.std.specs.List.{flat_map}
 use Rattle.wc_config.specs.declared.codec.CoderId.{CoderId}
 use Rattle.codec_model.specs.declared.entry.Opening.{Opening}
@@ -7,8 +7,8 @@ use Rattle.codec_model.specs.declared.entry.Item.{Item}
 use Rattle.codec_model.specs.declared.entry.Entry.{Entry}
 use Rattle.codec_model.specs.declared.entry.Entry.TheVariants as entry
 use Rattle.codec_model.specs.Control.{start_item}
-use Rattle.codec_model.specs.Held.{closes_codec}
-use Rattle.codec_model.specs.Replay.{State, Given, step, opening_state, missing_coder, removal_error}
+use Rattle.codec_model.specs.Held.{is_removal}
+use Rattle.codec_model.specs.Replay.{State, Given, step, opening_state, missing_coder}
 use Rattle.codec_accounts.specs.Owed.{state_on, owed}
 
 -- What an entry is to its codec's box: the start of an item that lacks a box of this coder, or of another item; the end of
@@ -35,17 +35,9 @@ removal_act false = Other
 
 -- what an entry is to its codec's box, by the state before it
 abbrev pub act_of : Entry → State → Act
-act_of (entry.Configure who config) t = Other
-act_of (entry.Decode who chunk) t = Other
-act_of (entry.Encode who handed) t = Other
-act_of (entry.Flush who) t = Other
-act_of (entry.Reset who) t = removal_act (is_none (removal_error t.control))
-act_of (entry.Close who) t = removal_act (is_none (removal_error t.control))
-act_of (entry.Take who unit) t = Other
 act_of (entry.Start epoch item) t = start_act (lacking t.given (start_item t.control))
 act_of (entry.Done epoch item moment outcome) t = Ends
-act_of entry.Turn t = removal_act (closes_codec t.control.tasks)
-act_of (entry.Reclaim moment) t = Removes
+act_of e t = removal_act (is_removal e t)
 
 -- the state after an entry; an entry that is not legal leaves it
 abbrev pub after : Entry → State → State

@@ -7,11 +7,10 @@ use Rattle.coder_api.specs.declared.slot.SlotEntry.{SlotEntry}
 use Rattle.coder_api.specs.declared.slot.SlotOp.TheVariants as slot
 use Rattle.slot_registry.specs.Boxes.{holder_of, least_free}
 use Rattle.slot_registry.specs.Slots.{SlotsValue, is_later, acquired}
-use Rattle.wc_config.specs.declared.kind.Kind.TheVariants as kind
 use Rattle.codec_model.specs.declared.entry.Opening.{Opening}
 use Rattle.codec_model.specs.declared.entry.Running.{Running}
 use Rattle.codec_model.specs.declared.entry.Entry.{Entry}
-use Rattle.codec_model.specs.Control.{Control}
+use Rattle.codec_model.specs.Control.{Control, no_opening}
 use Rattle.codec_model.specs.Replay.{State, opening_state, replay}
 use Rattle.codec_accounts.specs.Boxes.{Act, Asks, Begins, Ends, Removes, Other, act_of}
 use Rattle.codec_accounts.specs.Registry.{BoxOut}
@@ -116,7 +115,7 @@ slots_by k e s d = slots_after (next_by k d) (step_by e d) d.holding.box s
 
 -- the codec with this number
 abbrev pub codec_at : ℕ → List CodecValue → CodecValue
-codec_at k ds = unwrap_or (slice_get ds k) (new_codec (record { kind = kind.AudioDecoder; saturation = 4 }))
+codec_at k ds = unwrap_or (slice_get ds k) (new_codec no_opening)
 
 -- the histories of all codecs
 abbrev pub histories : List CodecValue → List (List Entry)

@@ -5,14 +5,14 @@ use Rattle.std.proofs.lemmas.Bool.{and_from, lt-ltb, ne_eqb}
 use Rattle.wc_base.specs.declared.who.By.{By}
 use Rattle.wc_base.specs.declared.who.By.TheVariants as by
 use Rattle.wc_config.specs.declared.codec.CoderId.{CoderId}
-use Rattle.wc_config.specs.Configs.{is_supported}
 use Rattle.coder_api.specs.declared.slot.SlotEntry.{SlotEntry}
 use Rattle.coder_api.specs.declared.slot.SlotOp.TheVariants as slot
 use Rattle.slot_registry.specs.Boxes.{holder_of, least_free}
 use Rattle.slot_registry.specs.Slots.{SlotsValue, is_later, acquired, acquire_op}
 use Rattle.slot_registry.specs.HistoryLaws.{holder_more, box_same}
 use Rattle.codec_model.specs.declared.entry.Running.{Running}
-use Rattle.codec_model.specs.Replay.{State}
+use Rattle.codec_model.specs.declared.entry.Outcome.TheVariants as outcome
+use Rattle.codec_model.specs.Replay.{State, Given, ended_of}
 use Rattle.codec_accounts.specs.Boxes.{Act, Asks, Begins, Ends, Removes, Other, asks_of, Holds, holds_after_end, holds_removed, holds_by, box_with, lets_go_by, gets_since, MayCome}
 use Rattle.codec_accounts.specs.Registry.{BoxOut, Return, Box, in_list, out_at, back_at}
 use Rattle.codec_accounts.specs.Codec.{Holding, nothing_held, BoxStep, Keep, Give, is_old, box_step, after_give, holding_by, after_ask, slots_after, holding_after}
@@ -231,8 +231,7 @@ kept_has k t u x y h slots has keeps up runs since box old = record {
   needs = λ n is. (let needs = has.needs n is in record {
     running = needs.running;
     is_running = keeps.running ∙ needs.is_running;
-    configure = needs.configure;
-    supported = ap (λ g. is_supported g.config) keeps.given ∙ needs.supported;
+    refusable = λ m. ap (λ (g : Given). ended_of needs.running.kind g (outcome.NoSlot m)) keeps.given ∙ needs.refusable m;
   });
 }
 

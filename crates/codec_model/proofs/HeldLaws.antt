@@ -1,12 +1,12 @@
 -- What a codec holds after one more entry.
-use Rattle.std.proofs.Common.{ℕ, ◌+◌, ◌≡◌, ◌==◌, ◌&&◌, ◌||◌, Bool, true, false, cond, not, List, [], ◌∷◌, ◌++◌, Option, Some, None, is_none, refl, ap, sym, ◌∙◌, append_assoc, append-nil}
+use Rattle.std.proofs.Common.{ℕ, ◌≡◌, ◌==◌, ◌&&◌, Bool, true, false, cond, not, List, [], ◌∷◌, ◌++◌, Option, Some, None, is_none, refl, ap, sym, ◌∙◌, append_assoc, append-nil}
 use Rattle.wc_base.specs.{declared.who.Who.Who, declared.error.DomError.DomError, Options.cond_is}
-use Rattle.codec_model.specs.declared.entry.{CodecState.TheVariants.Configured, Pair.Pair, Coded.Coded, Removal.Removal, Call.Call, Work.Work}
+use Rattle.codec_model.specs.declared.entry.{Pair.Pair, Removal.Removal, Call.Call, Work.Work}
 use Rattle.codec_model.specs.declared.entry.{Message.Message, Item.Item, Running.Running, Task.Task, Ended.Ended, Entry.Entry}
-use Rattle.codec_model.specs.Control.{Control, held_of, is_decoder, is_close, after_message, process_queue, with_message, at_next_place, run_task, after_end, done_running}
-use Rattle.codec_model.specs.Replay.{State, step, removal_error, removal_step, remove_or_refuse, start_step, call_step, call_error, after_call, entry_of, removal_entry}
+use Rattle.codec_model.specs.Control.{Control, held_of, is_close, process_queue, with_message, at_next_place, run_task, after_end, done_running}
+use Rattle.codec_model.specs.Replay.{State, step, removal_error, removal_step, remove_or_refuse, start_step, call_step, call_error, after_call, accepted, entry_of, removal_entry}
 use Rattle.codec_model.specs.Held.{in_order, held_by, running_pairs, items_held, messages_held, waiting_held, held_in, closes_codec, is_removal, leaves_held, adds_held, HeldStays, behind_held, front_held, waiting_after, running_after, HeldApart, HeldMoves}
-use Rattle.codec_model.specs.StepLaws.{begins, begins_free, EachStep, by_queue, by_steps}
+use Rattle.codec_model.specs.StepLaws.{begins, begins_free, EachStep, by_call, by_removal, by_items, by_steps, Sends, asked, work_of, call_sends, encode_sends, calls_hold_none}
 
 items_more : (is : List Item) (i : Item) → items_held (is ++ i ∷ []) ≡ items_held is ++ in_order (held_of i.work)
 items_more [] i = append-nil (in_order (held_of i.work))
@@ -16,21 +16,12 @@ messages_more : (ms : List Message) (m : Message) → messages_held (ms ++ m ∷
 messages_more [] m = append-nil (in_order (held_of m.work))
 messages_more (x ∷ xs) m = ap (λ l. in_order (held_of x.work) ++ l) (messages_more xs m) ∙ sym (append_assoc (in_order (held_of x.work)) (messages_held xs) (in_order (held_of m.work)))
 
--- a message that is processed becomes an item
-becomes_item : (m : Message) (c : Control) → ((after_message m c).work ≡ c.work ++ record { number = c.next_item; place = m.place; work = m.work } ∷ []) × ((after_message m c).running ≡ c.running)
-becomes_item m c = by m.place m.work
-  where
-    by : (at : ℕ) (w : Work) → ((after_message (record { place = at; work = w }) c).work ≡ c.work ++ record { number = c.next_item; place = at; work = w } ∷ []) × ((after_message (record { place = at; work = w }) c).running ≡ c.running)
-    by at (Work.Coded x) = (refl, refl)
-    by at w = (refl, refl)
-
 -- what waits, and what runs, stay where messages are processed
 process_held : (c : Control) → (waiting_held (process_queue c.messages c) ≡ waiting_held c) × ((process_queue c.messages c).running ≡ c.running)
-process_held c = by_queue (λ (d : Control). (waiting_held d ≡ waiting_held c) × (d.running ≡ c.running)) (λ m ms d e h.
+process_held c = by_items (λ (d : Control). (waiting_held d ≡ waiting_held c) × (d.running ≡ c.running)) (λ m ms d blocked saturated size tasks scheduled few e h.
     let item : Item = record { number = d.next_item; place = m.place; work = m.work } in
-    let moved = becomes_item m d in
     let taken = append_assoc (items_held d.work) (in_order (held_of m.work)) (messages_held ms) ∙ ap (λ l. items_held d.work ++ messages_held l) (sym e) in
-    (ap (λ l. items_held l ++ messages_held ms) moved.0 ∙ (ap (λ l. l ++ messages_held ms) (items_more d.work item) ∙ (taken ∙ h.0)), moved.1 ∙ h.1)) c.messages c refl (refl, refl)
+    (ap (λ l. l ++ messages_held ms) (items_more d.work item) ∙ (taken ∙ h.0), h.1)) c.messages c refl (refl, refl)
 
 -- a step leaves what runs, and adds this to what waits
 abbrev Adds : List Pair → Control → Control → Type 0
@@ -46,18 +37,18 @@ queued_held at w c =
     let kept = process_held (record c { messages = c.messages ++ m ∷ [] }) in
     (kept.0 ∙ (ap (λ l. items_held c.work ++ l) (messages_more c.messages m) ∙ sym (append_assoc (items_held c.work) (messages_held c.messages) (in_order (held_of w)))), kept.1)
 
+sent_held : (w : Work) (c d : Control) → Sends w c d → Adds (in_order (held_of w)) c d
+sent_held w c d k = rw k.is (queued_held c.place w (asked c k.phase k.key_required k.size k.pending))
+
 call_held : (o : Option DomError) (x : Call) (c : Control) → Adds [] c (after_call o x c)
-call_held None (Call.Configure config) c = queued_held c.place (Work.Configure config) (record (at_next_place c) { phase = Configured; key_required = is_decoder c.opening.kind || c.key_required })
-call_held None (Call.Decode chunk) c = queued_held c.place (Work.Coded (Coded.Chunk chunk)) (record (at_next_place c) { key_required = false; size = c.size + 1 })
-call_held None Call.Flush c = queued_held c.place Work.Flush (record (at_next_place c) { key_required = is_decoder c.opening.kind || c.key_required; pending = c.pending ++ c.place ∷ [] })
+call_held None x c = rw calls_hold_none at (sent_held (work_of x) c (accepted x c) (call_sends x c))
 call_held (Some e) x c = (adds_nothing c, refl)
 
 call_apart : (who : Who) (x : Call) (s : State) → HeldApart (entry_of who x) s (call_step x s)
-call_apart who x s = by x (call_held (call_error x s.control) x s.control)
-  where
-    by : (y : Call) → Adds [] s.control (call_step y s).control → HeldApart (entry_of who y) s (call_step y s)
-    by (Call.Decode chunk) k = record { waits = k.0; runs = ap (λ (r : Option Running). held_by r s.running_held) k.1 }
-    by y k = record { waits = k.0; runs = ap (λ (r : Option Running). held_by r s.running_held) k.1 }
+call_apart who x s =
+    let k = call_held (call_error x s.control) x s.control in
+    let runs = ap (λ (r : Option Running). held_by r s.running_held) k.1 in
+    by_call (λ e. HeldApart e s (call_step x s)) who (λ config. record { waits = k.0; runs = runs }) (λ chunk. record { waits = k.0; runs = runs }) (record { waits = k.0; runs = runs }) x
 
 remove_held : (o : Option DomError) (r : Removal) (s : State) → (waiting_held (remove_or_refuse o r s).control ≡ cond (is_none o) [] (waiting_held s.control) ++ []) × (running_pairs (remove_or_refuse o r s) ≡ running_pairs s)
 remove_held None Removal.Reset s = (refl, refl)
@@ -65,8 +56,9 @@ remove_held None r s = (refl, refl)
 remove_held (Some x) r s = (adds_nothing s.control, refl)
 
 remove_apart : (who : Who) (r : Removal) (s : State) → HeldApart (removal_entry who r) s (removal_step r s)
-remove_apart who Removal.Reset s = let k = remove_held (removal_error s.control) Removal.Reset s in record { waits = k.0; runs = k.1 }
-remove_apart who r s = let k = remove_held (removal_error s.control) r s in record { waits = k.0; runs = k.1 }
+remove_apart who r s =
+    let k = remove_held (removal_error s.control) r s in
+    by_removal (λ e. HeldApart e s (removal_step r s)) who (record { waits = k.0; runs = k.1 }) (record { waits = k.0; runs = k.1 }) r
 
 done_held : (r : Running) (e : Ended) (moment : ℕ) (held : Option Pair) (c : Control) → (waiting_held (done_running r e moment (at_next_place c)) ≡ waiting_held c) × (held_by (done_running r e moment (at_next_place c)).running held ≡ [])
 done_held r e moment held c = by (r.epoch == c.epoch) _
@@ -87,7 +79,7 @@ each_apart = record {
   gone = λ who s. record { waits = adds_nothing s.control; runs = refl };
   kept = λ who s off. record { waits = adds_nothing s.control; runs = refl };
   cloned = λ who x s on.
-      let k = queued_held s.control.place (Work.Coded (Coded.Sound x)) (record (at_next_place s.control) { size = s.control.size + 1 }) in
+      let k = sent_held _ s.control _ (encode_sends x s.control) in
       record { waits = k.0; runs = ap (λ (r : Option Running). held_by r s.running_held) k.1 };
   remove = remove_apart;
   take = λ who unit s may. record { waits = adds_nothing s.control; runs = refl };

@@ -287,6 +287,10 @@ is_inactive now (Some moment) = nat_le (moment + activity) now
 abbrev pub may_reclaim : ℕ → Control → Bool
 may_reclaim now s = elim (s.phase) [ Unconfigured ↦ false | Configured ↦ is_inactive now s.progress | Closed ↦ false ]
 
+-- an opening where none is given, so that definitions have a value (our choice: the kind and the saturation that a script has by default)
+abbrev pub no_opening : Opening
+no_opening = record { kind = kinds.AudioDecoder; saturation = 4 }
+
 abbrev pub opening_control : Opening → Control
 opening_control o = record {
   place = 0;

@@ -18,6 +18,7 @@ use Rattle.coder_api.specs.Meaning.{Configured as Serving, new_state, serves, se
 use Rattle.codec_model.specs.declared.entry.Opening.{Opening}
 use Rattle.codec_model.specs.declared.entry.CodecState.TheVariants.{Unconfigured, Configured, Closed}
 use Rattle.codec_model.specs.declared.entry.Pair.{Pair}
+use Rattle.codec_model.specs.declared.entry.HeldSound.{HeldSound}
 use Rattle.codec_model.specs.declared.entry.Handed.{Handed}
 use Rattle.codec_model.specs.declared.entry.Handed.TheVariants as handed
 use Rattle.codec_model.specs.declared.entry.Coded.{Coded}
@@ -239,6 +240,18 @@ abbrev pub entry_of : Who → Call → Entry
 entry_of who (call.Configure config) = entry.Configure who config
 entry_of who (call.Decode chunk) = entry.Decode who chunk
 entry_of who call.Flush = entry.Flush who
+
+-- what became of the data of an encode that is refused, which was detached or not
+abbrev pub refused_as : Bool → Handed
+refused_as detached = if detached then handed.Gone else handed.Kept
+
+-- the entry of an encode that is refused
+abbrev pub refused_encode : Who → Bool → Entry
+refused_encode who detached = entry.Encode who (refused_as detached)
+
+-- the entry of an encode of which the codec makes a clone
+abbrev pub encode_entry : Who → HeldSound → Entry
+encode_entry who sound = entry.Encode who (handed.Cloned sound)
 
 -- the entry that a reset or close makes
 abbrev pub removal_entry : Who → Removal → Entry

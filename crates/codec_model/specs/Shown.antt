@@ -42,6 +42,12 @@ exception_of (call.Configure config) error = error
 exception_of (call.Decode chunk) error = error
 exception_of call.Flush error = None
 
+-- the promise that a call gives: a flush's is named by its entry's place
+abbrev pub promise_of : Call → ℕ → Option ℕ
+promise_of (call.Configure config) place = None
+promise_of (call.Decode chunk) place = None
+promise_of call.Flush place = Some place
+
 -- what a call at this place shows, with its error, if it has one
 abbrev pub call_shows : Call → ℕ → Option DomError → List Event
 call_shows (call.Configure config) place error = refusal error

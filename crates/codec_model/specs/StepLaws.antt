@@ -1,12 +1,23 @@
 -- What legal entries do to a codec's state, case by case: what holds in each case holds of each step.
-use Rattle.std.proofs.Common.{ℕ, ◌≡◌, ◌&&◌, Bool, true, false, eqb, cond, List, [], ◌∷◌, Option, Some, None, refl, ap, sym, subst, ◌∙◌}
+use Rattle.std.proofs.Common.{ℕ, ◌≡◌, ◌≤◌, ◌+◌, ◌-◌, ◌&&◌, not, Bool, true, false, eqb, cond, List, [], ◌∷◌, ◌++◌, Option, Some, None, refl, ap, sym, subst, ◌∙◌, arith}
+use Rattle.std.specs.Prelude.{◌||◌}
 use Rattle.std.proofs.lemmas.Bool.{and_parts}
 use Rattle.wc_base.specs.declared.who.Who.{Who}
 use Rattle.wc_base.specs.Options.{cond_is, some_same}
+use Rattle.wc_config.specs.declared.config.Config.{Config}
+use Rattle.wc_config.specs.declared.codec.CoderId.{CoderId}
+use Rattle.wc_config.specs.Configs.{is_supported, coder_id_of}
+use Rattle.wc_chunk.specs.declared.chunk.Chunk.{Chunk}
 use Rattle.codec_model.specs.declared.entry.Removal.{Removal}
 use Rattle.codec_model.specs.declared.entry.Removal.TheVariants as removal
 use Rattle.codec_model.specs.declared.entry.Call.{Call}
 use Rattle.codec_model.specs.declared.entry.Call.TheVariants as call
+use Rattle.codec_model.specs.declared.entry.CodecState.{CodecState}
+use Rattle.codec_model.specs.declared.entry.CodecState.TheVariants.{Configured}
+use Rattle.codec_model.specs.declared.entry.Coded.{Coded}
+use Rattle.codec_model.specs.declared.entry.Coded.TheVariants as coded
+use Rattle.codec_model.specs.declared.entry.Work.{Work}
+use Rattle.codec_model.specs.declared.entry.Work.TheVariants as work
 use Rattle.codec_model.specs.declared.entry.HeldSound.{HeldSound}
 use Rattle.codec_model.specs.declared.entry.Handed.TheVariants as handed
 use Rattle.codec_model.specs.declared.entry.Entry.{Entry}
@@ -17,9 +28,11 @@ use Rattle.codec_model.specs.declared.entry.Running.{Running}
 use Rattle.codec_model.specs.declared.entry.Task.{Task}
 use Rattle.codec_model.specs.declared.entry.Task.TheVariants as task
 use Rattle.codec_model.specs.declared.entry.Ended.{Ended}
+use Rattle.codec_model.specs.declared.entry.Ended.TheVariants as ended
 use Rattle.codec_model.specs.declared.entry.Outcome.{Outcome}
-use Rattle.codec_model.specs.Control.{Control, held_of, is_taken, after_message, process_queue, at_next_place, start_first, may_start, after_close, after_encode, after_take, may_take, may_reclaim, run_first, run_task, done_running}
-use Rattle.codec_model.specs.Replay.{State, Given, nothing_given, given_more, is_configured, with_control, removed, entry_of, removal_entry, call_step, removal_step, start_step, done_step, done_ended, ended_of, turn_step, step}
+use Rattle.codec_model.specs.declared.entry.Outcome.TheVariants as outcome
+use Rattle.codec_model.specs.Control.{Control, kind_of, held_of, is_decoder, coded_out, is_taken, with_item, with_dequeue, after_message, process_queue, with_message, at_next_place, start_first, may_start, after_close, after_encode, after_take, may_take, may_reclaim, run_first, run_task, done_running}
+use Rattle.codec_model.specs.Replay.{State, Given, nothing_given, given_more, serves_too, missing_coder, is_configured, with_control, removed, accepted, entry_of, removal_entry, call_step, removal_step, start_step, done_step, done_ended, ended_of, turn_step, step}
 
 -- what holds of a codec, and stays as each message is taken, holds when its queue was processed
 pub by_queue : (Q : Control → Type 0) → ((m : Message) (ms : List Message) (c : Control) → c.messages ≡ m ∷ ms → Q c → Q (record (after_message m c) { messages = ms })) → (ms : List Message) (c : Control) → c.messages ≡ ms → Q c → Q (process_queue ms c)
@@ -29,6 +42,96 @@ by_queue Q taken (m ∷ ms) c e h = by (is_taken m c) (by_queue Q taken ms (reco
     by : (b : Bool) → Q (process_queue ms (record (after_message m c) { messages = ms })) → Q (cond b (process_queue ms (record (after_message m c) { messages = ms })) c)
     by true rest = rest
     by false rest = h
+
+-- ---- the cases of a call, of a removal and of a work item
+
+-- what holds of the entry of each call
+pub by_call : (P : Entry → Type 0) (who : Who) → ((config : Config) → P (entry.Configure who config)) → ((chunk : Chunk) → P (entry.Decode who chunk)) → P (entry.Flush who) → (x : Call) → P (entry_of who x)
+by_call P who configure decode flush (call.Configure config) = configure config
+by_call P who configure decode flush (call.Decode chunk) = decode chunk
+by_call P who configure decode flush call.Flush = flush
+
+-- what holds of the entry of each removal
+pub by_removal : (P : Entry → Type 0) (who : Who) → P (entry.Reset who) → P (entry.Close who) → (r : Removal) → P (removal_entry who r)
+by_removal P who reset close removal.Reset = reset
+by_removal P who reset close removal.Close = close
+
+-- what holds of all that a message or an item may ask for
+pub by_work : (P : Work → Type 0) → ((config : Config) → P (work.Configure config)) → ((input : Coded) → P (work.Coded input)) → P work.Flush → (w : Work) → P w
+by_work P configure coded flush (work.Configure config) = configure config
+by_work P configure coded flush (work.Coded input) = coded input
+by_work P configure coded flush work.Flush = flush
+
+-- an item that lacks a coder may be refused a box
+pub lacking_may_be_refused : (w : Work) (g : Given) (id : CoderId) (n : ℕ) → missing_coder g w ≡ Some id → ended_of (kind_of w) (given_more w g) (outcome.NoSlot n) ≡ Some (ended.NoSlot n)
+lacking_may_be_refused (work.Configure config) g id n h =
+    let k = cond_is (is_supported config && not (serves_too (coder_id_of g.config) config)) (coder_id_of config) id h in
+    ap (λ (b : Bool). cond b (Some (ended.NoSlot n)) None) (and_parts _ _ k.0).0
+lacking_may_be_refused (work.Coded input) g id n h = absurd cc
+lacking_may_be_refused work.Flush g id n h = absurd cc
+
+-- ---- messages
+
+-- what a call asks for, as its message says it
+abbrev pub work_of : Call → Work
+work_of (call.Configure config) = work.Configure config
+work_of (call.Decode chunk) = work.Coded (coded.Chunk chunk)
+work_of call.Flush = work.Flush
+
+-- it holds no reference
+pub calls_hold_none : (x : Call) → held_of (work_of x) ≡ None
+calls_hold_none (call.Configure config) = refl
+calls_hold_none (call.Decode chunk) = refl
+calls_hold_none call.Flush = refl
+
+-- what calls and encodes change before their message is processed: these four at most, beside the place
+abbrev pub asked : Control → CodecState → Bool → ℕ → List ℕ → Control
+asked c phase key_required size pending = record (at_next_place c) { phase = phase; key_required = key_required; size = size; pending = pending }
+
+-- one message more is processed
+pub record Sends (w : Work) (c d : Control) : Type 0 where
+  pub phase : CodecState
+  pub key_required : Bool
+  pub size : ℕ
+  pub pending : List ℕ
+  pub few : size ≤ c.size + 1
+  pub is : d ≡ with_message c.place w (asked c phase key_required size pending)
+
+-- a call that is not refused sends its message
+pub call_sends : (x : Call) (c : Control) → Sends (work_of x) c (accepted x c)
+call_sends (call.Configure config) c = record { phase = Configured; key_required = is_decoder c.opening.kind || c.key_required; size = c.size; pending = c.pending; few = omega arith; is = refl }
+call_sends (call.Decode chunk) c = record { phase = c.phase; key_required = false; size = c.size + 1; pending = c.pending; few = omega arith; is = refl }
+call_sends call.Flush c = record { phase = c.phase; key_required = is_decoder c.opening.kind || c.key_required; size = c.size; pending = c.pending ++ c.place ∷ []; few = omega arith; is = refl }
+
+-- and so does an encode
+pub encode_sends : (sound : HeldSound) (c : Control) → Sends (work.Coded (coded.Sound sound)) c (after_encode c.place sound (at_next_place c))
+encode_sends sound c = record { phase = c.phase; key_required = c.key_required; size = c.size + 1; pending = c.pending; few = omega arith; is = refl }
+
+-- A message that is processed becomes an item. Of the rest these five may change.
+pub record BecomesItem (m : Message) (c : Control) : Type 0 where
+  pub blocked : Bool
+  pub saturated : Bool
+  pub size : ℕ
+  pub tasks : List Task
+  pub scheduled : Bool
+  pub few : size ≤ c.size
+  pub is : after_message m c ≡ with_item m (record c { blocked = blocked; saturated = saturated; size = size; tasks = tasks; scheduled = scheduled })
+
+pub becomes_item : (m : Message) (c : Control) → BecomesItem m c
+becomes_item m c = by m.place m.work
+  where
+    by : (at : ℕ) (w : Work) → BecomesItem (record { place = at; work = w }) c
+    by at (work.Configure config) = record { blocked = true; saturated = c.saturated; size = c.size; tasks = c.tasks; scheduled = c.scheduled; few = omega arith; is = refl }
+    by at (work.Coded input) = let d = with_dequeue c in record { blocked = c.blocked; saturated = eqb (coded_out c + 1) c.opening.saturation; size = c.size - 1; tasks = d.tasks; scheduled = d.scheduled; few = omega arith; is = refl }
+    by at work.Flush = record { blocked = c.blocked; saturated = c.saturated; size = c.size; tasks = c.tasks; scheduled = c.scheduled; few = omega arith; is = refl }
+
+-- what holds of a codec, and stays as a message becomes an item, whatever of these five it changes, holds when its queue was processed
+pub by_items : (Q : Control → Type 0) → ((m : Message) (ms : List Message) (c : Control) (blocked saturated : Bool) (size : ℕ) (tasks : List Task) (scheduled : Bool) → size ≤ c.size → c.messages ≡ m ∷ ms → Q c
+    → Q (record (with_item m (record c { blocked = blocked; saturated = saturated; size = size; tasks = tasks; scheduled = scheduled })) { messages = ms }))
+    → (ms : List Message) (c : Control) → c.messages ≡ ms → Q c → Q (process_queue ms c)
+by_items Q more = by_queue Q (λ m ms c e h.
+    let k = becomes_item m c in
+    subst (λ (d : Control). Q (record d { messages = ms })) (sym k.is) (more m ms c k.blocked k.saturated k.size k.tasks k.scheduled k.few e h))
 
 -- where a test fails
 unless_is : {X : Type 0} (b : Bool) (x t : X) → cond b None (Some x) ≡ Some t → (b ≡ false) × (x ≡ t)

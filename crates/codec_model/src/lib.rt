@@ -2,11 +2,13 @@
 //! that run them.
 #![tactic(auto)]
 
+mod calls;
 mod entry;
 mod facts;
 mod rows;
 mod showing;
 
+pub use calls::{exception_of, is_decoder, is_key_chunk};
 pub use entry::{
     Answer, Call, CodecState, Coded, Ended, Entry, Event, Handed, HeldSound, Item, Message,
     Opening, Outcome, Pair, PromiseEnd, PromiseState, Removal, Running, Showing, Shown, Task,
@@ -14,5 +16,5 @@ pub use entry::{
 };
 pub use facts::{never_stuck, references_are_held, steps_leave_fewer};
 pub use rows::{closing_run, ordinary_run, resetting_run, saturating_run};
-pub use showing::{exception_of, shown_list};
+pub use showing::shown_list;
 pub use wc_config::Kind;

@@ -1,22 +1,11 @@
 // What entries show, put together and taken apart.
 ghost use Rattle.std.specs.Prelude.{◌≡◌, ◌++◌, ◌∷◌, [], IfOk, None, Option, map};
-ghost use Rattle.codec_model.specs.Shown.{call_shows, removal_shows, task_shows, close_shows, outputs_from, rejections, exception_of as the_exception, shown_of, closes, word_of_task};
+ghost use Rattle.codec_model.specs.Shown.{removal_shows, task_shows, close_shows, outputs_from, rejections, shown_of, closes, word_of_task};
 
-use crate::entry::{Call, Event, Showing, Shown, Task, TurnWord};
+use crate::entry::{Event, Showing, Shown, Task, TurnWord};
 use coder_api::Unit;
 use std::alloc::Global;
 use wc_base::{DomError, List, NoMemory, try_push};
-
-/// The exception of a call that is refused with this error; a flush has none, since its promise is rejected.
-pub fn exception_of(call: &Call, error: Option<DomError>) -> Option<DomError>
-    ensures { result ≡ the_exception call.now error }
-{
-    match call {
-        Call::Configure(_) => error,
-        Call::Decode(_) => error,
-        Call::Flush => None,
-    }
-}
 
 /// Which task a turn runs.
 fn word_of(task: &Task) -> TurnWord
@@ -115,24 +104,6 @@ fn rejection_events(alloc: Global, promises: &[u64]) -> Result<List<Event>, NoMe
 }
 
 impl Showing {
-    /// What a call at this place shows, refused with this error or not.
-    pub fn of_call(call: &Call, place: u64, error: Option<DomError>) -> Showing
-        ensures { shown_of result
-            ≡ record { turn = None; events = call_shows call.now place error } }
-    {
-        match error {
-            None => Showing::Nothing,
-            Some(error) => match call {
-                Call::Configure(_) => Showing::Refusal(error),
-                Call::Decode(_) => Showing::Refusal(error),
-                Call::Flush => Showing::Rejection {
-                    promise: place,
-                    error,
-                },
-            },
-        }
-    }
-
     /// What a reset or close shows, refused with this error or made, with these promises pending.
     pub fn of_removal(error: Option<DomError>, promises: List<u64>) -> Showing
         ensures { shown_of result ≡ record { turn = None; events = removal_shows error promises } }
