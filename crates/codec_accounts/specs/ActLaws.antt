@@ -56,7 +56,7 @@ ActMakes Other s t = KeepsItem s t × (t.control.epoch ≡ s.control.epoch)
 -- ---- processing
 
 process_same : (s : Control) → SameRun s (process_queue s.messages s)
-process_same s = by_items (SameRun s) (λ m ms c blocked saturated size tasks scheduled few e h. record { running = h.running; epoch = h.epoch }) s.messages s refl (record { running = refl; epoch = refl })
+process_same s = by_items (SameRun s) (λ m ms c blocked saturated scheduled event size few e h. record { running = h.running; epoch = h.epoch }) s.messages s refl (record { running = refl; epoch = refl })
 
 sent_same : (w : Work) (c d : Control) → Sends w c d → SameRun c d
 sent_same w c d k =

@@ -18,7 +18,7 @@ messages_more (x ∷ xs) m = ap (λ l. in_order (held_of x.work) ++ l) (messages
 
 -- what waits, and what runs, stay where messages are processed
 process_held : (c : Control) → (waiting_held (process_queue c.messages c) ≡ waiting_held c) × ((process_queue c.messages c).running ≡ c.running)
-process_held c = by_items (λ (d : Control). (waiting_held d ≡ waiting_held c) × (d.running ≡ c.running)) (λ m ms d blocked saturated size tasks scheduled few e h.
+process_held c = by_items (λ (d : Control). (waiting_held d ≡ waiting_held c) × (d.running ≡ c.running)) (λ m ms d blocked saturated scheduled event size few e h.
     let item : Item = record { number = d.next_item; place = m.place; work = m.work } in
     let taken = append_assoc (items_held d.work) (in_order (held_of m.work)) (messages_held ms) ∙ ap (λ l. items_held d.work ++ messages_held l) (sym e) in
     (ap (λ l. l ++ messages_held ms) (items_more d.work item) ∙ (taken ∙ h.0), h.1)) c.messages c refl (refl, refl)

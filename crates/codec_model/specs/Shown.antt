@@ -48,11 +48,14 @@ promise_of (call.Configure config) place = None
 promise_of (call.Decode chunk) place = None
 promise_of call.Flush place = Some place
 
+-- what a refused call shows: its exception, or that its promise is rejected, if it gives one
+abbrev pub refused_shows : Option ℕ → Option DomError → List Event
+refused_shows None error = refusal error
+refused_shows (Some promise) error = rejection promise error
+
 -- what a call at this place shows, with its error, if it has one
 abbrev pub call_shows : Call → ℕ → Option DomError → List Event
-call_shows (call.Configure config) place error = refusal error
-call_shows (call.Decode chunk) place error = refusal error
-call_shows call.Flush place error = rejection place error
+call_shows x place error = refused_shows (promise_of x place) error
 
 -- the pending promises, each rejected
 abbrev pub rejections : DomError → List ℕ → List Event

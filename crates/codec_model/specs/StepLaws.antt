@@ -2,6 +2,8 @@
 use Rattle.std.proofs.Common.{ℕ, ◌≡◌, ◌≤◌, ◌+◌, ◌-◌, ◌&&◌, not, Bool, true, false, eqb, cond, List, [], ◌∷◌, ◌++◌, Option, Some, None, refl, ap, sym, subst, ◌∙◌, arith}
 use Rattle.std.specs.Prelude.{◌||◌}
 use Rattle.std.proofs.lemmas.Bool.{and_parts}
+use Rattle.wc_base.specs.declared.error.DomError.{DomError}
+use Rattle.wc_base.specs.declared.error.DomError.TheVariants as dom
 use Rattle.wc_base.specs.declared.who.Who.{Who}
 use Rattle.wc_base.specs.Options.{cond_is, some_same}
 use Rattle.wc_config.specs.declared.config.Config.{Config}
@@ -18,6 +20,10 @@ use Rattle.codec_model.specs.declared.entry.Coded.{Coded}
 use Rattle.codec_model.specs.declared.entry.Coded.TheVariants as coded
 use Rattle.codec_model.specs.declared.entry.Work.{Work}
 use Rattle.codec_model.specs.declared.entry.Work.TheVariants as work
+use Rattle.codec_model.specs.declared.entry.WorkKind.{WorkKind}
+use Rattle.codec_model.specs.declared.entry.WorkKind.TheVariants as kind
+use Rattle.codec_definitions.specs.declared.unit.Unit as media
+use Rattle.codec_definitions.specs.Answers.{last_answer}
 use Rattle.codec_model.specs.declared.entry.HeldSound.{HeldSound}
 use Rattle.codec_model.specs.declared.entry.Handed.TheVariants as handed
 use Rattle.codec_model.specs.declared.entry.Entry.{Entry}
@@ -31,8 +37,9 @@ use Rattle.codec_model.specs.declared.entry.Ended.{Ended}
 use Rattle.codec_model.specs.declared.entry.Ended.TheVariants as ended
 use Rattle.codec_model.specs.declared.entry.Outcome.{Outcome}
 use Rattle.codec_model.specs.declared.entry.Outcome.TheVariants as outcome
-use Rattle.codec_model.specs.Control.{Control, kind_of, held_of, is_decoder, coded_out, is_taken, with_item, with_dequeue, after_message, process_queue, with_message, at_next_place, start_first, may_start, after_close, after_encode, after_take, may_take, may_reclaim, run_first, run_task, done_running}
-use Rattle.codec_model.specs.Replay.{State, Given, nothing_given, given_more, serves_too, missing_coder, is_configured, with_control, removed, accepted, entry_of, removal_entry, call_step, removal_step, start_step, done_step, done_ended, ended_of, turn_step, step}
+use Rattle.codec_model.specs.Control.{Control, kind_of, held_of, is_decoder, coded_out, is_taken, with_item, after_message, process_queue, with_message, at_next_place, start_first, may_start, after_close, after_encode, after_take, may_take, may_reclaim, run_first, run_task, done_running}
+use Rattle.codec_model.specs.Replay.{State, Given, nothing_given, given_more, serves_too, missing_coder, answers_to, answer_to, decoder_config, labelled_answer, call_error, configure_error, decode_error, flush_error, removal_error, is_configured, with_control, removed, accepted, entry_of, removal_entry, call_step, removal_step, start_step, done_step, done_ended, ended_of, turn_step, step}
+use Rattle.codec_model.specs.Shown.{refused_shows, call_shows, removal_shows, rejections, close_shows, turn_shows, handed_error, shows, units_in}
 
 -- what holds of a codec, and stays as each message is taken, holds when its queue was processed
 pub by_queue : (Q : Control → Type 0) → ((m : Message) (ms : List Message) (c : Control) → c.messages ≡ m ∷ ms → Q c → Q (record (after_message m c) { messages = ms })) → (ms : List Message) (c : Control) → c.messages ≡ ms → Q c → Q (process_queue ms c)
@@ -107,31 +114,89 @@ call_sends call.Flush c = record { phase = c.phase; key_required = is_decoder c.
 pub encode_sends : (sound : HeldSound) (c : Control) → Sends (work.Coded (coded.Sound sound)) c (after_encode c.place sound (at_next_place c))
 encode_sends sound c = record { phase = c.phase; key_required = c.key_required; size = c.size + 1; pending = c.pending; few = omega arith; is = refl }
 
--- A message that is processed becomes an item. Of the rest these five may change.
+-- A message that is processed becomes an item. Of the rest these four may change, and an event may be queued.
 pub record BecomesItem (m : Message) (c : Control) : Type 0 where
   pub blocked : Bool
   pub saturated : Bool
   pub size : ℕ
-  pub tasks : List Task
   pub scheduled : Bool
+  pub event : Bool
   pub few : size ≤ c.size
-  pub is : after_message m c ≡ with_item m (record c { blocked = blocked; saturated = saturated; size = size; tasks = tasks; scheduled = scheduled })
+  pub is : after_message m c ≡ with_item m (record c { blocked = blocked; saturated = saturated; size = size; scheduled = scheduled; tasks = cond event (c.tasks ++ task.Dequeue ∷ []) c.tasks })
 
 pub becomes_item : (m : Message) (c : Control) → BecomesItem m c
 becomes_item m c = by m.place m.work
   where
     by : (at : ℕ) (w : Work) → BecomesItem (record { place = at; work = w }) c
-    by at (work.Configure config) = record { blocked = true; saturated = c.saturated; size = c.size; tasks = c.tasks; scheduled = c.scheduled; few = omega arith; is = refl }
-    by at (work.Coded input) = let d = with_dequeue c in record { blocked = c.blocked; saturated = eqb (coded_out c + 1) c.opening.saturation; size = c.size - 1; tasks = d.tasks; scheduled = d.scheduled; few = omega arith; is = refl }
-    by at work.Flush = record { blocked = c.blocked; saturated = c.saturated; size = c.size; tasks = c.tasks; scheduled = c.scheduled; few = omega arith; is = refl }
+    by at (work.Configure config) = record { blocked = true; saturated = c.saturated; size = c.size; scheduled = c.scheduled; event = false; few = omega arith; is = refl }
+    by at (work.Coded input) = record { blocked = c.blocked; saturated = eqb (coded_out c + 1) c.opening.saturation; size = c.size - 1; scheduled = true; event = not c.scheduled; few = omega arith; is = refl }
+    by at work.Flush = record { blocked = c.blocked; saturated = c.saturated; size = c.size; scheduled = c.scheduled; event = false; few = omega arith; is = refl }
 
--- what holds of a codec, and stays as a message becomes an item, whatever of these five it changes, holds when its queue was processed
-pub by_items : (Q : Control → Type 0) → ((m : Message) (ms : List Message) (c : Control) (blocked saturated : Bool) (size : ℕ) (tasks : List Task) (scheduled : Bool) → size ≤ c.size → c.messages ≡ m ∷ ms → Q c
-    → Q (record (with_item m (record c { blocked = blocked; saturated = saturated; size = size; tasks = tasks; scheduled = scheduled })) { messages = ms }))
+-- what holds of a codec, and stays as a message becomes an item, whatever of these it changes, holds when its queue was processed
+pub by_items : (Q : Control → Type 0) → ((m : Message) (ms : List Message) (c : Control) (blocked saturated scheduled event : Bool) (size : ℕ) → size ≤ c.size → c.messages ≡ m ∷ ms → Q c
+    → Q (record (with_item m (record c { blocked = blocked; saturated = saturated; size = size; scheduled = scheduled; tasks = cond event (c.tasks ++ task.Dequeue ∷ []) c.tasks })) { messages = ms }))
     → (ms : List Message) (c : Control) → c.messages ≡ ms → Q c → Q (process_queue ms c)
 by_items Q more = by_queue Q (λ m ms c e h.
     let k = becomes_item m c in
-    subst (λ (d : Control). Q (record d { messages = ms })) (sym k.is) (more m ms c k.blocked k.saturated k.size k.tasks k.scheduled k.few e h))
+    subst (λ (d : Control). Q (record d { messages = ms })) (sym k.is) (more m ms c k.blocked k.saturated k.scheduled k.event k.size k.few e h))
+
+-- ---- ends of items
+
+-- an item that is refused a box ends so
+pub no_slot_end : (k : WorkKind) (g : Given) (n : ℕ) (e : Ended) → ended_of k g (outcome.NoSlot n) ≡ Some e → e ≡ ended.NoSlot n
+no_slot_end kind.Configure g n e h = sym (some_same (ended.NoSlot n) e (cond_is (is_supported g.config) (Some (ended.NoSlot n)) e h).1)
+no_slot_end kind.Coded g n e h = absurd cc
+no_slot_end kind.Flush g n e h = absurd cc
+
+-- what holds of no units, and of what the codec's definition answers, holds of each answer to an item
+pub by_answer : (P : List media.Unit → Type 0) (k : WorkKind) (g : Given) (us : List media.Unit) → P [] → (labelled_answer (decoder_config g.config) (last_answer (answers_to g)) ≡ Some us → P us) → answer_to k g ≡ Some us → P us
+by_answer P kind.Configure g us none answered h = subst P (some_same [] us (cond_is (is_supported g.config) (Some []) us h).1) none
+by_answer P kind.Coded g us none answered h = answered h
+by_answer P kind.Flush g us none answered h = answered h
+
+-- ---- what entries show
+
+pub call_is_shown : (who : Who) (x : Call) (s : State) → shows (entry_of who x) s ≡ call_shows x s.control.place (call_error x s.control)
+call_is_shown who (call.Configure config) s = refl
+call_is_shown who (call.Decode chunk) s = refl
+call_is_shown who call.Flush s = refl
+
+-- the outputs that the turn of an entry shows, if it is one
+abbrev pub turn_units : Entry → State → List media.Unit
+turn_units entry.Turn s = units_in (turn_shows s.control.tasks s.control)
+turn_units e s = []
+
+rejections_units : (x : DomError) (ps : List ℕ) → units_in (rejections x ps) ≡ []
+rejections_units x [] = refl
+rejections_units x (p ∷ ps) = rejections_units x ps
+
+pub closing_units : (x : DomError) (ps : List ℕ) → units_in (close_shows x ps) ≡ []
+closing_units x [] = refl
+closing_units x (p ∷ ps) = closing_units x ps
+
+refused_units : (p : Option ℕ) (o : Option DomError) → units_in (refused_shows p o) ≡ []
+refused_units None None = refl
+refused_units None (Some x) = refl
+refused_units (Some p) None = refl
+refused_units (Some p) (Some x) = refl
+
+removal_units : (o : Option DomError) (ps : List ℕ) → units_in (removal_shows o ps) ≡ []
+removal_units None ps = rejections_units dom.Abort ps
+removal_units (Some error) ps = refl
+
+-- only turns show outputs
+pub units_by_turns : (e : Entry) (s : State) → units_in (shows e s) ≡ turn_units e s
+units_by_turns (entry.Configure who config) s = refused_units None (configure_error config s.control)
+units_by_turns (entry.Decode who chunk) s = refused_units None (decode_error chunk s.control)
+units_by_turns (entry.Encode who handed) s = refused_units None (handed_error handed)
+units_by_turns (entry.Flush who) s = refused_units (Some s.control.place) (flush_error s.control)
+units_by_turns (entry.Reset who) s = removal_units (removal_error s.control) s.control.pending
+units_by_turns (entry.Close who) s = removal_units (removal_error s.control) s.control.pending
+units_by_turns (entry.Take who unit) s = refl
+units_by_turns (entry.Start epoch item) s = refl
+units_by_turns (entry.Done epoch item moment o) s = refl
+units_by_turns entry.Turn s = refl
+units_by_turns (entry.Reclaim moment) s = closing_units dom.QuotaExceeded s.control.pending
 
 -- where a test fails
 unless_is : {X : Type 0} (b : Bool) (x t : X) → cond b None (Some x) ≡ Some t → (b ≡ false) × (x ≡ t)

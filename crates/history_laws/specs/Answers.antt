@@ -4,16 +4,16 @@ use Rattle.std.specs.List.{AllByRecursion}
 use Rattle.wc_base.specs.Options.{cond_is, some_same}
 use Rattle.wc_config.specs.declared.codec.CoderId.{CoderId}
 use Rattle.wc_config.specs.declared.config.Config.{Config}
-use Rattle.wc_config.specs.Configs.{is_supported, coder_id_of}
+use Rattle.wc_config.specs.Configs.{coder_id_of}
 use Rattle.codec_definitions.specs.declared.command.Command.{Command}
 use Rattle.codec_definitions.specs.Answers.{answer_after, until_refused, answers_from, last_answer}
 use Rattle.codec_definitions.specs.declared.unit.Unit as media
 use Rattle.codec_model.specs.declared.entry.WorkKind.{WorkKind}
-use Rattle.codec_model.specs.declared.entry.WorkKind.TheVariants as kind
 use Rattle.codec_model.specs.declared.entry.Ended.TheVariants as ended
 use Rattle.codec_model.specs.declared.entry.Outcome.{Outcome}
 use Rattle.codec_model.specs.declared.entry.Outcome.TheVariants as outcome
 use Rattle.codec_model.specs.Replay.{Given, answer_to, answers_by, decoder_config, labelled, labelled_answer, ended_of, ended_run, ended_refused}
+use Rattle.codec_model.specs.StepLaws.{no_slot_end, by_answer}
 
 -- an item that ran gave the units of its answer
 pub ran_answer : (k : WorkKind) (g : Given) (x : Outcome) (us : List media.Unit) → ended_of k g x ≡ Some (ended.Ran us) → answer_to k g ≡ Some us
@@ -27,9 +27,7 @@ ran_answer k g outcome.Refused us h = by (answer_to k g) h
     by : (a : Option (List media.Unit)) → ended_refused a ≡ Some (ended.Ran us) → a ≡ Some us
     by None e = absurd cc
     by (Some vs) e = absurd cc
-ran_answer kind.Configure g (outcome.NoSlot n) us h = let one : Some (ended.NoSlot n) ≡ Some (ended.Ran us) = (cond_is (is_supported g.config) (Some (ended.NoSlot n)) (ended.Ran us) h).1 in absurd cc
-ran_answer kind.Coded g (outcome.NoSlot n) us h = absurd cc
-ran_answer kind.Flush g (outcome.NoSlot n) us h = absurd cc
+ran_answer k g (outcome.NoSlot n) us h = absurd (let e = no_slot_end k g n (ended.Ran us) h in cc)
 ran_answer k g outcome.NoMemory us h = absurd cc
 
 -- what holds of each answer to commands of a kind holds of the last
@@ -52,7 +50,7 @@ pub answer_where : (Q : Command → Type 0) (P : List media.Unit → Type 0) (w 
     → ((id : CoderId) (before : List Command) (x : Command) (vs : List media.Unit) → Q x → answer_after id g.config before x ≡ Some vs → P vs)
     → ((vs : List media.Unit) → is_some (coder_id_of g.config) ≡ true → P vs → P (labelled (decoder_config g.config) vs))
     → AllByRecursion Q g.commands → answer_to w g ≡ Some us → P us
-answer_where Q P w g us none each label all h = by w h
+answer_where Q P w g us none each label all h = by_answer P w g us none (by_coder (coder_id_of g.config) refl) h
   where
     carrying : (id : CoderId) (a : Option (List media.Unit)) → coder_id_of g.config ≡ Some id → last_answer (answers_by (Some id) g) ≡ a → labelled_answer (decoder_config g.config) a ≡ Some us → P us
     carrying id None is last e = absurd cc
@@ -63,8 +61,3 @@ answer_where Q P w g us none each label all h = by w h
     by_coder : (o : Option CoderId) → coder_id_of g.config ≡ o → labelled_answer (decoder_config g.config) (last_answer (answers_by o g)) ≡ Some us → P us
     by_coder None is e = absurd cc
     by_coder (Some id) is e = carrying id (last_answer (answers_by (Some id) g)) is refl e
-
-    by : (k : WorkKind) → answer_to k g ≡ Some us → P us
-    by kind.Configure e = subst P (some_same [] us (cond_is (is_supported g.config) (Some []) us e).1) none
-    by kind.Coded e = by_coder (coder_id_of g.config) refl e
-    by kind.Flush e = by_coder (coder_id_of g.config) refl e

@@ -1,10 +1,8 @@
 -- A codec's state counts the outputs that its history showed, and an output that was shown stays as it is.
-use Rattle.std.proofs.Common.{ℕ, zero, suc, ◌≡◌, ◌+◌, ◌||◌, Bool, true, false, eqb, cond, map, List, [], ◌∷◌, ◌++◌, append_assoc, append-nil, length, length-append, slice_get, Option, Some, None, refl, ap, sym, subst, ◌∙◌, arith}
+use Rattle.std.proofs.Common.{ℕ, zero, suc, ◌≡◌, ◌+◌, Bool, true, false, eqb, cond, map, List, [], ◌∷◌, ◌++◌, append_assoc, append-nil, length, length-append, slice_get, Option, Some, None, refl, ap, sym, subst, ◌∙◌, arith}
 use Rattle.std.specs.Prelude.{max, unwrap_or, option_map, option_and_then}
 use Rattle.std.specs.List.{AllByRecursion}
 use Rattle.wc_base.specs.declared.error.DomError.{DomError}
-use Rattle.wc_base.specs.declared.error.DomError.TheVariants as dom
-use Rattle.wc_base.specs.declared.who.Who.{Who}
 use Rattle.wc_base.specs.Options.{some_same}
 use Rattle.wc_config.specs.declared.config.AudioDecoderConfig.{AudioDecoderConfig}
 use Rattle.codec_definitions.specs.declared.unit.Unit as media
@@ -13,46 +11,21 @@ use Rattle.codec_model.specs.declared.entry.Opening.{Opening}
 use Rattle.codec_model.specs.declared.entry.Removal.{Removal}
 use Rattle.codec_model.specs.declared.entry.Removal.TheVariants as removal
 use Rattle.codec_model.specs.declared.entry.Call.{Call}
-use Rattle.codec_model.specs.declared.entry.Call.TheVariants as call
 use Rattle.codec_model.specs.declared.entry.Entry.{Entry}
 use Rattle.codec_model.specs.declared.entry.Event.{Event}
 use Rattle.codec_model.specs.declared.entry.Event.TheVariants as event
-use Rattle.codec_model.specs.declared.entry.CodecState.TheVariants.{Configured}
-use Rattle.codec_model.specs.declared.entry.Coded.TheVariants as coded
 use Rattle.codec_model.specs.declared.entry.Work.{Work}
-use Rattle.codec_model.specs.declared.entry.Work.TheVariants as work
-use Rattle.codec_model.specs.declared.entry.Message.{Message}
 use Rattle.codec_model.specs.declared.entry.Running.{Running}
 use Rattle.codec_model.specs.declared.entry.Task.{Task}
 use Rattle.codec_model.specs.declared.entry.Task.TheVariants as task
 use Rattle.codec_model.specs.declared.entry.Ended.{Ended}
-use Rattle.codec_model.specs.Control.{Control, after_message, process_queue, at_next_place, run_task, done_running, after_end, with_message, is_decoder, carried}
-use Rattle.codec_model.specs.Replay.{State, opening_state, step, replay, replay_from, call_error, configure_error, decode_error, flush_error, removal_error, after_call, accepted, remove_or_refuse, entry_of, removal_entry}
-use Rattle.codec_model.specs.Shown.{refusal, rejection, rejections, close_shows, removal_shows, outputs_from, task_shows, task_carried, turn_shows, shows, shown, shown_from, each_shown, each_shown_from, event_units, units_in, outputs_of}
-use Rattle.codec_model.specs.StepLaws.{task_ran, EachStep, by_queue, by_steps}
+use Rattle.codec_model.specs.Control.{Control, process_queue, at_next_place, run_task, done_running, after_end, carried}
+use Rattle.codec_model.specs.Replay.{State, opening_state, step, replay, replay_from, call_error, removal_error, after_call, accepted, remove_or_refuse, call_step, removal_step}
+use Rattle.codec_model.specs.Shown.{outputs_from, task_shows, task_carried, turn_shows, shows, shown, shown_from, each_shown, each_shown_from, event_units, units_in, outputs_of}
+use Rattle.codec_model.specs.StepLaws.{task_ran, EachStep, by_items, by_steps, by_call, by_removal, Sends, asked, work_of, call_sends, encode_sends, closing_units, turn_units, units_by_turns}
 use Rattle.history_laws.specs.OutputLaws.{all_append, units_append}
 
 -- ---- what entries show
-
-refusal_units : (o : Option DomError) → units_in (refusal o) ≡ []
-refusal_units None = refl
-refusal_units (Some error) = refl
-
-rejection_units : (place : ℕ) (o : Option DomError) → units_in (rejection place o) ≡ []
-rejection_units place None = refl
-rejection_units place (Some error) = refl
-
-rejections_units : (x : DomError) (ps : List ℕ) → units_in (rejections x ps) ≡ []
-rejections_units x [] = refl
-rejections_units x (p ∷ ps) = rejections_units x ps
-
-closing_units : (x : DomError) (ps : List ℕ) → units_in (close_shows x ps) ≡ []
-closing_units x [] = refl
-closing_units x (p ∷ ps) = closing_units x ps
-
-removal_units : (o : Option DomError) (ps : List ℕ) → units_in (removal_shows o ps) ≡ []
-removal_units None ps = rejections_units dom.Abort ps
-removal_units (Some error) ps = refl
 
 output_units : (n : ℕ) (us : List media.Unit) → units_in (outputs_from n us) ≡ us
 output_units n [] = refl
@@ -70,28 +43,14 @@ length-carried active (unit.Coded chunk (Some c) ∷ us) = refl
 
 -- ---- what entries count
 
--- the same count, and nothing shown
-none_more : (m n : ℕ) (us : List media.Unit) → m ≡ n → us ≡ [] → m ≡ n + length us
-none_more m n us same none = rw none (omega (arith, same))
-
-message_shown : (w : Work) (place : ℕ) (ms : List Message) (c : Control) → (record (after_message (record { place = place; work = w }) c) { messages = ms }).shown ≡ c.shown
-message_shown (work.Configure config) place ms c = refl
-message_shown (work.Coded input) place ms c = refl
-message_shown work.Flush place ms c = refl
-
 process_shown : (c : Control) → (process_queue c.messages c).shown ≡ c.shown
-process_shown c = by_queue (λ (d : Control). d.shown ≡ c.shown) (λ m ms d e h. message_shown m.work m.place ms d ∙ h) c.messages c refl refl
+process_shown c = by_items (λ (d : Control). d.shown ≡ c.shown) (λ m ms d blocked saturated scheduled event size few e h. h) c.messages c refl refl
 
-sent_shown : (place : ℕ) (w : Work) (c : Control) → (with_message place w c).shown ≡ c.shown
-sent_shown place w c = process_shown (record c { messages = c.messages ++ record { place = place; work = w } ∷ [] })
-
-accepted_shown : (x : Call) (c : Control) → (accepted x c).shown ≡ c.shown
-accepted_shown (call.Configure config) c = sent_shown c.place (work.Configure config) (record (at_next_place c) { phase = Configured; key_required = is_decoder c.opening.kind || c.key_required })
-accepted_shown (call.Decode chunk) c = sent_shown c.place (work.Coded (coded.Chunk chunk)) (record (at_next_place c) { key_required = false; size = c.size + 1 })
-accepted_shown call.Flush c = sent_shown c.place work.Flush (record (at_next_place c) { key_required = is_decoder c.opening.kind || c.key_required; pending = c.pending ++ c.place ∷ [] })
+sent_shown : (w : Work) (c d : Control) → Sends w c d → d.shown ≡ c.shown
+sent_shown w c d k = let before = asked c k.phase k.key_required k.size k.pending in rw k.is (process_shown (record before { messages = before.messages ++ record { place = c.place; work = w } ∷ [] }))
 
 call_shown : (o : Option DomError) (x : Call) (c : Control) → (after_call o x c).shown ≡ c.shown
-call_shown None x c = accepted_shown x c
+call_shown None x c = sent_shown (work_of x) c (accepted x c) (call_sends x c)
 call_shown (Some error) x c = refl
 
 removal_shown : (o : Option DomError) (r : Removal) (s : State) → (remove_or_refuse o r s).control.shown ≡ s.control.shown
@@ -107,40 +66,39 @@ end_shown r e moment c = by (eqb r.epoch c.epoch)
     by false = refl
 
 run_shown : (x : Task) (c d : Control) → (run_task x d).shown ≡ d.shown + length (units_in (task_shows (task_carried c.active x) c.shown c.pending))
-run_shown task.Unblock c d = omega arith
-run_shown task.Process c d = none_more _ _ [] (process_shown d) refl
-run_shown task.Desaturate c d = none_more _ _ [] (process_shown (record d { saturated = false })) refl
+run_shown task.Process c d = omega (arith, process_shown d)
+run_shown task.Desaturate c d = omega (arith, process_shown (record d { saturated = false }))
 run_shown (task.Output units) c d = ap (λ (n : ℕ). d.shown + n) (sym (ap (λ (us : List media.Unit). length us) (output_units c.shown (carried c.active units)) ∙ length-carried c.active units))
 run_shown (task.Flushed promise units) c d = ap (λ (n : ℕ). d.shown + n) (sym (ap (λ (us : List media.Unit). length us) (flushed_units c.shown promise (carried c.active units)) ∙ length-carried c.active units))
-run_shown task.Dequeue c d = omega arith
-run_shown (task.Close x) c d = none_more _ _ _ refl (closing_units x c.pending)
+run_shown (task.Close x) c d = rw (closing_units x c.pending) (omega arith)
+run_shown x c d = omega arith
 
-call_units : (who : Who) (x : Call) (s : State) → units_in (shows (entry_of who x) s) ≡ []
-call_units who (call.Configure given) s = refusal_units (configure_error given s.control)
-call_units who (call.Decode chunk) s = refusal_units (decode_error chunk s.control)
-call_units who call.Flush s = rejection_units s.control.place (flush_error s.control)
+-- an entry counts the outputs of its turn, if it is one
+abbrev Counts : Entry → State → State → Type 0
+Counts e s t = t.control.shown ≡ s.control.shown + length (turn_units e s)
 
-removed_units : (who : Who) (r : Removal) (s : State) → units_in (shows (removal_entry who r) s) ≡ []
-removed_units who removal.Reset s = removal_units (removal_error s.control) s.control.pending
-removed_units who removal.Close s = removal_units (removal_error s.control) s.control.pending
+same_count : (m n : ℕ) → m ≡ n → m ≡ n + 0
+same_count m n h = omega (arith, h)
 
-each_counts : EachStep (λ e s t. t.control.shown ≡ s.control.shown + length (units_in (shows e s)))
+each_counts : EachStep Counts
 each_counts = record {
-  call = λ who x s. none_more _ _ _ (call_shown (call_error x s.control) x s.control) (call_units who x s);
-  gone = λ who s. none_more _ _ [] refl refl;
-  kept = λ who s off. none_more _ _ [] refl refl;
-  cloned = λ who x s on. none_more _ _ [] (sent_shown s.control.place (work.Coded (coded.Sound x)) (record (at_next_place s.control) { size = s.control.size + 1 })) refl;
-  remove = λ who r s. none_more _ _ _ (removal_shown (removal_error s.control) r s) (removed_units who r s);
-  take = λ who unit s may. none_more _ _ [] refl refl;
-  start = λ i is epoch item s first may. none_more _ _ [] refl refl;
-  done = λ r e epoch item moment x s running own is. none_more _ _ [] (end_shown r e moment (at_next_place s.control)) refl;
+  call = λ who x s.
+      let k = same_count _ _ (call_shown (call_error x s.control) x s.control) in
+      by_call (λ e. Counts e s (call_step x s)) who (λ config. k) (λ chunk. k) k x;
+  gone = λ who s. omega arith;
+  kept = λ who s off. omega arith;
+  cloned = λ who x s on. same_count _ _ (sent_shown _ s.control _ (encode_sends x s.control));
+  remove = λ who r s. let k = same_count _ _ (removal_shown (removal_error s.control) r s) in by_removal (λ e. Counts e s (removal_step r s)) who k k r;
+  take = λ who unit s may. omega arith;
+  start = λ i is epoch item s first may. omega arith;
+  done = λ r e epoch item moment x s running own is. same_count _ _ (end_shown r e moment (at_next_place s.control));
   turn = λ x ts s first. subst (λ (l : List Task). (task_ran x ts s).control.shown ≡ s.control.shown + length (units_in (turn_shows l s.control))) (sym first) (run_shown x s.control (record (at_next_place s.control) { tasks = ts }));
-  reclaim = λ moment s may. none_more _ _ _ refl (closing_units dom.QuotaExceeded s.control.pending);
+  reclaim = λ moment s may. omega arith;
 }
 
 -- an entry counts the outputs that it shows
 pub step_counts : (e : Entry) (s t : State) → step e s ≡ Some t → t.control.shown ≡ s.control.shown + length (units_in (shows e s))
-step_counts = by_steps (λ e s t. t.control.shown ≡ s.control.shown + length (units_in (shows e s))) each_counts
+step_counts e s t is = by_steps Counts each_counts e s t is ∙ ap (λ (us : List media.Unit). s.control.shown + length us) (sym (units_by_turns e s))
 
 -- ---- histories
 

@@ -7,23 +7,19 @@ use Rattle.codec_model.specs.declared.entry.Opening.{Opening}
 use Rattle.codec_model.specs.declared.entry.Removal.{Removal}
 use Rattle.codec_model.specs.declared.entry.Removal.TheVariants as removal
 use Rattle.codec_model.specs.declared.entry.Call.{Call}
-use Rattle.codec_model.specs.declared.entry.Call.TheVariants as call
 use Rattle.codec_model.specs.declared.entry.Entry.{Entry}
-use Rattle.codec_model.specs.declared.entry.HeldSound.{HeldSound}
-use Rattle.codec_model.specs.declared.entry.Coded.TheVariants as coded
 use Rattle.codec_model.specs.declared.entry.Work.{Work}
-use Rattle.codec_model.specs.declared.entry.Work.TheVariants as work
 use Rattle.codec_model.specs.declared.entry.Message.{Message}
 use Rattle.codec_model.specs.declared.entry.Item.{Item}
 use Rattle.codec_model.specs.declared.entry.Running.{Running}
 use Rattle.codec_model.specs.declared.entry.Task.{Task}
 use Rattle.codec_model.specs.declared.entry.Task.TheVariants as task
 use Rattle.codec_model.specs.declared.entry.Ended.{Ended}
-use Rattle.codec_model.specs.Control.{Control, after_message, process_queue, at_next_place, run_task, done_running, after_end, start_first, after_reset, after_close, after_encode, after_take}
+use Rattle.codec_model.specs.Control.{Control, process_queue, at_next_place, run_task, done_running, after_end, start_first, after_reset, after_close, after_take}
 use Rattle.codec_model.specs.Replay.{State, opening_state, step, removal_error, after_call, call_error, accepted, remove_or_refuse}
 use Rattle.history_laws.specs.Numbers.{AreItemsUpTo, IsUpTo}
 use Rattle.history_laws.specs.OutputLaws.{all_append}
-use Rattle.codec_model.specs.StepLaws.{EachStep, by_queue, by_steps}
+use Rattle.codec_model.specs.StepLaws.{EachStep, by_items, by_steps, Sends, asked, work_of, call_sends, encode_sends}
 
 items_up : (n : ℕ) (is : List Item) → AreItemsUpTo n is → AreItemsUpTo (n + 1) is
 items_up n [] h = tt
@@ -58,37 +54,33 @@ longer xs x = length-append xs (x ∷ [])
 item_up : (n : ℕ) (at : ℕ) (w : Work) (ms : List Message) (c : Control) → c.messages ≡ record { place = at; work = w } ∷ ms → IsUpTo n c → AreItemsUpTo n (c.work ++ record { number = c.next_item; place = at; work = w } ∷ [])
 item_up n at w ms c e h = all_append (λ (i : Item). i.number ≤ n) c.work (record { number = c.next_item; place = at; work = w } ∷ []) h.queued (omega (arith, h.next, ap length e), tt)
 
-taken_up : (n : ℕ) (at : ℕ) (w : Work) (ms : List Message) (c : Control) → c.messages ≡ record { place = at; work = w } ∷ ms → IsUpTo n c → IsUpTo n (record (after_message (record { place = at; work = w }) c) { messages = ms })
-taken_up n at (work.Configure config) ms c e h = record { place = h.place; epoch = h.epoch; size = h.size; next = omega (arith, h.next, ap length e); queued = item_up n at (work.Configure config) ms c e h; running = h.running }
-taken_up n at (work.Coded input) ms c e h = record { place = h.place; epoch = h.epoch; size = omega (arith, h.size); next = omega (arith, h.next, ap length e); queued = item_up n at (work.Coded input) ms c e h; running = h.running }
-taken_up n at work.Flush ms c e h = record { place = h.place; epoch = h.epoch; size = h.size; next = omega (arith, h.next, ap length e); queued = item_up n at work.Flush ms c e h; running = h.running }
-
 processed_up : (n : ℕ) (c : Control) → IsUpTo n c → IsUpTo n (process_queue c.messages c)
-processed_up n c h = by_queue (IsUpTo n) (λ m ms d e k. taken_up n m.place m.work ms d e k) c.messages c refl h
+processed_up n c h = by_items (IsUpTo n) (λ m ms d blocked saturated scheduled event size few e k. record {
+  place = k.place;
+  epoch = k.epoch;
+  size = omega (arith, k.size, few);
+  next = omega (arith, k.next, ap length e);
+  queued = item_up n m.place m.work ms d e k;
+  running = k.running;
+}) c.messages c refl h
 
 -- ---- calls
 
--- one message more, in a state that differs from another in nothing that counts but its size
-queued_up : (n : ℕ) (m : Message) (c d : Control) → d.place ≡ c.place → d.epoch ≡ c.epoch → d.size ≤ c.size + 1 → d.next_item ≡ c.next_item → d.messages ≡ c.messages → d.work ≡ c.work → d.running ≡ c.running → IsUpTo n c → IsUpTo (n + 1) (record (at_next_place d) { messages = d.messages ++ m ∷ [] })
-queued_up n m c d place epoch size next messages items busy h = record {
-  place = omega (arith, h.place, place);
-  epoch = omega (arith, h.epoch, epoch);
-  size = omega (arith, h.size, size);
-  next = omega (arith, h.next, next, longer d.messages m, ap length messages);
-  queued = rw items (items_up n c.work h.queued);
-  running = λ r is. let old = h.running r (sym busy ∙ is) in (omega (arith, old.0), omega (arith, old.1));
-}
-
-accepted_up : (n : ℕ) (x : Call) (c : Control) → IsUpTo n c → IsUpTo (n + 1) (accepted x c)
-accepted_up n (call.Configure given) c h = processed_up (n + 1) _ (queued_up n (record { place = c.place; work = work.Configure given }) c (record c { phase = _; key_required = _ }) refl refl (omega arith) refl refl refl refl h)
-accepted_up n (call.Decode chunk) c h = processed_up (n + 1) _ (queued_up n (record { place = c.place; work = work.Coded (coded.Chunk chunk) }) c (record c { key_required = false; size = c.size + 1 }) refl refl (omega arith) refl refl refl refl h)
-accepted_up n call.Flush c h = processed_up (n + 1) _ (queued_up n (record { place = c.place; work = work.Flush }) c (record c { key_required = _; pending = _ }) refl refl (omega arith) refl refl refl refl h)
-
-encoded_up : (n : ℕ) (sound : HeldSound) (c : Control) → IsUpTo n c → IsUpTo (n + 1) (after_encode c.place sound (at_next_place c))
-encoded_up n sound c h = processed_up (n + 1) _ (queued_up n (record { place = c.place; work = work.Coded (coded.Sound sound) }) c (record c { size = c.size + 1 }) refl refl (omega arith) refl refl refl refl h)
+sent_up : (n : ℕ) (w : Work) (c d : Control) → Sends w c d → IsUpTo n c → IsUpTo (n + 1) d
+sent_up n w c d k h =
+    let before = asked c k.phase k.key_required k.size k.pending in
+    let m : Message = record { place = c.place; work = w } in
+    rw k.is (processed_up (n + 1) (record before { messages = before.messages ++ m ∷ [] }) (record {
+      place = omega (arith, h.place);
+      epoch = omega (arith, h.epoch);
+      size = omega (arith, h.size, k.few);
+      next = omega (arith, h.next, longer c.messages m);
+      queued = items_up n c.work h.queued;
+      running = (up n c h).running;
+    }))
 
 called_up : (n : ℕ) (o : Option DomError) (x : Call) (c : Control) → IsUpTo n c → IsUpTo (n + 1) (after_call o x c)
-called_up n None x c h = accepted_up n x c h
+called_up n None x c h = sent_up n (work_of x) c (accepted x c) (call_sends x c) h
 called_up n (Some error) x c h = entered n c h
 
 -- ---- removals
@@ -150,13 +142,10 @@ done_up n r e moment c h = by (eqb r.epoch c.epoch)
 -- ---- turns
 
 run_up : (n : ℕ) (t : Task) (ts : List Task) (c : Control) → IsUpTo n c → IsUpTo (n + 1) (run_task t (record (at_next_place c) { tasks = ts }))
-run_up n task.Unblock ts c h = same_up (n + 1) (at_next_place c) _ refl refl refl refl refl refl refl (entered n c h)
 run_up n task.Process ts c h = processed_up (n + 1) _ (same_up (n + 1) (at_next_place c) _ refl refl refl refl refl refl refl (entered n c h))
 run_up n task.Desaturate ts c h = processed_up (n + 1) _ (same_up (n + 1) (at_next_place c) _ refl refl refl refl refl refl refl (entered n c h))
-run_up n (task.Output units) ts c h = same_up (n + 1) (at_next_place c) _ refl refl refl refl refl refl refl (entered n c h)
-run_up n (task.Flushed promise units) ts c h = same_up (n + 1) (at_next_place c) _ refl refl refl refl refl refl refl (entered n c h)
-run_up n task.Dequeue ts c h = same_up (n + 1) (at_next_place c) _ refl refl refl refl refl refl refl (entered n c h)
 run_up n (task.Close x) ts c h = let r = closed_up n c h in record { place = r.place; epoch = r.epoch; size = r.size; next = r.next; queued = r.queued; running = r.running }
+run_up n t ts c h = same_up (n + 1) (at_next_place c) _ refl refl refl refl refl refl refl (entered n c h)
 
 -- ---- entries
 
@@ -168,7 +157,7 @@ each_up n = record {
   call = λ who x s h. called_up n (call_error x s.control) x s.control h;
   gone = λ who s h. entered n s.control h;
   kept = λ who s off h. entered n s.control h;
-  cloned = λ who x s on h. encoded_up n x s.control h;
+  cloned = λ who x s on h. sent_up n _ s.control _ (encode_sends x s.control) h;
   remove = λ who r s h. removal_up n (removal_error s.control) r s h;
   take = λ who unit s may h. taken_by n s.control h;
   start = λ i is epoch item s first may h. begun_up n i is s.control first h;

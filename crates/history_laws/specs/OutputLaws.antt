@@ -4,9 +4,7 @@ use Rattle.std.proofs.Common.{ℕ, ◌≡◌, ◌+◌, ◌&&◌, not, Bool, true
 use Rattle.std.specs.Prelude.{option_map, unwrap_or, max, count_by, filter}
 use Rattle.std.specs.List.{AllByRecursion}
 use Rattle.wc_base.specs.declared.error.DomError.{DomError}
-use Rattle.wc_base.specs.declared.error.DomError.TheVariants as dom
-use Rattle.wc_base.specs.declared.who.Who.{Who}
-use Rattle.wc_config.specs.Configs.{is_valid, coder_id_of}
+use Rattle.wc_config.specs.Configs.{coder_id_of}
 use Rattle.wc_config.specs.declared.config.AudioDecoderConfig.{AudioDecoderConfig}
 use Rattle.codec_definitions.specs.declared.unit.Unit as media
 use Rattle.codec_definitions.specs.declared.unit.Unit.TheVariants as unit
@@ -16,16 +14,11 @@ use Rattle.codec_model.specs.declared.entry.Opening.{Opening}
 use Rattle.codec_model.specs.declared.entry.Removal.{Removal}
 use Rattle.codec_model.specs.declared.entry.Removal.TheVariants as removal
 use Rattle.codec_model.specs.declared.entry.Call.{Call}
-use Rattle.codec_model.specs.declared.entry.Call.TheVariants as call
 use Rattle.codec_model.specs.declared.entry.Entry.{Entry}
 use Rattle.codec_model.specs.declared.entry.Entry.TheVariants as entry
 use Rattle.codec_model.specs.declared.entry.Event.{Event}
 use Rattle.codec_model.specs.declared.entry.Event.TheVariants as event
-use Rattle.codec_model.specs.declared.entry.HeldSound.{HeldSound}
-use Rattle.codec_model.specs.declared.entry.Coded.{Coded}
-use Rattle.codec_model.specs.declared.entry.Coded.TheVariants as coded
 use Rattle.codec_model.specs.declared.entry.Work.{Work}
-use Rattle.codec_model.specs.declared.entry.Work.TheVariants as work
 use Rattle.codec_model.specs.declared.entry.WorkKind.{WorkKind}
 use Rattle.codec_model.specs.declared.entry.WorkKind.TheVariants as item
 use Rattle.codec_model.specs.declared.entry.Message.{Message}
@@ -36,12 +29,12 @@ use Rattle.codec_model.specs.declared.entry.Task.TheVariants as task
 use Rattle.codec_model.specs.declared.entry.Ended.{Ended}
 use Rattle.codec_model.specs.declared.entry.Ended.TheVariants as ended
 use Rattle.codec_model.specs.declared.entry.Outcome.{Outcome}
-use Rattle.codec_model.specs.Control.{Control, after_message, process_queue, at_next_place, run_task, done_running, after_end, is_dequeue, is_desaturate, with_desaturate, after_reset, after_close, after_encode, after_take, carried, is_active}
-use Rattle.codec_model.specs.Replay.{State, Given, command_of, decoder_config, labelled, given_more, answer_to, opening_state, nothing_given, step, ended_of, configure_error, decode_error, flush_error, removal_error, after_call, call_error, accepted, remove_or_refuse, removed, entry_of, with_control}
-use Rattle.codec_model.specs.Shown.{refusal, rejection, rejections, outputs_from, turn_shows, removal_shows, handed_error, shows, event_units, units_in, each_shown, each_shown_from}
-use Rattle.history_laws.specs.Outputs.{IsOwnCommand, MayCarry, Judge, HoldsOwn}
+use Rattle.codec_model.specs.Control.{Control, process_queue, at_next_place, run_task, done_running, after_end, is_dequeue, is_desaturate, with_desaturate, after_reset, after_close, after_take, carried, is_active}
+use Rattle.codec_model.specs.Replay.{State, Given, command_of, decoder_config, labelled, given_more, answer_to, opening_state, nothing_given, step, ended_of, removal_error, after_call, call_error, accepted, remove_or_refuse, removed, with_control}
+use Rattle.codec_model.specs.Shown.{outputs_from, turn_shows, shows, event_units, units_in, each_shown, each_shown_from}
+use Rattle.history_laws.specs.Outputs.{IsOwnCommand, IsOwnWork, MayCarry, Judge, HoldsOwn, own_call}
 use Rattle.history_laws.specs.Answers.{ran_answer, answer_where}
-use Rattle.codec_model.specs.StepLaws.{given_past, begun, task_ran, EachStep, by_queue, by_steps}
+use Rattle.codec_model.specs.StepLaws.{given_past, begun, task_ran, EachStep, by_items, by_work, by_steps, Sends, asked, work_of, call_sends, encode_sends, closing_units, turn_units, units_by_turns}
 
 pub all_append : {X : Type 0} (P : X → Type 0) (xs ys : List X) → AllByRecursion P xs → AllByRecursion P ys → AllByRecursion P (xs ++ ys)
 all_append P [] ys h k = k
@@ -83,11 +76,8 @@ given_of k w g us own h =
 
 -- ---- states
 
-abbrev pub IsOwnWork : Judge → Work → Type 0
-IsOwnWork k (work.Configure c) = k.config c
-IsOwnWork k (work.Coded (coded.Chunk chunk)) = k.chunk chunk
-IsOwnWork k (work.Coded (coded.Sound sound)) = k.sound sound.samples
-IsOwnWork k work.Flush = Unit {0}
+abbrev pub HoldsWork : Judge → Work → Type 0
+HoldsWork k w = IsOwnWork k.config k.chunk k.sound w
 
 abbrev pub IsOwnTask : Judge → Task → Type 0
 IsOwnTask k (task.Output units) = AllOf k units
@@ -95,14 +85,14 @@ IsOwnTask k (task.Flushed promise units) = AllOf k units
 IsOwnTask k t = Unit {0}
 
 abbrev pub AreOwnMessages : Judge → List Message → Type 0
-AreOwnMessages k ms = AllByRecursion (λ m. IsOwnWork k m.work) ms
+AreOwnMessages k ms = AllByRecursion (λ m. HoldsWork k m.work) ms
 
 abbrev pub AreOwnTasks : Judge → List Task → Type 0
 AreOwnTasks k ts = AllByRecursion (IsOwnTask k) ts
 
 pub record OwnControl (k : Judge) (c : Control) : Type 0 where
   pub messages : AreOwnMessages k c.messages
-  pub items : AllByRecursion (λ i. IsOwnWork k i.work) c.work
+  pub items : AllByRecursion (λ i. HoldsWork k i.work) c.work
   pub tasks : AreOwnTasks k c.tasks
 
 pub record Own (k : Judge) (s : State) : Type 0 where
@@ -114,40 +104,20 @@ dequeue_own : (k : Judge) (b : Bool) (ts : List Task) → AreOwnTasks k ts → A
 dequeue_own k true ts h = all_more (IsOwnTask k) ts task.Dequeue h tt
 dequeue_own k false ts h = h
 
-taken_own : (k : Judge) (w : Work) (at : ℕ) (ms : List Message) (c : Control) → OwnControl k c → IsOwnWork k w → AreOwnMessages k ms → OwnControl k (record (after_message (record { place = at; work = w }) c) { messages = ms })
-taken_own k (work.Configure given) at ms c h w all = record {
-  messages = all;
-  items = all_more (λ (i : Item). IsOwnWork k i.work) c.work (record { number = c.next_item; place = at; work = work.Configure given }) h.items w;
-  tasks = h.tasks;
-}
-taken_own k (work.Coded input) at ms c h w all = record {
-  messages = all;
-  items = all_more (λ (i : Item). IsOwnWork k i.work) c.work (record { number = c.next_item; place = at; work = work.Coded input }) h.items w;
-  tasks = dequeue_own k (not c.scheduled) c.tasks h.tasks;
-}
-taken_own k work.Flush at ms c h w all = record {
-  messages = all;
-  items = all_more (λ (i : Item). IsOwnWork k i.work) c.work (record { number = c.next_item; place = at; work = work.Flush }) h.items tt;
-  tasks = h.tasks;
-}
-
 processed_own : (k : Judge) (c : Control) → OwnControl k c → OwnControl k (process_queue c.messages c)
-processed_own k c own = by_queue (OwnControl k) taken c.messages c refl own
-  where
-    taken : (m : Message) (ms : List Message) (d : Control) → d.messages ≡ m ∷ ms → OwnControl k d → OwnControl k (record (after_message m d) { messages = ms })
-    taken m ms d e h = let all : AreOwnMessages k (m ∷ ms) = subst (AreOwnMessages k) e h.messages in taken_own k m.work m.place ms d h all.0 all.1
+processed_own k c own = by_items (OwnControl k) (λ m ms d blocked saturated scheduled event size few e h.
+    let all : AreOwnMessages k (m ∷ ms) = subst (AreOwnMessages k) e h.messages in
+    record {
+      messages = all.1;
+      items = all_more (λ (i : Item). HoldsWork k i.work) d.work (record { number = d.next_item; place = m.place; work = m.work }) h.items all.0;
+      tasks = dequeue_own k event d.tasks h.tasks;
+    }) c.messages c refl own
 
 -- ---- calls
 
--- a call whose config, if it has one, the codec takes for its own
-abbrev IsOwnCall : Judge → Call → Type 0
-IsOwnCall k (call.Configure c) = k.config c
-IsOwnCall k (call.Decode chunk) = k.chunk chunk
-IsOwnCall k call.Flush = Unit {0}
-
-queued_own : (k : Judge) (c : Control) (m : Message) → OwnControl k c → IsOwnWork k m.work → OwnControl k (record c { messages = c.messages ++ m ∷ [] })
+queued_own : (k : Judge) (c : Control) (m : Message) → OwnControl k c → HoldsWork k m.work → OwnControl k (record c { messages = c.messages ++ m ∷ [] })
 queued_own k c m h w = record {
-  messages = all_more (λ (x : Message). IsOwnWork k x.work) c.messages m h.messages w;
+  messages = all_more (λ (x : Message). HoldsWork k x.work) c.messages m h.messages w;
   items = h.items;
   tasks = h.tasks;
 }
@@ -160,21 +130,15 @@ same_own k c d messages items tasks h = record {
   tasks = rw tasks (h.tasks);
 }
 
-accepted_own : (k : Judge) (x : Call) (c : Control) → IsOwnCall k x → OwnControl k c → OwnControl k (accepted x c)
-accepted_own k (call.Configure given) c own h = processed_own k _ (same_own k _ _ refl refl refl (queued_own k c (record { place = c.place; work = work.Configure given }) h own))
-accepted_own k (call.Decode chunk) c own h = processed_own k _ (same_own k _ _ refl refl refl (queued_own k c (record { place = c.place; work = work.Coded (coded.Chunk chunk) }) h own))
-accepted_own k call.Flush c own h = processed_own k _ (same_own k _ _ refl refl refl (queued_own k c (record { place = c.place; work = work.Flush }) h tt))
+sent_own : (k : Judge) (w : Work) (c d : Control) → Sends w c d → HoldsWork k w → OwnControl k c → OwnControl k d
+sent_own k w c d s own h =
+    let before = asked c s.phase s.key_required s.size s.pending in
+    let m : Message = record { place = c.place; work = w } in
+    rw s.is (processed_own k (record before { messages = before.messages ++ m ∷ [] }) (same_own k _ _ refl refl refl (queued_own k c m h own)))
 
-encoded_own : (k : Judge) (sound : HeldSound) (c : Control) → k.sound sound.samples → OwnControl k c → OwnControl k (after_encode c.place sound (at_next_place c))
-encoded_own k sound c own h = processed_own k _ (same_own k _ _ refl refl refl (queued_own k c (record { place = c.place; work = work.Coded (coded.Sound sound) }) h own))
-
-called_own : (k : Judge) (o : Option DomError) (x : Call) (c : Control) → (o ≡ None → IsOwnCall k x) → OwnControl k c → OwnControl k (after_call o x c)
-called_own k None x c own h = accepted_own k x c (own refl) h
+called_own : (k : Judge) (o : Option DomError) (x : Call) (c : Control) → (o ≡ None → HoldsWork k (work_of x)) → OwnControl k c → OwnControl k (after_call o x c)
+called_own k None x c own h = sent_own k (work_of x) c (accepted x c) (call_sends x c) (own refl) h
 called_own k (Some error) x c own h = same_own k c _ refl refl refl h
-
-accepted_valid : (b : Bool) (o : Option DomError) → cond b o (Some dom.TypeErr) ≡ None → b ≡ true
-accepted_valid true o h = refl
-accepted_valid false o h = absurd cc
 
 -- ---- removals
 
@@ -214,18 +178,14 @@ removal_own k (Some error) r s own = with_own k (at_next_place s.control) s (ent
 
 -- ---- starts
 
-command_own : (k : Judge) (x : Coded) → IsOwnWork k (work.Coded x) → IsOwn k (command_of x)
-command_own k (coded.Chunk chunk) own = own
-command_own k (coded.Sound sound) own = own
-
-more_own : (k : Judge) (w : Work) (g : Given) → IsOwnWork k w → IsOwnGiven k g → IsOwnGiven k (given_more w g)
-more_own k (work.Configure c) g own h = (own, tt)
-more_own k (work.Coded input) g own h = (h.0, all_more (IsOwn k) g.commands (command_of input) h.1 (command_own k input own))
-more_own k work.Flush g own h = (h.0, all_more (IsOwn k) g.commands command.Drain h.1 tt)
+more_own : (k : Judge) (w : Work) (g : Given) → HoldsWork k w → IsOwnGiven k g → IsOwnGiven k (given_more w g)
+more_own k w g own h =
+    by_work (λ x. HoldsWork k x → IsOwnGiven k (given_more x g)) (λ config fine. (fine, tt)) (λ input fine. (h.0, all_more (IsOwn k) g.commands (command_of input) h.1 fine))
+    (λ fine. (h.0, all_more (IsOwn k) g.commands command.Drain h.1 tt)) w own
 
 begun_own : (k : Judge) (i : Item) (is : List Item) (s : State) → s.control.work ≡ i ∷ is → Own k s → Own k (begun (i ∷ is) i s)
 begun_own k i is s first h =
-    let items : AllByRecursion (λ j. IsOwnWork k j.work) (i ∷ is) = subst (λ (l : List Item). AllByRecursion (λ j. IsOwnWork k j.work) l) first h.control.items in
+    let items : AllByRecursion (λ j. HoldsWork k j.work) (i ∷ is) = subst (λ (l : List Item). AllByRecursion (λ j. HoldsWork k j.work) l) first h.control.items in
     let own = more_own k i.work s.given items.0 h.given in
     record { control = record { messages = h.control.messages; items = items.1; tasks = h.control.tasks }; given = own; busy = own }
 
@@ -293,23 +253,15 @@ task_ran_own k t ts s first h = record { control = run_own k t _ (left_own k t t
 
 -- ---- entries
 
-call_own : (k : Judge) (x : Call) (s : State) → (call_error x s.control ≡ None → IsOwnCall k x) → Own k s → Own k (with_control (after_call (call_error x s.control) x s.control) s)
-call_own k x s own h = with_own k _ s (called_own k (call_error x s.control) x s.control own h.control) h
-
-own_of_call : (k : Judge) (who : Who) (x : Call) (c : Control) → HoldsOwn k (entry_of who x) → call_error x c ≡ None → IsOwnCall k x
-own_of_call k who (call.Configure given) c own taken = own (accepted_valid (is_valid given) _ taken)
-own_of_call k who (call.Decode chunk) c own taken = own
-own_of_call k who call.Flush c own taken = tt
-
 entry_own : (k : Judge) (s : State) → Own k s → Own k (with_control (at_next_place s.control) s)
 entry_own k s h = with_own k _ s (entered_own k s.control h.control) h
 
 each_own : (k : Judge) → EachStep (λ e s t. HoldsOwn k e → Own k s → Own k t)
 each_own k = record {
-  call = λ who x s own h. call_own k x s (own_of_call k who x s.control own) h;
+  call = λ who x s own h. with_own k _ s (called_own k (call_error x s.control) x s.control (own_call k.config k.chunk k.sound who x s.control own) h.control) h;
   gone = λ who s own h. entry_own k s h;
   kept = λ who s off own h. entry_own k s h;
-  cloned = λ who x s on own h. with_own k _ s (encoded_own k x s.control own h.control) h;
+  cloned = λ who x s on own h. with_own k _ s (sent_own k _ s.control _ (encode_sends x s.control) own h.control) h;
   remove = λ who r s own h. removal_own k (removal_error s.control) r s h;
   take = λ who unit s may own h. with_own k _ s (same_own k s.control (after_take (at_next_place s.control)) refl refl refl h.control) h;
   start = λ i is epoch item s first may own h. begun_own k i is s first h;
@@ -336,26 +288,6 @@ units_append (x ∷ xs) ys =
     ap (λ (us : List media.Unit). event_units x ++ us) (units_append xs ys)
     ∙ sym (append_assoc (event_units x) (units_in xs) (units_in ys))
 
-refusal_none : (k : Judge) (o : Option DomError) → AllOf k (units_in (refusal o))
-refusal_none k None = tt
-refusal_none k (Some error) = tt
-
-rejection_none : (k : Judge) (place : ℕ) (o : Option DomError) → AllOf k (units_in (rejection place o))
-rejection_none k place None = tt
-rejection_none k place (Some error) = tt
-
-rejections_none : (k : Judge) (x : DomError) (ps : List ℕ) → AllOf k (units_in (rejections x ps))
-rejections_none k x [] = tt
-rejections_none k x (p ∷ ps) = rejections_none k x ps
-
-closing_none : (k : Judge) (x y : DomError) (ps : List ℕ) → AllOf k (units_in (rejections x ps ++ event.ErrorCall y ∷ []))
-closing_none k x y [] = tt
-closing_none k x y (p ∷ ps) = closing_none k x y ps
-
-removal_none : (k : Judge) (o : Option DomError) (ps : List ℕ) → AllOf k (units_in (removal_shows o ps))
-removal_none k None ps = rejections_none k dom.Abort ps
-removal_none k (Some error) ps = tt
-
 flushed_own : (k : Judge) (n promise : ℕ) (us : List media.Unit) → AllOf k us → AllOf k (units_in (outputs_from n us ++ event.Resolve promise ∷ []))
 flushed_own k n promise [] h = tt
 flushed_own k n promise (u ∷ us) h = (h.0, flushed_own k (n + 1) promise us h.1)
@@ -371,28 +303,19 @@ carried_own k active (unit.Coded chunk (Some c) ∷ us) h = by (is_active active
     by true = (k.relabel chunk (Some c) None tt h.0, h.1)
     by false = h
 
-task_shown_own : (k : Judge) (ts : List Task) (c : Control) → AreOwnTasks k ts → AllOf k (units_in (turn_shows ts c))
-task_shown_own k [] c h = tt
-task_shown_own k (task.Unblock ∷ ts) c h = tt
-task_shown_own k (task.Process ∷ ts) c h = tt
-task_shown_own k (task.Desaturate ∷ ts) c h = tt
-task_shown_own k (task.Output units ∷ ts) c h = outputs_own k _ (carried c.active units) (carried_own k c.active units h.0)
-task_shown_own k (task.Flushed promise units ∷ ts) c h = flushed_own k _ promise (carried c.active units) (carried_own k c.active units h.0)
-task_shown_own k (task.Dequeue ∷ ts) c h = tt
-task_shown_own k (task.Close error ∷ ts) c h = closing_none k error error c.pending
+turn_own : (k : Judge) (ts : List Task) (c : Control) → AreOwnTasks k ts → AllOf k (units_in (turn_shows ts c))
+turn_own k [] c h = tt
+turn_own k (task.Output units ∷ ts) c h = outputs_own k _ (carried c.active units) (carried_own k c.active units h.0)
+turn_own k (task.Flushed promise units ∷ ts) c h = flushed_own k _ promise (carried c.active units) (carried_own k c.active units h.0)
+turn_own k (task.Close error ∷ ts) c h = rw (closing_units error c.pending) tt
+turn_own k (t ∷ ts) c h = tt
 
 shows_own : (k : Judge) (e : Entry) (s : State) → Own k s → AllOf k (units_in (shows e s))
-shows_own k (entry.Configure who given) s h = refusal_none k (configure_error given s.control)
-shows_own k (entry.Decode who chunk) s h = refusal_none k (decode_error chunk s.control)
-shows_own k (entry.Encode who handed) s h = refusal_none k (handed_error handed)
-shows_own k (entry.Flush who) s h = rejection_none k s.control.place (flush_error s.control)
-shows_own k (entry.Reset who) s h = removal_none k (removal_error s.control) s.control.pending
-shows_own k (entry.Close who) s h = removal_none k (removal_error s.control) s.control.pending
-shows_own k (entry.Take who unit) s h = tt
-shows_own k (entry.Start epoch number) s h = tt
-shows_own k (entry.Done epoch number moment x) s h = tt
-shows_own k entry.Turn s h = task_shown_own k s.control.tasks s.control h.control.tasks
-shows_own k (entry.Reclaim moment) s h = closing_none k dom.QuotaExceeded dom.QuotaExceeded s.control.pending
+shows_own k e s h = subst (AllOf k) (sym (units_by_turns e s)) (by e)
+  where
+    by : (x : Entry) → AllOf k (turn_units x s)
+    by entry.Turn = turn_own k s.control.tasks s.control h.control.tasks
+    by x = tt
 
 -- what each entry shows is such, one after another after a state
 shown_own : (k : Judge) (es : List Entry) (s : State) → AllByRecursion (HoldsOwn k) es → Own k s → AllByRecursion (λ x. AllOf k (units_in x.events)) (each_shown_from es s)

@@ -1,8 +1,11 @@
 -- What a judge says of configs, inputs and outputs, where a codec's definition gives outputs that pass for configs and inputs
 -- that pass.
-use Rattle.std.specs.Prelude.{◌≡◌, ◌*◌, true, List, length, Option, Some, None, is_some}
+use Rattle.std.proofs.Common.{◌≡◌, ◌*◌, Bool, true, false, cond, List, length, Option, Some, None, is_some, refl}
 use Rattle.std.specs.List.{AllByRecursion}
+use Rattle.wc_base.specs.declared.error.DomError.{DomError}
+use Rattle.wc_base.specs.declared.error.DomError.TheVariants as dom
 use Rattle.wc_base.specs.declared.media.Samples.{Samples}
+use Rattle.wc_base.specs.declared.who.Who.{Who}
 use Rattle.wc_config.specs.declared.codec.CoderId.{CoderId}
 use Rattle.wc_config.specs.declared.config.Config.{Config}
 use Rattle.wc_config.specs.declared.config.Config.TheVariants.{Bad}
@@ -19,7 +22,13 @@ use Rattle.codec_definitions.specs.Pcm.{format_size}
 use Rattle.codec_model.specs.declared.entry.Handed.TheVariants as handed
 use Rattle.codec_model.specs.declared.entry.Entry.{Entry}
 use Rattle.codec_model.specs.declared.entry.Entry.TheVariants as entry
-use Rattle.codec_model.specs.Replay.{decoder_config}
+use Rattle.codec_model.specs.declared.entry.Call.{Call}
+use Rattle.codec_model.specs.declared.entry.Call.TheVariants as call
+use Rattle.codec_model.specs.declared.entry.Work.{Work}
+use Rattle.codec_model.specs.declared.entry.Work.TheVariants as work
+use Rattle.codec_model.specs.Control.{Control}
+use Rattle.codec_model.specs.Replay.{command_of, decoder_config, call_error, entry_of}
+use Rattle.codec_model.specs.StepLaws.{work_of}
 
 -- a command whose chunk or samples, if it has them, pass; a codec is given no pictures yet
 abbrev pub IsOwnCommand : (Chunk → Type 0) → (Samples → Type 0) → Command → Type 0
@@ -50,12 +59,39 @@ pub record Judge : Type 1 where
   -- an encoded output passes with each config that it can carry
   pub relabel : (c : Chunk) (old new : Option AudioDecoderConfig) → MayCarry config new → output (unit.Coded c old) → output (unit.Coded c new)
 
+-- what a message or an item asks for passes
+abbrev pub IsOwnWork : (Config → Type 0) → (Chunk → Type 0) → (Samples → Type 0) → Work → Type 0
+IsOwnWork config chunk sound (work.Configure c) = config c
+IsOwnWork config chunk sound (work.Coded input) = IsOwnCommand chunk sound (command_of input)
+IsOwnWork config chunk sound work.Flush = Unit {0}
+
 -- the config or input of an entry passes, where it has one; a config that is not valid is not looked at
+abbrev pub IsOwnEntry : (Config → Type 0) → (Chunk → Type 0) → (Samples → Type 0) → Entry → Type 0
+IsOwnEntry config chunk sound (entry.Configure who c) = is_valid c ≡ true → config c
+IsOwnEntry config chunk sound (entry.Decode who c) = chunk c
+IsOwnEntry config chunk sound (entry.Encode who (handed.Cloned x)) = sound x.samples
+IsOwnEntry config chunk sound e = Unit {0}
+
 abbrev pub HoldsOwn : Judge → Entry → Type 0
-HoldsOwn k (entry.Configure who c) = is_valid c ≡ true → k.config c
-HoldsOwn k (entry.Decode who c) = k.chunk c
-HoldsOwn k (entry.Encode who (handed.Cloned x)) = k.sound x.samples
-HoldsOwn k e = Unit {0}
+HoldsOwn k e = IsOwnEntry k.config k.chunk k.sound e
+
+module _ (config : Config → Type 0) (chunk : Chunk → Type 0) (sound : Samples → Type 0) where
+  -- where all pass, all entries do
+  pub all_own : ((c : Config) → config c) → ((c : Chunk) → chunk c) → ((x : Samples) → sound x) → (e : Entry) → IsOwnEntry config chunk sound e
+  all_own configs chunks sounds (entry.Configure who c) = λ valid. configs c
+  all_own configs chunks sounds (entry.Decode who c) = chunks c
+  all_own configs chunks sounds (entry.Encode who (handed.Cloned x)) = sounds x.samples
+  all_own configs chunks sounds e = tt
+
+  -- what a call that is not refused asks for passes where its entry does
+  pub own_call : (who : Who) (x : Call) (c : Control) → IsOwnEntry config chunk sound (entry_of who x) → call_error x c ≡ None → IsOwnWork config chunk sound (work_of x)
+  own_call who (call.Configure given) c own taken = own (accepted_valid (is_valid given) _ taken)
+    where
+      accepted_valid : (b : Bool) (o : Option DomError) → cond b o (Some dom.TypeErr) ≡ None → b ≡ true
+      accepted_valid true o h = refl
+      accepted_valid false o h = absurd cc
+  own_call who (call.Decode given) c own taken = own
+  own_call who call.Flush c own taken = tt
 
 -- samples or a picture with as many bytes as their shape asks for
 abbrev pub IsWholeUnit : media.Unit → Type 0

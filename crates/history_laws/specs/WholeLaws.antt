@@ -30,11 +30,9 @@ use Rattle.codec_definitions.specs.SampleCodecs.{SampleCodec, sample_codec, deco
 use Rattle.codec_definitions.specs.Flac.{sample_size, sample_bytes, interchannel_bytes, bytes_of_frame, flac_format, flac_sound}
 use Rattle.codec_definitions.specs.RawVideo.{is_key, chunks_since_drain, from_last_key, picture_byte, picture_of, last_picture}
 use Rattle.codec_model.specs.declared.entry.Opening.{Opening}
-use Rattle.codec_model.specs.declared.entry.Handed.TheVariants as handed
 use Rattle.codec_model.specs.declared.entry.Entry.{Entry}
-use Rattle.codec_model.specs.declared.entry.Entry.TheVariants as entry
 use Rattle.codec_model.specs.Shown.{shown, outputs_of}
-use Rattle.history_laws.specs.Outputs.{Judge, HoldsOwn, IsWholeUnit}
+use Rattle.history_laws.specs.Outputs.{Judge, HoldsOwn, IsWholeUnit, all_own}
 use Rattle.history_laws.specs.UnitLaws.{decoded_sound, are_frames, EachAnswer, by_answers}
 use Rattle.history_laws.specs.BlockLaws.{answers_blocks, blocks_where}
 use Rattle.history_laws.specs.OutputLaws.{outputs_are}
@@ -209,12 +207,7 @@ whole = record {
 
 entries_own : (h : List Entry) → AllByRecursion (HoldsOwn whole) h
 entries_own [] = tt
-entries_own (e ∷ es) = (by e, entries_own es)
-  where
-    by : (x : Entry) → HoldsOwn whole x
-    by (entry.Configure who c) = λ valid. tt
-    by (entry.Encode who (handed.Cloned sound)) = tt
-    by e = tt
+entries_own (e ∷ es) = (all_own whole.config whole.chunk whole.sound (λ config. tt) (λ chunk. tt) (λ samples. tt) e, entries_own es)
 
 -- every output that a history shows is whole
 pub outputs_are_whole : (o : Opening) (h : List Entry) → AllByRecursion IsWholeUnit (outputs_of (shown o h))
