@@ -66,12 +66,20 @@ abbrev pub serves_too : Option CoderId → Config → Bool
 serves_too None config = false
 serves_too (Some id) config = serves id config
 
+-- the config that a message or an item brings, if it brings one
+abbrev pub config_asked : Work → Option Config
+config_asked (work.Configure config) = Some config
+config_asked (work.Coded input) = None
+config_asked work.Flush = None
+
+-- the coder that a supported config asks for, where what is there does not serve it
+abbrev pub coder_wanted : (Config → Bool) → Config → Option CoderId
+coder_wanted serves_it config = if is_supported config && not (serves_it config) then coder_id_of config else None
+
 -- The coder of which an item needs a box that its codec does not hold: a configure item whose config is supported needs
 -- one, unless the coder that was given commands before serves it.
 abbrev pub missing_coder : Given → Work → Option CoderId
-missing_coder g (work.Configure config) = if is_supported config && not (serves_too (coder_id_of g.config) config) then coder_id_of config else None
-missing_coder g (work.Coded input) = None
-missing_coder g work.Flush = None
+missing_coder g w = option_and_then (coder_wanted (serves_too (coder_id_of g.config))) (config_asked w)
 
 pub record State : Type 0 where
   pub control : Control

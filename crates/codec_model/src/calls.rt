@@ -1,8 +1,8 @@
 // What calls, work items and kinds of codecs are to a codec's steps, case by case.
-ghost use Rattle.std.specs.Prelude.{◌≡◌, IfOk, None};
+ghost use Rattle.std.specs.Prelude.{◌≡◌, IfOk, None, option_map};
 ghost use Rattle.codec_model.specs.Control.{is_coded, kind_of, held_of, is_decoder, no_opening};
 ghost use Rattle.codec_model.specs.Control as control;
-ghost use Rattle.codec_model.specs.Replay.{entry_of, encode_entry, refused_encode, removal_entry};
+ghost use Rattle.codec_model.specs.Replay.{config_asked, entry_of, encode_entry, refused_encode, removal_entry};
 ghost use Rattle.codec_model.specs.Shown.{call_shows, exception_of, promise_of, shown_of};
 
 use crate::entry::{
@@ -10,7 +10,7 @@ use crate::entry::{
 };
 use wc_base::{DomError, NoMemory, Samples, Who};
 use wc_chunk::Chunk;
-use wc_config::Kind;
+use wc_config::{Config, Kind};
 
 /// Whether a codec of this kind decodes.
 pub fn is_decoder(kind: Kind) -> bool
@@ -72,6 +72,17 @@ impl Work {
         ensures { result ≡ is_coded self.now }
     {
         matches!(self, Work::Coded(_))
+    }
+
+    /// The config that it brings, if it brings one.
+    pub fn config(&self) -> Option<&Config>
+        ensures { option_map (λ c. c.now) result ≡ config_asked self.now }
+    {
+        match self {
+            Work::Configure(config) => Some(config),
+            Work::Coded(_) => None,
+            Work::Flush => None,
+        }
     }
 
     /// The reference that it holds, if it holds one.
