@@ -1,14 +1,11 @@
 -- What a follower keeps of a state, and what an entry does to it.
-use Rattle.std.specs.Prelude.{◌≡◌, Bool, true, false, Option, Some, None, option_map, unwrap_or}
+use Rattle.std.specs.Prelude.{◌≡◌, Option, Some, None, option_map, unwrap_or}
 use Rattle.wc_base.specs.declared.error.DomError.{DomError}
-use Rattle.codec_model.specs.declared.entry.Handed.{Handed}
-use Rattle.codec_model.specs.declared.entry.Handed.TheVariants as handed
 use Rattle.codec_model.specs.declared.entry.Work.{Work}
-use Rattle.codec_model.specs.declared.entry.Work.TheVariants as work
 use Rattle.codec_model.specs.declared.entry.Entry.{Entry}
 use Rattle.codec_model.specs.declared.entry.Shown.{Shown}
 use Rattle.codec_model.specs.Control.{Control}
-use Rattle.codec_model.specs.Replay.{State, nothing_given}
+use Rattle.codec_model.specs.Replay.{State, nothing_given, config_asked}
 use Rattle.codec_model.specs.Shown.{shown_at}
 use Rattle.codec_follow.specs.declared.known.Known.{Known}
 use Rattle.codec_follow.specs.Follow.{known_of, follow_step}
@@ -39,9 +36,7 @@ pub record Follows (e : Entry) (old : FollowerValue) (shown : Option Shown) (new
 
 -- what is known of the config that was last given, with one more item
 abbrev pub known_with : Work → Known → Known
-known_with (work.Configure config) before = known_of config
-known_with (work.Coded chunk) before = before
-known_with work.Flush before = before
+known_with w before = unwrap_or (option_map known_of (config_asked w)) before
 
 -- what is known where nothing was given
 abbrev pub nothing_known : Known
@@ -51,8 +46,3 @@ nothing_known = known_of nothing_given.config
 abbrev pub known_after : Option DomError → Known → Known
 known_after None before = nothing_known
 known_after (Some error) before = before
-
--- what became of the data of an encode that was refused, detached or not
-abbrev pub refused_of : Bool → Handed
-refused_of true = handed.Gone
-refused_of false = handed.Kept

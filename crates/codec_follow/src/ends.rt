@@ -89,12 +89,11 @@ pub(crate) fn nothing_known() -> Known
 pub(crate) fn known_after_item(work: &Work, before: Known) -> Known
     ensures { result ≡ known_with work.now before }
 {
-    match work {
-        Work::Configure(config) => Known {
+    match work.config() {
+        Some(config) => Known {
             supported: config.supported(),
         },
-        Work::Coded(_) => before,
-        Work::Flush => before,
+        None => before,
     }
 }
 

@@ -3,9 +3,9 @@ ghost use Rattle.std.specs.Prelude.{◌≡◌, ◌<◌, ◌+◌, ◌^◌, IfOk, 
 ghost use Rattle.wc_base.specs.declared.who.Who.{Who};
 ghost use Rattle.codec_model.specs.declared.entry.Entry.TheVariants as entry;
 ghost use Rattle.codec_model.specs.declared.entry.Handed.TheVariants as handed;
-ghost use Rattle.codec_model.specs.Replay.{entry_of, removal_entry, opening_state};
+ghost use Rattle.codec_model.specs.Replay.{entry_of, refused_as, removal_entry, opening_state};
 ghost use Rattle.codec_model.specs.Shown.{shown_of};
-ghost use Rattle.codec_follow.specs.Followed.{follower_of, Follows, refused_of};
+ghost use Rattle.codec_follow.specs.Followed.{follower_of, Follows};
 
 use crate::ends::{ended_as, known_after_item, known_after_removal, nothing_known};
 use crate::known::Known;
@@ -15,20 +15,7 @@ use codec_model::{
 use codec_queues::Machine;
 use std::alloc::Global;
 use std::marker::Model;
-use wc_base::{NoMemory, Samples};
-
-// The same samples again, over the same shared bytes.
-fn copy_sound(sound: &HeldSound) -> Result<HeldSound, NoMemory>
-    ensures { IfOk result (λ s. s ≡ sound.now) }
-{
-    Ok(HeldSound {
-        samples: Samples {
-            shape: sound.samples.shape,
-            bytes: sound.samples.bytes.clone()?,
-        },
-        pair: sound.pair,
-    })
-}
+use wc_base::NoMemory;
 
 /// A codec whose history is told entry by entry, and is followed: each end of an item is taken as it stands, and each
 /// output is blank. A contract sees it as what it keeps of the state of the codec's definition.
@@ -116,7 +103,7 @@ impl Follower {
         match handed {
             Handed::Gone => self.refuse_encode(true),
             Handed::Kept => self.refuse_encode(false),
-            Handed::Cloned(sound) => self.encode_clone(copy_sound(sound)?),
+            Handed::Cloned(sound) => self.encode_clone(sound.copy()?),
         }
     }
 
@@ -124,7 +111,7 @@ impl Follower {
     fn refuse_encode(&mut self, detached: bool) -> Result<Option<Shown>, NoMemory>
         requires { self.old.control.place + 1 < 2 ^ 64 }
         ensures follows { IfOk result (λ shown. (who : Who)
-            → Follows (entry.Encode who (refused_of detached)) self.old shown self.new) }
+            → Follows (entry.Encode who (refused_as detached)) self.old shown self.new) }
         ensures same { IfOk result (λ shown. IfNone shown (self.new ≡ self.old)) }
     {
         let Some(answer) = self.machine.refuse_encode(detached) else {

@@ -7,12 +7,12 @@ ghost use Rattle.codec_queues.specs.Labels.{label_of};
 
 use crate::labels::{Queued, carry};
 use crate::queues::{
-    close_answer, codes_work, decodes, halts, is_key_chunk, keep_dequeues, kind_of_work, later,
-    queue_end, remove_promise, reserve_places, room_for, schedule_dequeue, turn_answer,
+    close_answer, halts, keep_dequeues, later, queue_end, remove_promise, reserve_places,
+    room_for, schedule_dequeue, turn_answer,
 };
 use codec_model::{
     Answer, Call, CodecState, Coded, Ended, HeldSound, Item, Message, Opening, Removal, Running,
-    Showing, Task, Work, WorkKind, exception_of,
+    Showing, Task, Work, WorkKind, exception_of, is_decoder, is_key_chunk,
 };
 use std::alloc::Global;
 use std::collections::VecDeque;
@@ -256,7 +256,7 @@ impl Machine {
         ensures { result ≡ takes_front self.now.messages self.now }
     {
         match self.messages.front() {
-            Some(m) => !self.blocked && !(self.saturated && codes_work(&m.work)),
+            Some(m) => !self.blocked && !(self.saturated && m.work.is_coded()),
             None => false,
         }
     }
@@ -322,7 +322,7 @@ impl Machine {
         let place = self.place;
         self.place += 1;
         self.phase = CodecState::Configured;
-        self.key_required = decodes(self.opening.kind) || self.key_required;
+        self.key_required = is_decoder(self.opening.kind) || self.key_required;
         self.messages.push_back_reserved(Message {
             place,
             work: Work::Configure(config),
@@ -378,7 +378,7 @@ impl Machine {
         self.room = room;
         let place = self.place;
         self.place += 1;
-        self.key_required = decodes(self.opening.kind) || self.key_required;
+        self.key_required = is_decoder(self.opening.kind) || self.key_required;
         self.pending.push_back_reserved(place);
         self.messages.push_back_reserved(Message {
             place,
@@ -549,7 +549,7 @@ impl Machine {
             epoch: self.epoch,
             number: item.number,
             place: item.place,
-            kind: kind_of_work(&item.work),
+            kind: item.work.kind(),
         });
         Some(item)
     }

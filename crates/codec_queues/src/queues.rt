@@ -1,67 +1,19 @@
 // Plain work on the queues, apart from the codec that has them.
 ghost use Rattle.std.specs.Prelude.{ℕ, ◌≡◌, ◌<◌, ◌≤◌, ◌*◌, ◌+◌, ◌^◌, ◌++◌, ◌∷◌, [], max, length, count_by, filter, not, ◌==◌, ◌&&◌, ◌||◌, if◌then◌else◌, unwrap_or, OnOk, IfOk, None, Some, true, false};
 ghost use Rattle.std.specs.VecDeque.{deque_len, deque_capacity};
-ghost use Rattle.codec_model.specs.Control.{is_coded, kind_of, is_decoder, is_dequeue, is_desaturate, refusal_of, with_ran, with_desaturate, with_output, with_end, halts};
-ghost use Rattle.codec_model.specs.Control as spec;
+ghost use Rattle.codec_model.specs.Control.{is_dequeue, is_desaturate, refusal_of, with_ran, with_desaturate, with_output, with_end, halts};
 ghost use Rattle.codec_model.specs.Shown.{IsAnswer, word_of_task, task_shows, close_shows, closes};
 ghost use Rattle.codec_queues.specs.Rising.{IsRising};
 ghost use Rattle.codec_queues.specs.Labels.{first_config, label_of};
 
 use crate::labels::Queued;
 use codec_model::{
-    Answer, Ended, Item, Kind, Message, Running, Showing, Task, TurnWord, Work, WorkKind,
+    Answer, Ended, Item, Message, Running, Showing, Task, TurnWord, WorkKind,
 };
 use coder_api::Unit;
 use std::collections::VecDeque;
 use wc_base::{DomError, List, NoMemory};
-use wc_chunk::Chunk;
 use wc_config::AudioDecoderConfig;
-
-pub fn codes_work(work: &Work) -> bool
-    ensures { result ≡ is_coded work.now }
-{
-    matches!(work, Work::Coded(_))
-}
-
-pub fn kind_of_work(work: &Work) -> WorkKind
-    ensures { result ≡ kind_of work.now }
-{
-    match work {
-        Work::Configure(_) => WorkKind::Configure,
-        Work::Coded(_) => WorkKind::Coded,
-        Work::Flush => WorkKind::Flush,
-    }
-}
-
-pub fn decodes(kind: Kind) -> bool
-    ensures { result ≡ is_decoder kind }
-{
-    match kind {
-        Kind::AudioDecoder => true,
-        Kind::AudioEncoder => false,
-        Kind::VideoDecoder => true,
-    }
-}
-
-fn adds_to_picture(bytes: &[u8]) -> bool
-    ensures { result ≡ spec.adds_to_picture bytes.now }
-{
-    match bytes.first() {
-        Some(byte) => *byte == 1,
-        None => false,
-    }
-}
-
-/// Whether a codec of this kind can begin with a chunk.
-pub fn is_key_chunk(kind: Kind, chunk: &Chunk) -> bool
-    ensures { result ≡ spec.is_key_chunk kind chunk.now }
-{
-    match kind {
-        Kind::AudioDecoder => chunk.key,
-        Kind::AudioEncoder => chunk.key,
-        Kind::VideoDecoder => chunk.key && !adds_to_picture(&chunk.bytes),
-    }
-}
 
 pub fn refusal_error(kind: WorkKind) -> DomError
     ensures { result ≡ refusal_of kind }
