@@ -2,5 +2,4 @@ pub mod Follow
 pub mod Outputs
 pub mod Laws
 pub mod Followed
-pub mod Rows
 pub mod Errors

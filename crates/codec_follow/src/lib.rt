@@ -7,9 +7,7 @@ mod follower;
 mod known;
 mod laws;
 mod outputs;
-mod rows;
 
 pub use follower::Follower;
 pub use laws::{legal_histories_follow, outputs_are_of_their_kind, served_items_give_no_error};
 pub use outputs::empty_output;
-pub use rows::{decoding_followed, encoding_followed, ordinary_followed};

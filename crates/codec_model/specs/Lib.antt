@@ -1,7 +1,6 @@
 pub mod Control
 pub mod Replay
 pub mod Shown
-pub mod Rows
 pub mod Facts
 pub mod ShownLaws
 pub mod StepLaws

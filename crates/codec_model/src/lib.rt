@@ -5,7 +5,6 @@
 mod calls;
 mod entry;
 mod facts;
-mod rows;
 mod showing;
 
 pub use calls::{exception_of, is_decoder, is_key_chunk};
@@ -15,6 +14,5 @@ pub use entry::{
     TurnWord, Work, WorkKind,
 };
 pub use facts::{never_stuck, references_are_held, steps_leave_fewer};
-pub use rows::{closing_run, ordinary_run, resetting_run, saturating_run};
 pub use showing::shown_list;
 pub use wc_config::Kind;

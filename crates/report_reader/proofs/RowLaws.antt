@@ -1,7 +1,7 @@
 -- The ordinary run is told by its report.
 use Rattle.std.proofs.Common.{◌<◌, ℕ, zero, suc, [], ◌∷◌, refl, arith}
 use Rattle.std.specs.Prelude.{slice_index}
-use Rattle.trace_text.specs.Rows.{ordinary_script, ordinary_run}
+use Rattle.row_tests.specs.ReportRows.{ordinary_script, ordinary_run}
 use Rattle.report_reader.specs.Told.{IsTold}
 
 small : (i : ℕ) → slice_index (1 ∷ 0 ∷ 2 ∷ 0 ∷ []) i < 256

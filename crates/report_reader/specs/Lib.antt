@@ -7,4 +7,3 @@ pub mod Fits
 pub mod Fault
 pub mod Laws
 pub mod Next
-pub mod Rows

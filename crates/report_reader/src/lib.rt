@@ -12,7 +12,6 @@ mod laws;
 mod page;
 mod read;
 mod reading;
-mod rows;
 mod run;
 mod tables;
 mod trace;
@@ -24,4 +23,3 @@ pub use laws::{
     faults_are_one, legal_runs_are_told, names_of_sound_scripts, reports_determine_runs,
 };
 pub use read::read_report;
-pub use rows::ordinary_run_again;

@@ -1,12 +1,12 @@
 // The ordinary run's report, read back, and texts with a fault at a line that was counted by hand.
 ghost use Rattle.std.specs.Prelude.{◌≡◌, ◌∷◌, ◌++◌, [], IfOk, IsTrue, None, Some, codes};
-ghost use Rattle.codec_model.specs.Rows.{pcm};
+ghost use Rattle.row_tests.specs.CodecRows.{pcm};
 ghost use Rattle.script_types.specs.declared.steps.MediaStep.TheVariants as on_media;
 ghost use Rattle.script_types.specs.declared.steps.Step.TheVariants as step;
 ghost use Rattle.script_types.specs.declared.steps.VariableKind.TheVariants as holds;
 ghost use Rattle.script_types.specs.declared.steps.ChunkSource.TheVariants as source;
 ghost use Rattle.script_types.specs.Sound.{is_sound};
-ghost use Rattle.trace_text.specs.Rows.{init, steps_with, takes};
+ghost use Rattle.row_tests.specs.ReportRows.{init, steps_with, takes};
 
 use bytes::Bytes;
 use codec_model::Entry;

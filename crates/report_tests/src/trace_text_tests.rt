@@ -1,6 +1,6 @@
 // The report of one run, of each other line, and of a sink that fails.
 ghost use Rattle.std.specs.Prelude.{◌≡◌, [], IfOk, codes};
-ghost use Rattle.trace_text.specs.Rows.{decoder};
+ghost use Rattle.row_tests.specs.ReportRows.{decoder};
 
 use bytes::Bytes;
 use codec_model::{

@@ -1,9 +1,9 @@
 // A replay of a script whose chunk is the second one of a file.
 ghost use Rattle.std.specs.Prelude.{◌≡◌, [], ◌∷◌, IfOk};
-ghost use Rattle.codec_model.specs.Rows.{pcm, chunk};
+ghost use Rattle.row_tests.specs.CodecRows.{pcm, chunk};
 ghost use Rattle.script_types.specs.declared.steps.ChunkSource.TheVariants as source;
 ghost use Rattle.script_types.specs.declared.script.OrderItem.TheVariants as item;
-ghost use Rattle.trace_text.specs.Rows.{order, other, steps_with, file_script, two_chunks};
+ghost use Rattle.row_tests.specs.ReportRows.{order, other, steps_with, file_script, two_chunks};
 
 use bytes::Bytes;
 use codec_model::Entry;

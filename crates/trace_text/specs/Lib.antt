@@ -6,6 +6,3 @@ pub mod Numbered
 pub mod Report
 pub mod Behind
 pub mod Written
-pub mod Rows
-pub mod AccountsRows
-pub mod EncodingRows

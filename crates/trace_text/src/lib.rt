@@ -6,7 +6,6 @@ mod laws;
 mod lines;
 mod numbered;
 mod report;
-mod rows;
 mod run;
 
 pub use chunks::{chunks_of, find_chunk, steps_of};
@@ -14,7 +13,4 @@ pub use laws::fits_by_places;
 pub use lines::{RunLines, Section};
 pub use report::{WriteFault, write_report};
 pub use report_text::StepResult;
-pub use rows::{
-    boxes_of_histories, ordinary_report, run_from_a_file, run_with_encodes, run_with_takes,
-};
 pub use run::{CallerTrace, CodecTrace, Run};

@@ -1,7 +1,7 @@
 use Rattle.std.proofs.Common.{refl}
 use Rattle.report_reader.specs.Read.{run_of}
 use Rattle.report_reader.proofs.RowLaws.{ordinary_told}
-use Rattle.report_reader.proofs.rows.ordinary_run_again.Goals as goal
+use Rattle.row_tests.proofs.reader_rows.ordinary_run_again.Goals as goal
 
 pub returns : goal.returns
 unfolding run_of

@@ -1,8 +1,8 @@
 // The report of a whole run and the boxes of whole histories, computed by the checker.
-ghost use Rattle.trace_text.specs.AccountsRows.{KeepsOne, LeavesAtTheEnd, LeavesForAnother};
-ghost use Rattle.trace_text.specs.Rows.{OrdinaryFollows, OrdinaryShown, OrdinaryReport, FileFollows, NothingMissing, SecondMissing};
-ghost use Rattle.trace_text.specs.Rows.{TakingFollows, TakingIsLegal, TakingReport};
-ghost use Rattle.trace_text.specs.EncodingRows.{EncodingFollows, EncodingIsLegal, EncodingReport};
+ghost use Rattle.row_tests.specs.AccountsRows.{KeepsOne, LeavesAtTheEnd, LeavesForAnother};
+ghost use Rattle.row_tests.specs.ReportRows.{OrdinaryFollows, OrdinaryShown, OrdinaryReport, FileFollows, NothingMissing, SecondMissing};
+ghost use Rattle.row_tests.specs.ReportRows.{TakingFollows, TakingIsLegal, TakingReport};
+ghost use Rattle.row_tests.specs.EncodingRows.{EncodingFollows, EncodingIsLegal, EncodingReport};
 
 /// One configure, one chunk, one decode, one flush and one look at its promise: what the script's order makes, what the
 /// entries show, and the text of the report.

@@ -1,17 +1,10 @@
--- The texts of numbers and bytes compute once their digits are opened.
+-- No end wants memory, and the codec has its box in the end.
 use Rattle.std.proofs.Common.{refl, false, [], ◌∷◌, Some, None}
-use Rattle.std.specs.Fmt.{digits}
-use Rattle.hex.specs.Hex.{encode_with}
 use Rattle.wc_base.specs.declared.who.By.{By}
-use Rattle.codec_model.specs.Rows.{four, ordinary}
-use Rattle.trace_text.specs.Rows.{coder, results, acquire_entry}
-use Rattle.trace_text.proofs.rows.ordinary_report.Goals as goal
+use Rattle.row_tests.specs.CodecRows.{four, ordinary}
+use Rattle.row_tests.specs.ReportRows.{coder, results, acquire_entry}
+use Rattle.row_tests.proofs.report_rows.run_from_a_file.Goals as goal
 
-pub returns-clause-report : goal.returns-clause-report
-unfolding digits encode_with
-returns-clause-report c = refl
-
--- no end wants memory, and the codec has its box in the end
 pub returns-clause-follows : goal.returns-clause-follows
 returns-clause-follows c = record {
   course = record {

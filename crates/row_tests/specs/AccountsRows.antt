@@ -5,8 +5,8 @@ use Rattle.wc_config.specs.declared.config.Config.TheVariants as config
 use Rattle.codec_model.specs.declared.entry.Outcome.TheVariants as outcome
 use Rattle.codec_model.specs.declared.entry.Entry.{Entry}
 use Rattle.codec_model.specs.declared.entry.Entry.TheVariants as entry
-use Rattle.codec_model.specs.Rows.{four, pcm, step_of, ordinary, resetting}
-use Rattle.trace_text.specs.Rows.{coder}
+use Rattle.row_tests.specs.CodecRows.{four, pcm, step_of, ordinary, resetting}
+use Rattle.row_tests.specs.ReportRows.{coder}
 use Rattle.codec_accounts.specs.Boxes.{asks_at, lets}
 
 -- the first start asks for the one box of the run, which its codec keeps

@@ -21,7 +21,7 @@ use Rattle.codec_model.specs.declared.entry.Shown.{Shown}
 use Rattle.codec_model.specs.declared.entry.TurnWord.{TurnWord}
 use Rattle.codec_model.specs.declared.entry.TurnWord.TheVariants as turn
 use Rattle.codec_model.specs.Shown.{each_shown}
-use Rattle.codec_model.specs.Rows.{four, pcm, unit, chunk, step_of, ordinary}
+use Rattle.row_tests.specs.CodecRows.{four, pcm, unit, chunk, step_of, ordinary}
 use Rattle.script_types.specs.declared.fault.Place.TheVariants as place
 use Rattle.script_types.specs.declared.script.ScriptData.{ScriptData}
 use Rattle.wc_config.specs.declared.kind.Kind.TheVariants as word

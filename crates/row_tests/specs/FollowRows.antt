@@ -13,7 +13,7 @@ use Rattle.codec_model.specs.declared.entry.Entry.{Entry}
 use Rattle.codec_model.specs.declared.entry.Entry.TheVariants as entry
 use Rattle.codec_model.specs.declared.entry.Event.TheVariants.{Output, Dequeue}
 use Rattle.codec_model.specs.Shown.{each_shown}
-use Rattle.codec_model.specs.Rows.{four, step_of, pcm, chunk, unit, ordinary, quiet_after}
+use Rattle.row_tests.specs.CodecRows.{four, step_of, pcm, chunk, unit, ordinary, quiet_after}
 use Rattle.codec_model.specs.Replay.{replay}
 use Rattle.wc_config.specs.declared.kind.Kind.TheVariants as kind
 use Rattle.codec_follow.specs.Follow.{follows, each_filled}

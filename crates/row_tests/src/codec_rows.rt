@@ -1,5 +1,5 @@
 // The definitions on whole runs, computed by the checker.
-ghost use Rattle.codec_model.specs.Rows.{OrdinaryEnds, OrdinaryShows, WrongCount, SaturatingShows, ResettingShows, ClosingShows};
+ghost use Rattle.row_tests.specs.CodecRows.{OrdinaryEnds, OrdinaryShows, WrongCount, SaturatingShows, ResettingShows, ClosingShows};
 
 /// One configure, one decode, one flush: the state after the run, and what it shows.
 pub fn ordinary_run()

@@ -1,7 +1,7 @@
 -- The ordinary run and its report.
 use Rattle.std.specs.Prelude.{◌≡◌, [], ◌∷◌, codes}
-use Rattle.trace_text.specs.Rows.{ordinary_script, file_script, two_chunks, ordinary_run, taking_script, taking_run}
-use Rattle.trace_text.specs.EncodingRows.{encoding_script, encoding_run}
+use Rattle.row_tests.specs.ReportRows.{ordinary_script, file_script, two_chunks, ordinary_run, taking_script, taking_run}
+use Rattle.row_tests.specs.EncodingRows.{encoding_script, encoding_run}
 use Rattle.trace_text.specs.Report.{lines_of}
 use Rattle.report_reader.specs.Read.{run_of}
 use Rattle.report_reader.specs.Told.{IsTold}

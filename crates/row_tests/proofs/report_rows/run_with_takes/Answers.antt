@@ -3,10 +3,10 @@ use Rattle.std.proofs.Common.{refl, false, [], ◌∷◌, Some, None}
 use Rattle.std.specs.Fmt.{digits}
 use Rattle.hex.specs.Hex.{encode_with}
 use Rattle.wc_base.specs.declared.who.By.{By}
-use Rattle.codec_model.specs.Rows.{four}
+use Rattle.row_tests.specs.CodecRows.{four}
 use Rattle.media_variables.specs.Variables.{SoundOf}
-use Rattle.trace_text.specs.Rows.{coder, sound, taking_history, taking_results, make_entry, acquire_entry}
-use Rattle.trace_text.proofs.rows.run_with_takes.Goals as goal
+use Rattle.row_tests.specs.ReportRows.{coder, sound, taking_history, taking_results, make_entry, acquire_entry}
+use Rattle.row_tests.proofs.report_rows.run_with_takes.Goals as goal
 
 pub returns-clause-report : goal.returns-clause-report
 unfolding digits encode_with

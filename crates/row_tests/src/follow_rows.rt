@@ -1,5 +1,5 @@
 // The definitions on whole runs, computed by the checker.
-ghost use Rattle.codec_follow.specs.Rows.{OrdinaryFollows, OrdinaryFills, ThreeShown, ConfigureGivesNone, FlushIsAnswered, VideoIsAnswered, TwoBlocks, TwoShown};
+ghost use Rattle.row_tests.specs.FollowRows.{OrdinaryFollows, OrdinaryFills, ThreeShown, ConfigureGivesNone, FlushIsAnswered, VideoIsAnswered, TwoBlocks, TwoShown};
 
 /// One configure, one decode, one flush: the state after the run as it is followed, and what it shows with its output.
 pub fn ordinary_followed()

@@ -4,9 +4,9 @@ use Rattle.std.specs.Fmt.{digits}
 use Rattle.hex.specs.Hex.{encode_with}
 use Rattle.wc_base.specs.declared.who.By.{By}
 use Rattle.media_variables.specs.Variables.{SoundOf, ChunkOf}
-use Rattle.trace_text.specs.Rows.{sound}
-use Rattle.trace_text.specs.EncodingRows.{results, opened, entries, coded, references, coder, acquire_entry}
-use Rattle.trace_text.proofs.rows.run_with_encodes.Goals as goal
+use Rattle.row_tests.specs.ReportRows.{sound}
+use Rattle.row_tests.specs.EncodingRows.{results, opened, entries, coded, references, coder, acquire_entry}
+use Rattle.row_tests.proofs.report_rows.run_with_encodes.Goals as goal
 
 pub returns-clause-report : goal.returns-clause-report
 unfolding digits encode_with

@@ -24,7 +24,7 @@ use Rattle.codec_model.specs.declared.entry.Entry.TheVariants as entry
 use Rattle.codec_model.specs.declared.entry.Event.TheVariants as event
 use Rattle.codec_model.specs.declared.entry.Shown.{Shown}
 use Rattle.codec_model.specs.declared.entry.TurnWord.TheVariants as turn
-use Rattle.codec_model.specs.Rows.{step_of}
+use Rattle.row_tests.specs.CodecRows.{step_of}
 use Rattle.script_types.specs.declared.options.Options.TheVariants as options
 use Rattle.script_types.specs.declared.script.ScriptData.{ScriptData}
 use Rattle.script_types.specs.declared.script.CodecItem.{CodecItem}
@@ -40,7 +40,7 @@ use Rattle.report_text.specs.declared.result.StepResult.TheVariants as result
 use Rattle.trace_text.specs.declared.run.Run.{Run}
 use Rattle.trace_text.specs.Fits.{FollowsTheOrder, IsLegalRun}
 use Rattle.trace_text.specs.Report.{report_of}
-use Rattle.trace_text.specs.Rows.{sound, quiet, turn_shown}
+use Rattle.row_tests.specs.ReportRows.{sound, quiet, turn_shown}
 
 -- ---- the script
 
