@@ -30,6 +30,7 @@ up n c h = record {
   place = omega (arith, h.place);
   epoch = omega (arith, h.epoch);
   size = omega (arith, h.size);
+  taken = omega (arith, h.taken);
   next = omega (arith, h.next);
   queued = items_up n c.work h.queued;
   running = λ r is. (omega (arith, (h.running r is).0), omega (arith, (h.running r is).1));
@@ -41,6 +42,7 @@ entered n c h = let more = up n c h in record {
   place = omega (arith, h.place);
   epoch = more.epoch;
   size = more.size;
+  taken = more.taken;
   next = more.next;
   queued = more.queued;
   running = more.running;
@@ -59,6 +61,7 @@ processed_up n c h = by_items (IsUpTo n) (λ m ms d blocked saturated scheduled 
   place = k.place;
   epoch = k.epoch;
   size = omega (arith, k.size, few);
+  taken = k.taken;
   next = omega (arith, k.next, ap length e);
   queued = item_up n m.place m.work ms d e k;
   running = k.running;
@@ -74,6 +77,7 @@ sent_up n w c d k h =
       place = omega (arith, h.place);
       epoch = omega (arith, h.epoch);
       size = omega (arith, h.size, k.few);
+      taken = omega (arith, h.taken);
       next = omega (arith, h.next, longer c.messages m);
       queued = items_up n c.work h.queued;
       running = (up n c h).running;
@@ -90,13 +94,14 @@ reset_up n c h = record {
   place = omega (arith, h.place);
   epoch = omega (arith, h.epoch);
   size = omega arith;
+  taken = omega (arith, h.taken);
   next = omega arith;
   queued = tt;
   running = (up n c h).running;
 }
 
 closed_up : (n : ℕ) (c : Control) → IsUpTo n c → IsUpTo (n + 1) (after_close (at_next_place c))
-closed_up n c h = let r = reset_up n c h in record { place = r.place; epoch = r.epoch; size = r.size; next = r.next; queued = r.queued; running = r.running }
+closed_up n c h = let r = reset_up n c h in record { place = r.place; epoch = r.epoch; size = r.size; taken = r.taken; next = r.next; queued = r.queued; running = r.running }
 
 removal_up : (n : ℕ) (o : Option DomError) (r : Removal) (s : State) → IsUpTo n s.control → IsUpTo (n + 1) (remove_or_refuse o r s).control
 removal_up n None removal.Reset s h = reset_up n s.control h
@@ -112,17 +117,19 @@ begun_up n i is c first h =
       place = more.place;
       epoch = more.epoch;
       size = more.size;
+      taken = more.taken;
       next = more.next;
       queued = items_up n is items.1;
       running = λ r now. let same = some_same _ r now in (subst (λ (x : Running). x.epoch ≤ n + 1) same (omega (arith, h.epoch)), subst (λ (x : Running). x.number ≤ n + 1) same (omega (arith, items.0)));
     }
 
 -- the same in all that counts
-same_up : (n : ℕ) (c d : Control) → d.place ≡ c.place → d.epoch ≡ c.epoch → d.size ≡ c.size → d.next_item ≡ c.next_item → d.messages ≡ c.messages → d.work ≡ c.work → d.running ≡ c.running → IsUpTo n c → IsUpTo n d
-same_up n c d place epoch size next messages items busy h = record {
+same_up : (n : ℕ) (c d : Control) → d.place ≡ c.place → d.epoch ≡ c.epoch → d.size ≡ c.size → d.taken ≤ n → d.next_item ≡ c.next_item → d.messages ≡ c.messages → d.work ≡ c.work → d.running ≡ c.running → IsUpTo n c → IsUpTo n d
+same_up n c d place epoch size taken next messages items busy h = record {
   place = omega (arith, h.place, place);
   epoch = omega (arith, h.epoch, epoch);
   size = omega (arith, h.size, size);
+  taken = taken;
   next = omega (arith, h.next, next, ap length messages);
   queued = rw items (h.queued);
   running = λ r is. h.running r (sym busy ∙ is);
@@ -130,27 +137,27 @@ same_up n c d place epoch size next messages items busy h = record {
 
 -- the same with nothing at work
 idle_up : (n : ℕ) (c : Control) → IsUpTo n c → IsUpTo n (record c { running = None })
-idle_up n c h = record { place = h.place; epoch = h.epoch; size = h.size; next = h.next; queued = h.queued; running = λ r is. absurd cc }
+idle_up n c h = record { place = h.place; epoch = h.epoch; size = h.size; taken = h.taken; next = h.next; queued = h.queued; running = λ r is. absurd cc }
 
 done_up : (n : ℕ) (r : Running) (e : Ended) (moment : ℕ) (c : Control) → IsUpTo n c → IsUpTo (n + 1) (done_running r e moment (at_next_place c))
 done_up n r e moment c h = by (eqb r.epoch c.epoch)
   where
     by : (b : Bool) → IsUpTo (n + 1) (cond b (after_end r e (record (at_next_place c) { running = None; progress = Some (max moment (unwrap_or c.progress moment)) })) (record (at_next_place c) { running = None }))
-    by true = same_up (n + 1) (record (at_next_place c) { running = None }) _ refl refl refl refl refl refl refl (idle_up (n + 1) (at_next_place c) (entered n c h))
+    by true = same_up (n + 1) (record (at_next_place c) { running = None }) _ refl refl refl (entered n c h).taken refl refl refl refl (idle_up (n + 1) (at_next_place c) (entered n c h))
     by false = idle_up (n + 1) (at_next_place c) (entered n c h)
 
 -- ---- turns
 
 run_up : (n : ℕ) (t : Task) (ts : List Task) (c : Control) → IsUpTo n c → IsUpTo (n + 1) (run_task t (record (at_next_place c) { tasks = ts }))
-run_up n task.Process ts c h = processed_up (n + 1) _ (same_up (n + 1) (at_next_place c) _ refl refl refl refl refl refl refl (entered n c h))
-run_up n task.Desaturate ts c h = processed_up (n + 1) _ (same_up (n + 1) (at_next_place c) _ refl refl refl refl refl refl refl (entered n c h))
-run_up n (task.Close x) ts c h = let r = closed_up n c h in record { place = r.place; epoch = r.epoch; size = r.size; next = r.next; queued = r.queued; running = r.running }
-run_up n t ts c h = same_up (n + 1) (at_next_place c) _ refl refl refl refl refl refl refl (entered n c h)
+run_up n task.Process ts c h = processed_up (n + 1) _ (same_up (n + 1) (at_next_place c) _ refl refl refl (entered n c h).taken refl refl refl refl (entered n c h))
+run_up n task.Desaturate ts c h = processed_up (n + 1) _ (same_up (n + 1) (at_next_place c) _ refl refl refl (entered n c h).taken refl refl refl refl (entered n c h))
+run_up n (task.Close x) ts c h = let r = closed_up n c h in record { place = r.place; epoch = r.epoch; size = r.size; taken = r.taken; next = r.next; queued = r.queued; running = r.running }
+run_up n t ts c h = same_up (n + 1) (at_next_place c) _ refl refl refl (entered n c h).taken refl refl refl refl (entered n c h)
 
 -- ---- entries
 
 taken_by : (n : ℕ) (c : Control) → IsUpTo n c → IsUpTo (n + 1) (after_take (at_next_place c))
-taken_by n c h = same_up (n + 1) (at_next_place c) (after_take (at_next_place c)) refl refl refl refl refl refl refl (entered n c h)
+taken_by n c h = same_up (n + 1) (at_next_place c) (after_take (at_next_place c)) refl refl refl (omega (arith, h.taken)) refl refl refl refl (entered n c h)
 
 each_up : (n : ℕ) → EachStep (λ e s t. IsUpTo n s.control → IsUpTo (n + 1) t.control)
 each_up n = record {
@@ -170,4 +177,4 @@ pub step_up : (n : ℕ) (e : Entry) (s t : State) → step e s ≡ Some t → Is
 step_up n = by_steps (λ e s t. IsUpTo n s.control → IsUpTo (n + 1) t.control) (each_up n)
 
 pub opening_up : (o : Opening) → IsUpTo 0 (opening_state o).control
-opening_up o = record { place = omega arith; epoch = omega arith; size = omega arith; next = omega arith; queued = tt; running = λ r is. absurd cc }
+opening_up o = record { place = omega arith; epoch = omega arith; size = omega arith; taken = omega arith; next = omega arith; queued = tt; running = λ r is. absurd cc }

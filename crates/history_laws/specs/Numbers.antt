@@ -14,6 +14,8 @@ pub record IsUpTo (n : ℕ) (c : Control) : Type 0 where
   pub place : c.place ≤ n
   pub epoch : c.epoch ≤ n
   pub size : c.size ≤ n
+  -- how many outputs were taken
+  pub taken : c.taken ≤ n
   -- each message becomes an item at most
   pub next : c.next_item + length c.messages ≤ n
   pub queued : AreItemsUpTo n c.work
