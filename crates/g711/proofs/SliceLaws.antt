@@ -1,5 +1,6 @@
 -- Samples, written one after another.
-use Rattle.std.proofs.Common.{ℕ, zero, suc, zero-add, add-one, append-nil, ℤ, pos, ◌≡◌, ◌<◌, ◌*◌, ◌+◌, ◌-◌, ◌/◌, ◌*ℤ◌, List, ◌++◌, length, get_or, take, drop, ap, sym, ◌∙◌, arith, append_assoc, add-zero}
+use Rattle.std.proofs.Common.{ℕ, map-id, zero-add, add-one, append-nil, ℤ, pos, ◌≡◌, ◌<◌, ◌*◌, ◌+◌, ◌-◌, ◌/◌, ◌*ℤ◌, List, ◌++◌, length, get_or, take, drop, ap, sym, ◌∙◌, arith, append_assoc, add-zero}
+use Rattle.std.proofs.lemmas.List.{Concat.flat_map-append, FromFn.map-range_with_len_more}
 use Rattle.std.proofs.Math.IntN.{one, *ℤ-one}
 use Rattle.std.proofs.lemmas.List.{take_all, length-drop, length-take, get_or-take, get_or-drop}
 use Rattle.std.proofs.lemmas.Slice.{take-put_mid}
@@ -8,12 +9,8 @@ use Rattle.std.specs.List.{flat_map, range_with_len}
 use Rattle.codec_definitions.specs.{Pcm.spelled, SampleCodecs.decoded_at}
 use Rattle.g711.specs.{declared.law.Law.Law, Slices.value_in, Slices.codec_of}
 
-more : (f : ℕ → List ℕ) (a n j : ℕ) → a + n ≡ j → flat_map f (range_with_len a (suc n)) ≡ flat_map f (range_with_len a n) ++ f j
-more f a zero j e = append-nil (f a) ∙ ap f (sym (add-zero a) ∙ e)
-more f a (suc n) j e = ap (λ l. f a ++ l) (more f (a + 1) n j (omega (arith, e))) ∙ sym (append_assoc (f a) (flat_map f (range_with_len (a + 1) n)) (f j))
-
 one_more : (f : ℕ → List ℕ) (n : ℕ) → flat_map f (range_with_len 0 (n + 1)) ≡ flat_map f (range_with_len 0 n) ++ f n
-one_more f n = ap (λ (k : ℕ). flat_map f (range_with_len 0 k)) (add-one n) ∙ more f 0 n n (zero-add n)
+one_more f n = let next = simp map-id at (map-range_with_len_more (λ (k : ℕ). k) 0 n n (zero-add n)) in rw (next, flat_map-append) (ap (λ l. flat_map f (range_with_len 0 n) ++ l) (append-nil (f n)))
 
 -- two more bytes are written
 pub pair_next : (f : ℕ → List ℕ) (out values : List ℕ) (i n : ℕ) → i < n → length out ≡ 2 * n → values ≡ f i
