@@ -1,9 +1,9 @@
 -- A-law: each magnitude has one code of each sign.
-use Rattle.std.proofs.Common.{ℕ, suc, ℤ, ◌≡◌, ◌≤◌, ◌<◌, ◌-◌, ◌+◌, ◌%◌, cond, Bool, true, refl, sym, bit_xor, arith}
+use Rattle.std.proofs.Common.{ℕ, suc, ◌≡◌, ◌≤◌, ◌<◌, ◌+◌, ◌%◌, cond, true, refl, bit_xor, arith}
 use Rattle.codec_definitions.specs.G711.{exponent_of, mantissa_of, is_negative, alaw_bits, alaw_is_negative, alaw_low, alaw_high, alaw_value, alaw_magnitude, IsAlawCodeOf, IsAlawCode, is_alaw_code, alaw_code}
 use Rattle.g711.specs.Segments.{IsInSegment}
 use Rattle.g711.specs.Laws.{AlawEncodes, AlawEncodesOnce}
-use Rattle.g711.proofs.Codes.{Coding, IsLaw, all_below, each_below, is_in_place, has_codes, passing, encodes, encodes_once}
+use Rattle.g711.proofs.Codes.{Coding, IsLaw, all_below, each_below, passing, encodes, encodes_once}
 
 abbrev coding : Coding
 coding = record {

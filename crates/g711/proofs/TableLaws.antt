@@ -1,5 +1,5 @@
 -- Tables, looked up.
-use Rattle.std.proofs.Common.{w16, to_z, of_z, ℕ, ℤ, pos, ◌≡◌, ◌≤◌, ◌<◌, ◌^◌, ◌*◌, ◌+◌, ◌==◌, ◌&&◌, zero, suc, nat_le, nat_lt, true, inl, inr, List, [], ◌∷◌, length, get_or, map, arith, ap, ◌∙◌, add-zero, zero-add}
+use Rattle.std.proofs.Common.{w16, to_z, of_z, ℕ, ℤ, pos, ◌≡◌, ◌≤◌, ◌<◌, ◌^◌, ◌*◌, ◌+◌, zero, suc, true, List, [], ◌∷◌, length, get_or, map, arith, ap, ◌∙◌, add-zero, zero-add}
 use mir.Val.{SFits}
 use Rattle.std.proofs.lemmas.Int.{to_z-of_z}
 use Rattle.std.proofs.lemmas.List.FromFn.{get_or-map-range_with_len}

@@ -1,9 +1,9 @@
 -- mu-law: each magnitude has one code of each sign.
-use Rattle.std.proofs.Common.{ℕ, ℤ, pos, negsuc, ◌≡◌, ◌≤◌, ◌<◌, ◌-◌, ◌%◌, ◌==◌, ◌||◌, ◌⊎◌, sym, cond, Bool, true, inl, inr, refl, arith}
+use Rattle.std.proofs.Common.{ℕ, ℤ, pos, negsuc, ◌≡◌, ◌<◌, ◌-◌, ◌%◌, ◌==◌, ◌||◌, ◌⊎◌, sym, cond, true, inl, inr, refl, arith}
 use Rattle.std.proofs.lemmas.Bool.{eqb-true, or_cases}
 use Rattle.codec_definitions.specs.G711.{exponent_of, mantissa_of, is_negative, ulaw_bits, ulaw_is_negative, ulaw_low, ulaw_high, ulaw_value, ulaw_magnitude, IsUlawCodeOf, IsUlawCode, is_ulaw_code, ulaw_code}
 use Rattle.g711.specs.Laws.{UlawEncodes, UlawEncodesOnce, UlawDecodesWithin, UlawComesBack}
-use Rattle.g711.proofs.Codes.{Coding, IsLaw, all_below, each_below, is_in_place, has_codes, passing, encodes, encodes_once}
+use Rattle.g711.proofs.Codes.{Coding, IsLaw, all_below, each_below, passing, encodes, encodes_once}
 
 abbrev coding : Coding
 coding = record {

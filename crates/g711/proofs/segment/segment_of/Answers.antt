@@ -1,5 +1,5 @@
 use Rattle.std.proofs.Common.{arith}
-use Rattle.g711.proofs.Segments.{IsSegmented, segmented}
+use Rattle.g711.proofs.Segments.{segmented}
 use Rattle.g711.proofs.segment.segment_of.Goals as goal
 
 pub overflow_sub-mantissa : goal.overflow_sub-mantissa

@@ -1,4 +1,4 @@
-use Rattle.std.proofs.Common.{sym, rules, ◌-◌}
+use Rattle.std.proofs.Common.{rules, ◌-◌}
 use Rattle.g711.proofs.UlawCodes.{ulaw_encodes_once}
 use Rattle.g711.proofs.ulaw.ulaw_encode.Goals as goal
 
