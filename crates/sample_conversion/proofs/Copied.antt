@@ -7,7 +7,7 @@ use Rattle.std.specs.List.{flat_map, range_with_len}
 use Rattle.wc_base.specs.declared.media.{SampleFormat.SampleFormat, SoundShape.SoundShape}
 use Rattle.sample_conversion.specs.declared.size.SampleSize.{SampleSize}
 use Rattle.codec_definitions.specs.Pcm.{resized_at, format_size, is_planar, interleaved, is_whole}
-use Rattle.sample_conversion.proofs.{Samples.IsSame, Samples.same_front, Samples.joined, Narrowed.same_size}
+use Rattle.sample_conversion.proofs.{Samples.IsSame, Samples.same_front, Samples.joined, Sizes.same_size, Sizes.format_sized}
 use Rattle.sample_conversion.specs.Sizes.{AreBytes, size_of, is_format_size, is_same}
 
 pub shifted : (f : ℕ → List ℕ) (b a n : ℕ) → flat_map (λ i. f (b + i)) (range_with_len a n) ≡ flat_map f (range_with_len (b + a) n)
@@ -39,14 +39,6 @@ interleaved_same size shape bytes same small turn sizes whole =
     let count : size * samples ≡ length bytes = mul_comm size samples ∙ (ap (λ (k : ℕ). samples * k) (sym sizes) ∙ sym long) in
     let room : size * (0 + samples) ≤ length bytes = rw (zero-add samples, count) (le_refl (length bytes)) in
     placed size (format_size shape.format) (is_planar shape.format) shape.frames shape.channels bytes turn sizes ∙ (framed (resized_at size size bytes) shape.channels 0 shape.frames ∙ (ap (λ (k : ℕ). flat_map (resized_at size size bytes) (range_with_len k samples)) (zero-mul shape.channels) ∙ (same_front size bytes same small 0 samples room ∙ rw (count, mul-zero size) (take_all (length bytes) bytes (le_refl (length bytes))))))
-
-format_sized : (f : SampleFormat) → is_format_size (format_size f) ≡ true
-format_sized SampleFormat.U8 = refl
-format_sized SampleFormat.S16 = refl
-format_sized SampleFormat.S32 = refl
-format_sized SampleFormat.U8Planar = refl
-format_sized SampleFormat.S16Planar = refl
-format_sized SampleFormat.S32Planar = refl
 
 pub copied : (k : SampleSize) (shape : SoundShape) (bytes : List ℕ) → AreBytes bytes → is_same k shape.format ≡ true → is_whole shape bytes ≡ true → bytes ≡ interleaved (size_of k) shape bytes
 copied k shape bytes small same whole =

@@ -11,11 +11,12 @@ use Rattle.codec_definitions.specs.Pcm.{format_size, is_planar, is_whole, place_
 use Rattle.sample_conversion.specs.Sizes.{AreBytes, is_format_size}
 use Rattle.sample_conversion.specs.Layouts.{channel_of, frames_of, resized_sample, strided_samples, plane_frames, frame_step_of}
 use Rattle.sample_conversion.proofs.Copied.{shifted, framed as joined_frames}
-use Rattle.sample_conversion.proofs.Narrowed.{size_cases, same_size}
+use Rattle.sample_conversion.proofs.Sizes.{same_size}
+use Rattle.std.proofs.lemmas.Bool.Decides.{nat_tests}
 use Rattle.sample_conversion.proofs.Samples.{one_more, same_front}
 
 pub size_some : (n : ℕ) → is_format_size n ≡ true → 1 ≤ n
-size_some n h = elim (size_cases n h) [ inl one ↦ omega (arith, one) | inr more ↦ elim more [ inl two ↦ omega (arith, two) | inr four ↦ omega (arith, four) ] ]
+size_some n h = grind (arith, nat_tests, h)
 
 pub minus : (a n : ℕ) → a + n - a ≡ n
 minus a n = omega arith

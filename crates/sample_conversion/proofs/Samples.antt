@@ -24,10 +24,6 @@ little_bound (b ∷ bs) a =
     let rest : little_endian bs < 256 ^ length bs = little_bound bs (All-tail (λ (x : ℕ). x < 256) b bs a) in
     rw (pow-suc 256 (length bs)) (omega (arith, small, rest))
 
-pub times_one : (v : ℤ) → v *ℤ pos 1 ≡ v
-unfolding one
-times_one v = *ℤ-one v
-
 abbrev pub IsSame : ℕ → Type 0
 IsSame size = (xs : List ℕ) → length xs ≡ size → AreBytes xs → spelled size (converted (8 * size) (8 * size) (sample_of size xs)) ≡ xs
 
@@ -64,50 +60,8 @@ joined f a (suc m) n =
 pub one_more : (f : ℕ → List ℕ) (n : ℕ) → flat_map f (range_with_len 0 (n + 1)) ≡ flat_map f (range_with_len 0 n) ++ f n
 one_more f n = joined f 0 n 1 ∙ ap (λ (l : List ℕ). flat_map f (range_with_len 0 n) ++ l) (append-nil (f (0 + n)) ∙ ap f (zero-add n))
 
-pub negated : (k : ℕ) → 0 < k → neg_ℤ (pos k) ≡ negsuc (k - 1)
-negated zero some = absurd (omega (arith, some))
-negated (suc k) some = ap negsuc (omega arith)
-
--- what stands for a number in two's complement, multiplied
-pub raised : (from to k n w : ℕ) → 0 < k → n * k % 2 ^ to ≡ w → 2 ^ to - 1 - (suc (2 ^ from - 1 - n) * k - 1) % 2 ^ to ≡ w → unsigned to (signed from n *ℤ pos k) ≡ w
-raised from to k n w some low high = elim (nat_lt n (2 ^ (from - 1))) as (λ v. unsigned to (cond v (pos n) (negsuc (2 ^ from - 1 - n)) *ℤ pos k) ≡ w) [
-  | true ↦ ap (unsigned to) (pos-*ℤ-pos n k) ∙ low
-  | false ↦ ap (unsigned to) (negsuc-*ℤ-pos (2 ^ from - 1 - n) k ∙ negated (suc (2 ^ from - 1 - n) * k) (omega (arith, suc-mul (2 ^ from - 1 - n) k, some))) ∙ high
-]
-
-pub kept_16 : (n : ℕ) → n < 2 ^ 16 → unsigned 16 (converted 16 16 (signed 16 n)) ≡ n
-kept_16 n small = raised 16 16 1 n n (lit< tt) (omega (arith, small)) (omega (arith, small))
-
-pub kept_32 : (n : ℕ) → n < 2 ^ 32 → unsigned 32 (converted 32 32 (signed 32 n)) ≡ n
-kept_32 n small = raised 32 32 1 n n (lit< tt) (omega (arith, small)) (omega (arith, small))
-
 pub bound_of : (s : List ℕ) (k : ℕ) → AreBytes s → length s ≤ k → little_endian s < 256 ^ k
 bound_of s k a short =
     let p : 256 ^ length s ≤ 256 ^ k = pow-le-pow_right (lit< tt) short in
     omega (arith, little_bound s a, p)
 
--- bytes that spell a number which stands for a value, and which the value gives again
-read_back : (size : ℕ) (v : ℕ → ℕ) → ((n : ℕ) → n < 256 ^ size → v n ≡ n) → (xs : List ℕ) → length xs ≡ size → AreBytes xs → bytes_of size (v (little_endian xs)) ≡ xs
-read_back size v same xs long a =
-    let back : bytes_of size (little_endian xs) ≡ xs = subst (λ (k : ℕ). bytes_of k (little_endian xs) ≡ xs) long (bytes_of_little xs a) in
-    ap (bytes_of size) (same (little_endian xs) (bound_of xs size a (omega (arith, long)))) ∙ back
-
-pub same_1 : IsSame 1
-same_1 =
-    let middle : (n : ℕ) → (pos n -ℤ pos 128) *ℤ pos 1 +ℤ pos 128 ≡ pos n = λ n. ap (λ (v : ℤ). v +ℤ pos 128) (times_one (pos n -ℤ pos 128)) ∙ -ℤ-+ℤ_cancel (pos n) (pos 128) in
-    read_back 1 (λ n. unsigned 8 (converted 8 8 (pos n -ℤ pos 128) +ℤ pos 128)) (λ n bound. ap (unsigned 8) (middle n) ∙ omega (arith, bound))
-
-pub same_2 : IsSame 2
-same_2 = read_back 2 (λ n. unsigned 16 (converted 16 16 (signed 16 n))) kept_16
-
-pub same_4 : IsSame 4
-same_4 = read_back 4 (λ n. unsigned 32 (converted 32 32 (signed 32 n))) kept_32
-
--- 24 bits in 32
-pub widened_sample : (xs : List ℕ) → length xs ≡ 3 → AreBytes xs → spelled 4 (converted 24 32 (sample_of 3 xs)) ≡ 0 ∷ xs
-widened_sample xs three a =
-    let n = little_endian xs in
-    let bound : n < 256 ^ 3 = bound_of xs 3 a (omega (arith, three)) in
-    let low : n * 256 % 256 ≡ 0 = omega arith in
-    let high : n * 256 / 256 ≡ n = omega arith in
-    ap (bytes_of 4) (raised 24 32 256 n (n * 256) (lit< tt) (omega (arith, bound)) (omega (arith, bound))) ∙ rw (low, high, read_back 3 (λ m. m) (λ m b. refl) xs three a) refl

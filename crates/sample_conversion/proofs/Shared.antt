@@ -6,16 +6,14 @@ use Rattle.std.proofs.lemmas.List.{length-drop, length-take-le}
 use Rattle.std.specs.List.{flat_map, range_with_len}
 use Rattle.sample_conversion.specs.{declared.size.SampleSize.SampleSize, Sizes.AreBytes, Sizes.size_of}
 use Rattle.codec_definitions.specs.Pcm.{resized, resized_at}
-use Rattle.sample_conversion.proofs.Samples.{one_more, widened_sample, resized_same, same_1, same_2, same_4}
+use Rattle.sample_conversion.proofs.{Samples.one_more, Samples.resized_same, Sizes.same, Sizes.widened_sample}
 
 pub are_bytes : (xs : List ℕ) → ((i : ℕ) → Fits w8 (get_or xs i 0)) → AreBytes xs
 are_bytes xs fit = All-from_get_or (λ (b : ℕ). b < 256) xs 0 (λ i short. Fits-lt-pow (fit i))
 
-pub shared : (s : SampleSize) (bytes : List ℕ) → AreBytes bytes → s ≢ SampleSize.Three → length bytes % size_of s ≡ 0 → bytes ≡ resized (size_of s) (size_of s) bytes
-shared SampleSize.One bytes a e whole = sym (resized_same 1 bytes same_1 a (lit< tt) whole)
-shared SampleSize.Two bytes a e whole = sym (resized_same 2 bytes same_2 a (lit< tt) whole)
-shared SampleSize.Three bytes a e whole = absurd (e refl)
-shared SampleSize.Four bytes a e whole = sym (resized_same 4 bytes same_4 a (lit< tt) whole)
+pub shared : (s : SampleSize) (bytes : List ℕ) → AreBytes bytes → length bytes % size_of s ≡ 0 → bytes ≡ resized (size_of s) (size_of s) bytes
+shared SampleSize.One bytes a whole = sym (resized_same 1 bytes (same SampleSize.One) a (lit< tt) whole)
+shared s bytes a whole = sym (resized_same (size_of s) bytes (same s) a (lit< tt) whole)
 
 -- one sample of 24 bits more
 pub widened_more : (bytes : List ℕ) (i : ℕ) → AreBytes bytes → i < length bytes / 3 → flat_map (resized_at 3 4 bytes) (range_with_len 0 (i + 1)) ≡ flat_map (resized_at 3 4 bytes) (range_with_len 0 i) ++ (0 ∷ take 3 (drop (3 * i) bytes))
