@@ -1,4 +1,3 @@
-mod Copied
 mod Layouts
 mod Samples
 mod Shared

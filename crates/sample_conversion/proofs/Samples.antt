@@ -1,7 +1,7 @@
 -- Samples that are spelled by the bytes that spelled them.
 use Rattle.std.proofs.Common.{ℕ, zero, suc, ℤ, pos, negsuc, ◌≡◌, ◌≤◌, ◌<◌, ◌^◌, ◌*◌, ◌+◌, ◌-◌, ◌/◌, ◌%◌, ◌*ℤ◌, nat_lt, cond, true, false, List, [], ◌∷◌, ◌++◌, length, take, drop, ap, subst, sym, ◌∙◌, refl, lit<, arith, add_comm, zero-add, add-zero, append-nil, append_assoc, ◌+ℤ◌, ◌-ℤ◌, neg_ℤ}
 use Rattle.std.proofs.Math.IntN.{one, *ℤ-one, -ℤ-+ℤ_cancel, pos-*ℤ-pos, negsuc-*ℤ-pos}
-use Rattle.std.proofs.Math.Nat.{pow-suc, suc-mul, pow-le-pow_right, mul-suc, mul-zero, mul-add, mul-one, div-add-mod, le_refl}
+use Rattle.std.proofs.Math.Nat.{pow-suc, pow-le-pow_right, mul-zero, zero-mul, mul-one, le_refl}
 use Rattle.std.proofs.Math.Seq.{take-add}
 use Rattle.std.proofs.lemmas.List.{drop-drop, length-drop, length-take-le, take_all}
 use Rattle.std.proofs.lemmas.List.Elements.{All-take, All-drop, All-head, All-tail}
@@ -31,34 +31,44 @@ pub same_front : (size : ℕ) (bytes : List ℕ) → IsSame size → AreBytes by
 same_front size bytes same small a zero room = rw (mul-zero size) refl
 same_front size bytes same small a (suc n) room =
     let front = drop (size * a) bytes in
-    let next : size * suc n ≡ size + size * n = mul-suc size n ∙ add_comm (size * n) size in
-    let after : size * (a + 1) ≡ size * a + size = mul-add size a 1 ∙ ap (λ (k : ℕ). size * a + k) (mul-one size) in
-    let all : size * (a + suc n) ≡ size * a + size * suc n = mul-add size a (suc n) in
-    let later : size * (a + 1 + n) ≡ size * (a + 1) + size * n = mul-add size (a + 1) n in
-    let long : length front ≡ length bytes - size * a = length-drop (size * a) bytes in
-    let here : resized_at size size bytes a ≡ take size front = same (take size front) (length-take-le size front (omega (arith, next, all, long, room))) (All-take (λ (x : ℕ). x < 256) size front (All-drop (λ (x : ℕ). x < 256) (size * a) bytes small)) in
-    let rest : flat_map (resized_at size size bytes) (range_with_len (a + 1) n) ≡ take (size * n) (drop (size * (a + 1)) bytes) = same_front size bytes same small (a + 1) n (omega (arith, next, all, after, later, room)) in
-    let along : drop size front ≡ drop (size * (a + 1)) bytes = drop-drop size (size * a) bytes ∙ ap (λ (k : ℕ). drop k bytes) (sym after) in
-    let whole : take (size * suc n) front ≡ take size front ++ take (size * n) (drop size front) = ap (λ (k : ℕ). take k front) next ∙ take-add size (size * n) front in
-    rw (here, rest, whole, along) refl
+    let next : size * suc n ≡ size + size * n = omega arith in
+    let after : size * (a + 1) ≡ size * a + size = omega arith in
+    let here : resized_at size size bytes a ≡ take size front = same (take size front) (length-take-le size front (omega (arith, length-drop (size * a) bytes))) (All-take (λ (x : ℕ). x < 256) size front (All-drop (λ (x : ℕ). x < 256) (size * a) bytes small)) in
+    rw (here, same_front size bytes same small (a + 1) n (omega arith), after, next, take-add size (size * n) front, drop-drop size (size * a) bytes) refl
 
 -- what is spelled as it was is the same bytes
-pub resized_same : (size : ℕ) (bytes : List ℕ) → IsSame size → AreBytes bytes → 0 < size → length bytes % size ≡ 0 → resized size size bytes ≡ bytes
-resized_same size bytes same small some whole =
-    let count : size * (length bytes / size) ≡ length bytes = omega (arith, whole, div-add-mod (length bytes) size) in
-    let room : size * (0 + length bytes / size) ≤ length bytes = rw (zero-add (length bytes / size), count) (le_refl (length bytes)) in
-    same_front size bytes same small 0 (length bytes / size) room ∙ rw (count, mul-zero size) (take_all (length bytes) bytes (le_refl (length bytes)))
+pub same_whole : (size : ℕ) (bytes : List ℕ) → IsSame size → AreBytes bytes → (n : ℕ) → size * n ≡ length bytes → flat_map (resized_at size size bytes) (range_with_len 0 n) ≡ bytes
+same_whole size bytes same small n count = same_front size bytes same small 0 n (omega arith) ∙ rw (count, mul-zero size) (take_all (length bytes) bytes (le_refl (length bytes)))
 
 pub joined : (f : ℕ → List ℕ) (a m n : ℕ) → flat_map f (range_with_len a (m + n)) ≡ flat_map f (range_with_len a m) ++ flat_map f (range_with_len (a + m) n)
 joined f a zero n = rw (zero-add n, add-zero a) refl
 joined f a (suc m) n =
     let count : suc m + n ≡ suc (m + n) = omega arith in
-    let place : a + 1 + m ≡ a + suc m = omega arith in
-    ap (λ (k : ℕ). flat_map f (range_with_len a k)) count ∙ (ap (λ (l : List ℕ). f a ++ l) (joined f (a + 1) m n) ∙ (sym (append_assoc (f a) (flat_map f (range_with_len (a + 1) m)) (flat_map f (range_with_len (a + 1 + m) n))) ∙ ap (λ (k : ℕ). flat_map f (range_with_len a (suc m)) ++ flat_map f (range_with_len k n)) place))
+    let place : a + suc m ≡ a + 1 + m = omega arith in
+    rw (count, place, joined f (a + 1) m n, append_assoc) refl
 
 -- one more of what stands one after another
 pub one_more : (f : ℕ → List ℕ) (n : ℕ) → flat_map f (range_with_len 0 (n + 1)) ≡ flat_map f (range_with_len 0 n) ++ f n
-one_more f n = joined f 0 n 1 ∙ ap (λ (l : List ℕ). flat_map f (range_with_len 0 n) ++ l) (append-nil (f (0 + n)) ∙ ap f (zero-add n))
+one_more f n = rw (joined f 0 n 1, zero-add n, append-nil) refl
+
+-- counted from a place on
+shifted : (f : ℕ → List ℕ) (b a n : ℕ) → flat_map (λ i. f (b + i)) (range_with_len a n) ≡ flat_map f (range_with_len (b + a) n)
+shifted f b a zero = refl
+shifted f b a (suc n) = let next : b + (a + 1) ≡ b + a + 1 = omega arith in rw (shifted f b (a + 1) n, next) refl
+
+pub from_place : (f : ℕ → List ℕ) (first n : ℕ) → flat_map (λ i. f (first + i)) (range_with_len 0 n) ≡ flat_map f (range_with_len first n)
+from_place f first n = rw (shifted f first 0 n, add-zero) refl
+
+pub one_by_one : (f : ℕ → List ℕ) (first n : ℕ) → flat_map (λ i. f (first + i * 1)) (range_with_len 0 n) ≡ flat_map f (range_with_len first n)
+one_by_one f first n = simp mul-one (from_place f first n)
+
+-- frames of `c` samples are all samples in order
+pub framed : (f : ℕ → List ℕ) (c a n : ℕ) → flat_map (λ frame. flat_map (λ channel. f (frame * c + channel)) (range_with_len 0 c)) (range_with_len a n) ≡ flat_map f (range_with_len (a * c) (n * c))
+framed f c a zero = rw (zero-mul c) refl
+framed f c a (suc n) =
+    let next : (a + 1) * c ≡ a * c + c = omega arith in
+    let count : suc n * c ≡ c + n * c = omega arith in
+    rw (from_place f (a * c) c, framed f c (a + 1) n, next, count, joined f (a * c) c (n * c)) refl
 
 pub bound_of : (s : List ℕ) (k : ℕ) → AreBytes s → length s ≤ k → little_endian s < 256 ^ k
 bound_of s k a short =
