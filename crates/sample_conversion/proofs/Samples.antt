@@ -1,13 +1,12 @@
 -- Samples that are spelled by the bytes that spelled them.
-use Rattle.std.proofs.Common.{ℕ, zero, suc, ℤ, pos, negsuc, ◌≡◌, ◌≤◌, ◌<◌, ◌^◌, ◌*◌, ◌+◌, ◌-◌, ◌/◌, ◌%◌, ◌*ℤ◌, nat_lt, cond, true, false, List, [], ◌∷◌, ◌++◌, length, take, drop, ap, subst, sym, ◌∙◌, refl, lit<, arith, add_comm, zero-add, add-zero, append-nil, append_assoc, ◌+ℤ◌, ◌-ℤ◌, neg_ℤ}
-use Rattle.std.proofs.Math.IntN.{one, *ℤ-one, -ℤ-+ℤ_cancel, pos-*ℤ-pos, negsuc-*ℤ-pos}
+use Rattle.std.proofs.Common.{ℕ, zero, suc, ◌≡◌, ◌≤◌, ◌<◌, ◌^◌, ◌*◌, ◌+◌, ◌/◌, ◌%◌, List, [], ◌∷◌, ◌++◌, length, take, drop, ap, ◌∙◌, refl, lit<, arith, zero-add, add-zero, append-nil, append_assoc}
 use Rattle.std.proofs.Math.Nat.{pow-suc, pow-le-pow_right, mul-zero, zero-mul, mul-one, le_refl}
 use Rattle.std.proofs.Math.Seq.{take-add}
 use Rattle.std.proofs.lemmas.List.{drop-drop, length-drop, length-take-le, take_all}
 use Rattle.std.proofs.lemmas.List.Elements.{All-take, All-drop, All-head, All-tail}
 use Rattle.std.specs.List.{flat_map, range_with_len}
 use Rattle.sample_conversion.specs.Sizes.{AreBytes}
-use Rattle.codec_definitions.specs.Pcm.{little_endian, bytes_of, signed, unsigned, sample_of, spelled, converted, resized_at, resized}
+use Rattle.codec_definitions.specs.Pcm.{little_endian, bytes_of, sample_of, spelled, converted, resized_at}
 
 pub bytes_of_little : (xs : List ℕ) → AreBytes xs → bytes_of (length xs) (little_endian xs) ≡ xs
 bytes_of_little [] a = refl
@@ -74,4 +73,3 @@ pub bound_of : (s : List ℕ) (k : ℕ) → AreBytes s → length s ≤ k → li
 bound_of s k a short =
     let p : 256 ^ length s ≤ 256 ^ k = pow-le-pow_right (lit< tt) short in
     omega (arith, little_bound s a, p)
-

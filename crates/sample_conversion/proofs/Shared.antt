@@ -1,5 +1,5 @@
 -- Samples that keep their bytes.
-use Rattle.std.proofs.Common.{ℕ, ◌≡◌, ◌≢◌, refl, ◌<◌, ◌%◌, lit<, List, length, get_or, Fits, w8, append_assoc, sym, arith, ap, ◌∙◌, ◌+◌, ◌*◌, ◌-◌, ◌/◌, [], ◌∷◌, ◌++◌, take, drop}
+use Rattle.std.proofs.Common.{ℕ, ◌≡◌, refl, ◌<◌, ◌%◌, List, length, get_or, Fits, w8, append_assoc, sym, arith, ◌+◌, ◌*◌, ◌-◌, ◌/◌, [], ◌∷◌, ◌++◌, take, drop}
 use Rattle.std.proofs.Math.Facts.{Fits-lt-pow}
 use Rattle.std.proofs.lemmas.List.Elements.{All-from_get_or, All-take, All-drop}
 use Rattle.std.proofs.lemmas.List.{length-drop, length-take-le}

@@ -1,5 +1,5 @@
 -- A sample in another size: the first bits of 32, of which the last ones are cut.
-use Rattle.std.proofs.Common.{ℕ, suc, zero, ℤ, pos, negsuc, ◌≡◌, ◌≤◌, ◌<◌, ◌^◌, ◌*◌, ◌+◌, ◌-◌, ◌/◌, ◌%◌, ◌||◌, ◌==◌, ◌+ℤ◌, ◌-ℤ◌, inl, inr, nat_lt, cond, true, false, List, [], ◌∷◌, length, drop, ap, sym, ◌∙◌, refl, arith, rules, subst, lit<}
+use Rattle.std.proofs.Common.{ℕ, suc, zero, pos, negsuc, ◌≡◌, ◌≤◌, ◌<◌, ◌^◌, ◌*◌, ◌+◌, ◌-◌, ◌/◌, ◌%◌, ◌==◌, ◌+ℤ◌, ◌-ℤ◌, inl, inr, nat_lt, cond, true, false, List, [], ◌∷◌, length, drop, ap, sym, ◌∙◌, refl, arith, rules, subst, lit<}
 use Rattle.std.proofs.lemmas.Int.{ints}
 use Rattle.std.proofs.lemmas.Bool.{cases_lt, lt-ltb, le-ltb, or_left}
 use Rattle.std.proofs.lemmas.Bool.Decides.{nat_tests}
