@@ -1,5 +1,6 @@
 -- What a config is that a sample coder serves.
-use Rattle.std.proofs.Common.{◌≡◌, ◌≤◌, ◌<◌, Bool, true, false, ◌&&◌, not, nat_le, cond, Option, Some, None, is_some, refl, bytes_eq, codes}
+use Rattle.std.proofs.Common.{◌≡◌, ◌≤◌, ◌<◌, Bool, true, false, ◌&&◌, not, nat_le, cond, Option, Some, None, is_some, refl, arith, bytes_eq, codes}
+use Rattle.std.proofs.lemmas.Bool.Decides.{nat_tests}
 use Rattle.std.proofs.lemmas.Bool.{leb-true, and_parts}
 use Rattle.wc_config.specs.declared.{codec.CodecId.CodecId, codec.Role.Role, codec.CoderId.CoderId, config.AudioDecoderConfig.AudioDecoderConfig}
 use Rattle.wc_config.specs.declared.config.{AudioEncoderConfig.AudioEncoderConfig, VideoDecoderConfig.VideoDecoderConfig, Config.Config}
@@ -36,27 +37,19 @@ sampled_bound o x y plain bound = rw plain at bound
 pub decoder_range : (id : CoderId) (c : AudioDecoderConfig) → is_sampled id.codec ≡ true → serves id (Config.AudioDecoder c) ≡ true → (0 < c.rate) × (0 < c.channels) × (c.channels ≤ 32)
 decoder_range id c pcm s =
     let parts = and_parts (is_supported (Config.AudioDecoder c)) (asks_for id (coder_id_of (Config.AudioDecoder c))) s in
-    let known = and_parts (is_valid (Config.AudioDecoder c) && is_some (coder_id_of (Config.AudioDecoder c))) (is_within (Config.AudioDecoder c)) parts.0 in
-    let valid = and_parts (is_valid (Config.AudioDecoder c)) (is_some (coder_id_of (Config.AudioDecoder c))) known.0 in
-    let numbers = and_parts (not (is_blank c.codec) && nat_le 1 c.rate) (nat_le 1 c.channels) valid.0 in
-    let rate = and_parts (not (is_blank c.codec)) (nat_le 1 c.rate) numbers.0 in
     let plain = sampled_plain id Role.Decode (audio_codec c.codec) pcm parts.1 in
-    let bound = sampled_bound (audio_codec c.codec) (has_streaminfo c.description) (nat_le c.channels 32) plain known.1 in
-    (leb-true 1 c.rate rate.1, leb-true 1 c.channels numbers.1, leb-true c.channels 32 bound)
+    let supported = rw plain at parts.0 in
+    grind (arith, nat_tests, supported)
 
 pub encoder_range : (id : CoderId) (c : AudioEncoderConfig) → is_sampled id.codec ≡ true → serves id (Config.AudioEncoder c) ≡ true → IsInRange (Setting.Encoder c)
 encoder_range id c pcm s =
     let parts = and_parts (is_supported (Config.AudioEncoder c)) (asks_for id (coder_id_of (Config.AudioEncoder c))) s in
+    let plain = sampled_plain id Role.Encode (audio_codec c.codec) pcm parts.1 in
     let known = and_parts (is_valid (Config.AudioEncoder c) && is_some (coder_id_of (Config.AudioEncoder c))) (is_within (Config.AudioEncoder c)) parts.0 in
     let valid = and_parts (is_valid (Config.AudioEncoder c)) (is_some (coder_id_of (Config.AudioEncoder c))) known.0 in
-    let options = and_parts (not (is_blank c.codec) && nat_le 1 c.rate && nat_le 1 c.channels && is_block_size c.block_size && nat_le c.level 8) (is_depth c.depth) valid.0 in
-    let level = and_parts (not (is_blank c.codec) && nat_le 1 c.rate && nat_le 1 c.channels && is_block_size c.block_size) (nat_le c.level 8) options.0 in
-    let block = and_parts (not (is_blank c.codec) && nat_le 1 c.rate && nat_le 1 c.channels) (is_block_size c.block_size) level.0 in
-    let numbers = and_parts (not (is_blank c.codec) && nat_le 1 c.rate) (nat_le 1 c.channels) block.0 in
-    let rate = and_parts (not (is_blank c.codec)) (nat_le 1 c.rate) numbers.0 in
-    let plain = sampled_plain id Role.Encode (audio_codec c.codec) pcm parts.1 in
-    let bound = sampled_bound (audio_codec c.codec) (nat_le c.channels 8 && nat_le c.rate 1048575) (nat_le c.channels 32) plain known.1 in
-    (leb-true 1 c.rate rate.1, leb-true 1 c.channels numbers.1, leb-true c.channels 32 bound, plain)
+    let numbers : (not (is_blank c.codec) && nat_le 1 c.rate && nat_le 1 c.channels) ≡ true = (and_parts _ (is_block_size c.block_size) (and_parts _ (nat_le c.level 8) (and_parts _ (is_depth c.depth) valid.0).0).0).0 in
+    let bound = rw plain at known.1 in
+    grind (arith, nat_tests, numbers, bound, plain)
 
 pub sampled : (k : Coding) → is_sampled (id_of k) ≡ true
 sampled (Coding.Pcm SampleSize.One) = refl
