@@ -1,5 +1,5 @@
 -- A description at the front of some room.
-use Rattle.std.proofs.Common.{ℕ, Bool, true, false, cond, ◌≡◌, ◌≤◌, ◌+◌, ◌%◌, ◌^◌, List, ◌++◌, length, take, drop, Option, Some, None, ap, sym, ◌∙◌, arith, length-append, length-drop}
+use Rattle.std.proofs.Common.{ℕ, Bool, true, false, cond, ◌≡◌, ◌≤◌, ◌+◌, ◌%◌, ◌^◌, List, ◌++◌, length, take, drop, Option, Some, None, ap, sym, refl, ◌∙◌, arith, length-append, length-drop}
 use Rattle.std.specs.Prelude.{◌&&◌, ◌==◌, nat_le, bytes_eq, codes}
 use Rattle.std.proofs.lemmas.Bool.{le-leb}
 use Rattle.std.proofs.lemmas.List.{take-append-le, drop-append-le}
@@ -7,28 +7,14 @@ use Rattle.wc_config.specs.Streams.{big_endian, stream_info_of, is_usable, strea
 use Rattle.wc_config.specs.declared.stream_info.StreamInfo.{StreamInfo}
 use Rattle.c_library.specs.Status.{done, too_small, fill_status, filled}
 
--- what is read by the parts of a description
-abbrev from_parts : Bool → List ℕ → List ℕ → List ℕ → Option StreamInfo
-from_parts long mark header block =
-    cond (long && bytes_eq mark (codes "fLaC") && (big_endian header % 2 ^ 31 == 34) && is_usable (stream_info_of block)) (Some (stream_info_of block)) None
-
 part_same : (w r : List ℕ) (m n : ℕ) → m + n ≤ length w → take n (drop m (w ++ r)) ≡ take n (drop m w)
-part_same w r m n h =
-    let le : m ≤ length w = omega (arith, h) in
-    let there : n ≤ length (drop m w) = omega (arith, h, length-drop m w) in
-    ap (λ (l : List ℕ). take n l) (drop-append-le m w r le) ∙ take-append-le n (drop m w) r there
+part_same w r m n h = rw (drop-append-le m w r (omega arith)) (take-append-le n (drop m w) r (omega (arith, length-drop m w)))
 
 -- what follows is not read
 longer_is_read : (w r : List ℕ) → 42 ≤ length w → streaminfo_of (w ++ r) ≡ streaminfo_of w
 longer_is_read w r h =
-    let a : take 4 (w ++ r) ≡ take 4 w = take-append-le 4 w r (omega (arith, h)) in
-    let b : take 4 (drop 4 (w ++ r)) ≡ take 4 (drop 4 w) = part_same w r 4 4 (omega (arith, h)) in
-    let c : take 34 (drop 8 (w ++ r)) ≡ take 34 (drop 8 w) = part_same w r 8 34 h in
-    let d : nat_le 42 (length (w ++ r)) ≡ nat_le 42 (length w) = le-leb 42 (length (w ++ r)) (omega (arith, h, length-append w r)) ∙ sym (le-leb 42 (length w) h) in
-    ap (λ (t : Bool). from_parts t (take 4 (w ++ r)) (take 4 (drop 4 (w ++ r))) (take 34 (drop 8 (w ++ r)))) d
-    ∙ (ap (λ (l : List ℕ). from_parts (nat_le 42 (length w)) l (take 4 (drop 4 (w ++ r))) (take 34 (drop 8 (w ++ r)))) a
-    ∙ (ap (λ (l : List ℕ). from_parts (nat_le 42 (length w)) (take 4 w) l (take 34 (drop 8 (w ++ r)))) b
-    ∙ ap (λ (l : List ℕ). from_parts (nat_le 42 (length w)) (take 4 w) (take 4 (drop 4 w)) l) c))
+    let long = le-leb 42 (length (w ++ r)) (omega (arith, length-append w r)) in
+    rw (long, le-leb 42 (length w) h, take-append-le 4 w r (omega arith), part_same w r 4 4 (omega arith), part_same w r 8 34 h) refl
 
 read_where : (t : Bool) (w old : List ℕ) (info : StreamInfo) (status : ℕ) → status ≡ cond t done too_small → status ≡ done → 42 ≤ length w → streaminfo_of w ≡ Some info
     → streaminfo_of (cond t (w ++ drop (length w) old) old) ≡ Some info

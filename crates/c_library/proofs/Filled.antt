@@ -1,5 +1,5 @@
 -- Samples put into a room, one after another.
-use Rattle.std.proofs.Common.{ℕ, ℤ, Bool, cond, ◌≡◌, ◌<◌, ◌≤◌, ◌+◌, ◌*◌, ◌/◌, ◌++◌, ◌∷◌, [], List, length, take, map, slice_set, drop, ap, sym, subst, ◌∙◌, zero-add}
+use Rattle.std.proofs.Common.{ℕ, ℤ, Bool, cond, ◌≡◌, ◌<◌, ◌≤◌, ◌+◌, ◌*◌, ◌/◌, ◌++◌, ◌∷◌, [], List, length, take, map, slice_set, drop, ap, sym, subst, ◌∙◌, zero-add, refl}
 use Rattle.std.proofs.lemmas.Bool.{lt-leb, le-leb}
 use Rattle.std.proofs.lemmas.List.{take_more_set}
 use Rattle.std.proofs.lemmas.List.FromFn.{map-range_with_len_more, length-map-range_with_len}
@@ -12,32 +12,15 @@ use Rattle.c_library.specs.Status.{done, too_small, fill_status, filled}
 -- one sample more stands there
 pub one_more : (f : ℕ → ℤ) (out : List ℤ) (i : ℕ) (v : ℤ) → i < length out → v ≡ f i → take i out ≡ map f (range_with_len 0 i)
     → take (i + 1) (slice_set out i v) ≡ map f (range_with_len 0 (i + 1))
-one_more f out i v l e h =
-    take_more_set out i v l
-    ∙ (ap (λ (xs : List ℤ). xs ++ v ∷ []) h
-    ∙ (ap (λ (x : ℤ). map f (range_with_len 0 i) ++ x ∷ []) e
-    ∙ sym (map-range_with_len_more f 0 i i (zero-add i))))
-
--- how many samples there are
-pub sample_count : (depth : ℕ) (bytes : List ℕ) → length (samples_in depth bytes) ≡ length bytes / sample_size depth
-sample_count depth bytes = length-map-range_with_len (sample_in depth bytes) 0 (length bytes / sample_size depth)
+one_more f out i v l e h = rw (take_more_set out i v l, h, e, map-range_with_len_more f 0 i i (zero-add i)) refl
 
 -- more than there is room for
 pub too_many : (depth : ℕ) (bytes : List ℕ) (room : List ℤ) → length room < length bytes / sample_size depth
     → (too_small ≡ fill_status (samples_in depth bytes) room) × (room ≡ filled (samples_in depth bytes) room)
 too_many depth bytes room l =
-    let more : length room < length (samples_in depth bytes) = subst (λ (n : ℕ). length room < n) (sym (sample_count depth bytes)) l in
-    let no = lt-leb (length (samples_in depth bytes)) (length room) more in (
-      sym (ap (λ (t : Bool). cond t done too_small) no),
-      sym (ap (λ (t : Bool). cond t (samples_in depth bytes ++ drop (length (samples_in depth bytes)) room) room) no),
-    )
-
--- a sample of two bytes
-pub in_two : (depth : ℕ) (bytes : List ℕ) (i : ℕ) → depth ≤ 16 → converted 16 depth (sample_at 2 bytes i) ≡ sample_in depth bytes i
-in_two depth bytes i h =
-    sym (ap (λ (t : Bool). let size = cond t 2 4 in converted (8 * size) depth (sample_at size bytes i)) (le-leb depth 16 h))
+    let more : length room < length (samples_in depth bytes) = rw (length-map-range_with_len (sample_in depth bytes) 0 (length bytes / sample_size depth)) l in
+    rw (lt-leb (length (samples_in depth bytes)) (length room) more) (refl, refl)
 
 -- a sample of four bytes
 pub in_four : (depth : ℕ) (bytes : List ℕ) (i : ℕ) → 16 < depth → converted 32 depth (sample_at 4 bytes i) ≡ sample_in depth bytes i
-in_four depth bytes i h =
-    sym (ap (λ (t : Bool). let size = cond t 2 4 in converted (8 * size) depth (sample_at size bytes i)) (lt-leb depth 16 h))
+in_four depth bytes i h = rw (lt-leb depth 16 h) refl

@@ -4,6 +4,7 @@ use Rattle.std.proofs.Common.{ℕ, zero, suc, ℤ, ◌≡◌, ◌≤◌, ◌+◌
 use Rattle.std.specs.Prelude.{sum_by}
 use Rattle.std.specs.List.{range_with_len}
 use Rattle.std.proofs.Math.Nat.{mul-le-mul_left, suc-mul}
+use Rattle.std.proofs.lemmas.Bool.Decides.{nat_tests}
 use Rattle.std.proofs.lemmas.List.Sums.{sum_by-cons}
 use Rattle.flac_definitions.specs.Bits.{bits_in, bits_of}
 use Rattle.flac_definitions.specs.BitLaws.{length-bits_in, length-bits_of}
@@ -18,18 +19,8 @@ use Rattle.flac_blocks.specs.declared.mode.BlockFormat.{BlockFormat}
 use Rattle.flac_blocks.specs.declared.mode.ChannelMode.TheVariants.{Independent}
 use Rattle.flac_block_laws.specs.Laws.{WrittenFramesAreRead}
 
-choice_most : (t : Bool) (a b : List Bool) (m : ℕ) → length a ≤ m → length b ≤ m → length (cond t a b) ≤ m
-choice_most true a b m h k = h
-choice_most false a b m h k = k
-
-count_choice : (t : Bool) (a b m : ℕ) → a ≤ m → b ≤ m → cond t a b ≤ m
-count_choice true a b m h k = h
-count_choice false a b m h k = k
-
 further_most : (n : ℕ) → further_count n ≤ 5
-further_most n =
-    count_choice (ltb n (2 ^ 11)) 1 _ 5 (omega arith) (count_choice (ltb n (2 ^ 16)) 2 _ 5 (omega arith)
-    (count_choice (ltb n (2 ^ 21)) 3 _ 5 (omega arith) (count_choice (ltb n (2 ^ 26)) 4 5 5 (omega arith) (omega arith))))
+further_most n = grind (arith, nat_tests)
 
 further_length : (k n : ℕ) → length (further_bits k n) ≡ 8 * k
 further_length zero n = omega arith
@@ -46,12 +37,10 @@ number_most : (n : ℕ) → length (number_bits n) ≤ 48
 unfolding number_bits
 number_most n =
     let k = further_count n in
-    choice_most (ltb n 128) (bits_of 8 n) (long_number_bits k n) 48 (omega (arith, length-bits_of 8 n)) (long_most k n (further_most n))
+    grind (arith, nat_tests, length-bits_of 8 n, long_most k n (further_most n))
 
 size_most : (code n : ℕ) → length (size_bits code n) ≤ 16
-size_most code n =
-    choice_most (eqb code 6) (bits_of 8 (n - 1)) (cond (eqb code 7) (bits_of 16 (n - 1)) []) 16 (omega (arith, length-bits_of 8 (n - 1)))
-    (choice_most (eqb code 7) (bits_of 16 (n - 1)) [] 16 (omega (arith, length-bits_of 16 (n - 1))) (omega arith))
+size_most code n = grind (arith, nat_tests, length-bits_of 8 (n - 1), length-bits_of 16 (n - 1))
 
 code_length : (h : FrameHeader) → length (code_bits h) ≡ 32
 code_length h = simp (length-append, length-bits_of) refl

@@ -1,5 +1,4 @@
 pub mod AlawCodes
-pub mod Bits
 mod Codes
 pub mod Segments
 pub mod UlawCodes

@@ -1,9 +1,9 @@
 -- Tables, looked up.
-use Rattle.std.proofs.Common.{w16, to_z, of_z, ℕ, ℤ, pos, ◌≡◌, ◌≤◌, ◌<◌, ◌^◌, ◌*◌, ◌+◌, ◌==◌, ◌&&◌, zero, suc, nat_le, nat_lt, true, inl, inr, List, [], ◌∷◌, length, get_or, map, arith, ap, ◌∙◌}
+use Rattle.std.proofs.Common.{w16, to_z, of_z, ℕ, ℤ, pos, ◌≡◌, ◌≤◌, ◌<◌, ◌^◌, ◌*◌, ◌+◌, zero, suc, true, List, [], ◌∷◌, length, get_or, map, arith, ap, ◌∙◌, add-zero, zero-add}
 use mir.Val.{SFits}
 use Rattle.std.proofs.lemmas.Int.{to_z-of_z}
 use Rattle.std.proofs.lemmas.List.FromFn.{get_or-map-range_with_len}
-use Rattle.std.proofs.lemmas.Bool.{leb-true, ltb-true, eqb-true, and_parts, or_cases}
+use Rattle.std.proofs.lemmas.{Bool.and_parts, Bool.Decides.nat_tests}
 use Rattle.std.specs.List.{range_with_len}
 use Rattle.g711.specs.Tables.{is_top_bit, are_top_bits}
 
@@ -14,14 +14,8 @@ looked_up f values i h fits table =
 -- what the table says of a number
 top_at : (n i : ℕ) (tops : List ℕ) → are_top_bits n tops ≡ true → i < length tops → is_top_bit (n + i) (get_or tops i 0) ≡ true
 top_at n i [] h l = absurd (omega (arith, l))
-top_at n zero (t ∷ ts) h l = ap (λ (k : ℕ). is_top_bit k t) (let q : n + 0 ≡ n = omega arith in q) ∙ (and_parts (is_top_bit n t) (are_top_bits (n + 1) ts) h).0
-top_at n (suc i) (t ∷ ts) h l = ap (λ (k : ℕ). is_top_bit k (get_or ts i 0)) (let q : n + suc i ≡ n + 1 + i = omega arith in q) ∙ top_at (n + 1) i ts (and_parts (is_top_bit n t) (are_top_bits (n + 1) ts) h).1 (omega (arith, l))
+top_at n zero (t ∷ ts) h l = rw add-zero (and_parts (is_top_bit n t) (are_top_bits (n + 1) ts) h).0
+top_at n (suc i) (t ∷ ts) h l = let q : n + suc i ≡ n + 1 + i = omega arith in rw q (top_at (n + 1) i ts (and_parts (is_top_bit n t) (are_top_bits (n + 1) ts) h).1 (omega (arith, l)))
 
 pub top_of : (tops : List ℕ) (i : ℕ) → are_top_bits 0 tops ≡ true → i < length tops → 0 < i → (2 ^ get_or tops i 0 ≤ i) × (i < 2 * 2 ^ get_or tops i 0)
-top_of tops i h l some =
-    let t = get_or tops i 0 in
-    let here : is_top_bit i t ≡ true = ap (λ (k : ℕ). is_top_bit k t) (let q : i ≡ 0 + i = omega arith in q) ∙ top_at 0 i tops h l in
-    elim (or_cases (i == 0) (nat_le (2 ^ t) i && nat_lt i (2 * 2 ^ t)) here) [
-      | inl e ↦ absurd (omega (arith, eqb-true i 0 e, some))
-      | inr e ↦ (leb-true (2 ^ t) i (and_parts (nat_le (2 ^ t) i) (nat_lt i (2 * 2 ^ t)) e).0, ltb-true i (2 * 2 ^ t) (and_parts (nat_le (2 ^ t) i) (nat_lt i (2 * 2 ^ t)) e).1)
-    ]
+top_of tops i h l some = let here : is_top_bit i (get_or tops i 0) ≡ true = rw zero-add at (top_at 0 i tops h l) in grind (arith, nat_tests, here)

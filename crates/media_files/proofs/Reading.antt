@@ -30,10 +30,6 @@ ContinuesFor content room front left made = (rest : List (List ℕ)) → Continu
 abbrev pub Continues : Told → ℕ → List (List ℕ) → ℕ → ℕ → List (List Chunk) → Type 0
 Continues content room names left n made = ContinuesFor content room (take n names) left made
 
-pub begins : (content : Told) (room : ℕ) (names : List (List ℕ)) → Continues content room names room 0 []
-begins content room names rest files told (Ok media) g = g
-begins content room names rest files told (Err e) g = g
-
 -- of the names that are left
 on_rest : (content : Told) (room : ℕ) (names : List (List ℕ)) (left n : ℕ) (made : List (List Chunk)) → Continues content room names left n made → ContinuesOn content room names left (drop n names) made
 on_rest content room names left n made k = subst (λ l. ContinuesOn content room l left (drop n names) made) (take-append-drop n names) (k (drop n names))

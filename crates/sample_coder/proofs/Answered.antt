@@ -19,28 +19,19 @@ coder_of r k = record { role = r; codec = id_of k }
 
 decoder_answer : (r : Role) (k : Coding) (c : AudioDecoderConfig) (before : List Command) (x : Command) → answer_after (coder_of r k) (Config.AudioDecoder c) before x ≡ sample_decoder (definition k) c x
 decoder_answer r (Coding.Pcm SampleSize.One) c before x = refl
-decoder_answer r (Coding.Pcm SampleSize.Two) c before x = refl
-decoder_answer r (Coding.Pcm SampleSize.Three) c before x = refl
-decoder_answer r (Coding.Pcm SampleSize.Four) c before x = refl
 decoder_answer r (Coding.G711 Law.Alaw) c before x = refl
-decoder_answer r (Coding.G711 Law.Ulaw) c before x = refl
+decoder_answer r k c before x = refl
 
 encoder_answer : (r : Role) (k : Coding) (c : AudioEncoderConfig) (before : List Command) (x : Command) → answer_after (coder_of r k) (Config.AudioEncoder c) before x ≡ sample_encoder (definition k) c x
 encoder_answer r (Coding.Pcm SampleSize.One) c before x = refl
-encoder_answer r (Coding.Pcm SampleSize.Two) c before x = refl
-encoder_answer r (Coding.Pcm SampleSize.Three) c before x = refl
-encoder_answer r (Coding.Pcm SampleSize.Four) c before x = refl
 encoder_answer r (Coding.G711 Law.Alaw) c before x = refl
-encoder_answer r (Coding.G711 Law.Ulaw) c before x = refl
+encoder_answer r k c before x = refl
 
 -- nothing is kept
 encoder_state : (r : Role) (k : Coding) (c : AudioEncoderConfig) (commands : List Command) → NothingKept ≡ state_after (coder_of r k) (Config.AudioEncoder c) commands
 encoder_state r (Coding.Pcm SampleSize.One) c commands = refl
-encoder_state r (Coding.Pcm SampleSize.Two) c commands = refl
-encoder_state r (Coding.Pcm SampleSize.Three) c commands = refl
-encoder_state r (Coding.Pcm SampleSize.Four) c commands = refl
 encoder_state r (Coding.G711 Law.Alaw) c commands = refl
-encoder_state r (Coding.G711 Law.Ulaw) c commands = refl
+encoder_state r k c commands = refl
 
 same_config : (a b : Config) (s t : CoderState) → Configured a s ≡ Configured b t → a ≡ b
 same_config a b s t e = cc
@@ -86,23 +77,3 @@ takes r k s x result old new ready given = record {
   goes = λ c before at. goes_on r k s c before x result at;
   ready = stays_ready s result ready;
 }
-
-drain_answer : (k : Coding) (s : Setting) → IsConfigured (meaning_of s) → answer_in k s Command.Drain ≡ Some []
-drain_answer k Setting.Stopped ready = elim ready [ ]
-drain_answer k (Setting.Decoder d) ready = refl
-drain_answer k (Setting.Encoder d) ready = refl
-
--- a drain, to which nothing was kept
-pub drains : (r : Role) (k : Coding) (s : Setting) (out : List unit.Unit) → IsConfigured (meaning_of s) → Takes (coder_of r k) (meaning_of s) Command.Drain (Ok tt) out out (meaning_of s)
-drains r k s out ready = takes r k s Command.Drain (Ok tt) out out ready ([], drain_answer k s ready, sym (append-nil out))
-
-no_description : (b : Bool) (o : Option (List ℕ)) → b ≡ false → cond b o None ≡ None
-no_description true o e = cc
-no_description false o e = refl
-
-abbrev decoding : AudioEncoderConfig → Option (List ℕ) → AudioDecoderConfig
-decoding c o = record { codec = c.codec; rate = c.rate; channels = c.channels; description = o }
-
--- the config with which an encoder's outputs are decoded has no description
-pub setup_given : (c : AudioEncoderConfig) → is_flac (audio_codec c.codec) ≡ false → Some (decoding c None) ≡ setup_of (meaning_of (Setting.Encoder c))
-setup_given c plain = ap (λ (o : Option (List ℕ)). Some (decoding c o)) (sym (no_description (is_flac (audio_codec c.codec)) (Some (stream_description c)) plain))

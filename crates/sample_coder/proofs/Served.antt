@@ -1,6 +1,7 @@
 -- What a config is that a sample coder serves.
-use Rattle.std.proofs.Common.{◌≡◌, ◌≤◌, ◌<◌, Bool, true, false, ◌&&◌, not, nat_le, cond, Option, Some, None, is_some, refl, bytes_eq, codes}
-use Rattle.std.proofs.lemmas.Bool.{leb-true}
+use Rattle.std.proofs.Common.{◌≡◌, ◌≤◌, ◌<◌, Bool, true, false, ◌&&◌, not, nat_le, cond, Option, Some, None, is_some, refl, arith, bytes_eq, codes}
+use Rattle.std.proofs.lemmas.Bool.Decides.{nat_tests}
+use Rattle.std.proofs.lemmas.Bool.{leb-true, and_parts}
 use Rattle.wc_config.specs.declared.{codec.CodecId.CodecId, codec.Role.Role, codec.CoderId.CoderId, config.AudioDecoderConfig.AudioDecoderConfig}
 use Rattle.wc_config.specs.declared.config.{AudioEncoderConfig.AudioEncoderConfig, VideoDecoderConfig.VideoDecoderConfig, Config.Config}
 use Rattle.wc_config.specs.Configs.{audio_codec, id_with, is_flac, has_streaminfo, is_blank, is_block_size, is_depth, is_valid, is_within, coder_id_of, is_supported}
@@ -10,14 +11,6 @@ use Rattle.sample_conversion.specs.declared.size.SampleSize.{SampleSize}
 use Rattle.g711.specs.declared.law.Law.{Law}
 use Rattle.sample_coder.specs.{declared.coding.Coding.Coding, Coding.id_of, Value.IsInRange, declared.coder.Setting.Setting}
 
-pub no : false ≡ true → ⊥
-no e = cc
-
-pub both : (a b : Bool) → (a && b) ≡ true → (a ≡ true) × (b ≡ true)
-both true true e = (refl, refl)
-both true false e = absurd (no e)
-both false b e = absurd (no e)
-
 -- a codec of which each sample is coded by itself
 abbrev pub is_sampled : CodecId → Bool
 is_sampled k = is_some (sample_codec k)
@@ -25,69 +18,40 @@ is_sampled k = is_some (sample_codec k)
 -- a codec that equals one is one
 pub same_kind : (k w : CodecId) → is_sampled k ≡ true → is_codec k w ≡ true → is_sampled w ≡ true
 same_kind CodecId.PcmU8 CodecId.PcmU8 p e = refl
-same_kind CodecId.PcmS16 CodecId.PcmS16 p e = refl
-same_kind CodecId.PcmS24 CodecId.PcmS24 p e = refl
-same_kind CodecId.PcmS32 CodecId.PcmS32 p e = refl
-same_kind CodecId.Alaw CodecId.Alaw p e = refl
-same_kind CodecId.Ulaw CodecId.Ulaw p e = refl
-same_kind _ _ p e = cc
+same_kind k CodecId.PcmU8 p e = refl
+same_kind k w p e = cc
 
 pub asked_is_sampled : (id : CoderId) (r : Role) (w : CodecId) → is_sampled id.codec ≡ true → asks_for id (id_with r (Some w)) ≡ true → is_sampled w ≡ true
-asked_is_sampled id r w pcm asks = same_kind id.codec w pcm (both (is_role id.role r) (is_codec id.codec w) asks).1
+asked_is_sampled id r w pcm asks = same_kind id.codec w pcm (and_parts (is_role id.role r) (is_codec id.codec w) asks).1
 
 -- of no codec that is coded block by block
 sampled_plain : (id : CoderId) (r : Role) (o : Option CodecId) → is_sampled id.codec ≡ true → asks_for id (id_with r o) ≡ true → is_flac o ≡ false
-sampled_plain id r None pcm asks = absurd (no asks)
-sampled_plain id r (Some CodecId.Flac) pcm asks = absurd (no (asked_is_sampled id r CodecId.Flac pcm asks))
+sampled_plain id r None pcm asks = absurd cc
+sampled_plain id r (Some CodecId.Flac) pcm asks = (let no = asked_is_sampled id r CodecId.Flac pcm asks in absurd cc)
 sampled_plain id r (Some _) pcm asks = refl
 
 -- where FLAC has a bound of its own, the other one holds
 sampled_bound : (o : Option CodecId) (x y : Bool) → is_flac o ≡ false → cond (is_flac o) x y ≡ true → y ≡ true
 sampled_bound o x y plain bound = rw plain at bound
 
-pub raw_text : (id : CoderId) (a b c d : Bool) → is_sampled id.codec ≡ true → asks_for id (id_with Role.Decode (cond a (Some CodecId.RawI420) (cond b (Some CodecId.RawI422) (cond c (Some CodecId.RawI444) (cond d (Some CodecId.RawNv12) None))))) ≡ true → ⊥
-raw_text id true b c d pcm asks = no (asked_is_sampled id Role.Decode CodecId.RawI420 pcm asks)
-raw_text id false true c d pcm asks = no (asked_is_sampled id Role.Decode CodecId.RawI422 pcm asks)
-raw_text id false false true d pcm asks = no (asked_is_sampled id Role.Decode CodecId.RawI444 pcm asks)
-raw_text id false false false true pcm asks = no (asked_is_sampled id Role.Decode CodecId.RawNv12 pcm asks)
-raw_text id false false false false pcm asks = no asks
-
-pub no_video : (id : CoderId) (c : VideoDecoderConfig) → is_sampled id.codec ≡ true → serves id (Config.VideoDecoder c) ≡ true → ⊥
-no_video id c pcm s =
-    raw_text id (bytes_eq c.codec (codes "x-raw-i420")) (bytes_eq c.codec (codes "x-raw-i422")) (bytes_eq c.codec (codes "x-raw-i444")) (bytes_eq c.codec (codes "x-raw-nv12")) pcm (both (is_supported (Config.VideoDecoder c)) (asks_for id (coder_id_of (Config.VideoDecoder c))) s).1
-
-pub no_bad : (id : CoderId) → serves id Config.Bad ≡ true → ⊥
-no_bad id s = no s
-
 pub decoder_range : (id : CoderId) (c : AudioDecoderConfig) → is_sampled id.codec ≡ true → serves id (Config.AudioDecoder c) ≡ true → (0 < c.rate) × (0 < c.channels) × (c.channels ≤ 32)
 decoder_range id c pcm s =
-    let parts = both (is_supported (Config.AudioDecoder c)) (asks_for id (coder_id_of (Config.AudioDecoder c))) s in
-    let known = both (is_valid (Config.AudioDecoder c) && is_some (coder_id_of (Config.AudioDecoder c))) (is_within (Config.AudioDecoder c)) parts.0 in
-    let valid = both (is_valid (Config.AudioDecoder c)) (is_some (coder_id_of (Config.AudioDecoder c))) known.0 in
-    let numbers = both (not (is_blank c.codec) && nat_le 1 c.rate) (nat_le 1 c.channels) valid.0 in
-    let rate = both (not (is_blank c.codec)) (nat_le 1 c.rate) numbers.0 in
+    let parts = and_parts (is_supported (Config.AudioDecoder c)) (asks_for id (coder_id_of (Config.AudioDecoder c))) s in
     let plain = sampled_plain id Role.Decode (audio_codec c.codec) pcm parts.1 in
-    let bound = sampled_bound (audio_codec c.codec) (has_streaminfo c.description) (nat_le c.channels 32) plain known.1 in
-    (leb-true 1 c.rate rate.1, leb-true 1 c.channels numbers.1, leb-true c.channels 32 bound)
+    let supported = rw plain at parts.0 in
+    grind (arith, nat_tests, supported)
 
 pub encoder_range : (id : CoderId) (c : AudioEncoderConfig) → is_sampled id.codec ≡ true → serves id (Config.AudioEncoder c) ≡ true → IsInRange (Setting.Encoder c)
 encoder_range id c pcm s =
-    let parts = both (is_supported (Config.AudioEncoder c)) (asks_for id (coder_id_of (Config.AudioEncoder c))) s in
-    let known = both (is_valid (Config.AudioEncoder c) && is_some (coder_id_of (Config.AudioEncoder c))) (is_within (Config.AudioEncoder c)) parts.0 in
-    let valid = both (is_valid (Config.AudioEncoder c)) (is_some (coder_id_of (Config.AudioEncoder c))) known.0 in
-    let options = both (not (is_blank c.codec) && nat_le 1 c.rate && nat_le 1 c.channels && is_block_size c.block_size && nat_le c.level 8) (is_depth c.depth) valid.0 in
-    let level = both (not (is_blank c.codec) && nat_le 1 c.rate && nat_le 1 c.channels && is_block_size c.block_size) (nat_le c.level 8) options.0 in
-    let block = both (not (is_blank c.codec) && nat_le 1 c.rate && nat_le 1 c.channels) (is_block_size c.block_size) level.0 in
-    let numbers = both (not (is_blank c.codec) && nat_le 1 c.rate) (nat_le 1 c.channels) block.0 in
-    let rate = both (not (is_blank c.codec)) (nat_le 1 c.rate) numbers.0 in
+    let parts = and_parts (is_supported (Config.AudioEncoder c)) (asks_for id (coder_id_of (Config.AudioEncoder c))) s in
     let plain = sampled_plain id Role.Encode (audio_codec c.codec) pcm parts.1 in
-    let bound = sampled_bound (audio_codec c.codec) (nat_le c.channels 8 && nat_le c.rate 1048575) (nat_le c.channels 32) plain known.1 in
-    (leb-true 1 c.rate rate.1, leb-true 1 c.channels numbers.1, leb-true c.channels 32 bound, plain)
+    let known = and_parts (is_valid (Config.AudioEncoder c) && is_some (coder_id_of (Config.AudioEncoder c))) (is_within (Config.AudioEncoder c)) parts.0 in
+    let valid = and_parts (is_valid (Config.AudioEncoder c)) (is_some (coder_id_of (Config.AudioEncoder c))) known.0 in
+    let numbers : (not (is_blank c.codec) && nat_le 1 c.rate && nat_le 1 c.channels) ≡ true = (and_parts _ (is_block_size c.block_size) (and_parts _ (nat_le c.level 8) (and_parts _ (is_depth c.depth) valid.0).0).0).0 in
+    let bound = rw plain at known.1 in
+    grind (arith, nat_tests, numbers, bound, plain)
 
 pub sampled : (k : Coding) → is_sampled (id_of k) ≡ true
 sampled (Coding.Pcm SampleSize.One) = refl
-sampled (Coding.Pcm SampleSize.Two) = refl
-sampled (Coding.Pcm SampleSize.Three) = refl
-sampled (Coding.Pcm SampleSize.Four) = refl
 sampled (Coding.G711 Law.Alaw) = refl
-sampled (Coding.G711 Law.Ulaw) = refl
+sampled k = refl

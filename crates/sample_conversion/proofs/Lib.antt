@@ -1,6 +1,3 @@
-mod ComesBack
-mod Copied
-mod Narrowed
 mod Layouts
 mod Samples
 mod Shared

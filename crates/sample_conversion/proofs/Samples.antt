@@ -1,13 +1,12 @@
 -- Samples that are spelled by the bytes that spelled them.
-use Rattle.std.proofs.Common.{ℕ, zero, suc, ℤ, pos, negsuc, ◌≡◌, ◌≤◌, ◌<◌, ◌^◌, ◌*◌, ◌+◌, ◌-◌, ◌/◌, ◌%◌, ◌*ℤ◌, nat_lt, cond, true, false, List, [], ◌∷◌, ◌++◌, length, take, drop, ap, subst, sym, ◌∙◌, refl, lit<, arith, add_comm, zero-add, add-zero, append-nil, append_assoc, ◌+ℤ◌, ◌-ℤ◌, neg_ℤ}
-use Rattle.std.proofs.Math.IntN.{one, *ℤ-one, -ℤ-+ℤ_cancel, pos-*ℤ-pos, negsuc-*ℤ-pos}
-use Rattle.std.proofs.Math.Nat.{pow-suc, suc-mul, pow-le-pow_right, mul-suc, mul-zero, mul-add, mul-one, div-add-mod, le_refl}
+use Rattle.std.proofs.Common.{ℕ, zero, suc, ◌≡◌, ◌≤◌, ◌<◌, ◌^◌, ◌*◌, ◌+◌, ◌/◌, ◌%◌, List, [], ◌∷◌, ◌++◌, length, take, drop, ap, ◌∙◌, refl, lit<, arith, zero-add, add-zero, append-nil, append_assoc}
+use Rattle.std.proofs.Math.Nat.{pow-suc, pow-le-pow_right, mul-zero, zero-mul, mul-one, le_refl}
 use Rattle.std.proofs.Math.Seq.{take-add}
 use Rattle.std.proofs.lemmas.List.{drop-drop, length-drop, length-take-le, take_all}
 use Rattle.std.proofs.lemmas.List.Elements.{All-take, All-drop, All-head, All-tail}
 use Rattle.std.specs.List.{flat_map, range_with_len}
 use Rattle.sample_conversion.specs.Sizes.{AreBytes}
-use Rattle.codec_definitions.specs.Pcm.{little_endian, bytes_of, signed, unsigned, sample_of, spelled, converted, resized_at, resized}
+use Rattle.codec_definitions.specs.Pcm.{little_endian, bytes_of, sample_of, spelled, converted, resized_at}
 
 pub bytes_of_little : (xs : List ℕ) → AreBytes xs → bytes_of (length xs) (little_endian xs) ≡ xs
 bytes_of_little [] a = refl
@@ -24,10 +23,6 @@ little_bound (b ∷ bs) a =
     let rest : little_endian bs < 256 ^ length bs = little_bound bs (All-tail (λ (x : ℕ). x < 256) b bs a) in
     rw (pow-suc 256 (length bs)) (omega (arith, small, rest))
 
-pub times_one : (v : ℤ) → v *ℤ pos 1 ≡ v
-unfolding one
-times_one v = *ℤ-one v
-
 abbrev pub IsSame : ℕ → Type 0
 IsSame size = (xs : List ℕ) → length xs ≡ size → AreBytes xs → spelled size (converted (8 * size) (8 * size) (sample_of size xs)) ≡ xs
 
@@ -35,79 +30,46 @@ pub same_front : (size : ℕ) (bytes : List ℕ) → IsSame size → AreBytes by
 same_front size bytes same small a zero room = rw (mul-zero size) refl
 same_front size bytes same small a (suc n) room =
     let front = drop (size * a) bytes in
-    let next : size * suc n ≡ size + size * n = mul-suc size n ∙ add_comm (size * n) size in
-    let after : size * (a + 1) ≡ size * a + size = mul-add size a 1 ∙ ap (λ (k : ℕ). size * a + k) (mul-one size) in
-    let all : size * (a + suc n) ≡ size * a + size * suc n = mul-add size a (suc n) in
-    let later : size * (a + 1 + n) ≡ size * (a + 1) + size * n = mul-add size (a + 1) n in
-    let long : length front ≡ length bytes - size * a = length-drop (size * a) bytes in
-    let here : resized_at size size bytes a ≡ take size front = same (take size front) (length-take-le size front (omega (arith, next, all, long, room))) (All-take (λ (x : ℕ). x < 256) size front (All-drop (λ (x : ℕ). x < 256) (size * a) bytes small)) in
-    let rest : flat_map (resized_at size size bytes) (range_with_len (a + 1) n) ≡ take (size * n) (drop (size * (a + 1)) bytes) = same_front size bytes same small (a + 1) n (omega (arith, next, all, after, later, room)) in
-    let along : drop size front ≡ drop (size * (a + 1)) bytes = drop-drop size (size * a) bytes ∙ ap (λ (k : ℕ). drop k bytes) (sym after) in
-    let whole : take (size * suc n) front ≡ take size front ++ take (size * n) (drop size front) = ap (λ (k : ℕ). take k front) next ∙ take-add size (size * n) front in
-    rw (here, rest, whole, along) refl
+    let next : size * suc n ≡ size + size * n = omega arith in
+    let after : size * (a + 1) ≡ size * a + size = omega arith in
+    let here : resized_at size size bytes a ≡ take size front = same (take size front) (length-take-le size front (omega (arith, length-drop (size * a) bytes))) (All-take (λ (x : ℕ). x < 256) size front (All-drop (λ (x : ℕ). x < 256) (size * a) bytes small)) in
+    rw (here, same_front size bytes same small (a + 1) n (omega arith), after, next, take-add size (size * n) front, drop-drop size (size * a) bytes) refl
 
 -- what is spelled as it was is the same bytes
-pub resized_same : (size : ℕ) (bytes : List ℕ) → IsSame size → AreBytes bytes → 0 < size → length bytes % size ≡ 0 → resized size size bytes ≡ bytes
-resized_same size bytes same small some whole =
-    let count : size * (length bytes / size) ≡ length bytes = omega (arith, whole, div-add-mod (length bytes) size) in
-    let room : size * (0 + length bytes / size) ≤ length bytes = rw (zero-add (length bytes / size), count) (le_refl (length bytes)) in
-    same_front size bytes same small 0 (length bytes / size) room ∙ rw (count, mul-zero size) (take_all (length bytes) bytes (le_refl (length bytes)))
+pub same_whole : (size : ℕ) (bytes : List ℕ) → IsSame size → AreBytes bytes → (n : ℕ) → size * n ≡ length bytes → flat_map (resized_at size size bytes) (range_with_len 0 n) ≡ bytes
+same_whole size bytes same small n count = same_front size bytes same small 0 n (omega arith) ∙ rw (count, mul-zero size) (take_all (length bytes) bytes (le_refl (length bytes)))
 
 pub joined : (f : ℕ → List ℕ) (a m n : ℕ) → flat_map f (range_with_len a (m + n)) ≡ flat_map f (range_with_len a m) ++ flat_map f (range_with_len (a + m) n)
 joined f a zero n = rw (zero-add n, add-zero a) refl
 joined f a (suc m) n =
     let count : suc m + n ≡ suc (m + n) = omega arith in
-    let place : a + 1 + m ≡ a + suc m = omega arith in
-    ap (λ (k : ℕ). flat_map f (range_with_len a k)) count ∙ (ap (λ (l : List ℕ). f a ++ l) (joined f (a + 1) m n) ∙ (sym (append_assoc (f a) (flat_map f (range_with_len (a + 1) m)) (flat_map f (range_with_len (a + 1 + m) n))) ∙ ap (λ (k : ℕ). flat_map f (range_with_len a (suc m)) ++ flat_map f (range_with_len k n)) place))
+    let place : a + suc m ≡ a + 1 + m = omega arith in
+    rw (count, place, joined f (a + 1) m n, append_assoc) refl
 
 -- one more of what stands one after another
 pub one_more : (f : ℕ → List ℕ) (n : ℕ) → flat_map f (range_with_len 0 (n + 1)) ≡ flat_map f (range_with_len 0 n) ++ f n
-one_more f n = joined f 0 n 1 ∙ ap (λ (l : List ℕ). flat_map f (range_with_len 0 n) ++ l) (append-nil (f (0 + n)) ∙ ap f (zero-add n))
+one_more f n = rw (joined f 0 n 1, zero-add n, append-nil) refl
 
-pub negated : (k : ℕ) → 0 < k → neg_ℤ (pos k) ≡ negsuc (k - 1)
-negated zero some = absurd (omega (arith, some))
-negated (suc k) some = ap negsuc (omega arith)
+-- counted from a place on
+shifted : (f : ℕ → List ℕ) (b a n : ℕ) → flat_map (λ i. f (b + i)) (range_with_len a n) ≡ flat_map f (range_with_len (b + a) n)
+shifted f b a zero = refl
+shifted f b a (suc n) = let next : b + (a + 1) ≡ b + a + 1 = omega arith in rw (shifted f b (a + 1) n, next) refl
 
--- what stands for a number in two's complement, multiplied
-pub raised : (from to k n w : ℕ) → 0 < k → n * k % 2 ^ to ≡ w → 2 ^ to - 1 - (suc (2 ^ from - 1 - n) * k - 1) % 2 ^ to ≡ w → unsigned to (signed from n *ℤ pos k) ≡ w
-raised from to k n w some low high = elim (nat_lt n (2 ^ (from - 1))) as (λ v. unsigned to (cond v (pos n) (negsuc (2 ^ from - 1 - n)) *ℤ pos k) ≡ w) [
-  | true ↦ ap (unsigned to) (pos-*ℤ-pos n k) ∙ low
-  | false ↦ ap (unsigned to) (negsuc-*ℤ-pos (2 ^ from - 1 - n) k ∙ negated (suc (2 ^ from - 1 - n) * k) (omega (arith, suc-mul (2 ^ from - 1 - n) k, some))) ∙ high
-]
+pub from_place : (f : ℕ → List ℕ) (first n : ℕ) → flat_map (λ i. f (first + i)) (range_with_len 0 n) ≡ flat_map f (range_with_len first n)
+from_place f first n = rw (shifted f first 0 n, add-zero) refl
 
-pub kept_16 : (n : ℕ) → n < 2 ^ 16 → unsigned 16 (converted 16 16 (signed 16 n)) ≡ n
-kept_16 n small = raised 16 16 1 n n (lit< tt) (omega (arith, small)) (omega (arith, small))
+pub one_by_one : (f : ℕ → List ℕ) (first n : ℕ) → flat_map (λ i. f (first + i * 1)) (range_with_len 0 n) ≡ flat_map f (range_with_len first n)
+one_by_one f first n = simp mul-one (from_place f first n)
 
-pub kept_32 : (n : ℕ) → n < 2 ^ 32 → unsigned 32 (converted 32 32 (signed 32 n)) ≡ n
-kept_32 n small = raised 32 32 1 n n (lit< tt) (omega (arith, small)) (omega (arith, small))
+-- frames of `c` samples are all samples in order
+pub framed : (f : ℕ → List ℕ) (c a n : ℕ) → flat_map (λ frame. flat_map (λ channel. f (frame * c + channel)) (range_with_len 0 c)) (range_with_len a n) ≡ flat_map f (range_with_len (a * c) (n * c))
+framed f c a zero = rw (zero-mul c) refl
+framed f c a (suc n) =
+    let next : (a + 1) * c ≡ a * c + c = omega arith in
+    let count : suc n * c ≡ c + n * c = omega arith in
+    rw (from_place f (a * c) c, framed f c (a + 1) n, next, count, joined f (a * c) c (n * c)) refl
 
 pub bound_of : (s : List ℕ) (k : ℕ) → AreBytes s → length s ≤ k → little_endian s < 256 ^ k
 bound_of s k a short =
     let p : 256 ^ length s ≤ 256 ^ k = pow-le-pow_right (lit< tt) short in
     omega (arith, little_bound s a, p)
-
--- bytes that spell a number which stands for a value, and which the value gives again
-read_back : (size : ℕ) (v : ℕ → ℕ) → ((n : ℕ) → n < 256 ^ size → v n ≡ n) → (xs : List ℕ) → length xs ≡ size → AreBytes xs → bytes_of size (v (little_endian xs)) ≡ xs
-read_back size v same xs long a =
-    let back : bytes_of size (little_endian xs) ≡ xs = subst (λ (k : ℕ). bytes_of k (little_endian xs) ≡ xs) long (bytes_of_little xs a) in
-    ap (bytes_of size) (same (little_endian xs) (bound_of xs size a (omega (arith, long)))) ∙ back
-
-pub same_1 : IsSame 1
-same_1 =
-    let middle : (n : ℕ) → (pos n -ℤ pos 128) *ℤ pos 1 +ℤ pos 128 ≡ pos n = λ n. ap (λ (v : ℤ). v +ℤ pos 128) (times_one (pos n -ℤ pos 128)) ∙ -ℤ-+ℤ_cancel (pos n) (pos 128) in
-    read_back 1 (λ n. unsigned 8 (converted 8 8 (pos n -ℤ pos 128) +ℤ pos 128)) (λ n bound. ap (unsigned 8) (middle n) ∙ omega (arith, bound))
-
-pub same_2 : IsSame 2
-same_2 = read_back 2 (λ n. unsigned 16 (converted 16 16 (signed 16 n))) kept_16
-
-pub same_4 : IsSame 4
-same_4 = read_back 4 (λ n. unsigned 32 (converted 32 32 (signed 32 n))) kept_32
-
--- 24 bits in 32
-pub widened_sample : (xs : List ℕ) → length xs ≡ 3 → AreBytes xs → spelled 4 (converted 24 32 (sample_of 3 xs)) ≡ 0 ∷ xs
-widened_sample xs three a =
-    let n = little_endian xs in
-    let bound : n < 256 ^ 3 = bound_of xs 3 a (omega (arith, three)) in
-    let low : n * 256 % 256 ≡ 0 = omega arith in
-    let high : n * 256 / 256 ≡ n = omega arith in
-    ap (bytes_of 4) (raised 24 32 256 n (n * 256) (lit< tt) (omega (arith, bound)) (omega (arith, bound))) ∙ rw (low, high, read_back 3 (λ m. m) (λ m b. refl) xs three a) refl

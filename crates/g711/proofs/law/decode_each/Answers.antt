@@ -13,8 +13,7 @@ loop-i-preserved c =
     let value = c.value_in.result in
     let fits : SFits w16 value = record { sfits = c.value_in.type_inv } in
     let here = c.put.ensures ∙ ap (spelled 2) (to_z-of_z w16 value fits ∙ c.value_in.ensures) ∙ decoded_here c.args.law codes c.loop-i.i in
-    let n = pair_next (decoded_at (codec_of c.args.law) codes) c.loop-i.out c.put.new.out c.loop-i.i (length codes) c.loop-i-test.true (c.loop-i.invariant.size ∙ c.requires) here c.put.auto.out c.loop-i.invariant.done in
-    record { size = n.0 ∙ c.loop-i.invariant.size; done = n.1 }
+    pair_next (decoded_at (codec_of c.args.law) codes) c.loop-i.out c.put.new.out c.loop-i.i (length codes) c.loop-i-test.true (c.loop-i.auto.out ∙ c.requires) here c.put.auto.out c.loop-i.invariant
 
 pub returns : goal.returns
-returns c = all_written (decoded_at (codec_of c.args.law) c.args.codes.now) c.loop-i.out c.loop-i.i (length c.args.codes.now) (omega (arith, c.loop-i-test.false, c.loop-i.auto.i-end)) (c.loop-i.invariant.size ∙ c.requires) c.loop-i.invariant.done
+returns c = all_written (decoded_at (codec_of c.args.law) c.args.codes.now) c.loop-i.out c.loop-i.i (length c.args.codes.now) (omega (arith, c.loop-i-test.false, c.loop-i.auto.i-end)) (c.loop-i.auto.out ∙ c.requires) c.loop-i.invariant

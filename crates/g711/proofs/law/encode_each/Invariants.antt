@@ -5,7 +5,6 @@ use Rattle.g711.proofs.law.encode_each.Given as goal
 abbrev pub invariant-loop-rest : goal.invariant-loop-rest
 invariant-loop-rest l =
     record {
-      size : length l.out ≡ length l.fn.out;
       room : length l.rest + 2 * l.done ≡ 2 * length l.out;
       done : take l.done l.out ++ codes_of l.law l.rest ≡ codes_of l.law l.samples;
     }

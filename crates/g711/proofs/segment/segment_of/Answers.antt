@@ -1,17 +1,18 @@
 use Rattle.std.proofs.Common.{arith}
-use Rattle.g711.proofs.Segments.{IsSegmented, segmented, bits_segment}
+use Rattle.g711.proofs.Segments.{segmented}
 use Rattle.g711.proofs.segment.segment_of.Goals as goal
 
 pub overflow_sub-mantissa : goal.overflow_sub-mantissa
-overflow_sub-mantissa c = (segmented c.args.magnitude c.exponent_of-exponent.result c.exponent_of-exponent.ensures.bound c.exponent_of-exponent.ensures.low c.exponent_of-exponent.ensures.high).mantissa_low
+overflow_sub-mantissa c = let e = c.exponent_of-exponent in (segmented c.args.magnitude e.result e.ensures.bound e.ensures.low e.ensures.high).low
 
 pub overflow_cast-result : goal.overflow_cast-result
-overflow_cast-result c = omega (arith, (segmented c.args.magnitude c.exponent_of-exponent.result c.exponent_of-exponent.ensures.bound c.exponent_of-exponent.ensures.low c.exponent_of-exponent.ensures.high).mantissa_high)
+overflow_cast-result c = let e = c.exponent_of-exponent in omega (arith, segmented c.args.magnitude e.result e.ensures.bound e.ensures.low e.ensures.high)
 
 pub overflow_add-result : goal.overflow_add-result
-overflow_add-result c = omega (arith, segmented c.args.magnitude c.exponent_of-exponent.result c.exponent_of-exponent.ensures.bound c.exponent_of-exponent.ensures.low c.exponent_of-exponent.ensures.high)
+overflow_add-result c = let e = c.exponent_of-exponent in omega (arith, segmented c.args.magnitude e.result e.ensures.bound e.ensures.low e.ensures.high)
 
 pub returns : goal.returns
 returns c =
-    let s : IsSegmented c.args.magnitude c.exponent_of-exponent.result = segmented c.args.magnitude c.exponent_of-exponent.result c.exponent_of-exponent.ensures.bound c.exponent_of-exponent.ensures.low c.exponent_of-exponent.ensures.high in
-    record { bits = omega (arith, s); segment = bits_segment c.args.magnitude c.exponent_of-exponent.result s }
+    let e = c.exponent_of-exponent in
+    let s = segmented c.args.magnitude e.result e.ensures.bound e.ensures.low e.ensures.high in
+    record { bits = omega (arith, s); segment = s.segment }

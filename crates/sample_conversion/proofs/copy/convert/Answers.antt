@@ -1,6 +1,6 @@
 use Rattle.std.proofs.Common.{ap, ◌∙◌, List, ℕ, length}
 use Rattle.sample_conversion.specs.Layouts.{last_bytes}
-use Rattle.sample_conversion.proofs.{Shared.are_bytes, Narrowed.converted_one}
+use Rattle.sample_conversion.proofs.{Shared.are_bytes, Sizes.converted_one}
 use Rattle.sample_conversion.proofs.copy.convert.Goals as goal
 
 pub returns : goal.returns

@@ -1,4 +1,4 @@
-use Rattle.sample_conversion.proofs.{Shared.are_bytes, Copied.copied}
+use Rattle.sample_conversion.proofs.{Shared.are_bytes, Layouts.copied}
 use Rattle.sample_conversion.proofs.interleave.interleaved_stays.Goals as goal
 
 pub returns : goal.returns

@@ -1,4 +1,4 @@
-use Rattle.sample_conversion.proofs.ComesBack.{come_back}
+use Rattle.sample_conversion.proofs.Sizes.{come_back}
 use Rattle.sample_conversion.proofs.interleave.sixteen_bits_come_back.Goals as goal
 
 pub returns : goal.returns
