@@ -1,5 +1,5 @@
 -- Bytes that begin with a chunk have no fault there.
-use Rattle.std.proofs.Common.{◌≡◌, ◌≤◌, ◌+◌, ◌==◌, ℕ, List, [], ◌∷◌, ◌++◌, length, drop, take, slice_index, Some, None, codes, sym, ap, ◌∙◌, arith, length-drop}
+use Rattle.std.proofs.Common.{◌≡◌, ◌≤◌, ◌+◌, ◌==◌, ℕ, List, ◌∷◌, ◌++◌, length, drop, take, slice_index, Some, None, codes, sym, arith, length-drop}
 use Rattle.std.proofs.lemmas.Bool.Decides.{nat_tests}
 use Rattle.std.proofs.lemmas.List.{take-append-drop, drop-drop, length-take}
 use Rattle.byteorder.specs.Endian.{big_number}
@@ -17,13 +17,7 @@ pub record IsWhole (bytes : List ℕ) : Type 0 where
   pub content : 22 + big_number 4 (drop 18 bytes) ≤ length bytes
 
 pub begun_is_whole : (chunk : Chunk) (bytes rest : List ℕ) → BeginsWith chunk bytes rest → IsWhole bytes
-begun_is_whole chunk bytes rest p =
-    record {
-      header = p.header;
-      chunk_type = grind (arith, p.chunk_type);
-      flag = grind (arith, p.duration);
-      content = omega (arith, p.count, begun_length chunk bytes rest p);
-    }
+begun_is_whole chunk bytes rest p = grind (arith, p.header, p.chunk_type, p.duration, p.count, begun_length chunk bytes rest p)
 
 -- the tests of a chunk's fault, one after the other
 pub whole_has_no_fault : (place : ℕ) (bytes : List ℕ) → IsWhole bytes → chunk_fault place bytes ≡ None
@@ -38,8 +32,7 @@ no_mark_fault place bytes at h = grind (arith, nat_tests, h)
 
 pub fault_here : (bytes : List ℕ) (chunks : List Chunk) (rest : List ℕ) (place : ℕ) (e : ChunkFault) → marked bytes ≡ 4 → BeginsWithAll chunks (drop 4 bytes) rest → place + length rest ≡ length bytes → chunk_fault place rest ≡ Some e → IsFirstFault bytes e
 fault_here bytes chunks rest place (ChunkFault.BadMark at) mark before is h = absurd (no_mark_fault place rest at h)
-fault_here bytes chunks rest place (ChunkFault.BadKind at found) mark before is h = record { mark = mark; chunks = chunks; rest = rest; before = before; place = place; is_place = is; fault = h }
-fault_here bytes chunks rest place (ChunkFault.Short at) mark before is h = record { mark = mark; chunks = chunks; rest = rest; before = before; place = place; is_place = is; fault = h }
+fault_here bytes chunks rest place _ mark before is h = record { mark = mark; chunks = chunks; rest = rest; before = before; place = place; is_place = is; fault = h }
 
 pub type_back : (n : ℕ) → n ≤ 1 → n ≡ type_byte (n == 0)
 type_back n h = grind (arith, nat_tests, h)
@@ -47,16 +40,12 @@ type_back n h = grind (arith, nat_tests, h)
 -- the bytes that stand behind a header of 22 bytes
 pub content_of : (bytes content : List ℕ) (n : ℕ) → content ≡ take n (drop 22 bytes) → 22 + n ≤ length bytes → (length content ≡ n) × (drop 22 bytes ≡ content ++ drop (22 + length content) bytes)
 content_of bytes content n is within =
-    let count : length content ≡ n = ap length is ∙ omega (arith, length-take n (drop 22 bytes), length-drop 22 bytes) in
-    let whole : drop 22 bytes ≡ content ++ drop n (drop 22 bytes) = sym (take-append-drop n (drop 22 bytes)) ∙ ap (λ (l : List ℕ). l ++ drop n (drop 22 bytes)) (sym is) in
-    (count, whole ∙ ap (λ (l : List ℕ). content ++ l) (drop-drop n 22 bytes ∙ ap (λ (k : ℕ). drop (22 + k) bytes) (sym count)))
+    let count : length content ≡ n = rw is (omega (arith, length-take n (drop 22 bytes), length-drop 22 bytes)) in
+    (count, rw (count, is, ← drop-drop n 22 bytes) (sym (take-append-drop n (drop 22 bytes))))
 
 pub agreeing_within : (ms bs : List ℕ) → (agreeing ms bs ≤ length ms) × (agreeing ms bs ≤ length bs)
-agreeing_within [] bs = (omega arith, omega arith)
-agreeing_within (m ∷ ms) [] = (omega arith, omega arith)
-agreeing_within (m ∷ ms) (b ∷ bs) =
-    let within = agreeing_within ms bs in
-    (grind (arith, within.0), grind (arith, within.1))
+agreeing_within (m ∷ ms) (b ∷ bs) = grind (arith, agreeing_within ms bs)
+agreeing_within _ _ = (omega arith, omega arith)
 
 -- no more bytes agree than the mark has
 pub marks_agree : (bytes : List ℕ) → 4 ≤ marked bytes → marked bytes ≡ 4

@@ -13,18 +13,11 @@ use Rattle.chunk_files.proofs.{Chunks.one_more_chunk, Chunks.begun_length, Fault
 -- ---- the chunk that begins bytes in which there is no fault
 
 no_fault : (place : ℕ) (bytes : List ℕ) → (length bytes == 0) ≡ false → chunk_fault place bytes ≡ None → IsWhole bytes
-no_fault place bytes some h =
-    record {
-      header = grind (arith, nat_tests, some, h);
-      chunk_type = grind (arith, nat_tests, some, h);
-      flag = grind (arith, nat_tests, some, h);
-      content = grind (arith, nat_tests, some, h);
-    }
+no_fault place bytes some h = grind (arith, nat_tests, some, h)
 
 duration_by : (bytes : List ℕ) (n : ℕ) → slice_index bytes 9 ≡ n → n ≤ 1 → (d : Option ℕ) × IsDuration d bytes
 duration_by bytes zero is h = (None, is)
-duration_by bytes (suc zero) is h = (Some (big_number 8 (drop 10 bytes)), (is, refl))
-duration_by bytes (suc (suc n)) is h = absurd (omega arith)
+duration_by bytes (suc n) is h = (Some (big_number 8 (drop 10 bytes)), (omega arith, refl))
 
 pub chunk_of : (bytes : List ℕ) → IsWhole bytes → (chunk : Chunk) × (rest : List ℕ) × BeginsWith chunk bytes rest
 chunk_of bytes h =

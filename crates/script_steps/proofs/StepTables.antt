@@ -1,5 +1,5 @@
 -- The table of the variables after one more step.
-use Rattle.std.proofs.Common.{◌≡◌, ℕ, List, [], ◌∷◌, ◌++◌, length, bytes_eq, Some, None, is_some, sym, ap, ◌∙◌}
+use Rattle.std.proofs.Common.{◌≡◌, ℕ, List, [], ◌∷◌, ◌++◌, length, bytes_eq, Some, None, is_some, ap, ◌∙◌, arith}
 use Rattle.std.proofs.lemmas.Slice.Eq.{bytes_eq-Decides}
 use Rattle.std.specs.List.{position}
 use Rattle.std.specs.BTreeMap.{get_by_text}
@@ -19,12 +19,10 @@ step_put steps s m n name kind t b free puts = table_put defines steps s m n nam
 
 pub step_old : (steps : List Step) (s : Step) (m : Table) (name : List ℕ) (kind : VariableKind) (k : ℕ) → IsNoted m steps → binds s ≡ Some (name, kind)
     → get_by_text m name ≡ Some k → IsNoted m (steps ++ s ∷ [])
-step_old steps s m name kind k t b there = table_kept defines steps s m t (λ q e.
-    let same : name ≡ q = (bytes_eq-Decides name q).0 (sym (ap (is_bound_as q) b) ∙ e) in
-    ap (λ x. is_some (get_by_text m x)) (sym same) ∙ ap is_some there)
+step_old steps s m name kind k t b there = table_kept defines steps s m t (λ q e. grind (arith, e, b, there, bytes_eq-Decides name q))
 
 pub step_same : (steps : List Step) (s : Step) (m : Table) → IsNoted m steps → binds s ≡ None → IsNoted m (steps ++ s ∷ [])
-step_same steps s m t b = table_kept defines steps s m t (λ q e. let none = ap (is_bound_as q) b in absurd cc)
+step_same steps s m t b = table_kept defines steps s m t (λ q e. grind (arith, e, b))
 
 -- whether the table has a name is whether a step defines it
 pub is_noted : (m : Table) (steps : List Step) (name : List ℕ) → IsNoted m steps → is_some (get_by_text m name) ≡ is_variable_name steps name

@@ -1,5 +1,6 @@
 -- Nothing is at fault in callers that were read.
-use Rattle.std.proofs.Common.{◌≡◌, ℕ, ◌+◌, ◌≤◌, ◌||◌, not, true, List, [], ◌∷◌, ◌++◌, length, codes, sum_by, Some, Ok, refl, ap, subst, arith}
+use Rattle.std.proofs.Common.{◌≡◌, ℕ, ◌+◌, ◌≤◌, ◌||◌, not, true, List, [], ◌∷◌, ◌++◌, length, codes, sum_by, Some, IfOk, refl, ap, arith}
+use Rattle.std.proofs.lemmas.Result.{IfOk-at_ok, IfOk-weaker}
 use Rattle.std.specs.List.{list_all}
 use Rattle.std.proofs.lemmas.List.{length_push}
 use Rattle.std.proofs.lemmas.List.Sums.{sum_by_push}
@@ -8,11 +9,11 @@ use Rattle.script_types.specs.declared.{fault.Place.Place, script.CodecItem.Code
 use Rattle.script_types.specs.Names.{is_name, is_codec_name, is_caller_name}
 use Rattle.script_types.specs.Sound.{most_steps, most_media, is_sound_caller, are_sound_callers, are_sound_steps, are_small, bytes_of_caller, files_after, files_in, are_apart}
 use Rattle.script_steps.specs.Members.{needed, name_in, array_in}
-use Rattle.script_steps.specs.Chains.{same_Ok, chain, all_true}
+use Rattle.script_steps.specs.Chains.{all_true}
 use Rattle.script_steps.specs.{NameLaws.name_is_name, Soundness.StepsAreSound}
-use Rattle.wc_script.specs.{declared.callers.Room.Room, declared.callers.Walked.Walked, declared.callers.Heard.Heard, Faults.at, Walk.count_of}
+use Rattle.wc_script.specs.{declared.callers.Room.Room, declared.callers.Walked.Walked, declared.callers.Heard.Heard, Walk.count_of}
 use Rattle.wc_script.specs.Callers.{heading_of, steps_of, caller_of, callers_of}
-use Rattle.wc_script.proofs.Proceeds.{proceeds, read_at, unless, each_more, all_more, fold_more}
+use Rattle.wc_script.proofs.Proceeds.{by_part, by_read, unless, each_more, all_more, fold_more}
 use Rattle.wc_script.proofs.StepLaws.{SoundSteps, steps_sound}
 
 -- ---- the name
@@ -20,13 +21,11 @@ use Rattle.wc_script.proofs.StepLaws.{SoundSteps, steps_sound}
 abbrev IsNew : List CodecItem → List CallerItem → List ℕ → Type 0
 IsNew codecs before name = (is_name name ≡ true) × (not (is_codec_name codecs name || is_caller_name before name) ≡ true)
 
-new_name : (codecs : List CodecItem) (before : List CallerItem) (d : Data) (h : List ℕ × Items) → heading_of codecs before d ≡ Ok h → IsNew codecs before h.0
+new_name : (codecs : List CodecItem) (before : List CallerItem) (d : Data) → IfOk (heading_of codecs before d) (λ h. IsNew codecs before h.0)
 unfolding heading_of
-new_name codecs before d h e =
-    let name = chain (name_in (codes "name") d) _ h e in
-    let ds = chain (needed (array_in (codes "steps") d)) _ h name.rest in
-    let new = unless (is_codec_name codecs name.value || is_caller_name before name.value) _ (Ok (name.value, ds.value)) h ds.rest in
-    subst (λ x. IsNew codecs before x.0) (same_Ok _ h new.1) (name_is_name (codes "name") name.value d name.first, ap not new.0)
+new_name codecs before d =
+    by_part (name_in (codes "name") d) _ _ (λ name n. by_part (needed (array_in (codes "steps") d)) _ _ (λ ds s.
+    unless (is_codec_name codecs name || is_caller_name before name) _ _ _ (λ new. (name_is_name (codes "name") name d n, ap not new))))
 
 -- ---- one caller
 
@@ -38,18 +37,14 @@ record OneCaller (codecs : List CodecItem) (cs : List CallerItem) (fs : List (Li
 no_steps : (codecs : List CodecItem) (fs : List (List ℕ)) (room : Room) → SoundSteps codecs fs room (record { steps = []; files = fs; room = room })
 no_steps codecs fs room = record { steps = refl; count = omega arith; small = refl; media = omega arith; files = refl; apart = λ a. a }
 
-one_caller : StepsAreSound → (codecs : List CodecItem) (cs : List CallerItem) (fs : List (List ℕ)) (room : Room) (d : Data) (h : Heard) → caller_of codecs cs fs room d ≡ Ok h → OneCaller codecs cs fs room h
+one_caller : StepsAreSound → (codecs : List CodecItem) (cs : List CallerItem) (fs : List (List ℕ)) (room : Room) (d : Data) → IfOk (caller_of codecs cs fs room d) (OneCaller codecs cs fs room)
 unfolding caller_of
-one_caller law codecs cs fs room d h e =
-    let name = proceeds (at (Place.Caller (length cs)) (heading_of codecs cs d)) _ h e in
+one_caller law codecs cs fs room d =
     let start : Walked = record { steps = []; files = fs; room = room } in
-    let w = proceeds (steps_of codecs (length cs) start name.value.1) _ h name.rest in
-    let new = new_name codecs cs d name.value (read_at (Place.Caller (length cs)) (heading_of codecs cs d) name.value name.first) in
-    let t = steps_sound law codecs (length cs) fs room start name.value.1 w.value (no_steps codecs fs room) w.first in
-    subst (λ x. OneCaller codecs cs fs room x) (same_Ok _ h w.rest) (record {
-      sound = all_true (is_name name.value.0) _ new.0 (all_true _ (are_sound_steps codecs [] w.value.steps) new.1 t.steps);
-      steps = t;
-    })
+    by_read (Place.Caller (length cs)) (heading_of codecs cs d) _ _ (λ h e. by_part (steps_of codecs (length cs) start h.1) _ _ (λ w f.
+    let new = IfOk-at_ok (λ x. IsNew codecs cs x.0) e (new_name codecs cs d) in
+    let t = IfOk-at_ok (SoundSteps codecs fs room) f (steps_sound law codecs (length cs) fs room start h.1 (no_steps codecs fs room)) in
+    record { sound = all_true (is_name h.0) _ new.0 (all_true _ (are_sound_steps codecs [] w.steps) new.1 t.steps); steps = t }))
 
 -- ---- all callers
 
@@ -80,13 +75,10 @@ pub record CallersRead (codecs : List CodecItem) (cs : List CallerItem) (ds : It
   pub sound : SoundCallers codecs r.0 r.1.0 r.1.1
   pub count : length r.0 ≡ length cs + count_of ds
 
-pub callers_sound : StepsAreSound → (codecs : List CodecItem) (cs : List CallerItem) (fs : List (List ℕ)) (room : Room) (ds : Items) (r : List CallerItem × (List (List ℕ) × Room)) → SoundCallers codecs cs fs room
-    → callers_of codecs cs fs room ds ≡ Ok r → CallersRead codecs cs ds r
-callers_sound law codecs cs fs room no_items r t h =
-    subst (λ x. CallersRead codecs cs no_items x) (same_Ok (cs, (fs, room)) r h) (record { sound = t; count = omega arith })
-callers_sound law codecs cs fs room (item d ds) r t h =
-    let c = proceeds (caller_of codecs cs fs room d) _ r h in
-    let o = one_caller law codecs cs fs room d c.value c.first in
-    let u = callers_sound law codecs (cs ++ c.value.caller ∷ []) c.value.files c.value.room ds r (caller_kept codecs cs fs room c.value t o) c.rest in
-    let n = length_push cs c.value.caller in
-    record { sound = u.sound; count = omega (arith, n, u.count) }
+pub callers_sound : StepsAreSound → (codecs : List CodecItem) (cs : List CallerItem) (fs : List (List ℕ)) (room : Room) (ds : Items) → SoundCallers codecs cs fs room → IfOk (callers_of codecs cs fs room ds) (CallersRead codecs cs ds)
+callers_sound law codecs cs fs room no_items t = record { sound = t; count = omega arith }
+callers_sound law codecs cs fs room (item d ds) t =
+    by_part (caller_of codecs cs fs room d) _ _ (λ c e.
+    let o = IfOk-at_ok (OneCaller codecs cs fs room) e (one_caller law codecs cs fs room d) in
+    let rest = callers_sound law codecs (cs ++ c.caller ∷ []) c.files c.room ds (caller_kept codecs cs fs room c t o) in
+    IfOk-weaker (callers_of codecs (cs ++ c.caller ∷ []) c.files c.room ds) _ _ (λ r u. record { sound = u.sound; count = omega (arith, length_push cs c.caller, u.count) }) rest)
