@@ -47,29 +47,26 @@ last_of_one (Some units) = (Some units, [], refl, refl)
 
 -- the last answer is that of the last command after all before it, where none of those was refused
 last_more : (id : CoderId) (c : Config) (before xs : List Command) (x : Command) → none_refused_from id c before xs ≡ true → HasLast (answers_from id c before (xs ++ x ∷ [])) (answer_after id c (before ++ xs) x)
-last_more id c before [] x h = rw (append-nil before) (last_of_one (answer_after id c before x))
+last_more id c before [] x h = rw append-nil (last_of_one (answer_after id c before x))
 last_more id c before (y ∷ ys) x h =
     let parts = and_parts (is_some (answer_after id c before y)) (none_refused_from id c (before ++ y ∷ []) ys) h in
     let u = some_is (answer_after id c before y) parts.0 in
-    let rest = last_more id c (before ++ y ∷ []) ys x parts.1 in
+    let rest = rw append_assoc at (last_more id c (before ++ y ∷ []) ys x parts.1) in
     let all = ap (λ o. until_refused o (answers_from id c (before ++ y ∷ []) (ys ++ x ∷ []))) u.1 ∙ ap (λ (l : List (Option (List media.Unit))). Some u.0 ∷ l) rest.2 in
-    (Some u.0, rest.0 ∷ rest.1, all, rest.3 ∙ ap (λ b. answer_after id c b x) (append_assoc before (y ∷ []) ys))
+    (Some u.0, rest.0 ∷ rest.1, all, rest.3)
 
 none_refused_more : (id : CoderId) (c : Config) (before xs : List Command) (x : Command) → none_refused_from id c before xs ≡ true → is_some (answer_after id c (before ++ xs) x) ≡ true → none_refused_from id c before (xs ++ x ∷ []) ≡ true
-none_refused_more id c before [] x h s = let here : is_some (answer_after id c before x) ≡ true = ap (λ b. is_some (answer_after id c b x)) (sym (append-nil before)) ∙ s in rw here refl
+none_refused_more id c before [] x h s = rw (rw append-nil at s) refl
 none_refused_more id c before (y ∷ ys) x h s =
     let parts = and_parts (is_some (answer_after id c before y)) (none_refused_from id c (before ++ y ∷ []) ys) h in
-    let same : is_some (answer_after id c ((before ++ y ∷ []) ++ ys) x) ≡ true = ap (λ b. is_some (answer_after id c b x)) (append_assoc before (y ∷ []) ys) ∙ s in
-    let rest = none_refused_more id c (before ++ y ∷ []) ys x parts.1 same in
-    rw (parts.0, rest) refl
+    rw (parts.0, none_refused_more id c (before ++ y ∷ []) ys x parts.1 (rw append_assoc s)) refl
 
 abbrev more : Command → Given → Given
 more x g = record g { commands = g.commands ++ x ∷ [] }
 
 answer_is : (old : Lent) (before : Given) (x : Command) → WasGiven old before → last_answer (answers_to (more x before)) ≡ answer_after old.id before.config before.commands x
 answer_is old before x at =
-    let last = last_more old.id before.config [] before.commands x at.accepted in
-    rw at.asked (ap last_answer last.2 ∙ last.3)
+    let last = last_more old.id before.config [] before.commands x at.accepted in rw (at.asked, last.2) last.3
 
 -- an end by the answer is the legal one
 pub legal_end : (k : WorkKind) (g : Given) (e : Ended) → EndsBy (answer_to k g) e → ended_of k g (outcome_of e) ≡ Some e
@@ -82,12 +79,11 @@ legal_end k g Ended.NoMemory by = refl
 still : (c : Option AudioDecoderConfig) (end : Ended) (old new : Lent) (before : Given) (x : Command) → EndsCommand old x end new → WasGiven old before → StillAt (labelled_end c end) (Some new) (more x before)
 still c (Ended.Ran units) old new before x ends at =
     let same : new.id ≡ old.id = ap (λ (l : Lent). l.id) ends.same in
-    let answer = ends.answer before.config before.commands at.asked at.meant in
     record {
-      asked = at.asked ∙ ap Some (sym same);
+      asked = rw same at.asked;
       supported = at.supported;
-      meant = subst (λ i. IsAt i before.config (before.commands ++ x ∷ []) new.meaning) (sym same) (ends.goes before.config before.commands at.meant);
-      accepted = rw same (none_refused_more old.id before.config [] before.commands x at.accepted (ap is_some answer));
+      meant = rw same (ends.goes before.config before.commands at.meant);
+      accepted = rw same (none_refused_more old.id before.config [] before.commands x at.accepted (ap is_some (ends.answer before.config before.commands at.asked at.meant)));
     }
 still c end old new before x ends at = tt
 
@@ -111,9 +107,7 @@ answers_labelled c d answer Ended.NoMemory same by = tt
 
 -- after a command that ran, the coder's config is the one that was given last
 setup_after : (end : Ended) (old new : Lent) (before : Given) (x : Command) → EndsCommand old x end new → WasGiven old before → (units : List media.Unit) → end ≡ Ended.Ran units → setup_of new.meaning ≡ decoder_config before.config
-setup_after end old new before x ends at units ran =
-    let goes = subst (λ (e : Ended). StaysAt e old.id before.config (before.commands ++ x ∷ []) new) ran (ends.goes before.config before.commands at.meant) in
-    ap setup_of goes ∙ setup_is before.config _
+setup_after end old new before x ends at units ran = ap setup_of (rw ran at (ends.goes before.config before.commands at.meant)) ∙ setup_is before.config _
 
 -- the items of commands: their kind, and what more is given
 record Commands (w : Work) (x : Command) : Type 0 where
@@ -128,10 +122,9 @@ command_ends w x is old new end e ends by =
       answer = λ before for. (
           let at : WasGiven old before = is.given_is (Some old) before for in
           let d = decoder_config before.config in
-          let same = setup_after end old new before x ends at in
-          let given : EndsBy (last_answer (answers_to (more x before))) end = rw (answer_is old before x at) (ends.answer before.config before.commands at.asked at.meant) in
-          let told = answers_labelled c d (last_answer (answers_to (more x before))) end same given in
-          rw (is.more_is before, is.answer_by (more x before)) (by_wants (EndsBy (labelled_answer d (last_answer (answers_to (more x before))))) (labelled_end c end) e by told tt)
+          let answer = last_answer (answers_to (more x before)) in
+          let told = answers_labelled c d answer end (setup_after end old new before x ends at) (rw (answer_is old before x at) (ends.answer before.config before.commands at.asked at.meant)) in
+          rw (is.more_is before, is.answer_by (more x before)) (by_wants (EndsBy (labelled_answer d answer)) (labelled_end c end) e by told tt)
           );
       still = λ before for. (
           let at : WasGiven old before = is.given_is (Some old) before for in
@@ -160,9 +153,9 @@ configure_ends old new config units none supported serving meant same =
     record {
       answer = λ before at. rw (none, supported) refl;
       still = λ before at. record {
-        asked = serves_asked old.id config serving ∙ ap Some (sym id);
+        asked = rw id (serves_asked old.id config serving);
         supported = supported;
-        meant = subst (λ i. IsAt i config [] new.meaning) (sym id) meant;
+        meant = rw id meant;
         accepted = refl;
       };
       same = ap Some same;
@@ -182,18 +175,17 @@ taken old new x (Err CoderFault.NoMemory) us same takes = record { answer = λ c
 -- the end of a job by its box is the end of the running item
 pub job_ends : (s : State) (job : JobValue) (d : DoneValue) → IsJobOf s job → d.epoch ≡ job.epoch → d.number ≡ job.number → d.kind ≡ kind_of job.work → EndsWork job.coder job.work d.ended d.coder → IsEndOf s d
 job_ends s job d is epoch number kind ends =
-    let given : IsEnd (given_more job.work is.given.before) d = record {
-      legal = rw kind (legal_end (kind_of job.work) (given_more job.work is.given.before) d.ended (ends.answer is.given.before is.given.box));
-      box = ends.still is.given.before is.given.box;
-    } in
     record {
       running = is.running;
       is_running = is.is_running;
       same_epoch = is.same_epoch ∙ sym epoch;
       same_number = is.same_number ∙ sym number;
       same_kind = is.same_kind ∙ sym kind;
-      end = subst (λ (g : Given). IsEnd g d) is.given.more given;
+      end = rw (← is.given.more) (record {
+        legal = rw kind (legal_end (kind_of job.work) (given_more job.work is.given.before) d.ended (ends.answer is.given.before is.given.box));
+        box = ends.still is.given.before is.given.box;
+      });
     }
 
 pub job_answers : (g : Given) (job : JobValue) (e : Ended) (new : Option Lent) → IsJob g job → EndsWork job.coder job.work e new → EndsBy (answer_to (kind_of job.work) g) e
-job_answers g job e new is ends = subst (λ (x : Given). EndsBy (answer_to (kind_of job.work) x) e) is.more (ends.answer is.before is.box)
+job_answers g job e new is ends = rw (← is.more) (ends.answer is.before is.box)

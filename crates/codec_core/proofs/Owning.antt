@@ -46,11 +46,7 @@ turn_act t b h = ap removal_act (closes_is t.control.tasks b h)
 -- ---- one entry more
 
 asked_next : (old new : Codec) (e : Entry) (a : Act) → Makes old new e → act_of e (state_at old) ≡ a → asked_of new ≡ (asked_by a (length old.history) (asked_in (acts_of old.opening old.history))).since
-asked_next old new e a makes act =
-    ap (λ (o : Opening). asked_at o new.history) makes.same_opening
-    ∙ (ap (asked_at old.opening) makes.longer
-    ∙ (asked_more old.opening old.history (state_at old) e (legal_before old new e makes)
-    ∙ ap (λ (x : Act). (asked_by x (length old.history) (asked_in (acts_of old.opening old.history))).since) act))
+asked_next old new e a makes act = rw (makes.same_opening, makes.longer, asked_more old.opening old.history (state_at old) e (legal_before old new e makes), act) refl
 
 known : (old new : Codec) (e : Entry) → Makes old new e → IsAsked 0 (length old.history) (state_at old) (asked_in (acts_of old.opening old.history)) (stays 0 0 false (acts_of old.opening old.history) Kept)
 known old new e makes = asked_is 0 old.opening old.history (state_at old) (legal_before old new e makes)
@@ -68,7 +64,7 @@ asked_stays {old = old} {new = new} {e = e} b makes act = λ runs.
 -- the box at home after a removal, or an entry that lets no box go
 own_removal : (old new : Codec) (e : Entry) (stays : Bool) → Makes old new e → act_of e (state_at old) ≡ removal_act (not stays) → IsAskedAt (asked_of old) old.slot → IsAskedAt (asked_of new) (kept_box stays old.slot)
 own_removal old new e false makes act own = tt
-own_removal old new e true makes act own = subst (λ (at : Option ℕ). IsAskedAt at old.slot) (sym (asked_next old new e Other makes act)) own
+own_removal old new e true makes act own = rw (asked_next old new e Other makes act) own
 
 place_of : (c : By) (at : Option ℕ) → IsBy c at → (p : ℕ) × (at ≡ Some p) × IsBy c (Some p)
 place_of (By.Codec codec place) at h = (place, h, refl)
@@ -79,7 +75,7 @@ back_by : (old new : Codec) (e : Entry) (lent : Lent) → Makes old new e → Le
 back_by old new e lent makes goes own =
     let at = place_of lent.by (asked_of old) own in
     let back = lets_now old.opening old.history (state_at old) (state_at new) e at.0 (legal_before old new e makes) makes.steps at.1 goes in
-    (at.0, at.2, ap (λ (o : Opening). lets o new.history at.0) makes.same_opening ∙ (ap (λ (h : List Entry). lets old.opening h at.0) makes.longer ∙ back))
+    (at.0, at.2, rw (makes.same_opening, makes.longer) back)
 
 none_idle : (slot : Option Lent) (o : Option Running) → ((r : Running) → o ≡ Some r → slot ≡ None) → is_some slot ≡ true → is_some o ≡ false
 none_idle slot None home some = refl
@@ -95,7 +91,7 @@ own_stopped at None own = tt
 own_stopped at (Some lent) own = own
 
 pub job_same : (at : Option ℕ) (a b : Option Lent) → stopped_box b ≡ stopped_box a → IsAskedAt at a → IsAskedAt at b
-job_same at a b is own = own_stopped at b (subst (IsAskedAt at) (sym is) (stopped_own at a own))
+job_same at a b is own = own_stopped at b (rw is (stopped_own at a own))
 
 back_box : (old new : Codec) (e : Entry) (slot : Option Lent) → Makes old new e → (is_some slot ≡ true → LetsGo (act_of e (state_at old)) (state_at old)) → IsAskedAt (asked_of old) slot → GoesBack new (length old.history) slot
 back_box old new e None makes goes own = tt
@@ -113,20 +109,17 @@ pub record AtHome (c : Codec) : Type 0 where
   pub own : IsAskedAt (asked_of c) c.slot
   pub out : (r : Running) → (state_at c).control.running ≡ Some r → c.slot ≡ None
 
-back_at : (new : Codec) (at n : ℕ) (x y : Option Lent) → at ≡ n → x ≡ y → GoesBack new n y → GoesBack new at x
-back_at new at n x y is same back = rw (is, same) back
-
 -- what a removal, or an entry that lets no box go, hands back
 pub back_removal : (old new : Codec) (e : Entry) (stays : Bool) (at : ℕ) (coder : Option Lent) → Makes old new e → act_of e (state_at old) ≡ removal_act (not stays) → AtHome old → at ≡ length old.history → coder ≡ handed_back stays old.slot → GoesBack new at coder
-back_removal old new e stays at coder makes act home is same = back_at new at (length old.history) coder (handed_back stays old.slot) is same (by stays act)
+back_removal old new e stays at coder makes act home is same = rw (is, same) (by stays act)
   where
     by : (stays : Bool) → act_of e (state_at old) ≡ removal_act (not stays) → GoesBack new (length old.history) (handed_back stays old.slot)
-    by false act = back_stopped old new e old.slot makes (λ some. subst (λ (a : Act). LetsGo a (state_at old)) (sym act) (none_idle old.slot (state_at old).control.running home.out some)) home.own
+    by false act = back_stopped old new e old.slot makes (λ some. rw act (none_idle old.slot (state_at old).control.running home.out some)) home.own
     by true act = tt
 
 back_if : (new : Codec) (b : Bool) (at : ℕ) (coder : Option Lent) (x : Option RemovedValue) → x ≡ removed_if b at coder → GoesBack new at coder → IfSome x (λ r. GoesBack new r.place r.coder)
-back_if new true at coder x is back = subst (λ (o : Option RemovedValue). IfSome o (λ r. GoesBack new r.place r.coder)) (sym is) back
-back_if new false at coder x is back = subst (λ (o : Option RemovedValue). IfSome o (λ r. GoesBack new r.place r.coder)) (sym is) tt
+back_if new true at coder x is back = rw is back
+back_if new false at coder x is back = rw is tt
 
 pub back_turn : (old new : Codec) (b : Bool) (at : ℕ) (coder : Option Lent) (x : Option RemovedValue) → Makes old new Entry.Turn → turn_closes (state_at old).control.tasks ≡ Some b → AtHome old → at ≡ length old.history
     → coder ≡ handed_back (not b) old.slot → x ≡ removed_if b at coder → IfSome x (λ r. GoesBack new r.place r.coder)
@@ -141,13 +134,10 @@ module _ {t : TraceValue} {slot : Option Lent} {k : Control} {spare : ℕ} (is :
 
   -- the control state of the codec that is seen
   pub control_at : {v : Codec} → seen ≡ v → (state_at v).control ≡ k
-  control_at same = ap (λ (v : Codec). (state_at v).control) (sym same) ∙ (ap (λ (s : State). s.control) (state_is is.kept spare) ∙ is.kept.is_control)
+  control_at same = rw (← same, state_is is.kept spare) is.kept.is_control
 
   pub at_home : {v : Codec} → seen ≡ v → AtHome v
-  at_home same = subst AtHome same (record {
-    own = is.own;
-    out = λ r e. is.kept.home.out r (ap (λ (s : State). s.control.running) (sym (state_is is.kept spare)) ∙ e);
-  })
+  at_home same = rw (← same) (record { own = is.own; out = λ r e. is.kept.home.out r (rw (state_is is.kept spare) at e) })
 
 -- the box at home after an entry that moves the history on
 pub own_more : {h : List Entry} {slot next : Option Lent} {k k' : Control} {e : Entry} (kept : IsKept h slot k) (stays : Bool) → Moved next e kept.state k' → act_of e kept.state ≡ removal_act (not stays) → next ≡ kept_box stays slot
@@ -156,7 +146,7 @@ own_more {h = h} {slot = slot} {next = next} {k = k} {k' = k'} {e = e} kept stay
     let old : Codec = record { opening = k.opening; history = h; spare = 0; slot = slot } in
     let new : Codec = record { opening = k'.opening; history = h ++ e ∷ []; spare = 0; slot = next } in
     let here = ap (act_of e) (state_is kept 0) ∙ act in
-    subst (IsAskedAt (asked_of new)) (sym is) (own_removal old new e stays (makes_more kept moved 0 0) here own)
+    rw is (own_removal old new e stays (makes_more kept moved 0 0) here own)
 
 -- ---- a start
 
@@ -170,31 +160,26 @@ pub own_start : (old new : Codec) (job : JobValue) → Makes old new (Entry.Star
 own_start old new job makes lacks place coder own =
     let e = Entry.Start job.epoch job.number in
     let since = since_start (missing_id job) (length old.history) (asked_in (acts_of old.opening old.history)) (asked_of new) (asked_next old new e (start_act (missing_id job)) makes (ap start_act (sym lacks))) in
-    record {
-      asks = λ some. since.0 some ∙ ap (λ (n : ℕ). Some n) (sym place);
-      has = λ none. subst (λ (at : Option ℕ). IsAskedAt at job.coder) (sym (since.1 none)) (subst (IsAskedAt (asked_of old)) (sym coder) own);
-    }
+    record { asks = λ some. rw place (since.0 some); has = λ none. rw (since.1 none, coder) own }
 
 goes_start : (o : Option CoderId) (t : State) (a : Act) → a ≡ start_act o → is_some o ≡ true → LetsGo a t
 goes_start None t a is some = absurd cc
-goes_start (Some id) t a is some = subst (λ (x : Act). LetsGo x t) (sym is) tt
+goes_start (Some id) t a is some = rw is tt
 
 pub back_start : (old new : Codec) (job : JobValue) → Makes old new (Entry.Start job.epoch job.number) → missing_id job ≡ lacking (state_at old).given (start_item (state_at old).control)
     → job.place ≡ length old.history → job.coder ≡ old.slot → IsAskedAt (asked_of old) old.slot → is_some (missing_id job) ≡ true → GoesBack new job.place job.coder
 back_start old new job makes lacks place coder own = λ some.
     let goes = goes_start (missing_id job) (state_at old) (act_of (Entry.Start job.epoch job.number) (state_at old)) (ap start_act (sym lacks)) some in
-    back_at new job.place (length old.history) job.coder old.slot place coder (back_box old new (Entry.Start job.epoch job.number) old.slot makes (λ _. goes) own)
+    rw (place, coder) (back_box old new (Entry.Start job.epoch job.number) old.slot makes (λ _. goes) own)
 
 -- ---- an end
 
 old_is : (s : State) (d : DoneValue) (b : Bool) → IsEndOf s d → eqb d.epoch s.control.epoch ≡ b → is_old s.control.running s.control.epoch ≡ not b
-old_is s d b end is =
-    ap (λ (o : Option Running). is_old o s.control.epoch) end.is_running
-    ∙ (ap (λ (n : ℕ). not (eqb n s.control.epoch)) end.same_epoch ∙ ap not is)
+old_is s d b end is = rw (end.is_running, end.same_epoch, is) refl
 
 pub back_done : (old new : Codec) (d : DoneValue) (moment : ℕ) (b : Bool) (at : ℕ) (coder : Option Lent) → Makes old new (Entry.Done d.epoch d.number moment (outcome_of d.ended)) → IsEndOf (state_at old) d → eqb d.epoch (state_at old).control.epoch ≡ b
     → IsAskedAt (asked_of old) d.coder → at ≡ length old.history → coder ≡ handed_back b d.coder → GoesBack new at coder
-back_done old new d moment b at coder makes end is own place same = back_at new at (length old.history) coder (handed_back b d.coder) place same (by b is)
+back_done old new d moment b at coder makes end is own place same = rw (place, same) (by b is)
   where
     by : (b : Bool) → eqb d.epoch (state_at old).control.epoch ≡ b → GoesBack new (length old.history) (handed_back b d.coder)
     by true is = tt
@@ -207,5 +192,4 @@ own_done old new d moment true makes end is own =
     let e = Entry.Done d.epoch d.number moment (outcome_of d.ended) in
     let x = asked_in (acts_of old.opening old.history) in
     let fresh : x.old ≡ false = (known old new e makes).old ∙ old_is (state_at old) d true end is in
-    let since = asked_next old new e Ends makes refl ∙ ap (λ (q : Bool). cond q None x.since) fresh in
-    subst (λ (at : Option ℕ). IsAskedAt at d.coder) (sym since) own
+    rw (asked_next old new e Ends makes refl, fresh) own

@@ -1,9 +1,8 @@
 -- How promises stand after further ends.
-use Rattle.std.proofs.Common.{ℕ, ◌≡◌, ◌≢◌, ◌+◌, ◌<◌, true, false, eqb, eq-eqb, cond, List, [], ◌∷◌, ◌++◌, length, length-append, map, get_or, set, append_assoc, append-nil, Option, Some, None, refl, ap, sym, ◌∙◌, arith, inl, inr}
+use Rattle.std.proofs.Common.{ℕ, zero, suc, ◌≡◌, ◌≢◌, ◌+◌, ◌<◌, true, false, eqb, eq-eqb, cond, List, [], ◌∷◌, ◌++◌, length, map, get_or, set, append_assoc, append-nil, Option, Some, None, refl, ap, sym, ◌∙◌, inl, inr}
 use Rattle.std.specs.List.{AllByRecursion, All}
-use Rattle.std.proofs.lemmas.Bool.{cases_eq, cases_lt}
-use Rattle.std.proofs.lemmas.Bool.Decides.{nat_tests}
-use Rattle.std.proofs.lemmas.List.{get_or-set_same, get_or-set_other, get_or_append_left, get_or_push, get_or_past}
+use Rattle.std.proofs.lemmas.Bool.{cases_eq, ne_eqb}
+use Rattle.std.proofs.lemmas.List.{get_or-set_same, get_or-set_other}
 use Rattle.std.proofs.lemmas.List.Elements.{All-from_recursion}
 use Rattle.wc_base.specs.declared.error.DomError.{DomError}
 use Rattle.codec_definitions.specs.declared.unit.Unit as media
@@ -33,47 +32,33 @@ first_counts (x ∷ xs) e p = elim (eqb x.promise p) as (λ b. cond b (promise_e
   | false ↦ first_counts xs e p
 ]
 
-own_end : (p : ℕ) (error : Option DomError) → promise_state (record { promise = p; error = error } ∷ []) p ≡ promise_ended error
-own_end p error = rw (eq-eqb p p refl) refl
-
-other_end : (p q : ℕ) (error : Option DomError) → p ≢ q → promise_state (record { promise = p; error = error } ∷ []) q ≡ PromiseState.Pending
-other_end p q error other = let apart : eqb p q ≡ false = grind (arith, nat_tests, other) in rw apart refl
-
 -- ---- the table of states
 
 -- one more end is of this promise alone
 more_ends : (states next : List PromiseState) (ends : List PromiseEnd) (p : ℕ) (error : Option DomError) → get_or next p PromiseState.Pending ≡ or_later (get_or states p PromiseState.Pending) (promise_ended error) → ((q : ℕ) → q ≢ p → get_or next q PromiseState.Pending ≡ get_or states q PromiseState.Pending) → AreStates states ends → AreStates next (ends ++ record { promise = p; error = error } ∷ [])
 more_ends states next ends p error own others h = record {
-  each = λ q. elim (cases_eq q p) [
-    | inl same ↦
-        rw same (own ∙ (ap (λ s. or_later s (promise_ended error)) (h.each p) ∙ sym (first_counts ends (record { promise = p; error = error }) p ∙ ap (or_later (promise_state ends p)) (own_end p error))))
-    | inr other ↦
-        others q other ∙ (h.each q ∙ sym (first_counts ends (record { promise = p; error = error }) q ∙ (ap (or_later (promise_state ends q)) (other_end p q error (λ e. other (sym e))) ∙ no_later (promise_state ends q))))
-  ];
+  each = λ q. rw first_counts (elim (cases_eq q p) [
+    | inl same ↦ rw (same, eq-eqb p p refl, ← h.each p) own
+    | inr other ↦ rw (ne_eqb p q (λ e. other (sym e)), no_later) (others q other ∙ h.each q)
+  ]);
 }
 
 pub end_set : (states : List PromiseState) (ends : List PromiseEnd) (p : ℕ) (error : Option DomError) → p < length states → get_or states p PromiseState.Pending ≡ PromiseState.Pending → AreStates states ends → AreStates (set states p (promise_ended error)) (ends ++ record { promise = p; error = error } ∷ [])
-end_set states ends p error low pending = more_ends states (set states p (promise_ended error)) ends p error (get_or-set_same states p (promise_ended error) PromiseState.Pending low ∙ sym (ap (λ s. or_later s (promise_ended error)) pending)) (λ q other. get_or-set_other states p q (promise_ended error) PromiseState.Pending other)
+end_set states ends p error low pending = more_ends states (set states p (promise_ended error)) ends p error (rw (pending, get_or-set_same states p (promise_ended error) PromiseState.Pending low) refl) (λ q other. get_or-set_other states p q (promise_ended error) PromiseState.Pending other)
 
 -- a promise that has ended stays as it is
-pub resolved_kept : (states : List PromiseState) (ends : List PromiseEnd) (p : ℕ) (error : Option DomError) → get_or states p PromiseState.Pending ≡ PromiseState.Resolved → AreStates states ends → AreStates states (ends ++ record { promise = p; error = error } ∷ [])
-resolved_kept states ends p error is = more_ends states states ends p error (is ∙ sym (ap (λ s. or_later s (promise_ended error)) is)) (λ q other. refl)
-
-pub rejected_kept : (states : List PromiseState) (ends : List PromiseEnd) (p : ℕ) (error : Option DomError) (x : DomError) → get_or states p PromiseState.Pending ≡ PromiseState.Rejected x → AreStates states ends → AreStates states (ends ++ record { promise = p; error = error } ∷ [])
-rejected_kept states ends p error x is = more_ends states states ends p error (is ∙ sym (ap (λ s. or_later s (promise_ended error)) is)) (λ q other. refl)
+pub ended_kept : (states : List PromiseState) (ends : List PromiseEnd) (p : ℕ) (error : Option DomError) → get_or states p PromiseState.Pending ≡ or_later (get_or states p PromiseState.Pending) (promise_ended error) → AreStates states ends → AreStates states (ends ++ record { promise = p; error = error } ∷ [])
+ended_kept states ends p error is = more_ends states states ends p error is (λ q other. refl)
 
 -- one more entry has a promise that is pending
 pub one_pending : (states : List PromiseState) (ends : List PromiseEnd) → AreStates states ends → AreStates (states ++ PromiseState.Pending ∷ []) ends
 one_pending states ends h = record { each = λ p. same states p ∙ h.each p }
   where
     same : (xs : List PromiseState) (p : ℕ) → get_or (xs ++ PromiseState.Pending ∷ []) p PromiseState.Pending ≡ get_or xs p PromiseState.Pending
-    same xs p = elim (cases_lt p (length xs)) [
-      | inl low ↦ get_or_append_left xs (PromiseState.Pending ∷ []) PromiseState.Pending p low
-      | inr high ↦ elim (cases_eq (length xs) p) [
-        | inl last ↦ get_or_push xs PromiseState.Pending PromiseState.Pending p last ∙ sym (get_or_past xs p PromiseState.Pending high)
-        | inr past ↦ get_or_past (xs ++ PromiseState.Pending ∷ []) p PromiseState.Pending (let long = length-append xs (PromiseState.Pending ∷ []) in grind (arith, long, high, past)) ∙ sym (get_or_past xs p PromiseState.Pending high)
-      ]
-    ]
+    same [] zero = refl
+    same [] (suc p) = refl
+    same (x ∷ xs) zero = refl
+    same (x ∷ xs) (suc p) = same xs p
 
 -- ---- the ends that entries show
 
@@ -87,7 +72,7 @@ rejection_ends error (p ∷ ps) = ap (λ es. rejected error p ∷ es) (rejection
 
 -- with an error call after them
 pub close_ends : (error : DomError) (ps : List ℕ) → ends_of (rejections error ps ++ Event.ErrorCall error ∷ []) ≡ map (rejected error) ps
-close_ends error ps = ends_append (rejections error ps) (Event.ErrorCall error ∷ []) ∙ (append-nil (ends_of (rejections error ps)) ∙ rejection_ends error ps)
+close_ends error ps = rw (ends_append, append-nil) (rejection_ends error ps)
 
 output_ends : (n : ℕ) (us : List media.Unit) → ends_of (outputs_from n us) ≡ []
 output_ends n [] = refl
@@ -95,7 +80,7 @@ output_ends n (u ∷ us) = output_ends (n + 1) us
 
 pub task_ends : (t : Task) (n : ℕ) → ends_of (task_shows t n []) ≡ resolved_by t
 task_ends (Task.Output us) n = output_ends n us
-task_ends (Task.Flushed p us) n = ends_append (outputs_from n us) (Event.Resolve p ∷ []) ∙ rw (output_ends n us) refl
+task_ends (Task.Flushed p us) n = rw (ends_append, output_ends n us) refl
 task_ends t n = refl
 
 below_at : (error : DomError) (n : ℕ) (ps : List ℕ) → AllByRecursion (λ (e : PromiseEnd). e.promise < n) (map (rejected error) ps) → AllByRecursion (λ p. p < n) ps

@@ -96,9 +96,7 @@ core_taken {t = t} {k = k} {k' = k'} {spare = spare} is free who n may after m p
 -- the output that is taken is the one with its number
 pub taken_is : {t : TraceValue} {slot : Option Lent} {k : Control} {spare : ℕ} (is : IsCore t slot k spare) (n : ℕ) (u : media.Unit) → n ≡ k.taken → front t.waiting ≡ Some u → slice_get (outputs_of (shown k.opening t.entries)) n ≡ Some u
 taken_is {t = t} {k = k} is n u same found =
-    let here = ap (λ xs. slice_get (units_shown xs) n) is.shows in
-    ap (λ us. slice_get us n) (outputs_shown k.opening t.entries)
-    ∙ (sym here ∙ (ap (slice_get (units_shown t.shown)) same ∙ (sym (front_drop k.taken (units_shown t.shown)) ∙ (ap front (sym is.outputs.others) ∙ found))))
+    rw (outputs_shown k.opening t.entries, ← is.shows, same, ← front_drop k.taken (units_shown t.shown), ← is.outputs.others) found
 
 pub next_fits : {t : TraceValue} {slot : Option Lent} {k : Control} {spare : ℕ} → IsCore t slot k spare → k.place + 1 < 2 ^ 64
 next_fits is = omega (arith, is.fits, is.kept.is_place)
@@ -114,7 +112,7 @@ higher n m [] le h = tt
 higher n m (e ∷ es) le h = (omega (arith, h.0, le), higher n m es le h.1)
 
 pub removal_below : (o : Option DomError) (k : Control) → NamesEarlier k → EndsBelow k.place (removal_shows o k.pending)
-removal_below None k names = rw (← append-nil (removal_shows None k.pending)) (rejected_below Abort k.place k.pending [] tt (pending_below k names))
+removal_below None k names = rw append-nil at (rejected_below Abort k.place k.pending [] tt (pending_below k names))
 removal_below (Some error) k names = tt
 
 pub close_below : (error : DomError) (k : Control) → NamesEarlier k → EndsBelow k.place (close_shows error k.pending)

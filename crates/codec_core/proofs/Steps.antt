@@ -130,20 +130,6 @@ can_start c i h = let k = cond_is (may_start c) (front c.work) i h in (k.0, fron
 starts : (s : State) (i : Item) (can : CanStart s.control i) → step (Entry.Start s.control.epoch i.number) s ≡ Some (begun (i ∷ drop 1 s.control.work) i s)
 starts s i can = start_made i (drop 1 s.control.work) s.control.epoch i.number s can.1 (rw (can.0, eq-eqb s.control.epoch s.control.epoch refl, eq-eqb i.number i.number refl) refl)
 
-start_moved : (s : State) (i : Item) → CanStart s.control i → Moved None (Entry.Start s.control.epoch i.number) s (after_start s.control)
-start_moved s i can =
-    let t = begun (i ∷ drop 1 s.control.work) i s in
-    let out : Running = record { epoch = s.control.epoch; number = i.number; place = i.place; kind = kind_of i.work } in
-    let is_out : (r : Running) → Some out ≡ Some r → out.epoch ≡ r.epoch = λ r e. ap (λ (x : Running). x.epoch) (some_same out r e) in
-    let after : after_start s.control ≡ t.control = rw (can.0, can.1) refl in
-    subst (Moved None (Entry.Start s.control.epoch i.number) s) (sym after) (moved_to t (rest_of t.control) refl (starts s i can) (record {
-      home = record { idle = λ r e. absurd cc; out = λ r e. refl; busy = λ r e o. refl; stale = λ r e l. absurd (omega (arith, is_out r e)); older = λ r e. omega (arith, is_out r e) };
-      next_place = refl;
-      same_opening = refl;
-      taken = λ none. refl;
-      kept_place = omega arith;
-    }))
-
 -- the box at home of an idle codec was given all that was given
 home_idle : (s : State) (slot : Option Lent) → may_start s.control ≡ true → CoderHome slot s → CoderAt slot s.given
 home_idle s slot may home =
@@ -264,14 +250,6 @@ abbrev pub removal_of : Option DomError → Removal → Control → Control
 removal_of None r s = after_removal r (at_next_place s)
 removal_of (Some error) r s = at_next_place s
 
-removal_moved : (slot : Option Lent) (who : Who) (r : Removal) (s : State) (error : Option DomError) → removal_error s.control ≡ error → CoderHome slot s → Moved (kept_box (is_some error) slot) (removal_entry who r) s (removal_of error r s.control)
-removal_moved slot who r s error e home = by r error e ((removal_is who r s).steps ∙ ap (λ (o : Option DomError). Some (remove_or_refuse o r s)) e)
-  where
-    by : (r : Removal) (o : Option DomError) → removal_error s.control ≡ o → step (removal_entry who r) s ≡ Some (remove_or_refuse o r s) → Moved (kept_box (is_some o) slot) (removal_entry who r) s (removal_of o r s.control)
-    by Removal.Reset None e steps = removed_moved slot (Entry.Reset who) s _ Unconfigured refl (omega (arith, open_phase true s.control.phase e)) steps home
-    by Removal.Close None e steps = removed_moved slot (Entry.Close who) s _ Closed refl (omega arith) steps home
-    by r (Some error) e steps = next_moved slot (removal_entry who r) s steps home
-
 reclaimed_phase : (p : CodecState) (b : Bool) → elim p as (λ _. Bool) [ Unconfigured ↦ false | Configured ↦ b | Closed ↦ false ] ≡ true → reclaims p ≡ 1
 reclaimed_phase Configured b e = refl
 reclaimed_phase p b e = absurd cc
@@ -311,7 +289,20 @@ module _ {h : List Entry} {slot : Option Lent} {k : Control} (kept : IsKept h sl
   idle_here i item = home_idle kept.state slot (can_here i item).0 kept.home
 
   pub start_moves : {k' : Control} (i : Item) → start_item k ≡ Some i → k' ≡ after_start k → Moved None (Entry.Start k.epoch i.number) kept.state k'
-  start_moves i item after = let m = start_moved kept.state i (can_here i item) in rw (after, ← kept.is_control) m
+  start_moves i item after =
+      let s = kept.state in
+      let can = can_here i item in
+      let t = begun (i ∷ drop 1 s.control.work) i s in
+      let out : Running = record { epoch = s.control.epoch; number = i.number; place = i.place; kind = kind_of i.work } in
+      let is_out : (r : Running) → Some out ≡ Some r → out.epoch ≡ r.epoch = λ r e. ap (λ (x : Running). x.epoch) (some_same out r e) in
+      let is : after_start s.control ≡ t.control = rw (can.0, can.1) refl in
+      rw (after, ← kept.is_control, is) (moved_to t (rest_of t.control) refl (starts s i can) (record {
+        home = record { idle = λ r e. absurd cc; out = λ r e. refl; busy = λ r e o. refl; stale = λ r e l. absurd (omega (arith, is_out r e)); older = λ r e. omega (arith, is_out r e) };
+        next_place = refl;
+        same_opening = refl;
+        taken = λ none. refl;
+        kept_place = omega arith;
+      }))
 
   pub start_lacks : (i : Item) → start_item k ≡ Some i → missing_for i.work slot ≡ missing_coder kept.state.given i.work
   start_lacks i item = lacks_at i.work slot kept.state.given (idle_here i item)
@@ -319,18 +310,15 @@ module _ {h : List Entry} {slot : Option Lent} {k : Control} (kept : IsKept h sl
   pub start_job : (i : Item) (t : State) (at : ℕ) → start_item k ≡ Some i → step (Entry.Start k.epoch i.number) kept.state ≡ Some t → IsJobOf t (record { epoch = k.epoch; number = i.number; place = at; work = i.work; coder = slot })
   start_job i t at item steps =
       let s = kept.state in
-      let can = can_here i item in
-      let moved : step (Entry.Start s.control.epoch i.number) s ≡ Some t = subst (λ (c : Control). step (Entry.Start c.epoch i.number) s ≡ Some t) (sym kept.is_control) steps in
-      let job : Control → JobValue = λ c. record { epoch = c.epoch; number = i.number; place = at; work = i.work; coder = slot } in
-      let there : IsJobOf (begun (i ∷ drop 1 s.control.work) i s) (job s.control) = record {
+      let same = some_same (begun (i ∷ drop 1 s.control.work) i s) t (sym (starts s i (can_here i item)) ∙ rw (← kept.is_control) at steps) in
+      rw (← same, ← kept.is_control) (record {
         running = record { epoch = s.control.epoch; number = i.number; place = i.place; kind = kind_of i.work };
         is_running = refl;
         same_epoch = refl;
         same_number = refl;
         same_kind = refl;
         given = record { before = s.given; more = refl; box = coder_for i.work slot s.given (idle_here i item) };
-      } in
-      subst (λ (c : Control). IsJobOf t (job c)) kept.is_control (subst (λ (x : State). IsJobOf x (job s.control)) (some_same _ t (sym (starts s i can) ∙ moved)) there)
+      })
 
   pub done_moves : {next : Option Lent} {k' : Control} (d : DoneValue) (moment spare : ℕ) → IsEndOf (state_at (record { opening = k.opening; history = h; spare = spare; slot = slot })) d → next ≡ kept_box (eqb d.epoch k.epoch) d.coder → k' ≡ after_done d.ended moment k → Moved next (Entry.Done d.epoch d.number moment (outcome_of d.ended)) kept.state k'
   done_moves {next = next} d moment spare end slot_is after =
@@ -364,8 +352,12 @@ module _ {h : List Entry} {slot : Option Lent} {k : Control} (kept : IsKept h sl
       rw (after, ← kept.is_control) (moved_by slot (Entry.Take who n) s (after_take (at_next_place s.control)) s.control.phase (s.control.taken + 1) refl (omega arith) (λ none. absurd cc) (rw here refl) kept.home)
 
   pub removal_moves : {next : Option Lent} {k' : Control} (who : Who) (r : Removal) → next ≡ kept_box (is_some (removal_error k)) slot → k' ≡ removal_of (removal_error k) r k → Moved next (removal_entry who r) kept.state k'
-  removal_moves who r slot_is after =
-      rw (slot_is, after, ← kept.is_control) (removal_moved slot who r kept.state (removal_error kept.state.control) refl kept.home)
+  removal_moves who r slot_is after = rw (slot_is, after, ← kept.is_control) (by r (removal_error kept.state.control) refl (removal_is who r kept.state).steps)
+    where
+      by : (r : Removal) (o : Option DomError) → removal_error kept.state.control ≡ o → step (removal_entry who r) kept.state ≡ Some (remove_or_refuse o r kept.state) → Moved (kept_box (is_some o) slot) (removal_entry who r) kept.state (removal_of o r kept.state.control)
+      by Removal.Reset None e steps = removed_moved slot (Entry.Reset who) kept.state _ Unconfigured refl (omega (arith, open_phase true kept.state.control.phase e)) steps kept.home
+      by Removal.Close None e steps = removed_moved slot (Entry.Close who) kept.state _ Closed refl (omega arith) steps kept.home
+      by r (Some error) e steps = next_moved slot (removal_entry who r) kept.state steps kept.home
 
   pub reclaim_moves : {k' : Control} (now : ℕ) → may_reclaim now k ≡ true → k' ≡ after_close (at_next_place k) → Moved None (Entry.Reclaim now) kept.state k'
   reclaim_moves now may after =

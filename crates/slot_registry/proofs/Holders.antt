@@ -1,26 +1,17 @@
 -- Who holds a box after one more entry.
-use Rattle.std.proofs.Common.{ℕ, ◌≡◌, Bool, true, false, cond, Option, Some, None, is_some, refl, ap, sym, ◌∙◌}
+use Rattle.std.proofs.Common.{ℕ, ◌≡◌, true, false, Option, Some, None, is_some, refl, ap}
 use Rattle.std.proofs.lemmas.Bool.{false_from_ne_true}
 use Rattle.wc_base.specs.declared.who.By.{By}
 use Rattle.wc_config.specs.declared.codec.CoderId.{CoderId}
-use Rattle.coder_api.specs.{Lent.Lent, declared.slot.SlotEntry.SlotEntry, declared.slot.SlotOp.SlotOp}
-use Rattle.slot_registry.specs.Boxes.{is_box, holder_of, is_out, made_of, out_of, least_free}
+use Rattle.coder_api.specs.Lent.{Lent}
+use Rattle.slot_registry.specs.Boxes.{is_box, is_out, made_of, out_of, least_free}
 use Rattle.slot_registry.specs.Slots.{SlotsValue, recorded, acquired, acquire_op, given_back, IsHeld, KeepsBoxes, KeepsOthers, IsLeastFree}
 use Rattle.slot_registry.proofs.Kept.{box_is}
 use Rattle.slot_registry.specs.{NumberLaws.find_fails, HistoryLaws.holder_more, HistoryLaws.box_same}
 
--- an acquire has the entry of the free box of least number
-pub acquired_at : (s : SlotsValue) (cause : By) (id : CoderId) (number : ℕ) → least_free id s.made s.history ≡ Some number → acquired cause id s ≡ recorded (record { by = cause; op = SlotOp.Acquire id number }) s
-acquired_at s cause id number least = ap (λ (o : Option ℕ). recorded (record { by = cause; op = acquire_op id (out_of id s.made s.history) (made_of id s.made) o }) s) least
-
 -- the box that goes out is held by its cause
 pub acquired_is_held : (s new : SlotsValue) (cause : By) (id : CoderId) (lent : Lent) → IsLeastFree cause id s lent → new ≡ acquired cause id s → IsHeld new lent
-acquired_is_held s new cause id lent least is =
-    let e : SlotEntry = record { by = cause; op = SlotOp.Acquire id lent.number } in
-    let after : SlotsValue = recorded e s in
-    let op : new ≡ after = is ∙ acquired_at s cause id lent.number least.number in
-    let here : holder_of id lent.number after.history ≡ Some cause = holder_more id lent.number s.history e ∙ ap (λ (b : Bool). cond b (Some cause) (holder_of id lent.number s.history)) (box_same id lent.number) in
-    ap (λ (v : SlotsValue). holder_of lent.id lent.number v.history) op ∙ ap (λ (x : CoderId). holder_of x lent.number after.history) least.id ∙ here ∙ ap Some (sym least.by)
+acquired_is_held s new cause id lent least is = rw (is, least.number, least.id, least.by, holder_more, box_same id lent.number) refl
 
 -- a box that is not out is none of those that are held
 free_apart : (s : SlotsValue) (id : CoderId) (number : ℕ) (lent : Lent) → is_out id number s.history ≡ false → IsHeld s lent → is_box lent.id lent.number id number ≡ false
@@ -30,17 +21,13 @@ free_apart s id number lent free held = false_from_ne_true (is_box lent.id lent.
     absurd cc)
 
 op_keeps_boxes : (s : SlotsValue) (cause : By) (id : CoderId) (out all : ℕ) (free : Option ℕ) → least_free id s.made s.history ≡ free → (lent : Lent) → IsHeld s lent → IsHeld (recorded (record { by = cause; op = acquire_op id out all free }) s) lent
-op_keeps_boxes s cause id out all None free lent held = holder_more lent.id lent.number s.history (record { by = cause; op = SlotOp.Refused id out all }) ∙ held
+op_keeps_boxes s cause id out all None free lent held = rw holder_more held
 op_keeps_boxes s cause id out all (Some number) free lent held =
-    let not_out = find_fails (λ m. is_out id m s.history) (made_of id s.made) number free in
-    let apart = free_apart s id number lent not_out held in
-    holder_more lent.id lent.number s.history (record { by = cause; op = SlotOp.Acquire id number }) ∙ ap (λ (b : Bool). cond b (Some cause) (holder_of lent.id lent.number s.history)) apart ∙ held
+    rw (holder_more, free_apart s id number lent (find_fails (λ m. is_out id m s.history) (made_of id s.made) number free) held) held
 
 -- an acquire leaves the boxes that are out with their holders
 pub acquire_keeps_boxes : (cause : By) (id : CoderId) (s : SlotsValue) → KeepsBoxes s (acquired cause id s)
 acquire_keeps_boxes cause id s = record { stay = op_keeps_boxes s cause id (out_of id s.made s.history) (made_of id s.made) (least_free id s.made s.history) refl }
 
 pub give_keeps_others : (s : SlotsValue) (cause : By) (id : CoderId) (number : ℕ) → KeepsOthers s (given_back cause id number s) id number
-give_keeps_others s cause id number = record {
-  stay = λ lent apart held. holder_more lent.id lent.number s.history (record { by = cause; op = SlotOp.Give id number }) ∙ ap (λ (b : Bool). cond b None (holder_of lent.id lent.number s.history)) apart ∙ held;
-}
+give_keeps_others s cause id number = record { stay = λ lent apart held. rw (holder_more, apart) held }

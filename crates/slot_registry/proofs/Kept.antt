@@ -1,16 +1,16 @@
 -- The places stay in step with the history.
-use Rattle.std.proofs.Common.{ℕ, ◌+◌, ◌<◌, ◌≡◌, ◌≢◌, ◌==◌, Bool, true, false, cond, not, List, [], ◌∷◌, ◌++◌, Option, Some, None, take, length, get_or, set, slice_get, ap, sym, subst, ◌∙◌, arith, inl, inr}
+use Rattle.std.proofs.Common.{ℕ, zero, suc, ◌+◌, ◌<◌, ◌≡◌, ◌≢◌, ◌==◌, Bool, true, false, cond, not, List, [], ◌∷◌, ◌++◌, Option, Some, None, take, length, get_or, set, slice_get, ap, sym, ◌∙◌, arith, inl, inr}
 use Rattle.std.specs.List.{count_by}
 use Rattle.std.proofs.lemmas.Bool.{and_parts, eqb-true, false_from_ne_true, cases_order, cases_Bool, cases_eq}
 use Rattle.std.proofs.lemmas.List.{get_or-set_same, get_or-set_other, length-set, length-map}
 use Rattle.std.proofs.lemmas.Option.{slice_get-get_or, slice_get-map, slice_get_within}
-use Rattle.std.proofs.lemmas.List.Sums.{sum_by-set}
+use Rattle.std.proofs.lemmas.List.Sums.{sum_by-set, sum_by-cons, sum_by_push}
 use Rattle.wc_base.specs.declared.who.By.{By}
 use Rattle.wc_config.specs.declared.codec.CoderId.{CoderId}
 use Rattle.coder_api.specs.{declared.slot.SlotEntry.SlotEntry, declared.slot.SlotOp.SlotOp, Meaning.is_id}
 use Rattle.slot_registry.specs.Boxes.{is_box, holder_of, is_out, made_of, out_of, least_free}
-use Rattle.slot_registry.specs.Slots.{SlotsValue, recorded, is_legal_next, is_legal_slots, is_later}
-use Rattle.slot_registry.specs.Places.{Placed, ids_of, is_away, IsInStep, IsKept}
+use Rattle.slot_registry.specs.Slots.{is_legal_next, is_later}
+use Rattle.slot_registry.specs.Places.{Placed, ids_of, is_away, IsKept}
 use Rattle.slot_registry.specs.IdLaws.{id_is, number_made, number_rises, ids_of-set}
 use Rattle.slot_registry.specs.HistoryLaws.{legal_more, goes_out, comes_back, stays_at_acquire, stays_at_give, stays_at_refusal, acquire_is_legal, refusal_is_legal, give_is_legal}
 
@@ -49,60 +49,51 @@ box_apart ids j k number a b apart at_j at_k before = false_from_ne_true (is_box
 pub place_id : (places : List Placed) (j : ℕ) (d : Placed) → j < length places → slice_get (ids_of places) j ≡ Some (get_or places j d).id
 place_id places j d within = slice_get-map (λ (q : Placed). q.id) places j ∙ ap (λ (o : Option Placed). elim o [ Some q ↦ Some q.id | None ↦ None ]) (slice_get-get_or places j d within)
 
-pub place_within : (places : List Placed) (id : CoderId) (k number : ℕ) → IsPlaceOf places id k number → k < length places
-place_within places id k number place = omega (arith, slice_get_within (ids_of places) k id place.at, length-map places (λ (p : Placed). p.id))
+module _ {places : List Placed} {id : CoderId} {k number : ℕ} {p : Placed} (place : IsPlaceOf places id k number) (here : p ≡ get_or places k p) where
+  within : k < length places
+  within = omega (arith, slice_get_within (ids_of places) k id place.at, length-map places (λ (q : Placed). q.id))
 
--- the id of a place is the one that is looked for
-pub same_id : (places : List Placed) (id : CoderId) (k number : ℕ) (p : Placed) → IsPlaceOf places id k number → p ≡ get_or places k p → id ≡ p.id
-same_id places id k number p place here =
-    let at = place_id places k p (place_within places id k number place) in
-    let is = place.at in
-    cc
+  -- the id of a place is the one that is looked for
+  pub same_id : id ≡ p.id
+  same_id = let at = place_id places k p within in let is = place.at in cc
+
+  -- the place has its coder where its box is not out
+  pub home_at : {history : List SlotEntry} → IsKept places history → p.is_home ≡ not (is_out id number history)
+  home_at kept = let at = kept.in_step k p within in let same = same_id in let before = place.before in cc
 
 -- the place of a box that goes out or comes back is written, and the history has the entry
 module _ {places : List Placed} {id : CoderId} {k number : ℕ} {p q : Placed} {home : Bool} (place : IsPlaceOf places id k number) (here : p ≡ get_or places k p) (change : q ≡ record p { is_home = home }) where
   written_id : id ≡ q.id
-  written_id = same_id places id k number p place here ∙ ap (λ (r : Placed). r.id) (sym change)
+  written_id = same_id place here ∙ ap (λ (r : Placed). r.id) (sym change)
 
-  ids_stay : ids_of (set places k q) ≡ ids_of places
+  pub ids_stay : ids_of (set places k q) ≡ ids_of places
   ids_stay = ids_of-set places k q (place.at ∙ ap Some written_id)
-
-  -- the registry's value after it
-  pub value_after : {history new : List SlotEntry} (e : SlotEntry) → new ≡ history ++ e ∷ [] → (s : SlotsValue) → record { made = ids_of places; history = history } ≡ s → record { made = ids_of (set places k q); history = new } ≡ recorded e s
-  value_after {history} {new} e more s view = ap (λ (l : List CoderId). record { made = l; history = new }) ids_stay ∙ ap (λ (h : List SlotEntry). record { made = ids_of places; history = h }) more ∙ ap (recorded e) view
-
-  -- all places are in step with the longer history
-  in_step_after : {history : List SlotEntry} {e : SlotEntry} → IsKept places history → Moves (ids_of places) history id number home e → (j : ℕ) (d : Placed) → j < length places → IsInStep (ids_of places) (history ++ e ∷ []) j (get_or (set places k q) j d)
-  in_step_after {history} {e} kept moves j d within =
-      let P : Placed → Type 0 = λ r. IsInStep (ids_of places) (history ++ e ∷ []) j r in
-      let other = get_or places j d in
-      let box = λ (apart : j ≢ k). box_apart (ids_of places) j k number other.id id apart (place_id places j d within) place.at place.before in
-      elim (cases_eq j k) [ inl same ↦ (let at : get_or (set places k q) j d ≡ q = ap (λ (i : ℕ). get_or (set places k q) i d) same ∙ get_or-set_same places k q d (omega arith) in let Q : ℕ → Type 0 = λ i. IsInStep (ids_of places) (history ++ e ∷ []) i q in subst P (sym at) (subst Q (sym same) this_in_step)) | inr apart ↦ subst P (sym (get_or-set_other places k j q d apart)) (kept.in_step j d within ∙ ap not (sym (moves.others other.id _ (box apart)))) ]
-    where
-      this_in_step : IsInStep (ids_of places) (history ++ e ∷ []) k q
-      this_in_step =
-          let H : CoderId → Type 0 = λ x. q.is_home ≡ not (is_out x (made_of x (take k (ids_of places))) (history ++ e ∷ [])) in
-          subst H written_id (ap (λ (r : Placed). r.is_home) change ∙ moves.this ∙ ap (λ (m : ℕ). not (is_out id m (history ++ e ∷ []))) place.before)
-
-  -- only boxes that were made are out after it
-  made_after : {history : List SlotEntry} {e : SlotEntry} → IsKept places history → Moves (ids_of places) history id number home e → (other : CoderId) (m : ℕ) → is_out other m (history ++ e ∷ []) ≡ true → m < made_of other (ids_of places)
-  made_after {history} {e} kept moves other m out =
-      elim (cases_Bool (is_box other m id number)) [ inl same ↦ (let parts = box_is other id m number same in let P : CoderId → Type 0 = λ x. m < made_of x (ids_of places) in subst P (sym parts.0) (omega (arith, parts.1, place.before, number_made id (ids_of places) k place.at))) | inr apart ↦ kept.made other m (sym (moves.others other m apart) ∙ out) ]
 
   -- the places are in step then
   pub moves_keep : {history new : List SlotEntry} {e : SlotEntry} → new ≡ history ++ e ∷ [] → IsKept places history → Moves (ids_of places) history id number home e → IsKept (set places k q) new
-  moves_keep {history} {new} {e} more kept moves =
-      subst (IsKept (set places k q)) (sym more) (record {
-        in_step = λ j d within.
-            let P : List CoderId → Type 0 = λ ids. IsInStep ids (history ++ e ∷ []) j (get_or (set places k q) j d) in
-            subst P (sym ids_stay) (in_step_after kept moves j d (omega (arith, within, length-set places k q)));
-        made = λ other m out.
-            let P : List CoderId → Type 0 = λ ids. m < made_of other ids in
-            subst P (sym ids_stay) (made_after kept moves other m out);
-        legal =
-            let P : List CoderId → Type 0 = λ ids. is_legal_slots ids (history ++ e ∷ []) ≡ true in
-            subst P (sym ids_stay) (legal_more (ids_of places) history e kept.legal moves.legal);
-      })
+  moves_keep {history} {e = e} more kept moves = rw more (record {
+    in_step = λ j d low.
+        let within_old : j < length places = omega (arith, low, length-set places k q) in
+        let other = (get_or places j d).id in
+        let apart_is = λ (apart : j ≢ k). moves.others other _ (box_apart (ids_of places) j k number other id apart (place_id places j d within_old) place.at place.before) in
+        rw ids_stay (elim (cases_eq j k) [
+          | inl same ↦ rw (same, get_or-set_same places k q d (within place here), ← written_id, ← place.before) (ap (λ (r : Placed). r.is_home) change ∙ moves.this)
+          | inr apart ↦ rw (get_or-set_other places k j q d apart) (kept.in_step j d within_old ∙ ap not (sym (apart_is apart)))
+        ]);
+    made = λ other m out. rw ids_stay (elim (cases_Bool (is_box other m id number)) [
+      | inl same ↦ (let parts = box_is other id m number same in rw (parts.0, parts.1, place.before) (number_made id (ids_of places) k place.at))
+      | inr apart ↦ kept.made other m (sym (moves.others other m apart) ∙ out)
+    ]);
+    legal = rw ids_stay (legal_more (ids_of places) history e kept.legal moves.legal);
+  })
+
+  -- one box less is out once it came back
+  pub away_after : {history : List SlotEntry} → IsKept places history → is_out id number history ≡ true → home ≡ true → count_by is_away (set places k q) + 1 ≡ count_by is_away places
+  away_after kept out back =
+      let away : p.is_home ≡ false = home_at place here kept ∙ ap not out in
+      let home : q.is_home ≡ true = ap (λ (r : Placed). r.is_home) change ∙ back in
+      let change = rw (← here) at (sum_by-set (λ r. cond (is_away r) 1 0) places k q p (within place here)) in
+      grind (arith, change, away, home)
 
 -- a refusal leaves all boxes where they are
 pub refusal_keeps : (places : List Placed) (history : List SlotEntry) (id : CoderId) (all : ℕ) (cause : By) → IsKept places history → out_of id (ids_of places) history ≡ all → made_of id (ids_of places) ≡ all → IsKept places (history ++ record { by = cause; op = SlotOp.Refused id all all } ∷ [])
@@ -112,8 +103,11 @@ refusal_keeps places history id all cause kept out made = record {
   legal = legal_more (ids_of places) history (record { by = cause; op = SlotOp.Refused id all all }) kept.legal (refusal_is_legal (ids_of places) history cause id all out made);
 }
 
--- one box less is out once it came back
-pub away_falls : (places : List Placed) (k : ℕ) (p : Placed) → k < length places → is_away (get_or places k p) ≡ true → is_away p ≡ false → count_by is_away (set places k p) + 1 ≡ count_by is_away places
-away_falls places k p within old new =
-    let change = sum_by-set (λ q. cond (is_away q) 1 0) places k p p within in
-    grind (arith, change, old, new)
+-- where no coder is out all are at home
+pub all_home : (places : List Placed) (k : ℕ) (d : Placed) → count_by is_away places ≡ 0 → k < length places → (get_or places k d).is_home ≡ true
+all_home [] k d none low = absurd (omega (arith, low))
+all_home (p ∷ ps) zero d none low = grind (arith, none, sum_by-cons (λ q. cond (is_away q) 1 0) p ps)
+all_home (p ∷ ps) (suc k) d none low = all_home ps k d (omega (arith, none, sum_by-cons (λ q. cond (is_away q) 1 0) p ps)) (omega (arith, low))
+
+pub none_away : (places : List Placed) (id : CoderId) → count_by is_away places ≡ 0 → count_by is_away (places ++ record { id = id; is_home = true } ∷ []) ≡ 0
+none_away places id none = omega (arith, none, sum_by_push (λ q. cond (is_away q) 1 0) places (record { id = id; is_home = true }))

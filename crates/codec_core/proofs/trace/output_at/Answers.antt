@@ -1,9 +1,8 @@
-use Rattle.std.proofs.Common.{◌≡◌, ◌∙◌, ◌<◌, length, map, slice_get, Some, refl, ap, sym, subst, arith}
-use Rattle.std.specs.Prelude.{Option, option_map, IfOk, IfSome}
+use Rattle.std.proofs.Common.{◌≡◌, ◌∙◌, length, map, slice_get, Some, refl, ap, arith}
+use Rattle.std.specs.Prelude.{option_map}
 use Rattle.std.proofs.lemmas.List.{length-map}
 use Rattle.std.proofs.lemmas.Option.{slice_get-map, slice_get_read}
-use Rattle.codec_definitions.specs.declared.unit.Unit as media
-use Rattle.codec_model.specs.{declared.entry.Showing.Showing, Shown.shown_of, Shown.units_in}
+use Rattle.codec_model.specs.Shown.{shown_of}
 use Rattle.codec_core.proofs.Outputs.{front_at, front_past}
 use Rattle.codec_core.proofs.trace.output_at.Goals as goal
 
@@ -14,11 +13,9 @@ returns-in-Some c =
     let found = c.in-Some.ensures.lookup in
     let here : slice_get xs c.args.entry ≡ Some x = slice_get_read xs (length xs) c.args.entry x refl found.3.0 found.1 in
     let there : slice_get (map shown_of xs) c.args.entry ≡ Some (shown_of x) = slice_get-map shown_of xs c.args.entry ∙ ap (option_map shown_of) here in
-    let within : c.args.unit < length (units_in (shown_of x).events) = subst (λ (o : Option Showing). IfSome o (λ y. c.args.unit < length (units_in (shown_of y).events))) here c.requires in
-    let own = ap (λ us. slice_get us c.args.unit) c.outputs_of.ensures in
-    subst (λ (o : Option media.Unit). IfOk c.copy_at.result (λ u. u ≡ o)) (own ∙ sym (front_at c.args.entry c.args.unit (map shown_of xs) (shown_of x) there within)) c.copy_at.ensures
+    rw (front_at c.args.entry c.args.unit (map shown_of xs) (shown_of x) there (rw here at c.requires), ← c.outputs_of.ensures) c.copy_at.ensures
 
 pub returns-in-None : goal.returns-in-None
 returns-in-None c =
     let past = c.in-None.ensures.lookup.3 in
-    sym (front_past c.args.entry c.args.unit (map shown_of c.args.shown.now) (omega (arith, past, length-map c.args.shown.now shown_of)))
+    rw (front_past c.args.entry c.args.unit (map shown_of c.args.shown.now) (omega (arith, past, length-map c.args.shown.now shown_of))) refl

@@ -25,42 +25,35 @@ abbrev new : (g : Over) (c : goal.After-push g) → Codec
 new g c = record { opening = c.done.new.self.opening; history = c.self.inside.trace.entries ++ made_entry g c ∷ []; spare = c.self.inside.spare; slot = c.hand_back-back.new.slot }
 
 end_is : (g : Over) (c : goal.After-push g) → IsEndOf (state_at (old g c)) (job g c)
-end_is g c = subst (λ (v : Codec). IsEndOf (state_at v) (job g c)) (sym c.self.view_is) (subst (λ (d : DoneValue). IsEndOf (state_at c.args.self.now) d) (sym c.d.view_is) c.requires.end)
+end_is g c = rw (← c.self.view_is, ← c.d.view_is) at c.requires.end
 
 own_is : (g : Over) (c : goal.After-push g) → IsAskedAt (asked_of (old g c)) c.d.inside.coder
-own_is g c = subst (λ (v : Codec). IsAskedAt (asked_of v) c.d.inside.coder) (sym c.self.view_is) (subst (λ (d : DoneValue). IsAskedAt (asked_of c.args.self.now) d.coder) (sym c.d.view_is) c.requires.own)
+own_is g c = rw (← c.self.view_is, ← c.d.view_is) at c.requires.own
 
 current : (g : Over) (c : goal.After-push g) → eqb c.d.inside.epoch (state_at (old g c)).control.epoch ≡ eqb c.d.inside.epoch c.self.inside.machine.epoch
-current g c = ap (λ (k : Control). eqb c.d.inside.epoch k.epoch) (control_at c.self.invariant refl)
+current g c = rw (control_at c.self.invariant refl) refl
 
 left : (g : Over) (c : goal.After-push g) → c.hand_back-back.new.slot ≡ kept_box (eqb c.d.inside.epoch c.self.inside.machine.epoch) c.d.inside.coder
-left g c = c.hand_back-back.ensures.left ∙ ap (λ (n : ℕ). kept_box (eqb c.d.inside.epoch n) c.d.inside.coder) c.epoch.ensures
-
-moved : (g : Over) (c : goal.After-push g) → Moved c.hand_back-back.new.slot (made_entry g c) c.self.invariant.kept.state c.done.new.self
-moved g c = done_moves c.self.invariant.kept (job g c) c.args.moment c.self.inside.spare (end_is g c) (left g c) c.done.ensures.after
+left g c = rw (← c.epoch.ensures) c.hand_back-back.ensures.left
 
 made : (g : Over) (c : goal.After-push g) → Makes (old g c) (new g c) (made_entry g c)
-made g c = makes_more c.self.invariant.kept (moved g c) c.self.inside.spare c.self.inside.spare
+made g c = makes_more c.self.invariant.kept (done_moves c.self.invariant.kept (job g c) c.args.moment c.self.inside.spare (end_is g c) (left g c) c.done.ensures.after) c.self.inside.spare c.self.inside.spare
 
 pub invariant_of-self : goal.invariant_of-self
 invariant_of-self g c =
+    let m = done_moves c.self.invariant.kept (job g c) c.args.moment c.self.inside.spare (end_is g c) (left g c) c.done.ensures.after in
     rw (c.push.ensures, c.outcome_of_end-outcome.ensures)
-    (core_more c.self.invariant _ c.self.inside.spare _ (moved g c) refl refl (omega (arith, c.done.ensures.left, c.self.invariant.places, place_kept c.self.invariant.kept (moved g c)), c.self.invariant.fits)
-    (subst (IsAskedAt (asked_of (new g c))) (sym (left g c)) (own_done (old g c) (new g c) (job g c) c.args.moment (eqb c.d.inside.epoch c.self.inside.machine.epoch) (made g c) (end_is g c) (current g c) (own_is g c))))
+    (core_more c.self.invariant _ c.self.inside.spare _ m refl refl (omega (arith, c.done.ensures.left, c.self.invariant.places, place_kept c.self.invariant.kept m), c.self.invariant.fits)
+    (rw (left g c) (own_done (old g c) (new g c) (job g c) c.args.moment (eqb c.d.inside.epoch c.self.inside.machine.epoch) (made g c) (end_is g c) (current g c) (own_is g c))))
 
 pub returns-clause-made : goal.returns-clause-made
 returns-clause-made g c =
-    let after : Codec = record { opening = c.done.new.self.opening; history = c.push.new.self.entries; spare = c.self.inside.spare; slot = c.hand_back-back.new.slot } in
-    let here : Makes c.args.self.now after (made_entry g c) = rw (← c.self.view_is, c.push.ensures, c.outcome_of_end-outcome.ensures) (made g c) in
-    subst (λ (d : DoneValue). Makes c.args.self.now after (Entry.Done d.epoch d.number c.args.moment (outcome_of d.ended))) c.d.view_is here
+    rw (← c.d.view_is, ← c.self.view_is, c.push.ensures, c.outcome_of_end-outcome.ensures) (made g c)
 
 pub returns-clause-idle : goal.returns-clause-idle
 returns-clause-idle g c = (act_makes (Entry.Done c.args.d.epoch c.args.d.number c.args.moment (outcome_of c.args.d.ended)) (state_at c.args.self.now) _ (returns-clause-made g c).steps).1
 
-back : (g : Over) (c : goal.After-push g) → c.hand_back-back.result ≡ handed_back (eqb c.d.inside.epoch c.self.inside.machine.epoch) c.d.inside.coder
-back g c = c.hand_back-back.ensures.taken ∙ ap (λ (n : ℕ). handed_back (eqb c.d.inside.epoch n) c.d.inside.coder) c.epoch.ensures
-
 pub returns-clause-lets : goal.returns-clause-lets
 returns-clause-lets g c =
     rw (c.push.ensures, c.outcome_of_end-outcome.ensures)
-    (back_done (old g c) (new g c) (job g c) c.args.moment (eqb c.d.inside.epoch c.self.inside.machine.epoch) _ _ (made g c) (end_is g c) (current g c) (own_is g c) (search rules) (back g c))
+    (back_done (old g c) (new g c) (job g c) c.args.moment (eqb c.d.inside.epoch c.self.inside.machine.epoch) _ _ (made g c) (end_is g c) (current g c) (own_is g c) (search rules) (rw (← c.epoch.ensures) c.hand_back-back.ensures.taken))

@@ -9,14 +9,10 @@ ends : (g : Over) (c : goal.Joined-work g) → EndsWork c.self.inside.coder c.se
 ends g c = ends_or_wants c.self.inside.coder c.work_end-end.new.coder c.self.inside.work c.work_end-end.result c.with_label-ended.result.0 c.work_end-end.ensures c.with_label-ended.ensures.end
 
 pub returns-clause-end : goal.returns-clause-end
-returns-clause-end g c = λ s is.
-    job_ends s _ _ (subst (λ (j : JobValue). IsJobOf s j) (sym c.self.view_is) is) refl refl c.kind_of_work-kind.ensures (ends g c)
+returns-clause-end g c = λ s is. job_ends s _ _ (rw (← c.self.view_is) at is) refl refl c.kind_of_work-kind.ensures (ends g c)
 
 pub returns-clause-answer : goal.returns-clause-answer
-returns-clause-answer g c = λ given is.
-    subst (λ (j : JobValue). EndsBy (answer_to (kind_of j.work) given) c.with_label-ended.result.0) c.self.view_is
-    (job_answers given _ c.with_label-ended.result.0 c.work_end-end.new.coder (subst (λ (j : JobValue). IsJob given j) (sym c.self.view_is) is) (ends g c))
+returns-clause-answer g c = λ given is. rw (← c.self.view_is) (job_answers given _ c.with_label-ended.result.0 c.work_end-end.new.coder (rw (← c.self.view_is) at is) (ends g c))
 
 pub returns-clause-own : goal.returns-clause-own
-returns-clause-own g c = λ at own.
-    job_same at c.args.self.coder c.work_end-end.new.coder ((ends g c).same ∙ ap (λ (j : JobValue). stopped_box j.coder) c.self.view_is) (own.has c.requires)
+returns-clause-own g c = λ at own. job_same at c.args.self.coder c.work_end-end.new.coder (rw (← c.self.view_is) (ends g c).same) (own.has c.requires)
