@@ -13,6 +13,10 @@ room_for_byte n i bound small =
     let p : 256 ^ i ≤ 256 ^ 7 = pow-le-pow_right (lit< tt) few in
     omega (arith, p, bound)
 
+-- a number of one byte more
+pub next_bound : (n b i : ℕ) → n < 256 ^ i → b < 256 → n * 256 + b < 256 ^ (i + 1)
+next_bound n b i bound small = rw (add-one i, pow-suc) (omega (arith, bound, small))
+
 pub times_byte : (n b p : ℕ) → (256 * n + b) * p ≡ n * (p * 256) + b * p
 times_byte n b p = rw (add-mul (256 * n) b p, mul_comm 256 n, mul_assoc n 256 p, mul_comm p 256) refl
 
@@ -28,6 +32,16 @@ big_endian_after_sum n (b ∷ bs) =
 pub big_endian_append : (n : ℕ) (xs ys : List ℕ) → big_endian_after n (xs ++ ys) ≡ big_endian_after (big_endian_after n xs) ys
 big_endian_append n [] ys = refl
 big_endian_append n (b ∷ bs) ys = big_endian_append (256 * n + b) bs ys
+
+-- the fields of 144 bits in 32, 48 and 64
+pub first_fields : (n a b c : ℕ) → b < 2 ^ 48 → c < 2 ^ 64 → n ≡ a * 2 ^ 112 + b * 2 ^ 64 + c → a < 2 ^ 32 → (bits_of 144 0 16 n ≡ a / 65536) × (bits_of 144 16 16 n ≡ a % 65536)
+first_fields n a b c x y e z = (omega (arith, x, y, e, z), omega (arith, x, y, e, z))
+
+pub frame_fields : (n a b c : ℕ) → b < 2 ^ 48 → c < 2 ^ 64 → n ≡ a * 2 ^ 112 + b * 2 ^ 64 + c → (bits_of 144 32 24 n ≡ b / 16777216) × (bits_of 144 56 24 n ≡ b % 16777216)
+frame_fields n a b c x y e = (omega (arith, x, y, e), omega (arith, x, y, e))
+
+pub last_fields : (n a b c : ℕ) → b < 2 ^ 48 → c < 2 ^ 64 → n ≡ a * 2 ^ 112 + b * 2 ^ 64 + c → (bits_of 144 80 20 n ≡ c / 17592186044416) × (bits_of 144 100 3 n ≡ c / 2199023255552 % 8) × (bits_of 144 103 5 n ≡ c / 68719476736 % 32) × (bits_of 144 108 36 n ≡ c % 68719476736)
+last_fields n a b c x y e = (omega (arith, x, y, e), omega (arith, x, y, e), omega (arith, x, y, e), omega (arith, x, y, e))
 
 -- eighteen bytes in three parts
 pub three_parts : (x y z : List ℕ) → length y ≡ 6 → length z ≡ 8 → big_endian (x ++ (y ++ z)) ≡ big_endian x * 2 ^ 112 + big_endian y * 2 ^ 64 + big_endian z
@@ -53,12 +67,7 @@ stream_fields block a b c md5 long sums first second third x y z =
     let md5_whole : md5 ≡ drop 18 block = sums ∙ let tail : length (drop 18 block) ≡ 16 = grind (arith, common_steps, long) in (rw tail at (take-length (drop 18 block))) in
     let n = big_endian (take 18 block) in
     let sum : n ≡ a * 2 ^ 112 + b * 2 ^ 64 + c = rw (first, second, third) (block_number block long) in
-    let block : bits_of 144 0 16 n ≡ a / 65536 = omega (arith, sum) in
-    let most_block : bits_of 144 16 16 n ≡ a % 65536 = omega (arith, sum) in
-    let frame : bits_of 144 32 24 n ≡ b / 16777216 = omega (arith, sum) in
-    let most_frame : bits_of 144 56 24 n ≡ b % 16777216 = omega (arith, sum) in
-    let rate : bits_of 144 80 20 n ≡ c / 17592186044416 = omega (arith, sum) in
-    let channels : bits_of 144 100 3 n ≡ c / 2199023255552 % 8 = omega (arith, sum) in
-    let depth : bits_of 144 103 5 n ≡ c / 68719476736 % 32 = omega (arith, sum) in
-    let total : bits_of 144 108 36 n ≡ c % 68719476736 = omega (arith, sum) in
-    rw (block, most_block, frame, most_frame, rate, channels, depth, total, md5_whole) refl
+    let blocks = first_fields n a b c y z sum x in
+    let frames = frame_fields n a b c y z sum in
+    let last = last_fields n a b c y z sum in
+    rw (blocks.0, blocks.1, frames.0, frames.1, last.0, last.1, last.2, last.3, md5_whole) refl

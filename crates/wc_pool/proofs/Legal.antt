@@ -64,3 +64,23 @@ numbered_from before (e ∷ rest) n legal =
 -- the live references of a legal history are numbered below those that were made
 pub legal_numbered : (h : List PoolEntry) → is_legal_pool h ≡ true → AreNumbered h
 legal_numbered h legal = numbered_from [] h (record { references = λ f r e. absurd cc; resources = λ f r e. absurd cc }) legal
+
+one_left : (last : Bool) (r n : ℕ) (after : List PoolEntry) → cond last (not (is_held r after)) (is_held r after) ≡ true → references_of r after + 1 ≡ n → last ≡ (n == 1)
+one_left true r n after h more =
+    elim (cases_eq (references_of r after) 0) [
+      | inl none ↦ sym (eq-eqb n 1 (omega (arith, none, more)))
+      | inr some ↦ absurd (let held = held_if after r (omega (arith, some)) in false≢true (ap not (sym held) ∙ h))
+    ]
+one_left false r n after h more =
+    elim (cases_Bool (n == 1)) [
+      | inl one ↦ absurd (let none : references_of r after ≡ 0 = omega (arith, eqb-true n 1 one, more) in false≢true (sym (not_held after r none) ∙ h))
+      | inr apart ↦ sym apart
+    ]
+
+-- the flag of an end says that its reference was the only one
+pub end_flag : (h : List PoolEntry) (cause : By) (r f : ℕ) (last : Bool) → is_legal_pool h ≡ true → is_legal_next h (record { by = cause; op = op.End r f last }) ≡ true → last ≡ (references_of r h == 1)
+end_flag h cause r f last legal next =
+    let after = h ++ record { by = cause; op = op.End r f last } ∷ [] in
+    let parts = and_parts (is_live r f h) (cond last (not (is_held r after)) (is_held r after)) next in
+    let m = ends_of_end h cause r f last (legal_numbered h legal) (live_is r f h parts.0) in
+    one_left last r (references_of r h) after parts.1 (end_counts h after r f m)

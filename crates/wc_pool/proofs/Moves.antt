@@ -17,11 +17,24 @@ use Rattle.wc_pool.proofs.Places.{FitsSlot, Moves, moves_keep}
 pub numbered : (s : Slab Resource) (h : List PoolEntry) → IsKept s h → AreNumbered h
 numbered s h kept = record { references = kept.references; resources = kept.resources }
 
+-- no more references are live, and no more resources held, than there are entries
+pub live_few : (s : Slab Resource) (h : List PoolEntry) (made minted held live : ℕ) → IsPool s h made minted held live → live ≤ length h
+live_few s h made minted held live p =
+    let w = count_within (λ f. is_some (resource_of f h)) (references_made h) in
+    let l = count_by-le-length mints h in
+    omega (arith, w, l, p.all_live)
+
 pub held_few : (s : Slab Resource) (h : List PoolEntry) (made minted held live : ℕ) → IsPool s h made minted held live → held ≤ length h
 held_few s h made minted held live p =
     let w = count_within (λ r. is_held r h) (resources_made h) in
     let l = count_by-le-length makes h in
     omega (arith, w, l, p.all_held)
+
+pub made_few : (s : Slab Resource) (h : List PoolEntry) (made minted held live : ℕ) → IsPool s h made minted held live → made ≤ length h
+made_few s h made minted held live p = let l = count_by-le-length makes h in omega (arith, l, p.all_made)
+
+pub minted_few : (s : Slab Resource) (h : List PoolEntry) (made minted held live : ℕ) → IsPool s h made minted held live → minted ≤ length h
+minted_few s h made minted held live p = let l = count_by-le-length mints h in omega (arith, l, p.all_minted)
 
 -- a live reference is one of those that are counted, and its resource one of those that are held
 pub some_live : (s : Slab Resource) (h : List PoolEntry) (made minted held live r f : ℕ) → IsPool s h made minted held live → resource_of f h ≡ Some r → 0 < live
@@ -177,3 +190,6 @@ adds_next h new e legal next more = record {
 
 pub mint_keeps_all : (h new : List PoolEntry) (r f : ℕ) → AreNumbered h → Mints h new r f → KeepsAll (IsLive h) (IsLive new)
 mint_keeps_all h new r f n m = record { stay = λ q live. minted_else h new r f q.number m (λ e. (let lt = n.references q.number q.resource live in omega (arith, lt, e, m.next))) ∙ live }
+
+pub end_keeps_others : (h new : List PoolEntry) (r f : ℕ) → Ends h new r f → KeepsOthers f (IsLive h) (IsLive new)
+end_keeps_others h new r f m = record { stay = λ q apart live. ended_else h new r f q.number m apart ∙ live }
