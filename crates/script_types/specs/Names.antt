@@ -1,5 +1,5 @@
--- What a name in a script names: a codec, a caller, or a variable that an earlier step of the same caller defines.
-use Rattle.std.specs.Prelude.{ℕ, ◌&&◌, ◌||◌, ◌==◌, nat_lt, nat_le, Bool, true, false, List, length, bytes_eq, Option, Some, None, option_and_then}
+-- What a name in a script names: a kind of codec, a codec, a caller, or a variable that an earlier step of the same caller defines.
+use Rattle.std.specs.Prelude.{ℕ, ◌&&◌, ◌||◌, ◌==◌, nat_lt, nat_le, if◌then◌else◌, Bool, true, false, List, [], ◌∷◌, length, bytes_eq, codes, Option, Some, None, option_and_then}
 use Rattle.std.specs.List.{list_all, list_any, position, slice_get}
 use Rattle.wc_config.specs.declared.kind.Kind.{Kind}
 use Rattle.wc_config.specs.declared.kind.Kind.TheVariants as kind
@@ -11,6 +11,7 @@ use Rattle.script_types.specs.declared.steps.Step.{Step}
 use Rattle.script_types.specs.declared.steps.Step.TheVariants as step
 use Rattle.script_types.specs.declared.steps.MediaStep.{MediaStep}
 use Rattle.script_types.specs.declared.steps.MediaStep.TheVariants as media
+use Rattle.script_types.specs.declared.steps.Variable.{Variable}
 use Rattle.script_types.specs.declared.steps.VariableKind.{VariableKind}
 use Rattle.script_types.specs.declared.steps.VariableKind.TheVariants as holds
 
@@ -24,15 +25,22 @@ is_name_byte b = (nat_le 97 b && nat_le b 122) || ((nat_le 48 b && nat_le b 57) 
 abbrev pub is_name : List ℕ → Bool
 is_name text = nat_lt 0 (length text) && (nat_le (length text) 32 && list_all is_name_byte text)
 
--- ---- codecs and callers
+-- the first of some values whose word this is
+abbrev pub first_named : {X : Type 0} → (X → List ℕ) → List X → List ℕ → Option X
+first_named text [] w = None
+first_named text (x ∷ xs) w = if bytes_eq w (text x) then Some x else first_named text xs w
 
-abbrev pub codec_at : ℕ → Option CodecItem → Option FoundCodec
-codec_at n None = None
-codec_at n (Some c) = Some (record { number = n; kind = c.kind })
+-- ---- kinds of codecs
 
--- the codec of this name
-abbrev pub codec_named : List CodecItem → List ℕ → Option FoundCodec
-codec_named codecs name = option_and_then (λ n. codec_at n (slice_get codecs n)) (position (λ c. bytes_eq c.name name) codecs)
+-- the word of a kind, in scripts and in reports
+abbrev pub kind_text : Kind → List ℕ
+kind_text kind.AudioDecoder = codes "audio-decoder"
+kind_text kind.AudioEncoder = codes "audio-encoder"
+kind_text kind.VideoDecoder = codes "video-decoder"
+
+-- the kind whose word this is
+abbrev pub kind_named : List ℕ → Option Kind
+kind_named w = first_named kind_text (kind.AudioDecoder ∷ kind.AudioEncoder ∷ kind.VideoDecoder ∷ []) w
 
 abbrev pub decodes : Kind → Bool
 decodes kind.AudioDecoder = true
@@ -45,6 +53,16 @@ outputs_of kind.AudioDecoder = holds.Audio
 outputs_of kind.AudioEncoder = holds.Chunk
 outputs_of kind.VideoDecoder = holds.Frame
 
+-- ---- codecs and callers
+
+abbrev pub codec_at : ℕ → Option CodecItem → Option FoundCodec
+codec_at n None = None
+codec_at n (Some c) = Some (record { number = n; kind = c.kind })
+
+-- the codec of this name
+abbrev pub codec_named : List CodecItem → List ℕ → Option FoundCodec
+codec_named codecs name = option_and_then (λ n. codec_at n (slice_get codecs n)) (position (λ c. bytes_eq c.name name) codecs)
+
 -- the number of the caller of this name
 abbrev pub caller_named : List CallerItem → List ℕ → Option ℕ
 caller_named callers name = position (λ c. bytes_eq c.name name) callers
@@ -54,6 +72,49 @@ is_codec_name codecs name = list_any (λ c. bytes_eq c.name name) codecs
 
 abbrev pub is_caller_name : List CallerItem → List ℕ → Bool
 is_caller_name callers name = list_any (λ c. bytes_eq c.name name) callers
+
+-- ---- what steps name
+
+-- the codec that a step names, if it names one
+abbrev pub names_codec : Step → Option ℕ
+names_codec (step.Configure on config) = Some on
+names_codec (step.Decode on chunk) = Some on
+names_codec (step.Flush on bind) = Some on
+names_codec (step.Reset on) = Some on
+names_codec (step.Close on) = Some on
+names_codec (step.State on) = Some on
+names_codec (step.Media (media.Encode on content)) = Some on
+names_codec (step.Media (media.Take on bind kind)) = Some on
+names_codec _ = None
+
+-- the codec that a step calls, if it calls one
+abbrev pub called : Step → Option ℕ
+called (step.Configure on config) = Some on
+called (step.Decode on chunk) = Some on
+called (step.Flush on bind) = Some on
+called (step.Reset on) = Some on
+called (step.Close on) = Some on
+called (step.Chunk bind source) = None
+called (step.Poll promise) = None
+called (step.Await promise) = None
+called (step.State on) = None
+called (step.Media (media.Encode on content)) = Some on
+called (step.Media _) = None
+
+-- the codec that a step takes an output of, if it takes one
+abbrev pub taken_from : Step → Option ℕ
+taken_from (step.Media (media.Take on bind kind)) = Some on
+taken_from _ = None
+
+-- the promise that a step looks at, if it looks at one
+abbrev pub looked_at : Step → Option Variable
+looked_at (step.Poll promise) = Some promise
+looked_at (step.Await promise) = Some promise
+looked_at _ = None
+
+abbrev pub IsFlush : Step → Type 0
+IsFlush (step.Flush on bind) = Unit {0}
+IsFlush _ = ⊥
 
 -- ---- variables
 

@@ -1,6 +1,6 @@
 -- What is known of a script in which nothing is at fault: of its codecs, of each step, and of the items of its order.
 use Rattle.std.proofs.Common.{ℕ, zero, suc, ◌≡◌, ◌≤◌, ◌<◌, ◌&&◌, ◌==◌, Bool, true, false, List, [], ◌∷◌, ◌++◌, take, length, append_assoc, append-nil, Option, Some, None, refl, ap, sym, subst, ◌∙◌, arith}
-use Rattle.std.specs.Prelude.{option_and_then}
+use Rattle.std.specs.Prelude.{IfSome, option_and_then}
 use Rattle.std.specs.List.{list_all, slice_get, sum_by}
 use Rattle.std.proofs.lemmas.Bool.{and_parts, eqb-true, leb-true}
 use Rattle.std.proofs.lemmas.Option.{slice_get_within, some_pair_parts}
@@ -19,8 +19,8 @@ use Rattle.script_types.specs.declared.steps.VariableKind.{VariableKind}
 use Rattle.script_types.specs.declared.steps.VariableKind.TheVariants as holds
 use Rattle.script_types.specs.declared.steps.Step.{Step}
 use Rattle.script_types.specs.declared.steps.Step.TheVariants as step
-use Rattle.script_types.specs.Names.{binds, variable_at, variable_named, is_promise, is_medium}
-use Rattle.script_types.specs.Sound.{is_sound, is_sound_codec, are_sound_codecs, is_codec, is_codec_kind, same_kind, gives, is_found, is_variable, is_sound_step, are_sound_steps, are_sound_callers, are_few, is_sound_item, is_sound_order, is_small_media, are_sound_files}
+use Rattle.script_types.specs.Names.{decodes, names_codec, called, taken_from, looked_at, binds, variable_at, variable_named, is_promise, is_medium}
+use Rattle.script_types.specs.Sound.{is_sound, is_sound_codec, are_sound_codecs, is_codec, is_codec_kind, any_kind, encodes, same_kind, suits, gives, is_found, is_variable, is_sound_step, are_sound_steps, are_sound_callers, are_few, is_sound_item, is_sound_order, is_small_media, are_sound_files}
 
 first : (a b : Bool) → (a && b) ≡ true → a ≡ true
 first a b h = (and_parts a b h).0
@@ -99,6 +99,33 @@ sound_caller_from codecs before (y ∷ ys) (suc i) c h is = sound_caller_from co
 -- a step of a caller is sound after its earlier steps
 pub step_at : (s : ScriptData) (i j : ℕ) (c : CallerItem) (x : Step) → is_sound s ≡ true → slice_get s.callers i ≡ Some c → slice_get c.steps j ≡ Some x → is_sound_step s.codecs (take j c.steps) x ≡ true
 step_at s i j c x h is at = sound_step_from s.codecs [] c.steps j x (sound_caller_from s.codecs [] s.callers i c (parts_of s h).callers is) at
+
+-- the codec that a sound step names is there
+pub names_within : (codecs : List CodecItem) (before : List Step) (x : Step) → is_sound_step codecs before x ≡ true → IfSome (names_codec x) (λ k. k < length codecs)
+names_within codecs before (step.Configure on config) h = codec_within codecs (suits config) on h
+names_within codecs before (step.Decode on chunk) h = codec_within codecs decodes on (first _ _ h)
+names_within codecs before (step.Flush on bind) h = codec_within codecs any_kind on (first _ _ h)
+names_within codecs before (step.Reset on) h = codec_within codecs any_kind on h
+names_within codecs before (step.Close on) h = codec_within codecs any_kind on h
+names_within codecs before (step.State on) h = codec_within codecs any_kind on h
+names_within codecs before (step.Media (media.Encode on content)) h = codec_within codecs encodes on (first _ _ h)
+names_within codecs before (step.Media (media.Take on bind kind)) h = codec_within codecs (gives kind) on (first _ _ h)
+names_within codecs before (step.Media x) h = tt
+names_within codecs before x h = tt
+
+pub named_within : (codecs : List CodecItem) (before : List Step) (x : Step) (k : ℕ) → is_sound_step codecs before x ≡ true → names_codec x ≡ Some k → k < length codecs
+named_within codecs before x k h is = subst (λ (o : Option ℕ). IfSome o (λ k. k < length codecs)) is (names_within codecs before x h)
+
+-- the codec that a step calls, or takes an output of, is the one that it names
+pub called_is_named : (x : Step) (k : ℕ) → called x ≡ Some k → names_codec x ≡ Some k
+called_is_named (step.State on) k is = absurd cc
+called_is_named (step.Media (media.Take on bind kind)) k is = absurd cc
+called_is_named (step.Media y) k is = is
+called_is_named x k is = is
+
+pub taken_is_named : (x : Step) (k : ℕ) → taken_from x ≡ Some k → names_codec x ≡ Some k
+taken_is_named (step.Media (media.Take on bind kind)) k is = is
+taken_is_named x k is = absurd cc
 
 -- an element's number is at most the sum's
 among_sum : {X : Type 0} (f : X → ℕ) (xs : List X) (i : ℕ) (x : X) → slice_get xs i ≡ Some x → f x ≤ sum_by f xs
@@ -183,6 +210,12 @@ promise_kind holds.Promise h = refl
 promise_kind holds.Chunk h = absurd cc
 promise_kind holds.Audio h = absurd cc
 promise_kind holds.Frame h = absurd cc
+
+-- a sound step looks at a variable that is there, and is a promise
+pub promise_there : (codecs : List CodecItem) (before : List Step) (x : Step) (v : Variable) → is_sound_step codecs before x ≡ true → looked_at x ≡ Some v → is_variable before is_promise v ≡ true
+promise_there codecs before (step.Poll promise) v h is = let same : promise ≡ v = cc in subst (λ (u : Variable). is_variable before is_promise u ≡ true) same h
+promise_there codecs before (step.Await promise) v h is = let same : promise ≡ v = cc in subst (λ (u : Variable). is_variable before is_promise u ≡ true) same h
+promise_there codecs before x v h is = absurd cc
 
 apart : (k : VariableKind) → is_promise k ≡ false → k ≡ holds.Promise → ⊥
 apart k h is = let bad : true ≡ false = sym (ap is_promise is) ∙ h in absurd cc

@@ -1,0 +1,87 @@
+// What names in scripts name, and what steps define.
+ghost use Rattle.std.specs.Prelude.{◌≡◌, option_map};
+ghost use Rattle.script_types.specs.Names.{binds, binds_media};
+ghost use Rattle.script_types.specs.Names as spec;
+
+use crate::{Kind, MediaStep, Step, VariableKind};
+
+/// The word of a kind, in scripts and in reports.
+pub fn kind_text(kind: Kind) -> &'static str
+    ensures { result.now ≡ spec.kind_text kind }
+{
+    match kind {
+        Kind::AudioDecoder => "audio-decoder",
+        Kind::AudioEncoder => "audio-encoder",
+        Kind::VideoDecoder => "video-decoder",
+    }
+}
+
+const KINDS: [Kind; 3] = [Kind::AudioDecoder, Kind::AudioEncoder, Kind::VideoDecoder];
+
+/// The kind whose word this is.
+pub fn kind_named(word: &[u8]) -> Option<Kind>
+    ensures { result ≡ spec.kind_named word.now }
+{
+    KINDS
+        .iter()
+        .copied()
+        .find(|kind| word == kind_text(*kind).as_bytes())
+}
+
+/// Whether a codec of this kind decodes.
+pub fn decodes(kind: Kind) -> bool
+    ensures { result ≡ spec.decodes kind }
+{
+    match kind {
+        Kind::AudioDecoder | Kind::VideoDecoder => true,
+        Kind::AudioEncoder => false,
+    }
+}
+
+/// What the outputs of a codec of this kind are.
+pub fn outputs_of(kind: Kind) -> VariableKind
+    ensures { result ≡ spec.outputs_of kind }
+{
+    match kind {
+        Kind::AudioDecoder => VariableKind::Audio,
+        Kind::AudioEncoder => VariableKind::Chunk,
+        Kind::VideoDecoder => VariableKind::Frame,
+    }
+}
+
+fn bound_media(step: &MediaStep) -> Option<(&str, VariableKind)>
+    ensures { option_map (λ b. (b.0.now, b.1)) result ≡ binds_media step.now }
+{
+    match step {
+        MediaStep::Audio { bind, init: _ } => Some((bind.as_str(), VariableKind::Audio)),
+        MediaStep::Frame { bind, init: _ } => Some((bind.as_str(), VariableKind::Frame)),
+        MediaStep::Take { on: _, bind, kind } => Some((bind.as_str(), *kind)),
+        MediaStep::Clone { of, bind } => Some((bind.as_str(), of.kind)),
+        MediaStep::Transfer { of, bind } => Some((bind.as_str(), of.kind)),
+        MediaStep::Encode { on: _, content: _ } => None,
+        MediaStep::CloseData { of: _ } => None,
+        MediaStep::Copy {
+            of: _,
+            options: _,
+            size: _,
+        } => None,
+        MediaStep::Size { of: _, options: _ } => None,
+    }
+}
+
+impl Step {
+    /// The variable that the step defines, and what it holds.
+    pub fn bound(&self) -> Option<(&str, VariableKind)>
+        ensures { option_map (λ b. (b.0.now, b.1)) result ≡ binds self.now }
+    {
+        match self {
+            Step::Chunk { bind, source: _ } => Some((bind.as_str(), VariableKind::Chunk)),
+            Step::Flush { on: _, bind } => Some((bind.as_str(), VariableKind::Promise)),
+            Step::Media(step) => bound_media(step),
+            Step::Configure { on: _, config: _ } => None,
+            Step::Decode { on: _, chunk: _ } => None,
+            Step::Poll { promise: _ } | Step::Await { promise: _ } => None,
+            Step::Reset { on: _ } | Step::Close { on: _ } | Step::State { on: _ } => None,
+        }
+    }
+}
