@@ -11,7 +11,7 @@ ghost use Rattle.script_types.specs.Reading.{Gives};
 use crate::references::Needed;
 use crate::{Stop, Variables, Wrong, copied, find_codec, name_member};
 use json_data::Value;
-use script_types::{CodecItem, FoundCodec, FoundVariable, Kind, Variable, VariableKind};
+use script_types::{CodecItem, FoundCodec, FoundVariable, Variable, VariableKind, decodes};
 use std::alloc::Global;
 use wc_base::{NoMemory, Text};
 
@@ -24,15 +24,6 @@ fn is_right(needed: Needed, kind: VariableKind) -> bool
         Needed::Medium => matches!(kind, VariableKind::Audio | VariableKind::Frame),
         Needed::Copied => kind != VariableKind::Promise,
         Needed::Promise => kind == VariableKind::Promise,
-    }
-}
-
-fn decodes(kind: Kind) -> bool
-    ensures { result ≡ names.decodes kind }
-{
-    match kind {
-        Kind::AudioDecoder | Kind::VideoDecoder => true,
-        Kind::AudioEncoder => false,
     }
 }
 

@@ -1,7 +1,6 @@
 // Reads steps of media resources.
 ghost use Rattle.std.specs.Prelude.{◌≡◌, ◌≢◌, ◌≤◌, IfOk, IfErr, Some, length, codes};
 ghost use Rattle.json_data.specs.View.{view};
-ghost use Rattle.script_types.specs.Names as names;
 ghost use Rattle.script_steps.specs.Media.{data_of_step};
 ghost use Rattle.script_steps.specs.declared.words.StepWord.TheVariants as step_word;
 ghost use Rattle.script_steps.specs.Words.{data_of_word};
@@ -19,7 +18,7 @@ use crate::{
 };
 use bytes::Bytes;
 use json_data::{Value, member};
-use script_types::{CodecItem, FoundVariable, Kind, MediaStep, Options, VariableKind};
+use script_types::{CodecItem, FoundVariable, MediaStep, Options, outputs_of};
 use std::alloc::Global;
 
 const MOST_CHUNK: u64 = 16_777_216;
@@ -52,17 +51,6 @@ fn read_frame(
     let init = read_picture_init(object_member(value, "init")?, content)?;
     let bind = read_unused(alloc, before, name)?;
     Ok(MediaStep::Frame { bind, init })
-}
-
-// What the outputs of a codec are.
-fn outputs_of(kind: Kind) -> VariableKind
-    ensures { result ≡ names.outputs_of kind }
-{
-    match kind {
-        Kind::AudioDecoder => VariableKind::Audio,
-        Kind::AudioEncoder => VariableKind::Chunk,
-        Kind::VideoDecoder => VariableKind::Frame,
-    }
 }
 
 fn read_take(

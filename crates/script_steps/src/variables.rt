@@ -1,12 +1,12 @@
 // The variables of a caller.
-ghost use Rattle.std.specs.Prelude.{◌≡◌, ◌≤◌, ◌++◌, ◌∷◌, [], IfSome, OnOk, OnErr, Some, None, Option, option_map, bytes_eq, length};
+ghost use Rattle.std.specs.Prelude.{◌≡◌, ◌≤◌, ◌++◌, ◌∷◌, [], IfSome, OnOk, OnErr, Some, length};
 ghost use Rattle.std.specs.List.{position};
 ghost use Rattle.script_steps.specs.Places.{IsTable};
-ghost use Rattle.script_types.specs.Names.{variable_named, is_variable_name, variable_at, binds, binds_media};
+ghost use Rattle.script_types.specs.Names.{variable_named, is_variable_name, variable_at};
 ghost use Rattle.script_types.specs.Names as spec;
 
 use crate::places::{place_of, put};
-use script_types::{FoundVariable, MediaStep, Step, VariableKind};
+use script_types::{FoundVariable, Step};
 use std::alloc::Global;
 use std::collections::BTreeMap;
 use std::marker::Model;
@@ -35,46 +35,11 @@ impl Model for Variables {
     ghost invariant = { λ v. IsTable v.places (λ name. position (λ s. defines name s) v.steps.items) };
 }
 
-// The variable that a step defines, and what it holds.
-fn bound_media(step: &MediaStep) -> Option<(&str, VariableKind)>
-    ensures { option_map (λ b. (b.0.now, b.1)) result ≡ binds_media step.now }
-{
-    match step {
-        MediaStep::Audio { bind, init: _ } => Some((bind.as_str(), VariableKind::Audio)),
-        MediaStep::Frame { bind, init: _ } => Some((bind.as_str(), VariableKind::Frame)),
-        MediaStep::Take { on: _, bind, kind } => Some((bind.as_str(), *kind)),
-        MediaStep::Clone { of, bind } => Some((bind.as_str(), of.kind)),
-        MediaStep::Transfer { of, bind } => Some((bind.as_str(), of.kind)),
-        MediaStep::Encode { on: _, content: _ } => None,
-        MediaStep::CloseData { of: _ } => None,
-        MediaStep::Copy {
-            of: _,
-            options: _,
-            size: _,
-        } => None,
-        MediaStep::Size { of: _, options: _ } => None,
-    }
-}
-
-fn bound(step: &Step) -> Option<(&str, VariableKind)>
-    ensures { option_map (λ b. (b.0.now, b.1)) result ≡ binds step.now }
-{
-    match step {
-        Step::Chunk { bind, source: _ } => Some((bind.as_str(), VariableKind::Chunk)),
-        Step::Flush { on: _, bind } => Some((bind.as_str(), VariableKind::Promise)),
-        Step::Media(step) => bound_media(step),
-        Step::Configure { on: _, config: _ } => None,
-        Step::Decode { on: _, chunk: _ } => None,
-        Step::Poll { promise: _ } | Step::Await { promise: _ } => None,
-        Step::Reset { on: _ } | Step::Close { on: _ } | Step::State { on: _ } => None,
-    }
-}
-
 // The variable that step `number` defines.
 fn found_at(number: u32, step: &Step) -> Option<FoundVariable>
     ensures { result ≡ variable_at number (Some step.now) }
 {
-    let (_, kind) = bound(step)?;
+    let (_, kind) = step.bound()?;
     Some(FoundVariable { step: number, kind })
 }
 
@@ -92,7 +57,7 @@ fn note(
     ensures err { OnErr result
         (IsTable places.new (λ q. position (λ s. spec.defines q s) steps.now)) }
 {
-    let name = match bound(step) {
+    let name = match step.bound() {
         None => return Ok(()),
         Some((name, _)) => name,
     };
