@@ -1,26 +1,17 @@
 -- The codecs of a script.
-use Rattle.std.specs.Prelude.{ℕ, ◌+◌, ◌&&◌, nat_le, List, [], ◌∷◌, ◌++◌, bytes_eq, codes, if◌then◌else◌, Option, Some, None, option_and_then, Result, Ok, Err}
+use Rattle.std.specs.Prelude.{ℕ, ◌+◌, ◌&&◌, nat_le, List, [], ◌∷◌, ◌++◌, codes, if◌then◌else◌, Option, Some, None, option_and_then, Result, Ok, Err}
 use Rattle.serde_json.specs.Data.{Data, Items, no_items, item}
 use Rattle.serde_json.specs.Find.{get}
 use Rattle.script_types.specs.declared.fault.Place.TheVariants as place
 use Rattle.chunk_files.specs.declared.fault.Stop.{Stop}
 use Rattle.script_types.specs.declared.fault.Fault.{Fault}
-use Rattle.wc_config.specs.declared.kind.Kind.{Kind}
-use Rattle.wc_config.specs.declared.kind.Kind.TheVariants as kind
 use Rattle.script_types.specs.declared.script.CodecItem.{CodecItem}
-use Rattle.script_types.specs.Names.{is_codec_name}
+use Rattle.script_types.specs.Names.{kind_named, is_codec_name}
 use Rattle.script_types.specs.declared.fault.Wrong.{Wrong}
 use Rattle.chunk_files.specs.declared.fault.Stop.TheVariants as stop
 use Rattle.script_types.specs.declared.fault.Wrong.TheVariants as wrong
 use Rattle.script_steps.specs.Members.{and_then, needed, text_in, name_in, natural_of}
 use Rattle.wc_script.specs.Faults.{at, proceed}
-
-abbrev pub kind_of : List ℕ → Option Kind
-kind_of text =
-    if bytes_eq text (codes "audio-decoder") then Some kind.AudioDecoder
-    else if bytes_eq text (codes "audio-encoder") then Some kind.AudioEncoder
-    else if bytes_eq text (codes "video-decoder") then Some kind.VideoDecoder
-    else None
 
 -- a saturation number, from 1 to 64
 abbrev pub checked_saturation : ℕ → Option ℕ
@@ -35,7 +26,7 @@ saturation_of (Some d) = needed (option_and_then checked_saturation (natural_of 
 unfoldable pub codec_of : List CodecItem → Data → Result CodecItem (Stop Wrong)
 codec_of before d =
     and_then (name_in (codes "name") d) (λ name.
-    and_then (needed (option_and_then kind_of (text_in (codes "kind") d))) (λ kind.
+    and_then (needed (option_and_then kind_named (text_in (codes "kind") d))) (λ kind.
     and_then (saturation_of (get (codes "saturation") d)) (λ saturation.
     if is_codec_name before name then Err (stop.Fault wrong.Twice)
     else Ok (record { name = name; kind = kind; saturation = saturation }))))

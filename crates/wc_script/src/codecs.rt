@@ -1,33 +1,23 @@
 // Reads codecs.
-ghost use Rattle.std.specs.Prelude.{◌≡◌, ◌≢◌, ◌≤◌, [], IfOk, IfErr, Some, None, Option, option_and_then, length, codes};
+ghost use Rattle.std.specs.Prelude.{◌≡◌, ◌≢◌, ◌≤◌, [], IfOk, IfErr, Option, option_and_then, length, codes};
 ghost use Rattle.json_data.specs.View.{view, items_view};
 ghost use Rattle.serde_json.specs.Find.{get};
 ghost use Rattle.script_steps.specs.Members.{text_in};
+ghost use Rattle.script_types.specs.Names.{kind_named};
 ghost use Rattle.wc_script.specs.Faults as faults;
-ghost use Rattle.wc_script.specs.Codecs.{kind_of, saturation_of, codec_of, codecs_of};
+ghost use Rattle.wc_script.specs.Codecs.{saturation_of, codec_of, codecs_of};
 ghost use Rattle.script_types.specs.Reading.{Gives, GivesAs};
 
 use crate::faults::fault_at;
 use json_data::{Value, as_natural, member};
 use script_steps::{is_codec_name, name_member, text_member};
-use script_types::{CodecItem, Fault, Kind, Place, Stop, Wrong, copied};
+use script_types::{CodecItem, Fault, Kind, Place, Stop, Wrong, copied, kind_named};
 use std::alloc::Global;
 
-fn read_kind(text: &str) -> Option<Kind>
-    ensures { result ≡ kind_of text.now }
-{
-    match text {
-        "audio-decoder" => Some(Kind::AudioDecoder),
-        "audio-encoder" => Some(Kind::AudioEncoder),
-        "video-decoder" => Some(Kind::VideoDecoder),
-        _ => None,
-    }
-}
-
 fn kind_member(value: &Value<'_>) -> Option<Kind>
-    ensures { result ≡ option_and_then kind_of (text_in (codes "kind") (view value.now)) }
+    ensures { result ≡ option_and_then kind_named (text_in (codes "kind") (view value.now)) }
 {
-    read_kind(text_member(value, "kind")?)
+    kind_named(text_member(value, "kind")?.as_bytes())
 }
 
 // The saturation number of a codec, 4 where the script says nothing. `Shape` outside 1 to 64.
