@@ -23,6 +23,7 @@ use Rattle.codec_model.specs.declared.entry.TurnWord.TheVariants as turn
 use Rattle.script_types.specs.declared.script.ScriptData.{ScriptData}
 use Rattle.script_types.specs.declared.script.CodecItem.{CodecItem}
 use Rattle.script_types.specs.declared.script.CallerItem.{CallerItem}
+use Rattle.script_types.specs.Names.{kind_text}
 use Rattle.report_text.specs.declared.result.StepResult.{StepResult}
 use Rattle.report_text.specs.declared.result.StepResult.TheVariants as result
 use Rattle.report_text.specs.declared.line.EntryLine.{EntryLine}
@@ -31,7 +32,7 @@ use Rattle.report_text.specs.declared.line.EventLine.{EventLine}
 use Rattle.report_text.specs.declared.line.EventLine.TheVariants as event
 use Rattle.report_text.specs.declared.line.Line.{Line}
 use Rattle.report_text.specs.declared.line.Line.TheVariants as line
-use Rattle.report_text.specs.Words.{◌<>◌, error_name, answer_text, kind_text, state_text, call_word, sample_format_text, picture_format_text, chunk_type_text}
+use Rattle.report_text.specs.Words.{◌<>◌, error_name, answer_text, state_text, call_word, sample_format_text, picture_format_text, chunk_type_text}
 use Rattle.report_text.specs.Names.{caller_name, codec_name, who_text, entry_name, look_name, by_text, item_text, coder_text}
 
 -- ---- results of callers

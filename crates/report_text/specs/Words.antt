@@ -1,5 +1,5 @@
 -- The words of a report, and how texts are put together.
-use Rattle.std.specs.Prelude.{ℕ, Bool, true, false, List, ◌++◌, codes, Option, Some, None}
+use Rattle.std.specs.Prelude.{ℕ, Bool, true, false, List, [], ◌∷◌, ◌++◌, codes, Option, Some, None}
 use Rattle.wc_base.specs.declared.error.DomError.{DomError}
 use Rattle.wc_base.specs.declared.error.DomError.TheVariants as dom
 use Rattle.wc_base.specs.declared.media.SampleFormat.{SampleFormat}
@@ -10,8 +10,6 @@ use Rattle.wc_config.specs.declared.codec.CodecId.{CodecId}
 use Rattle.wc_config.specs.declared.codec.CodecId.TheVariants as codec
 use Rattle.wc_config.specs.declared.codec.Role.{Role}
 use Rattle.wc_config.specs.declared.codec.Role.TheVariants as role
-use Rattle.wc_config.specs.declared.kind.Kind.{Kind}
-use Rattle.wc_config.specs.declared.kind.Kind.TheVariants as kind
 use Rattle.codec_model.specs.declared.entry.CodecState.{CodecState}
 use Rattle.codec_model.specs.declared.entry.CodecState.TheVariants as state
 use Rattle.report_text.specs.declared.line.CallWord.{CallWord}
@@ -39,11 +37,6 @@ abbrev pub answer_text : Option DomError → List ℕ
 answer_text None = codes "ok"
 answer_text (Some error) = error_name error
 
-abbrev pub kind_text : Kind → List ℕ
-kind_text kind.AudioDecoder = codes "audio-decoder"
-kind_text kind.AudioEncoder = codes "audio-encoder"
-kind_text kind.VideoDecoder = codes "video-decoder"
-
 abbrev pub state_text : CodecState → List ℕ
 state_text state.Unconfigured = codes "unconfigured"
 state_text state.Configured = codes "configured"
@@ -56,6 +49,10 @@ call_word call.Encode = codes "encode"
 call_word call.Flush = codes "flush"
 call_word call.Reset = codes "reset"
 call_word call.Close = codes "close"
+
+-- all of them
+abbrev pub call_words : List CallWord
+call_words = call.Configure ∷ call.Decode ∷ call.Encode ∷ call.Flush ∷ call.Reset ∷ call.Close ∷ []
 
 abbrev pub sample_format_text : SampleFormat → List ℕ
 sample_format_text sample.U8 = codes "u8"

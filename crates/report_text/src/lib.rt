@@ -14,6 +14,6 @@ pub use names::{caller_name, codec_name};
 pub use result::StepResult;
 pub use text::{line_text, push_line};
 pub use words::{
-    answer_text, call_word, chunk_type_text, codec_text, error_name, kind_text,
+    CALL_WORDS, answer_text, call_word, chunk_type_text, codec_text, error_name,
     picture_format_text, role_text, sample_format_text, state_text,
 };

@@ -13,10 +13,10 @@ use crate::names::{
 };
 use crate::pieces::{push_hex_or_dash, push_number, push_text};
 use crate::result::StepResult;
-use crate::words::{answer_text, call_word, error_name, kind_text, state_text};
+use crate::words::{answer_text, call_word, error_name, state_text};
 use codec_model::{CodecState, Opening, Outcome, PromiseState, TurnWord};
 use coder_api::{SlotEntry, SlotOp};
-use script_types::{CallerItem, CodecItem, ScriptData};
+use script_types::{CallerItem, CodecItem, ScriptData, kind_text};
 use std::alloc::{AllocError, Global};
 use wc_base::{DomError, Who};
 use wc_pool::{PoolEntry, PoolOp};

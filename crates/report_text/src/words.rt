@@ -3,7 +3,7 @@ ghost use Rattle.std.specs.Prelude.{◌≡◌};
 ghost use Rattle.report_text.specs.Words as spec;
 
 use crate::line::CallWord;
-use codec_model::{CodecState, Kind};
+use codec_model::CodecState;
 use wc_base::{DomError, PictureFormat, SampleFormat};
 use wc_config::{CodecId, Role};
 
@@ -33,16 +33,6 @@ pub fn answer_text(error: Option<DomError>) -> &'static str
     }
 }
 
-pub fn kind_text(kind: Kind) -> &'static str
-    ensures { result.now ≡ spec.kind_text kind }
-{
-    match kind {
-        Kind::AudioDecoder => "audio-decoder",
-        Kind::AudioEncoder => "audio-encoder",
-        Kind::VideoDecoder => "video-decoder",
-    }
-}
-
 pub fn state_text(state: CodecState) -> &'static str
     ensures { result.now ≡ spec.state_text state }
 {
@@ -65,6 +55,16 @@ pub fn call_word(call: CallWord) -> &'static str
         CallWord::Close => "close",
     }
 }
+
+/// All words of calls.
+pub const CALL_WORDS: [CallWord; 6] = [
+    CallWord::Configure,
+    CallWord::Decode,
+    CallWord::Encode,
+    CallWord::Flush,
+    CallWord::Reset,
+    CallWord::Close,
+];
 
 pub fn sample_format_text(format: SampleFormat) -> &'static str
     ensures { result.now ≡ spec.sample_format_text format }
