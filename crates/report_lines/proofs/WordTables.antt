@@ -4,10 +4,11 @@ use Rattle.std.specs.List.{list_all}
 use Rattle.wc_base.specs.declared.{error.DomError.DomError, media.SampleFormat.SampleFormat, media.PictureFormat.PictureFormat}
 use Rattle.wc_config.specs.declared.{codec.CodecId.CodecId, codec.Role.Role, kind.Kind.Kind}
 use Rattle.codec_model.specs.declared.entry.CodecState.{CodecState}
-use Rattle.report_text.specs.Words.{error_name, answer_text, kind_text, state_text, sample_format_text, picture_format_text, codec_text, role_text, chunk_type_text}
+use Rattle.script_types.specs.Names.{kind_text, kind_named}
+use Rattle.report_text.specs.Words.{error_name, answer_text, state_text, sample_format_text, picture_format_text, codec_text, role_text, chunk_type_text}
 use Rattle.report_lines.specs.Words.{is_word_byte}
 use Rattle.report_text.specs.{declared.line.CallWord.CallWord, Words.call_word, Text.last_text}
-use Rattle.report_lines.specs.Vocabulary.{error_of, answer_of, kind_of, state_of, call_of, sample_format_of, picture_format_of, codec_id_of, role_of, key_of, last_of}
+use Rattle.report_lines.specs.Vocabulary.{error_of, answer_of, state_of, call_of, sample_format_of, picture_format_of, codec_id_of, role_of, key_of, last_of}
 
 pub error_is_word : (x : DomError) → list_all is_word_byte (error_name x) ≡ true
 error_is_word x = grind arith
@@ -18,7 +19,7 @@ error_again x = grind arith
 pub kind_is_word : (x : Kind) → list_all is_word_byte (kind_text x) ≡ true
 kind_is_word x = grind arith
 
-pub kind_again : (x : Kind) → kind_of (kind_text x) ≡ Some x
+pub kind_again : (x : Kind) → kind_named (kind_text x) ≡ Some x
 kind_again x = grind arith
 
 pub state_is_word : (x : CodecState) → list_all is_word_byte (state_text x) ≡ true

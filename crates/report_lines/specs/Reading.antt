@@ -23,6 +23,7 @@ use Rattle.codec_model.specs.declared.entry.TurnWord.TheVariants as turn
 use Rattle.script_types.specs.declared.script.ScriptData.{ScriptData}
 use Rattle.script_types.specs.declared.script.CodecItem.{CodecItem}
 use Rattle.script_types.specs.declared.script.CallerItem.{CallerItem}
+use Rattle.script_types.specs.Names.{kind_named}
 use Rattle.report_text.specs.declared.result.StepResult.{StepResult}
 use Rattle.report_text.specs.declared.result.StepResult.TheVariants as result
 use Rattle.report_lines.specs.Words.{◌>>=◌, upto, after, word_at}
@@ -34,7 +35,7 @@ use Rattle.report_text.specs.declared.line.EventLine.TheVariants as event_line
 use Rattle.report_text.specs.declared.line.Line.{Line}
 use Rattle.report_text.specs.declared.line.Line.TheVariants as line
 use Rattle.report_text.specs.Text.{line_text}
-use Rattle.report_lines.specs.Vocabulary.{error_of, answer_of, kind_of, state_of, call_of, sample_format_of, picture_format_of, codec_id_of, role_of, key_of, last_of}
+use Rattle.report_lines.specs.Vocabulary.{error_of, answer_of, state_of, call_of, sample_format_of, picture_format_of, codec_id_of, role_of, key_of, last_of}
 use Rattle.report_lines.specs.Fits.{is_no_feed, no_layout}
 
 -- ---- names
@@ -407,7 +408,7 @@ codec_at script bs = do
   name ← word_at bs
   n ← codec_of script.codecs name.0
   w ← word_at name.2
-  kind ← kind_of w.0
+  kind ← kind_named w.0
   saturation ← short_upto 10 w.2
   Some (line.Codec n (record { kind = kind; saturation = saturation.0 }))
 

@@ -10,20 +10,13 @@ use Rattle.wc_config.specs.declared.codec.CodecId.{CodecId}
 use Rattle.wc_config.specs.declared.codec.CodecId.TheVariants as codec
 use Rattle.wc_config.specs.declared.codec.Role.{Role}
 use Rattle.wc_config.specs.declared.codec.Role.TheVariants as role
-use Rattle.wc_config.specs.declared.kind.Kind.{Kind}
-use Rattle.wc_config.specs.declared.kind.Kind.TheVariants as kind
 use Rattle.codec_model.specs.declared.entry.CodecState.{CodecState}
 use Rattle.codec_model.specs.declared.entry.CodecState.TheVariants as state
+use Rattle.script_types.specs.Names.{first_named}
 use Rattle.report_text.specs.declared.line.CallWord.{CallWord}
-use Rattle.report_text.specs.declared.line.CallWord.TheVariants as call
-use Rattle.report_text.specs.Words.{error_name, answer_text, kind_text, state_text, call_word, sample_format_text, picture_format_text, codec_text, role_text, chunk_type_text}
+use Rattle.report_text.specs.Words.{error_name, answer_text, state_text, call_word, call_words, sample_format_text, picture_format_text, codec_text, role_text, chunk_type_text}
 use Rattle.report_text.specs.Text.{last_text}
 use Rattle.report_lines.specs.Words.{◌>>=◌}
-
--- the first of some values whose word this is
-abbrev pub first_named : {X : Type 0} → (X → List ℕ) → List X → List ℕ → Option X
-first_named text [] w = None
-first_named text (x ∷ xs) w = if bytes_eq w (text x) then Some x else first_named text xs w
 
 abbrev pub error_of : List ℕ → Option DomError
 error_of w =
@@ -35,14 +28,11 @@ error_of w =
 abbrev pub answer_of : List ℕ → Option (Option DomError)
 answer_of w = if bytes_eq w (answer_text None) then Some None else (error_of w >>= λ e. Some (Some e))
 
-abbrev pub kind_of : List ℕ → Option Kind
-kind_of w = first_named kind_text (kind.AudioDecoder ∷ kind.AudioEncoder ∷ kind.VideoDecoder ∷ []) w
-
 abbrev pub state_of : List ℕ → Option CodecState
 state_of w = first_named state_text (state.Unconfigured ∷ state.Configured ∷ state.Closed ∷ []) w
 
 abbrev pub call_of : List ℕ → Option CallWord
-call_of w = first_named call_word (call.Configure ∷ call.Decode ∷ call.Encode ∷ call.Flush ∷ call.Reset ∷ call.Close ∷ []) w
+call_of w = first_named call_word call_words w
 
 abbrev pub sample_format_of : List ℕ → Option SampleFormat
 sample_format_of w =

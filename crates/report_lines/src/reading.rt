@@ -11,15 +11,15 @@ use crate::fields::{
     FieldFault, bytes_upto, number_or_dash_upto, number_upto, short_upto, signed_upto,
 };
 use crate::vocabulary::{
-    answer_of, call_of, codec_id_of, error_of, is, key_of, kind_of, last_of, picture_format_of,
-    role_of, sample_format_of, state_of,
+    answer_of, call_of, codec_id_of, error_of, is, key_of, last_of, picture_format_of, role_of,
+    sample_format_of, state_of,
 };
 use crate::words::{after, are_digits, upto, word_at};
 use bytes::Bytes;
 use codec_model::{CodecState, Opening, Outcome, PromiseState, TurnWord};
 use coder_api::{SlotEntry, SlotOp};
 use report_text::{EntryLine, EventLine, Line, StepResult, line_text};
-use script_types::{CallerItem, CodecItem, ScriptData};
+use script_types::{CallerItem, CodecItem, ScriptData, kind_named};
 use std::alloc::Global;
 use wc_base::{By, DomError, Picture, PictureShape, Samples, SoundShape, Who};
 use wc_chunk::Chunk;
@@ -721,7 +721,7 @@ fn codec_at(script: &ScriptData, bytes: &[u8]) -> Option<Line>
     let (name, _, rest) = word_at(bytes)?;
     let codec = codec_of(script.codecs.as_slice(), name)?;
     let (word, _, rest) = word_at(rest)?;
-    let kind = kind_of(word)?;
+    let kind = kind_named(word)?;
     let (saturation, _) = short_upto(b'\n', rest)?;
     let opening = Opening { kind, saturation };
     Some(Line::Codec {

@@ -1,10 +1,12 @@
 // The words of a report, as they are read: each stands for the value that is written by it.
 ghost use Rattle.std.specs.Prelude.{◌≡◌, bytes_eq};
+ghost use Rattle.std.specs.List.{find};
+ghost use Rattle.report_text.specs.Words as words;
 ghost use Rattle.report_lines.specs.Vocabulary as spec;
 
-use codec_model::{CodecState, Kind};
+use codec_model::CodecState;
 use report_text::{
-    CallWord, answer_text, call_word, chunk_type_text, codec_text, error_name, kind_text,
+    CALL_WORDS, CallWord, answer_text, call_word, chunk_type_text, codec_text, error_name,
     picture_format_text, role_text, sample_format_text, state_text,
 };
 use wc_base::{DomError, PictureFormat, SampleFormat};
@@ -55,17 +57,6 @@ pub fn answer_of(word: &[u8]) -> Option<Option<DomError>>
     }
 }
 
-const KINDS: [Kind; 3] = [Kind::AudioDecoder, Kind::AudioEncoder, Kind::VideoDecoder];
-
-pub fn kind_of(word: &[u8]) -> Option<Kind>
-    ensures { result ≡ spec.kind_of word.now }
-{
-    KINDS
-        .iter()
-        .copied()
-        .find(|kind| is(word, kind_text(*kind)))
-}
-
 const STATES: [CodecState; 3] = [
     CodecState::Unconfigured,
     CodecState::Configured,
@@ -81,24 +72,20 @@ pub fn state_of(word: &[u8]) -> Option<CodecState>
         .find(|state| is(word, state_text(*state)))
 }
 
+// The first of these words that this is.
+fn first_call(calls: &[CallWord], word: &[u8]) -> Option<CallWord>
+    ensures { result ≡ find (λ call. bytes_eq word.now (words.call_word call)) calls.now }
+{
+    calls
+        .iter()
+        .copied()
+        .find(|call| is(word, call_word(*call)))
+}
+
 pub fn call_of(word: &[u8]) -> Option<CallWord>
     ensures { result ≡ spec.call_of word.now }
 {
-    if is(word, call_word(CallWord::Configure)) {
-        Some(CallWord::Configure)
-    } else if is(word, call_word(CallWord::Decode)) {
-        Some(CallWord::Decode)
-    } else if is(word, call_word(CallWord::Encode)) {
-        Some(CallWord::Encode)
-    } else if is(word, call_word(CallWord::Flush)) {
-        Some(CallWord::Flush)
-    } else if is(word, call_word(CallWord::Reset)) {
-        Some(CallWord::Reset)
-    } else if is(word, call_word(CallWord::Close)) {
-        Some(CallWord::Close)
-    } else {
-        None
-    }
+    first_call(&CALL_WORDS, word)
 }
 
 pub fn sample_format_of(word: &[u8]) -> Option<SampleFormat>

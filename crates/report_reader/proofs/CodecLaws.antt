@@ -5,7 +5,8 @@ use Rattle.std.proofs.lemmas.Slice.Eq.{bytes_eq-Decides}
 use Rattle.wc_config.specs.declared.codec.CodecId.{CodecId}
 use Rattle.codec_follow.specs.Outputs.{is_codec_string}
 use Rattle.report_text.specs.Words.{codec_text}
-use Rattle.report_lines.specs.Vocabulary.{first_named, codec_id_of}
+use Rattle.script_types.specs.Names.{first_named}
+use Rattle.report_lines.specs.Vocabulary.{codec_id_of}
 
 first_by : {X : Type 0} (text : X → List ℕ) (y : X) (w : List ℕ) (x : X) (rest : Option X) → (rest ≡ Some x → text x ≡ w)
     → (q : Bool) → bytes_eq w (text y) ≡ q → cond q (Some y) rest ≡ Some x → text x ≡ w
