@@ -10,10 +10,11 @@ use Rattle.codec_model.specs.{declared.entry.Entry.Entry, declared.entry.Shown.S
 use Rattle.history_laws.specs.CountLaws.{outputs_stay}
 use Rattle.codec_accounts.specs.{Owed.at, ListLaws.get_some, ListLaws.get_kept}
 use Rattle.script_types.specs.declared.{script.ScriptData.ScriptData, steps.Step.Step, steps.MediaStep.MediaStep}
+use Rattle.script_types.specs.Names.{called, taken_from}
 use Rattle.report_text.specs.declared.result.StepResult.{StepResult}
 use Rattle.trace_text.specs.Report.{refusal_in}
 use Rattle.trace_text.specs.Follow.{Recorded, opening_at, steps_of, copied_chunk, output_at}
-use Rattle.trace_text.specs.Fits.{result_in, entry_in, step_in, called, taken_from, exception_at, made_steps, taken_by, brought_to, came_at, variables_at, IsAnswerOf, IsResultBy, IsResultOf, LookShows, IsLocalAnswer, MarksClimb}
+use Rattle.trace_text.specs.Fits.{result_in, entry_in, step_in, exception_at, made_steps, taken_by, brought_to, came_at, variables_at, IsAnswerOf, IsResultBy, IsResultOf, LookShows, IsLocalAnswer, MarksClimb}
 use Rattle.media_variables.specs.Variables.{Came, Taken, Brought}
 use Rattle.media_accounts.specs.Accounts.{variables_by, IsBroughtToo}
 use Rattle.trace_text.specs.FitsLaws.{made_at, look_of, order_by_places}

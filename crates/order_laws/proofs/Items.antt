@@ -30,8 +30,9 @@ use Rattle.script_types.specs.declared.steps.{MediaStep.MediaStep, VariableKind.
 use Rattle.media_variables.specs.Variables.{Reference, Shape, SoundOf, Medium, Came, medium_at, media_ref, sound_of, sound_in, sound_at, handed_by, handed_of, media_came, taken_came, variables_of}
 use Rattle.media_variables.specs.Held.{held_by}
 use Rattle.media_accounts.specs.Accounts.{media_of, IsQuiet}
-use Rattle.trace_text.specs.Fits.{taken_by, brought_to, came_at, variables_at, result_in, step_in, called, mark_of, IsResultOf, LookShows, IsLocalAnswer, HasArguments}
-use Rattle.order_laws.specs.Sound.{IsSound, promise_of, IsFlush}
+use Rattle.trace_text.specs.Fits.{taken_by, brought_to, came_at, variables_at, result_in, step_in, mark_of, IsResultOf, LookShows, IsLocalAnswer, HasArguments}
+use Rattle.script_types.specs.{Names.called, Names.looked_at, Names.IsFlush, SoundLaws.called_is_named}
+use Rattle.order_laws.specs.Sound.{IsSound}
 use Rattle.order_laws.specs.SoundSteps.{stands_in}
 use Rattle.order_laws.proofs.Entries.{MayAddAll}
 use Rattle.order_laws.proofs.Grown.{IsFound, taken_as, brought}
@@ -161,7 +162,7 @@ module _ (numbered : LiveAreNumbered) (s : ScriptData) (media : List (List Chunk
       let after = legal_after e (state_of (codec_at k v.codecs)) said.0 in
       record {
         caller = caller_there x is;
-        codec = omega (arith, sound.called c (length (at c v.callers)) k x is calls, st.count);
+        codec = omega (arith, sound.names c (length (at c v.callers)) k x is (called_is_named x k calls), st.count);
         step = x;
         is_step = is;
         calls = calls;
@@ -202,7 +203,7 @@ module _ (numbered : LiveAreNumbered) (s : ScriptData) (media : List (List Chunk
       ask_fits k (Step.Decode k chunk) (Entry.Decode (next_who v c) value) _ is refl (call_said v.media.pool (next_who v c) (Call.Decode value) (state_of (codec_at k v.codecs))) refl (value, some, refl)
 
   -- a step that looks at an earlier promise finds the call of its flush
-  promise_call : (x : Step) (promise : Variable) → IsNext s v c x → promise_of x ≡ Some promise → (k : ℕ) × (p : ℕ) × (error : Option DomError) × (result_in (record_of v) c promise.step ≡ Some (StepResult.Call k p error))
+  promise_call : (x : Step) (promise : Variable) → IsNext s v c x → looked_at x ≡ Some promise → (k : ℕ) × (p : ℕ) × (error : Option DomError) × (result_in (record_of v) c promise.step ≡ Some (StepResult.Call k p error))
   promise_call x promise is looks =
       let before : promise.step < length (at c v.callers) = sound.earlier c (length (at c v.callers)) x promise is looks in
       let there = get_some (at c v.callers) promise.step before in
@@ -249,7 +250,7 @@ module _ (numbered : LiveAreNumbered) (s : ScriptData) (media : List (List Chunk
       let after = legal_after (Entry.Take (next_who v c) n) (state_of d) (take_legal (next_who v c) (state_of d) (omega (arith, counted, below))) in
       let fits : ReceiveFits s media v c k n _ = record {
         caller = caller_there (Step.Media (MediaStep.Take k bind holds)) is;
-        codec = omega (arith, sound.taken c (length (at c v.callers)) k (Step.Media (MediaStep.Take k bind holds)) is refl, st.count);
+        codec = omega (arith, sound.names c (length (at c v.callers)) k (Step.Media (MediaStep.Take k bind holds)) is refl, st.count);
         bind = bind;
         holds = holds;
         is_step = is;

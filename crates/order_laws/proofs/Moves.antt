@@ -20,12 +20,13 @@ use Rattle.codec_accounts.specs.CallsLaws.{names_call, named_more, calls_in_more
 use Rattle.codec_accounts.specs.Codec.{CodecValue, state_of, codec_at, histories}
 use Rattle.codec_accounts.specs.AccountLaws.{Accounted, EntryFits, accounted_more, history_at}
 use Rattle.script_types.specs.declared.{script.ScriptData.ScriptData, steps.Step.Step, steps.MediaStep.MediaStep, steps.VariableKind.VariableKind}
+use Rattle.script_types.specs.Names.{called, taken_from}
 use Rattle.report_text.specs.declared.result.StepResult.{StepResult}
 use Rattle.trace_text.specs.Report.{refusal_in}
 use Rattle.media_variables.specs.Variables.{Medium, Media, Came, Brought, media_came, unit_came, variables_of}
 use Rattle.media_accounts.specs.Accounts.{media_of, OneMore, IsQuiet, MediaStand, StepStands, NothingStands, StepsStand, OthersStand, LaterStand, LaterStands, EntryStands, EntriesStand}
 use Rattle.trace_text.specs.Follow.{Recorded, Course, record_of, opening_at, steps_of, copied_chunk, output_at, with_result, with_entry, Move, Idle, Answer, Advance, Ask, Handle, Receive, after_move}
-use Rattle.trace_text.specs.Fits.{result_in, entry_in, step_in, called, taken_from, exception_at, mark_of, marks_of, taken_by, brought_to, made_steps, came_at, variables_at, LookShows, IsLocalAnswer, HasArguments, ArgumentsAreIn, MarksClimb}
+use Rattle.trace_text.specs.Fits.{result_in, entry_in, step_in, exception_at, mark_of, marks_of, taken_by, brought_to, made_steps, came_at, variables_at, LookShows, IsLocalAnswer, HasArguments, ArgumentsAreIn, MarksClimb}
 use Rattle.order_laws.proofs.Legal.{shown_last}
 use Rattle.order_laws.proofs.Entries.{codec_count, opened_still, call_fits, history_there, entries_new, longer_history, made_stays, same_history, this_history, lending_of, MayAddAll, entry_more, nobody_adds}
 use Rattle.order_laws.proofs.Grown.{Legals, Grows, SameMedia, variables_stay, ResultFits, taken_as, brought, output_stays, brought_stays, result_stays}

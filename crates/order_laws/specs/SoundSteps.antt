@@ -1,22 +1,18 @@
 -- A script in which nothing is at fault has what each of its steps needs.
-use Rattle.std.proofs.Common.{ℕ, zero, suc, ◌≡◌, ◌<◌, true, List, [], ◌∷◌, take, Some, ap, sym, subst, ◌∙◌, refl}
-use Rattle.std.specs.Prelude.{length, slice_get}
-use Rattle.std.proofs.lemmas.Bool.{and_parts}
+use Rattle.std.proofs.Common.{ℕ, zero, suc, ◌≡◌, true, List, [], ◌∷◌, take, Some, ap, sym, subst, ◌∙◌, refl}
+use Rattle.std.specs.Prelude.{slice_get}
 use Rattle.script_types.specs.declared.script.CallerItem.{CallerItem}
-use Rattle.script_types.specs.declared.script.CodecItem.{CodecItem}
 use Rattle.script_types.specs.declared.script.ScriptData.{ScriptData}
 use Rattle.script_types.specs.declared.steps.Step.{Step}
-use Rattle.script_types.specs.declared.steps.Step.TheVariants as step
-use Rattle.script_types.specs.declared.steps.MediaStep.TheVariants as on_media
 use Rattle.script_types.specs.declared.steps.Variable.{Variable}
 use Rattle.script_types.specs.declared.steps.VariableKind.TheVariants as holds
-use Rattle.script_types.specs.Names.{decodes, is_promise}
-use Rattle.script_types.specs.Sound.{is_sound, is_sound_step, is_variable, suits, gives, any_kind, encodes}
-use Rattle.script_types.specs.SoundLaws.{Defines, codec_within, step_at, variable_is, promise_kind, promise_of_flush}
+use Rattle.script_types.specs.Names.{is_promise, looked_at, IsFlush}
+use Rattle.script_types.specs.Sound.{is_sound, is_sound_step}
+use Rattle.script_types.specs.SoundLaws.{Defines, step_at, named_within, variable_is, promise_kind, promise_there, promise_of_flush}
 use Rattle.trace_text.specs.Follow.{steps_in, steps_of}
-use Rattle.trace_text.specs.Fits.{step_in, called, taken_from}
+use Rattle.trace_text.specs.Fits.{step_in}
 use Rattle.codec_accounts.specs.ListLaws.{taken_before, get_from_front}
-use Rattle.order_laws.specs.Sound.{IsSound, promise_of, IsFlush}
+use Rattle.order_laws.specs.Sound.{IsSound}
 
 -- ---- steps by their caller's number
 
@@ -39,47 +35,15 @@ sound_step s c j x h is =
     let there = stands_in s.callers c j x is in
     ap (λ (ss : List Step). is_sound_step s.codecs (take j ss) x) there.its_steps ∙ step_at s c j there.caller x h there.is_caller there.is_step
 
--- ---- what steps name
-
-called_within : (codecs : List CodecItem) (before : List Step) (x : Step) (k : ℕ) → is_sound_step codecs before x ≡ true → called x ≡ Some k → k < length codecs
-called_within codecs before (step.Configure on config) k h is = let same : on ≡ k = cc in subst (λ (i : ℕ). i < length codecs) same (codec_within codecs (suits config) on h)
-called_within codecs before (step.Decode on chunk) k h is = let same : on ≡ k = cc in subst (λ (i : ℕ). i < length codecs) same (codec_within codecs decodes on (and_parts _ _ h).0)
-called_within codecs before (step.Flush on bind) k h is = let same : on ≡ k = cc in subst (λ (i : ℕ). i < length codecs) same (codec_within codecs any_kind on (and_parts _ _ h).0)
-called_within codecs before (step.Reset on) k h is = let same : on ≡ k = cc in subst (λ (i : ℕ). i < length codecs) same (codec_within codecs any_kind on h)
-called_within codecs before (step.Close on) k h is = let same : on ≡ k = cc in subst (λ (i : ℕ). i < length codecs) same (codec_within codecs any_kind on h)
-called_within codecs before (step.Chunk bind source) k h is = absurd cc
-called_within codecs before (step.Poll promise) k h is = absurd cc
-called_within codecs before (step.Await promise) k h is = absurd cc
-called_within codecs before (step.State on) k h is = absurd cc
-called_within codecs before (step.Media (on_media.Encode on content)) k h is = let same : on ≡ k = cc in subst (λ (i : ℕ). i < length codecs) same (codec_within codecs encodes on (and_parts _ _ h).0)
-called_within codecs before (step.Media y) k h is = absurd cc
-
-taken_within : (codecs : List CodecItem) (before : List Step) (x : Step) (k : ℕ) → is_sound_step codecs before x ≡ true → taken_from x ≡ Some k → k < length codecs
-taken_within codecs before (step.Media (on_media.Take on bind kind)) k h is =
-    let same : on ≡ k = cc in subst (λ (i : ℕ). i < length codecs) same (codec_within codecs (gives kind) on (and_parts _ _ h).0)
-taken_within codecs before x k h is = absurd cc
-
 -- ---- promises
 
-looked_at : (codecs : List CodecItem) (before : List Step) (x : Step) (v : Variable) → is_sound_step codecs before x ≡ true → promise_of x ≡ Some v → is_variable before is_promise v ≡ true
-looked_at codecs before (step.Poll promise) v h is = let same : promise ≡ v = cc in subst (λ (u : Variable). is_variable before is_promise u ≡ true) same h
-looked_at codecs before (step.Await promise) v h is = let same : promise ≡ v = cc in subst (λ (u : Variable). is_variable before is_promise u ≡ true) same h
-looked_at codecs before (step.Configure on config) v h is = absurd cc
-looked_at codecs before (step.Chunk bind source) v h is = absurd cc
-looked_at codecs before (step.Decode on chunk) v h is = absurd cc
-looked_at codecs before (step.Flush on bind) v h is = absurd cc
-looked_at codecs before (step.Reset on) v h is = absurd cc
-looked_at codecs before (step.Close on) v h is = absurd cc
-looked_at codecs before (step.State on) v h is = absurd cc
-looked_at codecs before (step.Media y) v h is = absurd cc
-
 -- an earlier step of the same caller defines the promise
-promise_defined : (s : ScriptData) (c j : ℕ) (x : Step) (v : Variable) → is_sound s ≡ true → step_in s c j ≡ Some x → promise_of x ≡ Some v → Defines (take j (steps_of s c)) v.step holds.Promise
+promise_defined : (s : ScriptData) (c j : ℕ) (x : Step) (v : Variable) → is_sound s ≡ true → step_in s c j ≡ Some x → looked_at x ≡ Some v → Defines (take j (steps_of s c)) v.step holds.Promise
 promise_defined s c j x v h is looks =
-    let found = variable_is (take j (steps_of s c)) is_promise v (looked_at s.codecs (take j (steps_of s c)) x v (sound_step s c j x h is) looks) in
+    let found = variable_is (take j (steps_of s c)) is_promise v (promise_there s.codecs (take j (steps_of s c)) x v (sound_step s c j x h is) looks) in
     subst (Defines (take j (steps_of s c)) v.step) (promise_kind v.kind found.1) found.0
 
-promise_made : (s : ScriptData) (c j : ℕ) (x : Step) (v : Variable) → is_sound s ≡ true → step_in s c j ≡ Some x → promise_of x ≡ Some v → (y : Step) × (step_in s c v.step ≡ Some y) × IsFlush y
+promise_made : (s : ScriptData) (c j : ℕ) (x : Step) (v : Variable) → is_sound s ≡ true → step_in s c j ≡ Some x → looked_at x ≡ Some v → (y : Step) × (step_in s c v.step ≡ Some y) × IsFlush y
 promise_made s c j x v h is looks =
     let made = promise_defined s c j x v h is looks in
     let stands = get_from_front (steps_of s c) j v.step made.definer made.stands in
@@ -88,8 +52,7 @@ promise_made s c j x v h is looks =
 
 pub sound_of : (s : ScriptData) → is_sound s ≡ true → IsSound s
 sound_of s h = record {
-  called = λ c j k x is calls. called_within s.codecs (take j (steps_of s c)) x k (sound_step s c j x h is) calls;
-  taken = λ c j k x is takes. taken_within s.codecs (take j (steps_of s c)) x k (sound_step s c j x h is) takes;
+  names = λ c j k x is named. named_within s.codecs (take j (steps_of s c)) x k (sound_step s c j x h is) named;
   earlier = λ c j x v is looks. (let made = promise_defined s c j x v h is looks in taken_before (steps_of s c) j v.step made.definer made.stands);
   promised = λ c j x v is looks. promise_made s c j x v h is looks;
 }

@@ -15,6 +15,7 @@ use Rattle.script_types.specs.declared.steps.Step.{Step}
 use Rattle.script_types.specs.declared.steps.MediaStep.{MediaStep}
 use Rattle.script_types.specs.declared.steps.MediaStep.TheVariants as on_media
 use Rattle.script_types.specs.declared.steps.Step.TheVariants as step
+use Rattle.script_types.specs.Names.{called, taken_from}
 use Rattle.trace_text.specs.declared.run.Run.{Run}
 use Rattle.trace_text.specs.declared.run.CodecTrace.{CodecTrace}
 use Rattle.report_text.specs.declared.result.StepResult.{StepResult}
@@ -31,25 +32,6 @@ use Rattle.wc_audio.specs.Sound.{Sound}
 use Rattle.media_variables.specs.Variables.{Medium, Came, Taken, Brought, sound_at, handed_of}
 use Rattle.media_accounts.specs.Accounts.{came_in, variables_in, lent_at, MediaAreIn}
 use Rattle.trace_text.specs.Follow.{Recorded, Course, record_of, opening_of, opening_at, steps_of, chunk_for, copied_chunk, output_at, source_error, promise_after, order_items, Follows, nothing_yet}
-
--- the codec that a step calls, if it calls one
-abbrev pub called : Step → Option ℕ
-called (step.Configure on config) = Some on
-called (step.Decode on chunk) = Some on
-called (step.Flush on bind) = Some on
-called (step.Reset on) = Some on
-called (step.Close on) = Some on
-called (step.Chunk bind source) = None
-called (step.Poll promise) = None
-called (step.Await promise) = None
-called (step.State on) = None
-called (step.Media (on_media.Encode on content)) = Some on
-called (step.Media _) = None
-
--- the codec that a step takes an output of, if it takes one
-abbrev pub taken_from : Step → Option ℕ
-taken_from (step.Media (on_media.Take on bind kind)) = Some on
-taken_from _ = None
 
 -- what a run recorded, without what its entries showed
 abbrev pub recorded_of : Run → Recorded

@@ -10,10 +10,11 @@ use Rattle.codec_accounts.specs.Calls.{who_of, Mark, reach}
 use Rattle.codec_accounts.specs.Calls as mark
 use Rattle.codec_accounts.specs.CallsLaws.{call_stands, names_call, climbs_between, climbs_within}
 use Rattle.script_types.specs.declared.script.ScriptData.{ScriptData}
+use Rattle.script_types.specs.Names.{called, taken_from}
 use Rattle.report_text.specs.declared.result.StepResult.{StepResult}
 use Rattle.report_text.specs.declared.result.StepResult.TheVariants as result
 use Rattle.trace_text.specs.Follow.{Recorded, opening_at}
-use Rattle.trace_text.specs.Fits.{result_in, entry_in, called, exception_at, mark_of, marks_of, taken_from, IsResultBy, CallsAreIn, MarksClimb}
+use Rattle.trace_text.specs.Fits.{result_in, entry_in, exception_at, mark_of, marks_of, IsResultBy, CallsAreIn, MarksClimb}
 
 -- The entry at this place is the call of this step, and shows this exception.
 pub record KeepsCall (s : ScriptData) (w : Recorded) (who : Who) (k p : ℕ) (error : Option DomError) : Type 0 where

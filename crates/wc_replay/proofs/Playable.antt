@@ -5,30 +5,15 @@ use Rattle.std.specs.List.{list_all}
 use Rattle.std.proofs.lemmas.Bool.{and_parts, and_from, ltb-true}
 use Rattle.std.proofs.lemmas.Option.{slice_get_within}
 use Rattle.script_types.specs.declared.{script.CodecItem.CodecItem, script.OrderItem.OrderItem, script.ScriptData.ScriptData, steps.Step.Step}
-use Rattle.script_types.specs.{declared.steps.MediaStep.MediaStep, Names.decodes}
-use Rattle.script_types.specs.Sound.{is_sound, are_sound_codecs, is_sound_step, is_sound_item, any_kind, suits, encodes, gives}
-use Rattle.script_types.specs.SoundLaws.{parts_of, codec_within, few_steps, item_at}
+use Rattle.script_types.specs.Sound.{is_sound, are_sound_codecs, is_sound_item}
+use Rattle.script_types.specs.SoundLaws.{parts_of, names_within, few_steps, item_at}
 use Rattle.trace_text.specs.{Follow.steps_of, Fits.step_in}
 use Rattle.order_laws.specs.SoundSteps.{stands_in, sound_step, sound_of}
-use Rattle.wc_replay.specs.Player.{IsPlayable, IsInRange, NamesInRange, is_openable}
+use Rattle.wc_replay.specs.Player.{IsPlayable, IsInRange, is_openable}
 
 -- a caller that has a step is one of the script's
 pub caller_within : (s : ScriptData) (c j : ℕ) (x : Step) → step_in s c j ≡ Some x → c < length s.callers
 caller_within s c j x is = let there = stands_in s.callers c j x is in slice_get_within s.callers c there.caller there.is_caller
-
--- ---- what steps name
-
-names_within : (codecs : List CodecItem) (before : List Step) (x : Step) → is_sound_step codecs before x ≡ true → NamesInRange (length codecs) x
-names_within codecs before (Step.Configure on config) h = codec_within codecs (suits config) on h
-names_within codecs before (Step.Decode on chunk) h = codec_within codecs decodes on (and_parts _ _ h).0
-names_within codecs before (Step.Flush on bind) h = codec_within codecs any_kind on (and_parts _ _ h).0
-names_within codecs before (Step.Reset on) h = codec_within codecs any_kind on h
-names_within codecs before (Step.Close on) h = codec_within codecs any_kind on h
-names_within codecs before (Step.State on) h = codec_within codecs any_kind on h
-names_within codecs before (Step.Media (MediaStep.Encode on content)) h = codec_within codecs encodes on (and_parts _ _ h).0
-names_within codecs before (Step.Media (MediaStep.Take on bind kind)) h = codec_within codecs (gives kind) on (and_parts _ _ h).0
-names_within codecs before (Step.Media x) h = tt
-names_within codecs before x h = tt
 
 -- ---- the order
 

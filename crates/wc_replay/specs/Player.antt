@@ -1,5 +1,5 @@
 -- A replay: its codecs, its callers and its registry.
-use Rattle.std.specs.Prelude.{ℕ, ◌≡◌, ◌<◌, ◌&&◌, nat_le, Bool, true, List, [], map, length, slice_get, Option, Some, None}
+use Rattle.std.specs.Prelude.{ℕ, ◌≡◌, ◌<◌, ◌&&◌, nat_le, Bool, true, List, [], map, length, slice_get, Option, Some, None, IfSome}
 use Rattle.wc_config.specs.declared.codec.CoderId.{CoderId}
 use Rattle.wc_chunk.specs.declared.chunk.Chunk.{Chunk}
 use Rattle.script_types.specs.declared.script.OrderItem.{OrderItem}
@@ -9,7 +9,7 @@ use Rattle.script_types.specs.declared.script.CallerItem.{CallerItem}
 use Rattle.script_types.specs.declared.script.CodecItem.{CodecItem}
 use Rattle.script_types.specs.declared.script.ScriptData.{ScriptData}
 use Rattle.script_types.specs.declared.steps.Step.{Step}
-use Rattle.script_types.specs.declared.steps.Step.TheVariants as step
+use Rattle.script_types.specs.Names.{names_codec}
 use Rattle.script_types.specs.declared.steps.MediaStep.{MediaStep}
 use Rattle.script_types.specs.declared.steps.MediaStep.TheVariants as on_media
 use Rattle.codec_model.specs.Shown.{each_shown}
@@ -34,15 +34,7 @@ IsInRange n (item.Reclaim k moment) = k < n
 
 -- a step names one of so many codecs, if it names one
 abbrev pub NamesInRange : ℕ → Step → Type 0
-NamesInRange n (step.Configure k config) = k < n
-NamesInRange n (step.Decode k chunk) = k < n
-NamesInRange n (step.Flush k bind) = k < n
-NamesInRange n (step.Reset k) = k < n
-NamesInRange n (step.Close k) = k < n
-NamesInRange n (step.State k) = k < n
-NamesInRange n (step.Media (on_media.Encode k content)) = k < n
-NamesInRange n (step.Media (on_media.Take k bind kind)) = k < n
-NamesInRange n x = Unit {0}
+NamesInRange n x = IfSome (names_codec x) (λ k. k < n)
 
 -- The script is sound, each step's number fits in 32 bits, and every step and every item of the order names one of the codecs, if it
 -- names one.

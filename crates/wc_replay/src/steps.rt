@@ -8,7 +8,7 @@ ghost use Rattle.media_accounts.specs.Accounts.{AreLent};
 ghost use Rattle.media_variables.specs.Held.{sound_found};
 ghost use Rattle.media_variables.specs.declared.lending.SoundFound.TheVariants as found;
 ghost use Rattle.order_laws.specs.Course.{held_by_codecs};
-ghost use Rattle.trace_text.specs.Fits.{taken_from};
+ghost use Rattle.script_types.specs.Names.{taken_from};
 ghost use Rattle.script_types.specs.declared.steps.Step.TheVariants as a_step;
 ghost use Rattle.media_variables.specs.Variables.{Brought, media_came, sound_at, taken_came, variables_of};
 ghost use Rattle.trace_text.specs.Follow.{with_result, after_move, advance, chunk_for, item_entry, call_move, decode_move, encode_move, hand_move, handle_move, media_move, take_move, found_at, removal_move, look_of_flush, look_of_state, promise_after, step_move, follow_item, steps_of, source_error};
