@@ -1,6 +1,7 @@
 -- Each list of bytes is a chunk file or has a first fault.
-use Rattle.std.proofs.Common.{◌≡◌, ◌≤◌, ◌+◌, ◌==◌, inl, inr, ℕ, zero, suc, Bool, true, false, nat_lt, List, [], ◌∷◌, ◌++◌, length, drop, take, slice_index, Option, Some, None, codes, refl, sym, arith, length-drop}
+use Rattle.std.proofs.Common.{◌≡◌, ◌≤◌, ◌+◌, ◌==◌, inl, inr, ⊎_elim, ℕ, zero, suc, Bool, true, false, nat_lt, List, [], ◌∷◌, ◌++◌, length, drop, take, slice_index, Option, Some, None, codes, refl, sym, arith, length-drop}
 use Rattle.std.specs.Int.{cast_signed, w64}
+use Rattle.std.proofs.lemmas.Bool.{cases_lt}
 use Rattle.std.proofs.lemmas.Bool.Decides.{nat_tests}
 use Rattle.std.proofs.lemmas.List.{take-append-drop, length-take-le}
 use Rattle.byteorder.specs.Endian.{big_number}
@@ -55,12 +56,9 @@ read_on (suc n) bytes chunks (x ∷ xs) place le mark before is =
 
 -- ---- the mark
 
-by_mark : (bytes : List ℕ) (b : Bool) → nat_lt (marked bytes) 4 ≡ b → IsRead bytes
-by_mark bytes true h = inr (ChunkFault.BadMark (marked bytes), ((grind (arith, nat_tests)), refl))
-by_mark bytes false h =
-    let least : 4 ≤ marked bytes = grind (arith, nat_tests, h) in
-    let long : marked bytes ≤ length bytes = (agreeing_within (codes "WCC1") bytes).1 in
-    read_on (length bytes) bytes [] (drop 4 bytes) 4 (omega (arith, length-drop 4 bytes)) (marks_agree bytes least) refl (omega (arith, length-drop 4 bytes, least, long))
-
 pub each_is_read : (bytes : List ℕ) → IsRead bytes
-each_is_read bytes = by_mark bytes (nat_lt (marked bytes) 4) refl
+each_is_read bytes =
+    let long : marked bytes ≤ length bytes = (agreeing_within (codes "WCC1") bytes).1 in
+    ⊎_elim (λ short. inr (ChunkFault.BadMark (marked bytes), (short, refl)))
+    (λ least. read_on (length bytes) bytes [] (drop 4 bytes) 4 (omega (arith, length-drop 4 bytes)) (marks_agree bytes least) refl (omega (arith, length-drop 4 bytes)))
+    (cases_lt (marked bytes) 4)

@@ -1,12 +1,12 @@
 -- What is known of a step of media resources that was read.
-use Rattle.std.proofs.Common.{◌≡◌, ◌≤◌, ℕ, nat_le, codes, true, List, Some, Result, Ok, IfOk, refl, subst, ◌∙◌, arith}
+use Rattle.std.proofs.Common.{◌≡◌, ◌≤◌, ℕ, codes, true, List, Some, Result, Ok, IfOk, refl, subst, ◌∙◌, arith}
 use Rattle.std.proofs.lemmas.Result.{IfOk-at_ok}
 use Rattle.serde_json.specs.Data.{Data}
 use Rattle.wc_config.specs.declared.kind.Kind.{Kind}
 use Rattle.chunk_files.specs.declared.fault.Stop.{Stop}
 use Rattle.script_types.specs.declared.{fault.Wrong.Wrong, script.CodecItem.CodecItem, steps.Step.Step, steps.MediaStep.MediaStep, steps.Variable.Variable, steps.VariableKind.VariableKind, options.Options.Options}
 use Rattle.script_types.specs.Names.{outputs_of, is_copied}
-use Rattle.script_types.specs.Sound.{most_chunk, encodes, gives, is_variable, is_free, are_options_of, is_sound_media, bytes_of_media, bytes_of_sound, bytes_of_picture}
+use Rattle.script_types.specs.Sound.{encodes, gives, is_variable, is_free, are_options_of, is_sound_media, bytes_of_media, bytes_of_sound, bytes_of_picture}
 use Rattle.script_steps.specs.Members.{and_then, known, name_in, object_in}
 use Rattle.script_steps.specs.{Media.data_of_init, Media.data_of_step, Media.sound_of, Media.picture_of, declared.words.StepWord.StepWord, declared.words.MediaWord.MediaWord}
 use Rattle.script_steps.specs.{declared.references.Needed.Needed, Words.data_of_word, Words.byte_count}
@@ -45,9 +45,6 @@ of_part codecs before d w r make sound bytes = made r make (λ a. is_sound_media
 
 -- ---- copies
 
-size_is_small : (d : Data) (size : ℕ) → size_in d ≡ Ok size → nat_le size most_chunk ≡ true
-size_is_small d size h = grind (arith, h)
-
 -- a step with a variable, and with options of what it holds
 of_options : (codecs : List CodecItem) (before : List Step) (d : Data) (w : MediaWord) (needed : Needed) (of : List ℕ) (make : Variable → Options → MediaStep) → ((k : VariableKind) → is_right needed k ≡ true → is_copied k ≡ true)
     → ((v : Variable) (o : Options) → is_variable before (is_right needed) v ≡ true → are_options_of o v.kind ≡ true → is_sound_media codecs before (make v o) ≡ true)
@@ -69,6 +66,6 @@ media_sound codecs before d MediaWord.Transfer = of_part codecs before d MediaWo
 media_sound codecs before d MediaWord.CloseData = of_part codecs before d MediaWord.CloseData _ _ (variable_sound (codes "of") Needed.Medium before d) (λ v. omega arith)
 media_sound codecs before d MediaWord.Copy =
     by_part (name_in (codes "of") d) _ _ (λ of n. by_part (size_in d) _ _ (λ size s.
-    of_options codecs before d MediaWord.Copy Needed.Copied of (λ v o. MediaStep.Copy v o size) (λ k c. c) (λ v o a b. all_true _ _ a (all_true _ _ b (size_is_small d size s))) (λ v o. omega arith)))
+    of_options codecs before d MediaWord.Copy Needed.Copied of (λ v o. MediaStep.Copy v o size) (λ k c. c) (λ v o a b. all_true _ _ a (all_true _ _ b (grind (arith, s)))) (λ v o. omega arith)))
 media_sound codecs before d MediaWord.Size =
     by_part (name_in (codes "of") d) _ _ (λ of n. of_options codecs before d MediaWord.Size Needed.Medium of MediaStep.Size medium_is_copied (λ v o. all_true _ _) (λ v o. omega arith))

@@ -1,7 +1,6 @@
 -- What is made of an init holds no more than the inline data.
-use Rattle.std.proofs.Common.{◌≡◌, ◌≤◌, ℕ, ℤ, codes, Bool, true, false, List, Option, option_and_then, Ok, IfOk, sym, subst, arith}
+use Rattle.std.proofs.Common.{◌≡◌, ◌≤◌, ℕ, codes, Bool, true, false, List, Option, option_and_then, Ok, IfOk, sym, subst, arith}
 use Rattle.serde_json.specs.{Data.Data, Find.get}
-use Rattle.wc_base.specs.declared.media.{SampleFormat.SampleFormat, PictureFormat.PictureFormat}
 use Rattle.script_types.specs.Sound.{bytes_of_chunk, bytes_of_source, bytes_of_sound, bytes_of_picture}
 use Rattle.script_steps.specs.{declared.source.SourceWords.SourceWords, Words.byte_count, Steps.numbered}
 use Rattle.script_steps.specs.Members.{and_then, needed, word_of, required, u32_of, hex_of, object_in, text_in}
@@ -19,34 +18,22 @@ of_content : {A : Type 0} → (bytes : A → ℕ) (d : Data) (make : Option (Lis
     → IfOk (and_then (content_in d) (λ c. Ok (make c))) (λ i. bytes i ≤ byte_count (data_of_init d))
 of_content bytes d make small = by_part (content_in d) _ _ (λ c e. subst (λ x. bytes (make c) ≤ byte_count x) (sym (content_is (get (codes "data") d) c e)) (small c))
 
-chunk_content : (key : Option Bool) (timestamp : Option ℤ) (duration : Option (Option ℕ)) (content : Option (List ℕ))
-    → bytes_of_chunk (chunk_with key timestamp duration content) ≤ byte_count content
-chunk_content key timestamp duration content = grind arith
-
 chunk_bytes : (d : Data) → IfOk (chunk_of d) (λ i. bytes_of_chunk i ≤ byte_count (data_of_init d))
 chunk_bytes d =
     by_part (required (word_of key_of) (get (codes "type") d)) _ _ (λ key k. by_part (timestamp_in d) _ _ (λ timestamp t. by_part (duration_in d) _ _ (λ duration l.
-    of_content bytes_of_chunk d (chunk_with key timestamp duration) (chunk_content key timestamp duration))))
-
-sound_content : (format : Option SampleFormat) (rate frames channels : Option ℕ) (timestamp : Option ℤ) (content : Option (List ℕ))
-    → bytes_of_sound (sound_with format rate frames channels timestamp content) ≤ byte_count content
-sound_content format rate frames channels timestamp content = grind arith
+    of_content bytes_of_chunk d (chunk_with key timestamp duration) (λ c. grind arith))))
 
 pub sound_bytes : (d : Data) → IfOk (sound_of d) (λ i. bytes_of_sound i ≤ byte_count (data_of_init d))
 sound_bytes d =
     by_part (required (word_of sample_format_of) (get (codes "format") d)) _ _ (λ format f. by_part (required u32_of (get (codes "sampleRate") d)) _ _ (λ rate r.
     by_part (required u32_of (get (codes "numberOfFrames") d)) _ _ (λ frames n. by_part (required u32_of (get (codes "numberOfChannels") d)) _ _ (λ channels c. by_part (timestamp_in d) _ _ (λ timestamp t.
-    of_content bytes_of_sound d (sound_with format rate frames channels timestamp) (sound_content format rate frames channels timestamp))))))
-
-picture_content : (format : Option PictureFormat) (width height : Option ℕ) (timestamp : Option ℤ) (duration : Option (Option ℕ)) (content : Option (List ℕ))
-    → bytes_of_picture (picture_with format width height timestamp duration content) ≤ byte_count content
-picture_content format width height timestamp duration content = grind arith
+    of_content bytes_of_sound d (sound_with format rate frames channels timestamp) (λ b. grind arith))))))
 
 pub picture_bytes : (d : Data) → IfOk (picture_of d) (λ i. bytes_of_picture i ≤ byte_count (data_of_init d))
 picture_bytes d =
     by_part (required (word_of picture_format_of) (get (codes "format") d)) _ _ (λ format f. by_part (required u32_of (get (codes "codedWidth") d)) _ _ (λ width w.
     by_part (required u32_of (get (codes "codedHeight") d)) _ _ (λ height h. by_part (timestamp_in d) _ _ (λ timestamp t. by_part (duration_in d) _ _ (λ duration l.
-    of_content bytes_of_picture d (picture_with format width height timestamp duration) (picture_content format width height timestamp duration))))))
+    of_content bytes_of_picture d (picture_with format width height timestamp duration) (λ c. grind arith))))))
 
 -- ---- the init of a step
 

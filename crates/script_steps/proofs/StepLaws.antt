@@ -18,50 +18,38 @@ use Rattle.script_steps.specs.NameLaws.{codec_is_there}
 use Rattle.script_steps.proofs.ReferenceLaws.{by_part, made, new_name, variable_sound, on_sound, bound_on_sound, given_to_sound}
 use Rattle.script_steps.proofs.SourceLaws.{source_bytes}
 
--- ---- a step that mentions no file
-
-record Plain (codecs : List CodecItem) (before : List Step) (d : Data) (w : StepWord) (s : Step) : Type 0 where
-  pub sound : is_sound_step codecs before s ≡ true
-  pub bytes : bytes_of_step s ≤ byte_count (data_of_word (Some w) d)
-  pub count : (n : ℕ) → file_after n s ≡ Some n
-
--- ---- all steps
-
 record SoundBy (codecs : List CodecItem) (files : List (List ℕ)) (before : List Step) (d : Data) (w : StepWord) (r : Step × List (List ℕ)) : Type 0 where
   pub sound : is_sound_step codecs before r.0 ≡ true
   pub bytes : bytes_of_step r.0 ≤ byte_count (data_of_word (Some w) d)
   pub count : file_after (length files) r.0 ≡ Some (length r.1)
   pub apart : are_apart [] files ≡ true → are_apart [] r.1 ≡ true
 
-plain : (codecs : List CodecItem) (files : List (List ℕ)) (before : List Step) (d : Data) (w : StepWord) (t : Result Step (Stop Wrong)) → IfOk t (Plain codecs before d w) → IfOk (no_file files t) (SoundBy codecs files before d w)
-plain codecs files before d w t h = made t _ (Plain codecs before d w) _ h (λ s p. record { sound = p.sound; bytes = p.bytes; count = p.count (length files); apart = λ a. a })
+-- a step that mentions no file
+plain : (codecs : List CodecItem) (files : List (List ℕ)) (before : List Step) (d : Data) (w : StepWord) (t : Result Step (Stop Wrong)) → IfOk t (λ s. SoundBy codecs files before d w (s, files)) → IfOk (no_file files t) (SoundBy codecs files before d w)
+plain codecs files before d w t h = made t _ (λ s. SoundBy codecs files before d w (s, files)) _ h (λ s p. p)
 
-configure : (codecs : List CodecItem) (before : List Step) (d : Data) → IfOk (configure_of codecs d) (Plain codecs before d StepWord.Configure)
-configure codecs before d =
+configure : (codecs : List CodecItem) (files : List (List ℕ)) (before : List Step) (d : Data) → IfOk (configure_of codecs d) (λ s. SoundBy codecs files before d StepWord.Configure (s, files))
+configure codecs files before d =
     by_part (name_in (codes "on") d) _ _ (λ on n. by_part (object_in (codes "config") d) _ _ (λ object o. by_part (known (codec_named codecs on)) _ _ (λ codec k. by_part (config_of codec.kind object) _ _ (λ config c.
     let suit = IfOk-at_ok (λ x. suits x codec.kind ≡ true) c (config_suits codec.kind object) in
-    record { sound = codec_is_there codecs (suits config) on codec k ∙ suit; bytes = omega arith; count = λ m. refl }))))
+    record { sound = codec_is_there codecs (suits config) on codec k ∙ suit; bytes = omega arith; count = refl; apart = λ a. a }))))
 
 -- a step that is made of one part that was read
 of_part : {A : Type 0} → (codecs : List CodecItem) (files : List (List ℕ)) (before : List Step) (d : Data) (w : StepWord) (r : Result A (Stop Wrong)) (make : A → Step) → IfOk r (λ a. is_sound_step codecs before (make a) ≡ true)
     → ((a : A) → bytes_of_step (make a) ≤ byte_count (data_of_word (Some w) d)) → ((a : A) (n : ℕ) → file_after n (make a) ≡ Some n) → IfOk (no_file files (and_then r (λ a. Ok (make a)))) (SoundBy codecs files before d w)
 of_part codecs files before d w r make sound bytes count =
-    plain codecs files before d w _ (made r make (λ a. is_sound_step codecs before (make a) ≡ true) _ sound (λ a s. record { sound = s; bytes = bytes a; count = count a }))
+    plain codecs files before d w _ (made r make (λ a. is_sound_step codecs before (make a) ≡ true) _ sound (λ a s. record { sound = s; bytes = bytes a; count = count a (length files); apart = λ x. x }))
 
-source_count : (files : List (List ℕ)) (s : SourceWords) → source_after (length files) (numbered files s).0 ≡ Some (length (numbered files s).1)
-source_count files (SourceWords.Init init) = refl
-source_count files (SourceWords.File name index) = file_is_counted files name
-
-source_apart : (files : List (List ℕ)) (s : SourceWords) → are_apart [] files ≡ true → are_apart [] (numbered files s).1 ≡ true
-source_apart files (SourceWords.Init init) h = h
-source_apart files (SourceWords.File name index) h = files_are_apart files name h
+source_files : (files : List (List ℕ)) (s : SourceWords) → (source_after (length files) (numbered files s).0 ≡ Some (length (numbered files s).1)) × (are_apart [] files ≡ true → are_apart [] (numbered files s).1 ≡ true)
+source_files files (SourceWords.Init init) = (refl, λ h. h)
+source_files files (SourceWords.File name index) = (file_is_counted files name, files_are_apart files name)
 
 by_word : (codecs : List CodecItem) (files : List (List ℕ)) (before : List Step) (d : Data) (w : StepWord) → IfOk (step_by codecs files before d w) (SoundBy codecs files before d w)
-by_word codecs files before d StepWord.Configure = plain codecs files before d StepWord.Configure _ (configure codecs before d)
+by_word codecs files before d StepWord.Configure = plain codecs files before d StepWord.Configure _ (configure codecs files before d)
 by_word codecs files before d StepWord.Chunk =
     by_part (name_in (codes "as") d) _ _ (λ name n. by_part (source_of d) _ _ (λ source s. by_part (unused before name) _ _ (λ bind u.
     let small = IfOk-at_ok (λ x. bytes_of_source (numbered files x).0 ≤ byte_count (data_of_step d)) s (source_bytes files d) in
-    record { sound = new_name before d name bind n u; bytes = small; count = source_count files source; apart = source_apart files source })))
+    record { sound = new_name before d name bind n u; bytes = small; count = (source_files files source).0; apart = (source_files files source).1 })))
 by_word codecs files before d StepWord.Decode = of_part codecs files before d StepWord.Decode _ _ (given_to_sound decodes (codes "chunk") Needed.Chunk codecs before d) (λ g. omega arith) (λ g n. refl)
 by_word codecs files before d StepWord.Flush =
     of_part codecs files before d StepWord.Flush _ _ (IfOk-weaker (bound_on codecs before d) _ _ (λ b s. s any_kind refl) (bound_on_sound codecs before d)) (λ b. omega arith) (λ b n. refl)
@@ -71,7 +59,7 @@ by_word codecs files before d StepWord.Reset = of_part codecs files before d Ste
 by_word codecs files before d StepWord.Close = of_part codecs files before d StepWord.Close _ _ (on_sound codecs d) (λ on. omega arith) (λ on n. refl)
 by_word codecs files before d StepWord.State = of_part codecs files before d StepWord.State _ _ (on_sound codecs d) (λ on. omega arith) (λ on n. refl)
 by_word codecs files before d (StepWord.Media w) =
-    plain codecs files before d (StepWord.Media w) _ (made (media_by codecs before d w) Step.Media _ _ (media_sound codecs before d w) (λ m t. record { sound = t.sound; bytes = t.bytes; count = λ n. refl }))
+    plain codecs files before d (StepWord.Media w) _ (made (media_by codecs before d w) Step.Media _ _ (media_sound codecs before d w) (λ m t. record { sound = t.sound; bytes = t.bytes; count = refl; apart = λ a. a }))
 
 pub step_sound : StepsAreSound
 step_sound codecs files before d s after h =

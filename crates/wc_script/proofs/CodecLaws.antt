@@ -1,5 +1,5 @@
 -- Nothing is at fault in codecs that were read.
-use Rattle.std.proofs.Common.{◌≡◌, ℕ, ◌&&◌, not, nat_le, true, List, [], codes, Option, option_and_then, Ok, IfOk, refl, ap, arith}
+use Rattle.std.proofs.Common.{◌≡◌, ℕ, not, true, List, [], codes, option_and_then, IfOk, refl, ap, arith}
 use Rattle.std.proofs.lemmas.Result.{IfOk-weaker}
 use Rattle.serde_json.specs.Data.{Data, Items}
 use Rattle.serde_json.specs.Find.{get}
@@ -13,18 +13,12 @@ use Rattle.wc_script.proofs.Proceeds.{by_part, unless, each_more, IsWalked, walk
 
 -- ---- one codec
 
-abbrev Range : ℕ → Type 0
-Range n = (nat_le 1 n && nat_le n 64) ≡ true
-
-saturation_in_range : (o : Option Data) (n : ℕ) → saturation_of o ≡ Ok n → Range n
-saturation_in_range o n h = grind (arith, h)
-
 codec_sound : (before : List CodecItem) (d : Data) → IfOk (codec_of before d) (λ c. is_sound_codec before c ≡ true)
 unfolding codec_of
 codec_sound before d =
     by_part (name_in (codes "name") d) _ _ (λ name n. by_part (needed (option_and_then kind_named (text_in (codes "kind") d))) _ _ (λ kind k.
     by_part (saturation_of (get (codes "saturation") d)) _ _ (λ saturation s. unless (is_codec_name before name) _ _ _ (λ new.
-    all_true (is_name name) _ (name_is_name (codes "name") name d n) (all_true (not (is_codec_name before name)) _ (ap not new) (saturation_in_range (get (codes "saturation") d) saturation s))))))
+    all_true (is_name name) _ (name_is_name (codes "name") name d n) (all_true (not (is_codec_name before name)) _ (ap not new) (grind (arith, s)))))))
 
 -- ---- all
 

@@ -23,9 +23,6 @@ below (c ∷ cs) (suc n) h = grind (arith, below cs n h)
 codec_below : (codecs : List CodecItem) (name : List ℕ) (c : FoundCodec) → known (codec_named codecs name) ≡ Ok c → nat_lt c.number (length codecs) ≡ true
 codec_below codecs name c h = below codecs c.number (codec_is_there codecs any_kind name c h)
 
-caller_below : (callers : List CallerItem) (name : List ℕ) (i : ℕ) → known (caller_named callers name) ≡ Ok i → nat_lt i (length callers) ≡ true
-caller_below callers name i h = grind (arith, h)
-
 -- ---- one item
 
 in_below : (key : List ℕ) (codecs : List CodecItem) (d : Data) → IfOk (codec_in key codecs d) (λ n. nat_lt n (length codecs) ≡ true)
@@ -50,7 +47,7 @@ unfolding order_item_of
 item_sound codecs callers d = by_text (as_str d)
   where
     by_text : (o : Option (List ℕ)) → IfOk (order_from codecs callers d o) (IsSoundItem codecs callers)
-    by_text (Some text) = by_part (needed (checked_name text)) _ _ (λ name n. by_part (known (caller_named callers name)) _ _ (caller_below callers name))
+    by_text (Some text) = by_part (needed (checked_name text)) _ _ (λ name n. by_part (known (caller_named callers name)) _ _ (λ i e. grind (arith, e)))
     by_text None = by_part (needed (order_word_of d)) _ _ (λ w e. by_word codecs callers d w)
 
 -- ---- all items

@@ -6,19 +6,15 @@ use Rattle.std.proofs.lemmas.Result.{IfOk-at_ok}
 use Rattle.serde_json.specs.Data.{Data, Items}
 use Rattle.script_types.specs.declared.{fault.Place.Place, fault.Counted.Counted, script.CodecItem.CodecItem}
 use Rattle.script_types.specs.declared.script.{CallerItem.CallerItem, ScriptData.ScriptData}
-use Rattle.script_types.specs.{Limits.limit_of}
 use Rattle.script_types.specs.Sound.{most_codecs, most_callers, most_steps, most_order, most_media, are_sound_codecs, are_sound_callers, are_small, bytes_of_caller, are_apart, are_sound_files, counts_agree, is_sound_item, is_sound_order, are_few, is_small_media, is_sound}
 use Rattle.script_steps.specs.{Members.needed, Members.array_in, Sources.has, Soundness.StepsAreSound}
-use Rattle.script_steps.specs.Chains.{needed_some, all_true}
+use Rattle.script_steps.specs.Chains.{all_true}
 use Rattle.wc_script.specs.{Codecs.codecs_of, Callers.callers_of, Order.order_of}
 use Rattle.wc_script.specs.Walk.{count_of, few, Parts, order_if_there, parts_with, parts_of, ordered, whole_room, walk_of}
 use Rattle.wc_script.proofs.Proceeds.{by_part, by_top, only_if, IsWalked}
 use Rattle.wc_script.proofs.{CodecLaws.codecs_sound, CallerLaws.SoundCallers, CallerLaws.CallersRead, CallerLaws.callers_sound, OrderLaws.items_sound}
 
 -- ---- the arrays
-
-few_of : (what : Counted) (o m : Option Items) (ds : Items) → few what o ≡ Ok m → m ≡ Some ds → nat_le (count_of ds) (limit_of what) ≡ true
-few_of what o m ds h e = grind (arith, h, e)
 
 -- each array is within its limit
 record AreFew (p : Parts) : Type 0 where
@@ -32,9 +28,9 @@ few_parts d =
     by_part (few Counted.Codecs (array_in (codes "codecs") d)) _ _ (λ a e. by_part (few Counted.Callers (array_in (codes "callers") d)) _ _ (λ b f.
     by_part (few Counted.Order (array_in (codes "order") d)) _ _ (λ c g. by_top Place.Top (parts_with a b (has (codes "order") d) c) AreFew (
     by_part (needed a) _ _ (λ codecs k. by_part (needed b) _ _ (λ callers l. by_part (order_if_there (has (codes "order") d) c) _ _ (λ order o. record {
-      codecs = few_of Counted.Codecs (array_in (codes "codecs") d) a codecs e (needed_some a codecs k);
-      callers = few_of Counted.Callers (array_in (codes "callers") d) b callers f (needed_some b callers l);
-      order = λ ds is. few_of Counted.Order (array_in (codes "order") d) c ds g (grind (arith, o, is));
+      codecs = grind (arith, e, k);
+      callers = grind (arith, f, l);
+      order = λ ds is. grind (arith, g, o, is);
     })))))))
 
 -- ---- the order

@@ -23,9 +23,6 @@ record IsCounted (room : Room) (bytes : ℕ) (r : Room) : Type 0 where
   pub small : bytes ≤ most_chunk
   pub media : bytes + r.media ≤ room.media
 
-counted_room : (room r : Room) (bytes : ℕ) → room_after room bytes ≡ Ok r → IsCounted room bytes r
-counted_room room r bytes h = grind (arith, nat_tests, h)
-
 -- ---- steps
 
 -- the steps that were read where these files were mentioned before, and there was so much room
@@ -54,7 +51,7 @@ one_step law codecs i w d =
     let bytes = byte_count (inline_data d) in
     by_part (room_after w.room bytes) _ _ (λ room r. by_read (Place.Step i (length w.steps)) (step_of codecs w.files w.steps d) _ _ (λ s e.
     let t = law codecs w.files w.steps d s.0 s.1 e in
-    record { step = s.0; steps = refl; sound = t.step; bytes = bytes; fits = t.bytes; room = counted_room w.room room bytes r; files = t.count; apart = t.apart }))
+    record { step = s.0; steps = refl; sound = t.step; bytes = bytes; fits = t.bytes; room = grind (arith, nat_tests, r); files = t.count; apart = t.apart }))
 
 step_kept : (codecs : List CodecItem) (fs : List (List ℕ)) (room : Room) (w v : Walked) → SoundSteps codecs fs room w → OneStep codecs w v → SoundSteps codecs fs room v
 step_kept codecs fs room w v t o =
