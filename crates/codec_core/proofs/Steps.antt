@@ -15,7 +15,7 @@ use Rattle.codec_model.specs.Replay.{State, call_step, removal_step, Given, miss
 use Rattle.codec_model.specs.Shown.{refusal, shown_at, call_shows, removal_shows}
 use Rattle.codec_accounts.specs.Boxes.{act_of, removal_act}
 use Rattle.codec_model.specs.StepLaws.{by_queue, begun, start_made}
-use Rattle.codec_core.specs.Job.{JobValue, DoneValue, missing_for, CoderAt, CoderFor, StillAt, IsEndOf, IsJobOf, outcome_of}
+use Rattle.codec_core.specs.Job.{DoneValue, missing_for, CoderAt, CoderFor, StillAt, IsEndOf, IsJobOf, outcome_of}
 use Rattle.codec_core.specs.Codec.{state_at, Makes, CoderHome, IsKept, kept_box, reclaims, refused_as}
 
 -- what processing leaves as it is
