@@ -12,7 +12,7 @@ use Rattle.slot_registry.specs.IdLaws.{id_is}
 use Rattle.codec_model.specs.declared.entry.{Coded.Coded, Work.Work, WorkKind.WorkKind, Ended.Ended}
 use Rattle.codec_model.specs.Control.{kind_of}
 use Rattle.codec_model.specs.Replay.{Given, State, given_more, answer_to, answers_to, ended_of, command_of, decoder_config, labelled, labelled_answer}
-use Rattle.codec_core.specs.Job.{JobValue, DoneValue, IsJob, IsJobOf, IsEnd, IsEndOf, none_refused_from, WasGiven, CoderAt, CoderFor, StillAt, StaysAt, EndsBy, EndsCommand, EndsWork, IsOrWants, labelled_end, end_by, outcome_of}
+use Rattle.codec_core.specs.Job.{JobValue, DoneValue, IsJob, IsJobOf, IsEndOf, none_refused_from, WasGiven, CoderAt, CoderFor, StillAt, EndsBy, EndsCommand, EndsWork, IsOrWants, labelled_end, end_by, outcome_of}
 
 asked_id : (id : CoderId) (wanted : Option CoderId) → asks_for id wanted ≡ true → wanted ≡ Some id
 asked_id id None h = absurd cc

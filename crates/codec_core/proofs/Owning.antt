@@ -8,7 +8,7 @@ use Rattle.codec_model.specs.declared.entry.{Opening.Opening, Entry.Entry, Runni
 use Rattle.codec_model.specs.Control.{Control, start_item, turn_closes}
 use Rattle.codec_model.specs.Replay.{State, opening_state, step, replay}
 use Rattle.codec_model.specs.{ShownLaws.replay_more, Held.closes_codec}
-use Rattle.codec_accounts.specs.Boxes.{Act, Ends, Other, Kept, stays, act_of, lets, lacking, start_act, removal_act, acts_of}
+use Rattle.codec_accounts.specs.Boxes.{Act, Ends, Other, Kept, stays, act_of, lacking, start_act, removal_act, acts_of}
 use Rattle.codec_accounts.specs.{Codec.is_old, ActLaws.ActMakes, ActLaws.act_makes}
 use Rattle.codec_accounts.specs.Asked.{Asked, asked_by, asked_in, asked_at}
 use Rattle.codec_accounts.specs.AskedLaws.{IsAsked, step_of, asked_is, asked_more, lets_now, LetsGo}

@@ -15,7 +15,7 @@ use Rattle.codec_model.specs.Replay.{State, call_step, removal_step, Given, miss
 use Rattle.codec_model.specs.Shown.{refusal, shown_at, call_shows, removal_shows}
 use Rattle.codec_accounts.specs.Boxes.{act_of, removal_act}
 use Rattle.codec_model.specs.StepLaws.{by_queue, begun, start_made}
-use Rattle.codec_core.specs.Job.{JobValue, DoneValue, missing_for, CoderAt, CoderFor, StillAt, IsEndOf, IsJobOf, outcome_of}
+use Rattle.codec_core.specs.Job.{DoneValue, missing_for, CoderAt, CoderFor, StillAt, IsEndOf, IsJobOf, outcome_of}
 use Rattle.codec_core.specs.Codec.{state_at, Makes, CoderHome, IsKept, kept_box, reclaims, refused_as}
 
 -- what processing leaves as it is
@@ -180,21 +180,6 @@ idle_after slot next s d moment end home false other next_is fine =
     let lt : end.running.epoch < s.control.epoch = grind (arith, nat_tests, end.same_epoch) in
     rw next_is (home.stale end.running end.is_running lt)
 
--- the box comes home, if its epoch is not over
-done_moved : (slot next : Option Lent) (s : State) (d : DoneValue) (moment : ℕ) (end : IsEndOf s d) → CoderHome slot s → next ≡ kept_box (eqb d.epoch s.control.epoch) d.coder → Moved next (Entry.Done d.epoch d.number moment (outcome_of d.ended)) s (after_done d.ended moment s.control)
-done_moved slot next s d moment end home next_is =
-    let k = done_running end.running d.ended moment (at_next_place s.control) in
-    let l = done_leaves end.running d.ended moment (at_next_place s.control) in
-    let after : after_done d.ended moment s.control ≡ k = rw end.is_running refl in
-    let steps = done_steps s d moment end ∙ ap (λ (c : Control). Some (with_control c s)) after in
-    subst (Moved next (Entry.Done d.epoch d.number moment (outcome_of d.ended)) s) (sym after) (moved_to (with_control k s) _ l steps (record {
-      home = record { idle = λ run fine. idle_after slot next s d moment end home (eqb d.epoch s.control.epoch) refl next_is fine; out = λ r e. absurd cc; busy = λ r e o. absurd cc; stale = λ r e o. absurd cc; older = λ r e. absurd cc };
-      next_place = refl;
-      same_opening = refl;
-      taken = λ none. refl;
-      kept_place = omega arith;
-    }))
-
 -- ---- calls
 
 -- an entry that takes no output: its step, what it shows, and whether it removes
@@ -322,8 +307,18 @@ module _ {h : List Entry} {slot : Option Lent} {k : Control} (kept : IsKept h sl
 
   pub done_moves : {next : Option Lent} {k' : Control} (d : DoneValue) (moment spare : ℕ) → IsEndOf (state_at (record { opening = k.opening; history = h; spare = spare; slot = slot })) d → next ≡ kept_box (eqb d.epoch k.epoch) d.coder → k' ≡ after_done d.ended moment k → Moved next (Entry.Done d.epoch d.number moment (outcome_of d.ended)) kept.state k'
   done_moves {next = next} d moment spare end slot_is after =
-      let here : IsEndOf kept.state d = subst (λ (s : State). IsEndOf s d) (state_is spare) end in
-      rw (after, ← kept.is_control) (done_moved slot next kept.state d moment here kept.home (slot_is ∙ ap (λ (c : Control). kept_box (eqb d.epoch c.epoch) d.coder) (sym kept.is_control)))
+      let s = kept.state in
+      let own : IsEndOf s d = rw (state_is spare) at end in
+      let k = done_running own.running d.ended moment (at_next_place s.control) in
+      let is : after_done d.ended moment s.control ≡ k = rw own.is_running refl in
+      let next_is : next ≡ kept_box (eqb d.epoch s.control.epoch) d.coder = rw kept.is_control slot_is in
+      rw (after, ← kept.is_control, is) (moved_to (with_control k s) _ (done_leaves own.running d.ended moment (at_next_place s.control)) (rw is at (done_steps s d moment own)) (record {
+        home = record { idle = λ run fine. idle_after slot next s d moment own kept.home (eqb d.epoch s.control.epoch) refl next_is fine; out = λ r e. absurd cc; busy = λ r e o. absurd cc; stale = λ r e o. absurd cc; older = λ r e. absurd cc };
+        next_place = refl;
+        same_opening = refl;
+        taken = λ none. refl;
+        kept_place = omega arith;
+      }))
 
   pub turn_moves : {next : Option Lent} {k' : Control} (b : Bool) → turn_closes k.tasks ≡ Some b → next ≡ kept_box (not b) slot → k' ≡ after_turn k → Moved next Entry.Turn kept.state k'
   turn_moves b closes slot_is after =

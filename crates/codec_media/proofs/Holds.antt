@@ -1,11 +1,11 @@
 -- The references that a codec holds after one more entry.
-use Rattle.std.proofs.Common.{ℕ, ◌≡◌, Bool, true, false, cond, not, List, [], ◌∷◌, ◌++◌, length, map, Option, Some, None, is_none, is_some, refl, ap, sym, subst, ◌∙◌, append_assoc, append-nil, arith}
+use Rattle.std.proofs.Common.{ℕ, ◌≡◌, Bool, true, false, cond, not, List, [], ◌∷◌, ◌++◌, length, map, Option, Some, None, is_none, is_some, refl, ap, sym, ◌∙◌, append_assoc, append-nil, arith}
 use Rattle.std.specs.Prelude.{unwrap_or, option_map, Result, Ok, Err, IfOk, IfErr, IfSome}
 use Rattle.std.proofs.lemmas.Bool.{and_parts}
-use Rattle.std.proofs.lemmas.List.{map-append}
+use Rattle.std.proofs.lemmas.List.{map_push}
 use Rattle.wc_base.specs.declared.who.Who.{Who}
 use Rattle.wc_pool.specs.declared.reference.MediaRef.{MediaRef}
-use Rattle.codec_model.specs.declared.entry.{Pair.Pair, HeldSound.HeldSound, Handed.Handed, Call.Call, Task.Task, Work.Work, Item.Item}
+use Rattle.codec_model.specs.declared.entry.{Pair.Pair, Call.Call, Task.Task, Work.Work, Item.Item}
 use Rattle.coder_api.specs.Lent.{Lent}
 use Rattle.codec_model.specs.{declared.entry.Running.Running, declared.entry.Entry.Entry, Replay.State, Replay.entry_of, Held.HeldMoves}
 use Rattle.codec_model.specs.Control.{held_of, front, may_start, start_item, turn_closes}
@@ -30,18 +30,16 @@ call_keeps who Call.Flush s = (refl, refl)
 made_call : HeldMoves → (old new : Codec) (who : Who) (x : Call) (working : Option MediaRef) (waiting : List MediaRef) → Makes old new (entry_of who x) → IsHolding old working waiting → IsHolding new working waiting
 made_call moves old new who x working waiting m h =
     let keeps = call_keeps who x (state_at old) in
-    holds_after moves old new (entry_of who x) working waiting m (h.runs ∙ sym keeps.0) (h.waits ∙ (sym (append-nil (waiting_held (state_at old).control)) ∙ sym keeps.1))
+    holds_after moves old new (entry_of who x) working waiting m (rw keeps.0 h.runs) (rw (keeps.1, append-nil) h.waits)
 
 pub call_holds : HeldMoves → (result : Result Reply CallFault) (old new : Codec) (who : Who) (x : Call) (working : Option MediaRef) (waiting : List MediaRef) → IfOk result (λ reply. Replied old new who x reply.place None) → IfErr result (FaultIs old new who x) → IsHolding old working waiting → IsHolding new working waiting
 call_holds moves (Ok reply) old new who x working waiting ok err h = made_call moves old new who x working waiting ok.made h
 call_holds moves (Err (CallFault.Dom error at)) old new who x working waiting ok err h = made_call moves old new who x working waiting err.made h
-call_holds moves (Err CallFault.NoMemory) old new who x working waiting ok err h = let P : Codec → Type 0 = λ c. IsHolding c working waiting in subst P (sym err) h
+call_holds moves (Err CallFault.NoMemory) old new who x working waiting ok err h = rw err h
 
--- an encode
-pub encode_holds : HeldMoves → (old new : Codec) (who : Who) (x : HeldSound) (r : MediaRef) (working : Option MediaRef) (waiting : List MediaRef) → Makes old new (Entry.Encode who (Handed.Cloned x)) → x.pair ≡ pair_of r → IsHolding old working waiting → IsHolding new working (waiting ++ r ∷ [])
-encode_holds moves old new who x r working waiting m e h =
-    holds_after moves old new (Entry.Encode who (Handed.Cloned x)) working (waiting ++ r ∷ []) m h.runs
-    (map-append pair_of waiting (r ∷ []) ∙ (ap (λ l. l ++ pair_of r ∷ []) h.waits ∙ ap (λ (p : Pair). waiting_held (state_at old).control ++ p ∷ []) (sym e)))
+-- an entry that adds a reference behind those that wait, as an encode does
+pub more_holds : HeldMoves → (old new : Codec) (e : Entry) (r : MediaRef) (working : Option MediaRef) (waiting : List MediaRef) → Makes old new e → running_after e (state_at old) ≡ running_pairs (state_at old) → waiting_after e (state_at old) ≡ waiting_held (state_at old).control ++ pair_of r ∷ [] → IsHolding old working waiting → IsHolding new working (waiting ++ r ∷ [])
+more_holds moves old new e r working waiting m runs waits h = holds_after moves old new e working (waiting ++ r ∷ []) m (rw runs h.runs) (rw (waits, map_push, h.waits) refl)
 
 -- a start
 front_at : (b : Bool) (is : List Item) (n : ℕ) (w : Work) → option_map item_parts (cond b (front is) None) ≡ Some (n, w) → (b ≡ true) × (front_held is ≡ in_order (held_of w)) × (items_held is ≡ in_order (held_of w) ++ behind_held is)
@@ -50,7 +48,7 @@ front_at true [] n w h = absurd cc
 front_at true (i ∷ is) n w h =
     let pair : item_parts i ≡ (n, w) = cc in
     let same : i.work ≡ w = ap (λ p. p.1) pair in
-    (refl, ap (λ (x : Work). in_order (held_of x)) same, ap (λ (x : Work). in_order (held_of x) ++ items_held is) same)
+    rw same (refl, refl, refl)
 
 no_pairs : (o : Option Running) (held : Option Pair) → is_none o ≡ true → held_by o held ≡ []
 no_pairs None held h = refl
@@ -58,7 +56,7 @@ no_pairs (Some r) held h = absurd cc
 
 -- the item that starts holds the front reference, or nothing
 takes_at : (held : Option Pair) (was now : Option MediaRef) (before after : List MediaRef) (rest : List Pair) → TakesIf (is_some held) before after was now → map pair_of (in_order was) ≡ [] → map pair_of before ≡ in_order held ++ rest → (map pair_of (in_order now) ≡ in_order held) × (map pair_of after ≡ rest)
-takes_at None was now before after rest takes idle h = (ap (λ (o : Option MediaRef). map pair_of (in_order o)) takes.1 ∙ idle, ap (map pair_of) takes.0 ∙ h)
+takes_at None was now before after rest takes idle h = (rw takes.1 idle, rw takes.0 h)
 takes_at (Some p) was now [] after rest takes idle h = absurd cc
 takes_at (Some p) was None (r ∷ rs) after rest takes idle h = absurd (omega (arith, ap (λ (l : List MediaRef). length l) (takes.0 ∙ takes.1)))
 takes_at (Some p) was (Some r) before after rest takes idle h =
@@ -72,34 +70,22 @@ start_holds moves held old new epoch number w working now waiting after is m sta
     let messages = messages_held s.control.messages in
     let at = front_at (may_start s.control) s.control.work number w starts in
     let idle = no_pairs s.control.running s.running_held (and_parts (is_none s.control.running) (not s.control.halted) at.0).0 in
-    let same : in_order held ≡ in_order (held_of w) = ap (λ (o : Option Pair). in_order o) is in
-    let queue : waiting_held s.control ≡ in_order held ++ (behind_held s.control.work ++ messages) =
-    ap (λ l. l ++ messages) (at.2 ∙ ap (λ l. l ++ behind_held s.control.work) (sym same)) ∙ append_assoc (in_order held) (behind_held s.control.work) messages in
+    let queue : waiting_held s.control ≡ in_order held ++ (behind_held s.control.work ++ messages) = rw (at.2, is, append_assoc) refl in
     let taken = takes_at held working now waiting after (behind_held s.control.work ++ messages) takes (h.runs ∙ idle) (h.waits ∙ queue) in
-    holds_after moves old new (Entry.Start epoch number) now after m (taken.0 ∙ (same ∙ sym at.1)) taken.1
+    holds_after moves old new _ now after m (rw (at.1, ← is) taken.0) taken.1
 
 closes_same : (ts : List Task) → unwrap_or (turn_closes ts) false ≡ closes_codec ts
 closes_same [] = refl
 closes_same (t ∷ ts) = refl
 
-some_if : (b : Bool) (at : ℕ) (coder : Option Lent) → is_some (removed_if b at coder) ≡ b
-some_if true at coder = refl
-some_if false at coder = refl
-
-map_if : (b : Bool) (waiting : List MediaRef) → map pair_of (cond b [] waiting) ≡ cond b [] (map pair_of waiting)
-map_if true waiting = refl
-map_if false waiting = refl
+some_if : (b : Bool) (at : ℕ) (coder : Option Lent) (waiting : List MediaRef) → map pair_of (cond (is_some (removed_if b at coder)) [] waiting) ≡ cond b [] (map pair_of waiting)
+some_if true at coder waiting = refl
+some_if false at coder waiting = refl
 
 -- a turn removes where its task closes the codec
 pub turn_holds : HeldMoves → (old new : Codec) (removed : Option RemovedValue) (at : ℕ) (coder : Option Lent) (working : Option MediaRef) (waiting after : List MediaRef) → removed ≡ removed_if (closes_now (state_at old).control) at coder → Makes old new Entry.Turn → after ≡ cond (is_some removed) [] waiting → IsHolding old working waiting → IsHolding new working after
 turn_holds moves old new removed at coder working waiting after is m left h =
-    let closes = closes_codec (state_at old).control.tasks in
-    let some : is_some removed ≡ closes = ap (λ (o : Option RemovedValue). is_some o) is ∙ (some_if (closes_now (state_at old).control) at coder ∙ closes_same (state_at old).control.tasks) in
-    holds_after moves old new Entry.Turn working after m h.runs
-    (ap (map pair_of) (left ∙ ap (λ (b : Bool). cond b [] waiting) some)
-    ∙ (map_if closes waiting
-    ∙ (ap (cond closes []) h.waits
-    ∙ sym (append-nil (cond closes [] (waiting_held (state_at old).control))))))
+    holds_after moves old new _ working after m h.runs (rw (append-nil, left, is, some_if, h.waits, closes_same (state_at old).control.tasks) refl)
 
 -- what such a turn leaves beside the references
 pub box_if : (b : Bool) (at : ℕ) (coder : Option Lent) → IfSome (removed_if b at coder) (λ r. (r.place ≡ at) × (r.coder ≡ coder))
@@ -108,4 +94,4 @@ box_if false at coder = tt
 
 pub with_box : (P : ℕ → Option Lent → Type 0) (x : Option holding.RemovedValue) (removed : Option RemovedValue) → option_map without_media x ≡ removed → IfSome removed (λ r. P r.place r.coder) → IfSome x (λ r. P r.place r.coder)
 with_box P None removed e back = tt
-with_box P (Some r) removed e back = subst (λ (o : Option RemovedValue). IfSome o (λ q. P q.place q.coder)) (sym e) back
+with_box P (Some r) removed e back = rw (← e) at back

@@ -1,10 +1,10 @@
-use Rattle.std.proofs.Common.{ℕ, ◌≡◌, ◌∙◌, ◌++◌, ◌∷◌, [], ap, sym, subst, eqb, refl, rules, arith}
-use Rattle.codec_model.specs.{Control.Control, declared.entry.Entry.Entry}
+use Rattle.std.proofs.Common.{◌≡◌, ◌++◌, ◌∷◌, [], eqb, refl, rules, arith}
+use Rattle.codec_model.specs.{declared.entry.Entry.Entry}
 use Rattle.codec_accounts.specs.ActLaws.{act_makes}
 use Rattle.codec_core.specs.Job.{DoneValue, outcome_of, IsEndOf}
-use Rattle.codec_core.specs.Codec.{Codec, Makes, state_at, IsAskedAt, kept_box, handed_back}
+use Rattle.codec_core.specs.Codec.{Codec, Makes, state_at, IsAskedAt, kept_box}
 use Rattle.codec_core.specs.Owning.{asked_of}
-use Rattle.codec_core.proofs.Steps.{Moved, done_moves, makes_more, place_kept}
+use Rattle.codec_core.proofs.Steps.{done_moves, makes_more, place_kept}
 use Rattle.codec_core.proofs.{Recorded.core_more, Recorded.next_fits, codec.Core.done.Given.Over}
 use Rattle.codec_core.proofs.Owning.{seen, control_at, own_done, back_done}
 use Rattle.codec_core.proofs.codec.Core.done.Goals as goal

@@ -1,6 +1,5 @@
 use Rattle.std.proofs.Common.{◌≡◌, ◌-◌, ◌∙◌, sym, arith, rules, ap}
 use Rattle.std.specs.Prelude.{is_some}
-use Rattle.codec_model.specs.Control.{Control}
 use Rattle.codec_model.specs.Replay.{with_control, removal_error}
 use Rattle.codec_core.specs.Codec.{Codec, kept_box}
 use Rattle.codec_core.proofs.Steps.{removal_is, removal_after, removal_moves, makes_more, place_kept}

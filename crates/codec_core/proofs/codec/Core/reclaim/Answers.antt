@@ -1,8 +1,7 @@
 use Rattle.wc_base.specs.declared.error.DomError.TheVariants.{QuotaExceeded}
-use Rattle.std.proofs.Common.{◌∙◌, true, refl, ap, rules, arith, false}
+use Rattle.std.proofs.Common.{true, refl, rules, arith, false}
 use Rattle.codec_core.proofs.Steps.{reclaim_moves, makes_more, reclaim_reclaims}
 use Rattle.codec_core.proofs.Recorded.{close_below, core_next, next_fits, ends_below}
-use Rattle.codec_core.specs.{Job.stopped_box, Codec.Codec}
 use Rattle.codec_core.proofs.Owning.{at_home, keeps_running, asked_stays, back_removal}
 use Rattle.codec_core.proofs.codec.Core.reclaim.Goals as goal
 

@@ -1,6 +1,5 @@
-use Rattle.std.proofs.Common.{◌≡◌, ◌∙◌, Some, refl, ap, sym, rules, arith, Bool, not}
-use Rattle.codec_model.specs.Control.{Control, turn_closes}
-use Rattle.codec_core.specs.Codec.{Codec, handed_back}
+use Rattle.std.proofs.Common.{◌≡◌, Some, refl, sym, rules, arith, not}
+use Rattle.codec_model.specs.Control.{turn_closes}
 use Rattle.codec_core.proofs.Steps.{turn_moves, makes_more, place_kept}
 use Rattle.codec_core.proofs.Recorded.{turn_below, core_next, next_fits, ends_below}
 use Rattle.codec_core.proofs.Owning.{at_home, control_at, turn_act, keeps_running, asked_stays, back_turn}

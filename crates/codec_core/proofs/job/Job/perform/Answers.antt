@@ -1,6 +1,5 @@
-use Rattle.std.proofs.Common.{◌∙◌, ap, refl, sym, subst}
-use Rattle.codec_model.specs.{Control.kind_of, Replay.answer_to}
-use Rattle.codec_core.specs.Job.{JobValue, IsJob, IsJobOf, EndsBy, EndsWork, stopped_box}
+use Rattle.std.proofs.Common.{refl}
+use Rattle.codec_core.specs.Job.{EndsWork}
 use Rattle.codec_core.proofs.{Owning.job_same, job.Job.perform.Given.Over}
 use Rattle.codec_core.proofs.Ends.{ends_or_wants, job_ends, job_answers}
 use Rattle.codec_core.proofs.job.Job.perform.Goals as goal

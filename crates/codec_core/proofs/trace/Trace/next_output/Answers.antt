@@ -1,7 +1,3 @@
-use Rattle.std.proofs.Common.{ap, subst, ◌∙◌}
-use Rattle.std.specs.Prelude.{IfOk}
-use Rattle.codec_model.specs.Control.{front}
-use Rattle.codec_core.specs.Trace.{TraceValue}
 use Rattle.codec_core.proofs.trace.Trace.next_output.Goals as goal
 
 pub returns-clause-next : goal.returns-clause-next
