@@ -38,12 +38,9 @@ bytes_then : {B : Type 0} (P : B → Type 0) (mark : ℕ) (bs : List ℕ) (f : L
 bytes_then P mark bs f = bind_fits (λ x. IsBytes x.0) P (bytes_upto mark bs) f (bytes_fits mark bs)
 
 -- the number of a caller's or a codec's name
-position_fits : {X : Type 0} (p : X → Bool) (xs : List X) → IfSome (position p xs) (λ i. i < length xs)
-position_fits p xs = if_fits (λ i. i < length xs) (ltb (position_or_len p xs) (length xs)) _ _ (λ is. ltb-true _ _ is) (λ is. tt)
-
 named_fits : {X : Type 0} (p : X → Bool) (xs : List X) → IfSome (position p xs >>= short) (λ n. (n < length xs) × (n < 2 ^ 32))
 named_fits p xs =
-    bind_fits (λ i. i < length xs) (λ n. (n < length xs) × (n < 2 ^ 32)) (position p xs) short (position_fits p xs)
+    bind_fits (λ i. i < length xs) (λ n. (n < length xs) × (n < 2 ^ 32)) (position p xs) short (if_fits (λ i. i < length xs) (ltb (position_or_len p xs) (length xs)) _ _ (λ is. ltb-true _ _ is) (λ is. tt))
     (λ i lt. if_fits (λ n. (n < length xs) × (n < 2 ^ 32)) (ltb i (2 ^ 32)) _ _ (λ is. (lt, ltb-true _ _ is)) (λ is. tt))
 
 named_then : {X B : Type 0} (P : B → Type 0) (p : X → Bool) (xs : List X) (f : ℕ → Option B) → ((n : ℕ) → (n < length xs) × (n < 2 ^ 32) → IfSome (f n) P) → IfSome (position p xs >>= short >>= f) P
