@@ -1,5 +1,5 @@
 -- What is read as a field is within its type.
-use Rattle.std.proofs.Common.{◌≡◌, ◌≢◌, ℕ, ◌^◌, ◌<◌, ◌≤◌, Bool, true, false, cond, eqb, ltb, leb, ◌&&◌, List, [], ◌∷◌, length, Option, Some, None, Result, Ok, Err, refl, sym, ◌∙◌, arith, eq-eqb, codes, ℤ}
+use Rattle.std.proofs.Common.{◌≡◌, ℕ, ◌^◌, ◌<◌, Bool, true, false, cond, eqb, ltb, leb, ◌&&◌, List, [], ◌∷◌, length, Option, Some, None, Result, Ok, Err, refl, sym, ◌∙◌, arith, eq-eqb, codes, ℤ}
 use Rattle.std.specs.Prelude.{IfSome}
 use Rattle.std.specs.List.{list_all}
 use Rattle.std.specs.Char.{is_ascii_digit}
@@ -10,7 +10,7 @@ use Rattle.std.proofs.lemmas.Bool.{false≢true, ltb-true, leb-true, and_parts}
 use Rattle.hex.specs.{Hex.IsBytes, Hex.decode_of, declared.error.FromHexError.FromHexError}
 use Rattle.hex.proofs.HexLemmas.{decode_of-ok}
 use Rattle.report_lines.specs.{Words.◌>>=◌, Words.upto, FieldLaws.Lacks, FieldLaws.FitsOrAbsent}
-use Rattle.report_lines.specs.Fields.{value_of, number_of, short, below_zero, from_zero, signed_of, number_or_dash_of, decoded, bytes_of, number_upto, short_upto, signed_upto, number_or_dash_upto, bytes_upto}
+use Rattle.report_lines.specs.Fields.{number_of, short, below_zero, signed_of, number_or_dash_of, decoded, bytes_of, number_upto, short_upto, signed_upto, number_or_dash_upto, bytes_upto}
 use Rattle.report_lines.proofs.{FieldLaws.lacks_cons}
 
 -- ---- one step, and then another

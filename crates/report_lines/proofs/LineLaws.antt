@@ -1,6 +1,6 @@
 -- What is written as a line is read again.
 use Rattle.wc_base.specs.Options.{some_same}
-use Rattle.std.proofs.Common.{◌≡◌, ℕ, inl, inr, ◌*◌, ◌/◌, ◌<◌, ◌≤◌, ◌^◌, true, false, cond, List, [], ◌∷◌, ◌++◌, length, get_or, Option, Some, None, refl, sym, ap, subst, ◌∙◌, arith, decimal, codes, append_assoc, position, ltb, eqb, eq-eqb}
+use Rattle.std.proofs.Common.{◌≡◌, ℕ, inl, inr, ◌*◌, ◌<◌, ◌≤◌, ◌^◌, true, false, cond, List, [], ◌∷◌, ◌++◌, length, Option, Some, None, refl, sym, ap, subst, ◌∙◌, arith, decimal, codes, append_assoc, position, ltb, eqb, eq-eqb}
 use Rattle.std.specs.List.{list_all, slice_get}
 use Rattle.std.specs.Prelude.{unwrap_or, option_map}
 use Rattle.std.specs.Str.{bytes_eq}
@@ -181,13 +181,10 @@ numbered_first : (script : ScriptData) (n : ℕ) (rest : List ℕ) → n < 2 ^ 6
 unfolding only_line_at
 numbered_first script n rest lt = rw (word_again 32 (decimal n) rest (decimal_word n lt) refl, decimal_not_nil n lt, decimal_digits n lt) refl
 
--- an answer is not the word of a copy
-answer_no_copy : (a : Option DomError) (x y : Option Line) → cond (bytes_eq (answer_text a) (codes "copied")) x y ≡ y
-answer_no_copy a x y = grind arith
-
-worded_answer : (n : ℕ) (a : Option DomError) (rest : List ℕ) → worded_line_at n (answer_text a) rest ≡ Some (Line.Result n (StepResult.Local a))
+-- an answer is not the word of a copy, nor that of a result or an entry
+answer_next : (n : ℕ) (a : Option DomError) (x : Option Line) (rest : List ℕ) → cond (bytes_eq (answer_text a) (codes "copied")) x (worded_line_at n (answer_text a) rest) ≡ Some (Line.Result n (StepResult.Local a))
 unfolding worded_line_at worded_result_at
-worded_answer n a rest = grind arith
+answer_next n a x rest = grind arith
 
 copied_next : (script : ScriptData) (n : ℕ) (r : StepResult) (text : List ℕ) → n < 2 ^ 64 → copied_at text ≡ Some r → only_line_at script (decimal n ++ 32 ∷ (codes "copied " ++ text)) ≡ Some (Line.Result n r)
 unfolding numbered_line_at copied_line_at
@@ -197,7 +194,7 @@ result_again : (script : ScriptData) (step : ℕ) (r : StepResult) (rest : List 
 unfolding only_line_at dotted_line_at look_line_at numbered_line_at call_result_at unit_at worded_line_at worded_result_at copied_line_at look_at
 result_again script step (StepResult.Local error) rest names lt fits = simp append_assoc (
     numbered_first script step (answer_text error ++ 10 ∷ rest) lt
-    ∙ rw (number_again 32 step _ lt refl, word_again 10 (answer_text error) rest (answers.word error) refl) (answer_no_copy error _ _ ∙ worded_answer step error rest))
+    ∙ rw (number_again 32 step _ lt refl, word_again 10 (answer_text error) rest (answers.word error) refl) (answer_next step error _ rest))
 result_again script step (StepResult.CopiedFrame n layouts bytes) rest names lt fits =
     let regrouped : line_text script (Line.Result step (StepResult.CopiedFrame n layouts bytes)) ++ rest ≡ decimal step ++ 32 ∷ (codes "copied " ++ (decimal n ++ 32 ∷ (layouts_text layouts ++ 32 ∷ (hex_or_dash bytes ++ 10 ∷ rest)))) = simp append_assoc in
     ap (only_line_at script) regrouped ∙ copied_next script step (StepResult.CopiedFrame n layouts bytes) _ lt (frame_again n layouts bytes rest fits.0 fits.1 fits.2)
