@@ -141,19 +141,13 @@ three_again a b c rest first second third =
     ap layouts_at regrouped
     ∙ search (layout_again, word_again, short_word) depth 12
 
-two_is : (l : Layouts) → l.count ≡ 2 → l.third ≡ no_layout → two l.first l.second ≡ l
-two_is l count third = rw (sym count, sym third) refl
-
-three_is : (l : Layouts) → l.count ≡ 3 → three l.first l.second l.third ≡ l
-three_is l count = rw (sym count) refl
-
 abbrev AreRead : List ℕ → Layouts → Type 0
 AreRead rest l = layouts_at (layouts_text l ++ 32 ∷ rest) ≡ Some (l, rest)
 
 layouts_again : (l : Layouts) (rest : List ℕ) → FitsLayouts l → AreRead rest l
 layouts_again l rest fits = elim fits.planes [
-  | inl both ↦ subst (AreRead rest) (two_is l both.0 both.1) (two_again l.first l.second rest fits.first fits.second)
-  | inr count ↦ subst (AreRead rest) (three_is l count) (three_again l.first l.second l.third rest fits.first fits.second fits.third)
+  | inl both ↦ let same : two l.first l.second ≡ l = rw (sym both.0, sym both.1) refl in subst (AreRead rest) same (two_again l.first l.second rest fits.first fits.second)
+  | inr count ↦ let same : three l.first l.second l.third ≡ l = rw (sym count) refl in subst (AreRead rest) same (three_again l.first l.second l.third rest fits.first fits.second fits.third)
 ]
 
 -- what stands behind the first number
