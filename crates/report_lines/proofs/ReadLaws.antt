@@ -54,10 +54,6 @@ look_as_fits : (script : ScriptData) (o : Option CodecState) (n len : ℕ) (bs r
 look_as_fits script None n len bs rest codec small = search reading depth 12
 look_as_fits script (Some s) n len bs rest codec small = search reading depth 12
 
-looked_fits : (script : ScriptData) (step : ℕ) (name bs : List ℕ) → step < 2 ^ 64 → IfSome (look_line_at script step name bs) (FitsLine script)
-unfolding look_line_at look_at
-looked_fits script step name bs lt = search (bind_fits (FitsResult script) (FitsLine script), look_as_fits, reading) depth 16
-
 -- ---- copies
 
 layout_then : {B : Type 0} (P : B → Type 0) (mark : ℕ) (bs : List ℕ) (f : PlaneLayout × List ℕ → Option B) → ((x : PlaneLayout × List ℕ) → FitsLayout x.0 → IfSome (f x) P) → IfSome (layout_at mark bs >>= f) P
@@ -69,19 +65,9 @@ no_layout_fits = (omega arith, omega arith)
 abbrev HaveLayouts : Layouts × List ℕ → Type 0
 HaveLayouts x = FitsLayouts x.0
 
-layouts_fit : (bs : List ℕ) → IfSome (layouts_at bs) HaveLayouts
-unfolding layouts_at two_layouts_at three_layouts_at
-layouts_fit bs = search (layout_then, reading, no_layout_fits, inl, inr) depth 20
-
 copied_fits : (script : ScriptData) (bs : List ℕ) → IfSome (copied_at bs) (FitsResult script)
-unfolding copied_at copied_frame_at copied_bytes_at
-copied_fits script bs = search (bind_fits HaveLayouts (FitsResult script), layouts_fit, reading) depth 16
-
--- ---- entries of codecs
-
-worded_fits : (script : ScriptData) (n : ℕ) (w rest : List ℕ) → n < 2 ^ 64 → IfSome (worded_line_at n w rest) (FitsLine script)
-unfolding worded_line_at worded_result_at start_at done_at outcome_at
-worded_fits script n w rest lt = search (bind_fits (FitsEntryLine script) (FitsLine script), bind_fits FitsOutcome (FitsEntryLine script), reading) depth 24
+unfolding copied_at copied_frame_at copied_bytes_at layouts_at two_layouts_at three_layouts_at
+copied_fits script bs = search (bind_fits HaveLayouts (FitsResult script), layout_then, no_layout_fits, inl, inr, reading) depth 30
 
 -- ---- entries of the registry and of the pool of media
 
@@ -97,6 +83,14 @@ by_then P script name m f lt = bind_fits (FitsBy script) P (by_of script name m)
 dotted_fits : (script : ScriptData) (n : ℕ) (name bs : List ℕ) → n < 2 ^ 64 → IfSome (dotted_line_at script n name bs) (FitsLine script)
 unfolding dotted_line_at call_result_at unit_at slot_at reference_at take_at call_at op_at acquired_at given_at refused_at pool_op_at made_at cloned_at ended_at
 dotted_fits script n name bs lt = search (by_then, bind_fits FitsOp (FitsLine script), bind_fits FitsPoolOp (FitsLine script), reading) depth 40
+
+looked_fits : (script : ScriptData) (step : ℕ) (name bs : List ℕ) → step < 2 ^ 64 → IfSome (look_line_at script step name bs) (FitsLine script)
+unfolding look_line_at look_at
+looked_fits script step name bs lt = search (bind_fits (FitsResult script) (FitsLine script), look_as_fits, reading) depth 16
+
+worded_fits : (script : ScriptData) (n : ℕ) (w rest : List ℕ) → n < 2 ^ 64 → IfSome (worded_line_at n w rest) (FitsLine script)
+unfolding worded_line_at worded_result_at start_at done_at outcome_at
+worded_fits script n w rest lt = search (bind_fits (FitsEntryLine script) (FitsLine script), bind_fits FitsOutcome (FitsEntryLine script), reading) depth 24
 
 numbered_fits : (script : ScriptData) (bs : List ℕ) → IfSome (numbered_line_at script bs) (FitsLine script)
 unfolding numbered_line_at copied_line_at
