@@ -92,12 +92,6 @@ by_up n m (By.Codec k place) le h = omega (arith, le, h)
 slots_raised : (n m most long more : ℕ) (s : SlotsValue) → n ≤ m → long ≤ more → AreSlotsUpTo n most long s → AreSlotsUpTo m most more s
 slots_raised n m most long more s le longer h = record { long_at_most = omega (arith, h.long_at_most, longer); made = h.made; ops = λ i e is. (by_up n m e.by le (h.ops i e is).0, (h.ops i e is).1) }
 
-longer : {X : Type 0} (c d n : ℕ) (x : X) (ls : List (List X)) → ((k : ℕ) → length (at k ls) ≤ n) → length (at c (append_at d x ls)) ≤ n + 1
-longer c d n x ls h = elim (growth c d x ls) [
-  | Same e ↦ omega (arith, ap length e, h c)
-  | Longer p e ↦ omega (arith, ap length e, length-append (at c ls) (x ∷ []), h c)
-]
-
 -- ---- media
 
 variables_set : (c k : ℕ) (vs : List (Option Medium)) (all : List (List (Option Medium))) → AreVariables vs → ((i : ℕ) → AreVariables (variables_of i all)) → AreVariables (variables_of c (slice_set all k vs))
@@ -215,7 +209,10 @@ entry_up stays n p most k e v own h =
     let few : length d.history ≤ n = omega (arith, h.few k, ap length (history_at k v.codecs)) in
     let slots = slots_raised n (n + 1) most (2 * n) (2 * n) v.slots (omega arith) (omega arith) h.slots in
     record {
-      few = λ j. rw (histories_more k e v.slots v.codecs) (longer j k n e (histories v.codecs) h.few);
+      few = λ j. rw (histories_more k e v.slots v.codecs) (elim (growth j k e (histories v.codecs)) [
+        | Same same ↦ omega (arith, ap length same, h.few j)
+        | Longer here more ↦ omega (arith, ap length more, length-append (at j (histories v.codecs)) (e ∷ []), h.few j)
+      ]);
       slots = slots_raised (n + 1) (n + 1) most (2 * n + 1 + 1) (2 * (n + 1)) _ (omega arith) (omega arith) (slots_up (n + 1) most (2 * n) (next_by k d) (step_by e d) d.holding.box v.slots (omega (arith, few)) (h.boxes k) slots);
       boxes = λ j. elim (set_either j k (after_entry k e v.slots d) v.codecs) [
         | inl old ↦ subst (λ (x : CodecValue). IsBoxUpTo most x.holding.box) (sym old) (h.boxes j)
