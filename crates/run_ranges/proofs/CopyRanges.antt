@@ -1,5 +1,5 @@
 -- What copies of sound and pictures, and their sizes, come to is within its types.
-use Rattle.std.proofs.Common.{ℕ, suc, ◌≡◌, ◌<◌, ◌≤◌, ◌+◌, ◌-◌, ◌*◌, ◌^◌, ◌&&◌, ◌⊎◌, inl, inr, not, Bool, true, cond, List, [], ◌∷◌, ◌++◌, length, drop, Option, Result, Ok, Err, refl, ap, ◌∙◌, arith, eq-eqb}
+use Rattle.std.proofs.Common.{ℕ, suc, ◌≡◌, ◌<◌, ◌≤◌, ◌+◌, ◌-◌, ◌*◌, ◌^◌, ◌&&◌, inl, inr, not, Bool, true, cond, List, [], ◌∷◌, ◌++◌, length, drop, Option, Result, Ok, Err, refl, ap, arith, eq-eqb}
 use Rattle.std.specs.Prelude.{nat_lt, nat_le, ◌==◌, is_none}
 use Rattle.std.specs.List.{AllByRecursion, list_all}
 use Rattle.std.proofs.Math.Nat.{mul-le-mul_left}
@@ -20,7 +20,7 @@ use Rattle.wc_video.specs.Layouts.{rect_in, layouts_in, is_rect_of, plane_copy, 
 use Rattle.wc_video.specs.Copies as video
 use Rattle.script_types.specs.declared.script.ScriptData.{ScriptData}
 use Rattle.media_variables.specs.Variables.{zeros, audio_copied, frame_copied, planes_copied, chunk_copied, size_found}
-use Rattle.report_lines.specs.Fits.{FitsLayout, FitsLayouts, FitsResult, no_layout}
+use Rattle.report_lines.specs.Fits.{FitsLayout, FitsLayouts, FitsResult}
 use Rattle.run_ranges.proofs.Cases.{by_test}
 use Rattle.run_ranges.proofs.ByteRanges.{both_small, drop_small, zeros_small, bytes_small, flat_small, range_small, bytes_length, flat_length}
 
@@ -34,8 +34,11 @@ sound_length : (shape : SoundShape) (bytes : List ℕ) (p : Plan) → length (so
 sound_length shape bytes p =
     by_test (λ b. length (cond b (channel_of (format_size p.format) shape bytes p.plane p.offset p.count) (frames_of (format_size p.format) shape bytes p.offset p.count)) ≡ format_size p.format * cond b 1 shape.channels * p.count) (is_planar p.format)
     (λ is. omega (arith, flat_length (sample_in shape bytes p p.plane) (format_size p.format) (λ frame. bytes_length (format_size p.format) _) p.offset p.count))
-    (λ is. omega (arith, flat_length (frame_of (format_size p.format) shape bytes) (shape.channels * format_size p.format)
-        (λ frame. flat_length (λ channel. sample_in shape bytes p channel frame) (format_size p.format) (λ channel. bytes_length (format_size p.format) _) 0 shape.channels) p.offset p.count))
+    (λ is. omega (
+      arith,
+      flat_length (frame_of (format_size p.format) shape bytes) (shape.channels * format_size p.format)
+          (λ frame. flat_length (λ channel. sample_in shape bytes p channel frame) (format_size p.format) (λ channel. bytes_length (format_size p.format) _) 0 shape.channels) p.offset p.count,
+    ))
 
 -- each sample of a copy is spelled anew
 sound_small : (shape : SoundShape) (bytes : List ℕ) (p : Plan) → IsBytes (sound.copy_of shape bytes p)

@@ -7,7 +7,7 @@ use Rattle.wc_base.specs.{Options.cond_is, declared.error.DomError.DomError}
 use Rattle.codec_definitions.specs.declared.unit.Unit as media
 use Rattle.codec_definitions.specs.declared.unit.Unit.TheVariants as unit
 use Rattle.wc_config.specs.declared.config.AudioDecoderConfig.{AudioDecoderConfig}
-use Rattle.codec_model.specs.declared.entry.{Opening.Opening, Removal.Removal, Call.Call, Entry.Entry, Event.Event, Shown.Shown, WorkKind.WorkKind, Item.Item, Running.Running}
+use Rattle.codec_model.specs.declared.entry.{Opening.Opening, Removal.Removal, Call.Call, Entry.Entry, Event.Event, Shown.Shown, WorkKind.WorkKind}
 use Rattle.codec_model.specs.{declared.entry.Task.Task, declared.entry.Ended.Ended, declared.entry.Outcome.Outcome, ShownLaws.replay_append, StepLaws.EachStep, StepLaws.by_steps}
 use Rattle.codec_model.specs.Control.{Control, may_start, carried}
 use Rattle.codec_model.specs.Replay.{State, Given, entry_of, removal_entry, step, replay, replay_from, ended_of, ended_run, answer_to, decoder_config, labelled}
@@ -64,15 +64,15 @@ each_fits laws script n = record {
   remove = λ who r s. elim r as (λ y. IsLineWithin laws script n (removal_entry who y) s s) [ Removal.Reset ↦ λ h given few own. own | _ ↦ λ h given few own. own ];
   take = λ who unit s may h given few own. own;
   start = λ i is epoch number s first may h given few own. (
-    let last = and_parts (may_start s.control && eqb epoch s.control.epoch) (eqb number i.number) may in
-    let items : AreItemsUpTo n (i ∷ is) = subst (AreItemsUpTo n) first h.queued in
-    (omega (arith, few, h.epoch, eqb-true epoch s.control.epoch (and_parts (may_start s.control) (eqb epoch s.control.epoch) last.0).1), omega (arith, few, items.0, eqb-true number i.number last.1))
-  );
+      let last = and_parts (may_start s.control && eqb epoch s.control.epoch) (eqb number i.number) may in
+      let items : AreItemsUpTo n (i ∷ is) = subst (AreItemsUpTo n) first h.queued in
+      (omega (arith, few, h.epoch, eqb-true epoch s.control.epoch (and_parts (may_start s.control) (eqb epoch s.control.epoch) last.0).1), omega (arith, few, items.0, eqb-true number i.number last.1))
+      );
   done = λ r e epoch number moment x s running its ended h given few own. (
-    let same = and_parts (eqb r.epoch epoch) (eqb r.number number) its in
-    let small = h.running r running in
-    (omega (arith, few, small.0, eqb-true r.epoch epoch same.0), omega (arith, few, small.1, eqb-true r.number number same.1), own.0, outcome_small laws r.kind s.running_given x e ended given own.1)
-  );
+      let same = and_parts (eqb r.epoch epoch) (eqb r.number number) its in
+      let small = h.running r running in
+      (omega (arith, few, small.0, eqb-true r.epoch epoch same.0), omega (arith, few, small.1, eqb-true r.number number same.1), own.0, outcome_small laws r.kind s.running_given x e ended given own.1)
+      );
   turn = λ x ts s first h given few own. tt;
   reclaim = λ moment s may h given few own. own;
 }

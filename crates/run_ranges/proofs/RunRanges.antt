@@ -65,7 +65,7 @@ known laws stays s media made run sound within legal fits =
     let parts = parts_of s sound in
     let few = and_parts (nat_le (length s.codecs) most_codecs) _ parts.few in
     let order : length (order_items s) ≤ most_order =
-        by_option (λ o. is_sound_order (length s.codecs) s.callers o ≡ true → length (unwrap_or o []) ≤ most_order) s.order (λ fine. omega arith) (λ items is fine. leb-true (length items) most_order (and_parts (nat_le (length items) most_order) _ fine).0) parts.order in
+    by_option (λ o. is_sound_order (length s.codecs) s.callers o ≡ true → length (unwrap_or o []) ≤ most_order) s.order (λ fine. omega arith) (λ items is fine. leb-true (length items) most_order (and_parts (nat_le (length items) most_order) _ fine).0) parts.order in
     let up = course_up laws stays s media made fits.follows.course within fits.follows.follows in
     record {
       callers = length-map run.callers _ ∙ legal.callers;
