@@ -1,40 +1,31 @@
 -- The text of a line ends with its only line feed.
-use Rattle.std.proofs.Common.{◌≡◌, ℕ, suc, ◌<◌, ◌^◌, Bool, true, false, cond, eqb, List, [], ◌∷◌, ◌++◌, get_or, Option, Some, None, refl, sym, ap, ◌∙◌, arith, inl, inr, codes, decimal, append_assoc, ℤ, pos, negsuc}
+use Rattle.std.proofs.Common.{◌≡◌, ℕ, suc, ◌<◌, ◌^◌, Bool, true, false, cond, eqb, List, [], ◌∷◌, ◌++◌, get_or, Option, Some, None, refl, sym, ap, ◌∙◌, arith, codes, decimal, append_assoc, ℤ, pos, negsuc}
 use Rattle.std.specs.List.{list_all, AllPass}
 use Rattle.std.specs.Fmt.{signed_decimal}
 use Rattle.std.specs.Int.Signed.{mag}
-use Rattle.std.proofs.lemmas.Bool.{false≢true, eqb-true}
+use Rattle.std.proofs.lemmas.Bool.{false≢true, ne_eqb}
 use Rattle.std.proofs.lemmas.List.Folds.{list_all-append}
 use Rattle.std.proofs.lemmas.List.Sums.{AllPass-from_list_all, list_all-from_AllPass}
 use Rattle.hex.specs.Hex.{IsBytes, encode_lower, is_hex_digit}
-use Rattle.hex.proofs.HexLemmas.{decode_of-encode_lower, decode_of-ok}
 use Rattle.wc_base.specs.declared.{who.By.By, media.SoundShape.SoundShape}
 use Rattle.wc_video.specs.declared.layout.Layouts.{Layouts}
 use Rattle.wc_pool.specs.declared.entry.PoolOp.{PoolOp}
 use Rattle.coder_api.specs.declared.slot.SlotOp.{SlotOp}
 use Rattle.codec_model.specs.declared.entry.{PromiseState.PromiseState, Outcome.Outcome, TurnWord.TurnWord}
 use Rattle.script_types.specs.declared.script.ScriptData.{ScriptData}
-use Rattle.report_text.specs.{declared.result.StepResult.StepResult, Names.by_text, declared.line.EntryLine.EntryLine}
-use Rattle.report_text.specs.Text.{promise_text, layout_text, third_text, outcome_text, turn_text, result_text, pool_text, slot_text}
-use Rattle.report_text.specs.Text.{number_or_dash, hex_or_dash, sound_duration}
+use Rattle.report_text.specs.{declared.result.StepResult.StepResult, Names.by_text, declared.line.EntryLine.EntryLine, declared.line.EventLine.EventLine, declared.line.Line.Line}
+use Rattle.report_text.specs.Text.{promise_text, layout_text, third_text, outcome_text, turn_text, result_text, pool_text, slot_text, number_or_dash, hex_or_dash, sound_duration, entry_text, event_text, line_text}
 use Rattle.report_lines.specs.{Words.is_word_byte, FieldLaws.FitsOrAbsent, Laws.IsOneLine}
-use Rattle.report_lines.proofs.{WordLaws.cases_bool, FieldLaws.decimal_word, LineLaws.duration_fits}
-use Rattle.report_text.specs.{declared.line.EventLine.EventLine, declared.line.Line.Line, Text.entry_text, Text.event_text, Text.line_text}
+use Rattle.report_lines.proofs.{FieldLaws.decimal_word, FieldLaws.hex_digits, LineLaws.duration_fits}
 use Rattle.report_lines.specs.Fits.{is_no_feed, AreNames, FitsLayout, FitsResult, FitsOutcome, FitsEntryLine, FitsEventLine, FitsBy, FitsPoolOp, FitsOp, FitsLine}
-use Rattle.report_lines.proofs.WordTables.{error_is_word, answer_is_word, kind_is_word, state_is_word, call_is_word, sample_format_is_word, picture_format_is_word, codec_id_is_word, role_is_word, key_is_word, last_is_word}
+use Rattle.report_lines.proofs.WordTables.{errors, answers, kinds, states, calls, sample_formats, picture_formats, codec_ids, roles, keys, lasts}
 
 record Plain (w : List ℕ) : Type 0 where
   all : list_all is_no_feed w ≡ true
 
--- a test that a line feed fails
-differs : (p : ℕ → Bool) (b : ℕ) → p 10 ≡ false → p b ≡ true → is_no_feed b ≡ true
-differs p b fails passes = elim (cases_bool (eqb b 10)) [
-  | inl y ↦ absurd (false≢true (sym fails ∙ (ap p (sym (eqb-true b 10 y)) ∙ passes)))
-  | inr w ↦ rw w refl
-]
-
+-- bytes that pass a test which a line feed fails
 plain_from : (p : ℕ → Bool) (w : List ℕ) → p 10 ≡ false → AllPass p w → Plain w
-plain_from p w fails all = record { all = list_all-from_AllPass is_no_feed w (λ i d lt. differs p (get_or w i d) fails (all i d lt)) }
+plain_from p w fails all = record { all = list_all-from_AllPass is_no_feed w (λ i d lt. rw (ne_eqb (get_or w i d) 10 (λ same. false≢true (sym fails ∙ ap p (sym same) ∙ all i d lt))) refl) }
 
 word_plain : (w : List ℕ) → list_all is_word_byte w ≡ true → Plain w
 word_plain w h = plain_from is_word_byte w refl (AllPass-from_list_all is_word_byte w h)
@@ -69,14 +60,12 @@ duration shape lt = absent_or_number (Some (sound_duration shape)) (duration_fit
 
 hex : (bytes : List ℕ) → IsBytes bytes → Plain (hex_or_dash bytes)
 hex [] fits = byte 45 [] refl none
-hex (b ∷ bytes) fits = plain_from is_hex_digit (encode_lower (b ∷ bytes)) refl (decode_of-ok (encode_lower (b ∷ bytes)) (b ∷ bytes) (decode_of-encode_lower (b ∷ bytes) fits)).1
+hex (b ∷ bytes) fits = plain_from is_hex_digit (encode_lower (b ∷ bytes)) refl (hex_digits (b ∷ bytes) fits)
 
-ruleset words = (error_is_word, answer_is_word, kind_is_word, state_is_word, call_is_word, sample_format_is_word, picture_format_is_word, codec_id_is_word, role_is_word, key_is_word, last_is_word)
-
-ruleset plain = (both, byte, none, number, short_number, signed, duration, absent_or_number, hex, word_plain, words)
+ruleset plain = (both, byte, none, number, short_number, signed, duration, absent_or_number, hex, word_plain)
 
 promise_plain : (p : PromiseState) → Plain (promise_text p)
-promise_plain (PromiseState.Rejected e) = search plain depth 30
+promise_plain (PromiseState.Rejected e) = search (errors.word, plain) depth 30
 promise_plain _ = search plain depth 30
 
 third_plain : (l : Layouts) → FitsLayout l.third → Plain (third_text l)
@@ -87,7 +76,7 @@ third_plain l fits = elim (eqb l.count 3) as (λ q. Plain (cond q (codes "," ++ 
 
 result_plain : (script : ScriptData) (r : StepResult) → AreNames script → FitsResult script r → Plain (result_text script.codecs r)
 result_plain script StepResult.Absent names fits = search plain depth 30
-result_plain script _ names fits = search (promise_plain, third_plain, names.codecs_are_words, plain) depth 60
+result_plain script _ names fits = search (answers.word, states.word, promise_plain, third_plain, names.codecs_are_words, plain) depth 60
 
 outcome_plain : (o : Outcome) → FitsOutcome o → Plain (outcome_text o)
 outcome_plain Outcome.Refused fits = search plain depth 30
@@ -95,11 +84,11 @@ outcome_plain _ fits = search plain depth 30
 
 turn_plain : (t : Option TurnWord) → Plain (turn_text t)
 turn_plain (Some TurnWord.Unblock) = search plain depth 30
-turn_plain _ = search plain depth 30
+turn_plain _ = search (errors.word, plain) depth 30
 
 entry_line_plain : (script : ScriptData) (e : EntryLine) → AreNames script → FitsEntryLine script e → Plain (entry_text script.callers e)
 entry_line_plain script (EntryLine.Turn word) names fits = search (turn_plain, plain) depth 30
-entry_line_plain script _ names fits = search (outcome_plain, names.callers_are_words, plain) depth 60
+entry_line_plain script _ names fits = search (calls.word, answers.word, outcome_plain, names.callers_are_words, plain) depth 60
 
 by_plain : (script : ScriptData) (who : By) → AreNames script → FitsBy script who → Plain (by_text script who)
 by_plain script (By.Caller who) names fits = search (names.callers_are_words, plain) depth 30
@@ -107,11 +96,11 @@ by_plain script (By.Codec n place) names fits = search (names.codecs_are_words, 
 
 pool_plain : (op : PoolOp) → FitsPoolOp op → Plain (pool_text op)
 pool_plain (PoolOp.Make resource reference) fits = search plain depth 40
-pool_plain _ fits = search plain depth 40
+pool_plain _ fits = search (lasts.word, plain) depth 40
 
 slot_plain : (op : SlotOp) → FitsOp op → Plain (slot_text op)
-slot_plain (SlotOp.Give id n) fits = search plain depth 40
-slot_plain _ fits = search plain depth 40
+slot_plain (SlotOp.Give id n) fits = search (roles.word, codec_ids.word, plain) depth 40
+slot_plain _ fits = search (roles.word, codec_ids.word, plain) depth 40
 
 -- ---- lines
 
@@ -133,8 +122,8 @@ config_plain codec all = record { all = all }
 
 event_one : (s : EventLine) → FitsEventLine s → IsOneLine (event_text s)
 event_one EventLine.Dequeue fits = search (behind_byte, feed) depth 30
-event_one _ fits = search (behind, behind_byte, feed, plain, config_plain) depth 60
+event_one _ fits = search (behind, behind_byte, feed, errors.word, sample_formats.word, picture_formats.word, keys.word, plain, config_plain) depth 60
 
 pub line_one : (script : ScriptData) (l : Line) → AreNames script → FitsLine script l → IsOneLine (line_text script l)
 line_one script (Line.Event s) names fits = event_one s fits
-line_one script _ names fits = search (behind, behind_byte, feed, result_plain, entry_line_plain, by_plain, pool_plain, slot_plain, names.callers_are_words, names.codecs_are_words, plain) depth 60
+line_one script _ names fits = search (kinds.word, behind, behind_byte, feed, result_plain, entry_line_plain, by_plain, pool_plain, slot_plain, names.callers_are_words, names.codecs_are_words, plain) depth 60

@@ -1,14 +1,16 @@
 -- What is written as a line is read again.
 use Rattle.wc_base.specs.Options.{some_same}
-use Rattle.std.proofs.Common.{◌≡◌, ℕ, inl, inr, ◌*◌, ◌/◌, ◌<◌, ◌≤◌, ◌^◌, true, false, cond, List, [], ◌∷◌, ◌++◌, length, get_or, Option, Some, None, refl, sym, ap, subst, ◌∙◌, arith, decimal, codes, append_assoc, position, ltb}
+use Rattle.std.proofs.Common.{◌≡◌, ℕ, inl, inr, ◌*◌, ◌<◌, ◌≤◌, ◌^◌, true, false, cond, List, [], ◌∷◌, ◌++◌, length, Option, Some, None, refl, sym, ap, subst, ◌∙◌, arith, decimal, codes, append_assoc, position, ltb, eqb, eq-eqb}
 use Rattle.std.specs.List.{list_all, slice_get}
 use Rattle.std.specs.Prelude.{unwrap_or, option_map}
 use Rattle.std.specs.Str.{bytes_eq}
 use Rattle.std.specs.Char.{is_ascii_digit}
 use Rattle.std.specs.Fmt.{signed_decimal}
-use Rattle.std.proofs.lemmas.Bool.{lt-ltb, le-ltb}
+use Rattle.std.proofs.Math.Nat.{div-le_self}
+use Rattle.std.proofs.lemmas.Bool.{lt-ltb, le-ltb, false_from_ne_true, false≢true}
 use Rattle.std.proofs.lemmas.List.Sums.{position_or_len_is}
 use Rattle.std.proofs.lemmas.Option.{slice_get-get_or}
+use Rattle.std.proofs.lemmas.Slice.Eq.{bytes_eq-Decides}
 use Rattle.hex.specs.Hex.{IsBytes}
 use Rattle.wc_base.specs.declared.{error.DomError.DomError, who.By.By, media.SoundShape.SoundShape}
 use Rattle.wc_config.specs.declared.codec.CoderId.{CoderId}
@@ -17,18 +19,16 @@ use Rattle.wc_pool.specs.declared.entry.PoolOp.{PoolOp}
 use Rattle.coder_api.specs.declared.slot.SlotOp.{SlotOp}
 use Rattle.codec_model.specs.declared.entry.{CodecState.CodecState, PromiseState.PromiseState, Outcome.Outcome, TurnWord.TurnWord}
 use Rattle.script_types.specs.declared.script.{ScriptData.ScriptData, CodecItem.CodecItem, CallerItem.CallerItem}
-use Rattle.report_text.specs.{declared.result.StepResult.StepResult, Names.caller_name, Names.codec_name, declared.line.CallWord.CallWord}
-use Rattle.report_text.specs.Words.{error_name, answer_text, state_text, codec_text, role_text, chunk_type_text}
-use Rattle.report_text.specs.Text.{promise_text, layout_text, third_text, layouts_text, outcome_text, turn_text, numbered_line, number_or_dash, hex_or_dash, sound_duration}
+use Rattle.report_text.specs.{declared.result.StepResult.StepResult, Names.caller_name, Names.codec_name, declared.line.CallWord.CallWord, declared.line.EntryLine.EntryLine, declared.line.EventLine.EventLine, declared.line.Line.Line}
+use Rattle.report_text.specs.Words.{error_name, answer_text, state_text, codec_text, role_text, chunk_type_text, call_word}
+use Rattle.report_text.specs.Text.{promise_text, layout_text, third_text, layouts_text, outcome_text, turn_text, numbered_line, number_or_dash, hex_or_dash, sound_duration, entry_text, event_text, line_text}
 use Rattle.report_lines.specs.Words.{◌>>=◌, after, is_word_byte, word_at}
 use Rattle.report_lines.specs.{Fields.short, Fields.bytes_upto, FieldLaws.FitsOrAbsent}
-use Rattle.report_lines.proofs.WordLaws.{upto_again, after_again, after_only, word_again, same_bytes, not_same}
+use Rattle.report_lines.proofs.WordLaws.{upto_again, after_again, after_only, word_again}
 use Rattle.report_lines.proofs.FieldLaws.{number_again, short_again, signed_again, number_or_dash_again, bytes_again, decimal_digits, decimal_word, decimal_not_nil, hex_word}
-use Rattle.report_text.specs.{declared.line.EntryLine.EntryLine, declared.line.EventLine.EventLine, declared.line.Line.Line, Words.call_word}
-use Rattle.report_text.specs.{Text.entry_text, Text.event_text, Text.line_text}
 use Rattle.report_lines.specs.Reading.{caller_of, codec_of, error_at, answer_at, promise_at, look_at, look_line_at, call_result_at, unit_at, layout_at, two_layouts_at, three_layouts_at, layouts_at, copied_bytes_at, copied_frame_at, copied_at, copied_line_at, outcome_at, turn_at, start_at, done_at, call_at, take_at, coder_at, refused_at, acquired_at, given_at, op_at, slot_at, made_at, cloned_at, ended_at, pool_op_at, reference_at, is_slot_word, is_pool_word, dotted_line_at, worded_result_at, worded_line_at, numbered_line_at, sound_at, image_at, chunk_at, output_at, config_at, reject_at, event_at, event_line_at, codec_at, caller_at, headed_line_at, only_line_at, line_at}
 use Rattle.report_lines.specs.Fits.{AreNames, IsCaller, IsCodec, FitsLayout, no_layout, FitsLayouts, FitsResult, FitsOutcome, FitsEntryLine, FitsEventLine, FitsBy, FitsPoolOp, FitsOp, FitsLine}
-use Rattle.report_lines.proofs.WordTables.{error_is_word, error_again, answer_is_word, answer_again, kind_is_word, kind_again, state_is_word, state_again, call_is_word, call_again, sample_format_is_word, sample_format_again, picture_format_is_word, picture_format_again, codec_id_is_word, codec_id_again, role_is_word, role_again, key_is_word, key_again, last_is_word, last_again}
+use Rattle.report_lines.proofs.WordTables.{errors, answers, kinds, states, calls, sample_formats, picture_formats, codec_ids, roles, keys, lasts}
 
 -- ---- names
 
@@ -42,8 +42,8 @@ place_is : {X : Type 0} (name : X → List ℕ) (xs : List X) (i : ℕ) (w : Lis
 place_is name [] i w le before here = rw (le-ltb i 0 (omega arith)) refl
 place_is name (x ∷ xs) i w le before here =
     let at = position_or_len_is (λ y. bytes_eq (name y) w) (x ∷ xs) i x le
-    (λ k below. not_same (name (get_or (x ∷ xs) k x)) w (λ e. before k below (rw (slice_get-get_or (x ∷ xs) k x (omega (arith, below, le))) e)))
-    (λ below. rw (rw (slice_get-get_or (x ∷ xs) i x below) at here below) (same_bytes w)) in
+    (λ k below. false_from_ne_true _ (λ y. before k below (rw (slice_get-get_or (x ∷ xs) k x (omega (arith, below, le))) ((bytes_eq-Decides _ w).0 y))))
+    (λ below. (bytes_eq-Decides _ w).1 (rw (slice_get-get_or (x ∷ xs) i x below) at here below)) in
     rw at refl
 
 short_is : (n : ℕ) → n < 2 ^ 32 → short n ≡ Some n
@@ -63,34 +63,28 @@ no_caller_of script n names fits =
 
 -- ---- fields and words
 
-dash_10 : ◌≡◌ {A = ℕ} 45 10 → ⊥
-dash_10 h = omega arith
-
-dash_32 : ◌≡◌ {A = ℕ} 45 32 → ⊥
-dash_32 h = omega arith
+no_dash : (n : ℕ) → eqb 45 n ≡ false → ◌≡◌ {A = ℕ} 45 n → ⊥
+no_dash n other same = false≢true (sym other ∙ eq-eqb 45 n same)
 
 wide : (n : ℕ) → n < 2 ^ 32 → n < 2 ^ 64
 wide n lt = omega (arith, lt)
 
-quotient_is_less : (a b : ℕ) → a / b ≤ a
-quotient_is_less a b = grind arith
-
 pub duration_fits : (shape : SoundShape) → shape.frames < 2 ^ 32 → FitsOrAbsent (Some (sound_duration shape))
-duration_fits shape lt k same = grind (arith, quotient_is_less (shape.frames * 1000000) shape.rate)
+duration_fits shape lt k same = grind (arith, div-le_self (shape.frames * 1000000) shape.rate)
 
 ruleset fields = (append_assoc, word_again, number_again, decimal_word, decimal_not_nil, decimal_digits)
 
-ruleset contents = (append_assoc, word_again, short_again, signed_again, number_or_dash_again, bytes_again, dash_10, dash_32)
+ruleset contents = (append_assoc, word_again, short_again, signed_again, number_or_dash_again, bytes_again, no_dash)
 
 -- ---- words at the end of a line
 
 error_at_again : (e : DomError) (rest : List ℕ) → error_at (error_name e ++ 10 ∷ rest) ≡ Some e
 unfolding error_at
-error_at_again e rest = rw (word_again 10 (error_name e) rest (error_is_word e) refl, error_again e) refl
+error_at_again e rest = rw (word_again 10 (error_name e) rest (errors.word e) refl, errors.again e) refl
 
 answer_at_again : (a : Option DomError) (rest : List ℕ) → answer_at (answer_text a ++ 10 ∷ rest) ≡ Some a
 unfolding answer_at
-answer_at_again a rest = rw (word_again 10 (answer_text a) rest (answer_is_word a) refl, answer_again a) refl
+answer_at_again a rest = rw (word_again 10 (answer_text a) rest (answers.word a) refl, answers.again a) refl
 
 look_again : (n len : ℕ) (p : PromiseState) (rest : List ℕ) → look_at n len (promise_text p ++ 10 ∷ rest) ≡ Some (StepResult.Look n len p)
 unfolding look_at promise_at
@@ -114,7 +108,7 @@ turn_again _ rest = search error_at_again
 -- ---- copies
 
 hex_read : (bytes rest : List ℕ) → IsBytes bytes → bytes_upto 10 (hex_or_dash bytes ++ 10 ∷ rest) ≡ Some (bytes, rest)
-hex_read bytes rest fits = bytes_again 10 bytes rest fits dash_10 refl
+hex_read bytes rest fits = bytes_again 10 bytes rest fits (no_dash 10 refl) refl
 
 abbrev two : PlaneLayout → PlaneLayout → Layouts
 two first second = record { count = 2; first = first; second = second; third = no_layout }
@@ -147,19 +141,13 @@ three_again a b c rest first second third =
     ap layouts_at regrouped
     ∙ search (layout_again, word_again, short_word) depth 12
 
-two_is : (l : Layouts) → l.count ≡ 2 → l.third ≡ no_layout → two l.first l.second ≡ l
-two_is l count third = rw (sym count, sym third) refl
-
-three_is : (l : Layouts) → l.count ≡ 3 → three l.first l.second l.third ≡ l
-three_is l count = rw (sym count) refl
-
 abbrev AreRead : List ℕ → Layouts → Type 0
 AreRead rest l = layouts_at (layouts_text l ++ 32 ∷ rest) ≡ Some (l, rest)
 
 layouts_again : (l : Layouts) (rest : List ℕ) → FitsLayouts l → AreRead rest l
 layouts_again l rest fits = elim fits.planes [
-  | inl both ↦ subst (AreRead rest) (two_is l both.0 both.1) (two_again l.first l.second rest fits.first fits.second)
-  | inr count ↦ subst (AreRead rest) (three_is l count) (three_again l.first l.second l.third rest fits.first fits.second fits.third)
+  | inl both ↦ let same : two l.first l.second ≡ l = rw (sym both.0, sym both.1) refl in subst (AreRead rest) same (two_again l.first l.second rest fits.first fits.second)
+  | inr count ↦ let same : three l.first l.second l.third ≡ l = rw (sym count) refl in subst (AreRead rest) same (three_again l.first l.second l.third rest fits.first fits.second fits.third)
 ]
 
 -- what stands behind the first number
@@ -187,25 +175,10 @@ numbered_first : (script : ScriptData) (n : ℕ) (rest : List ℕ) → n < 2 ^ 6
 unfolding only_line_at
 numbered_first script n rest lt = rw (word_again 32 (decimal n) rest (decimal_word n lt) refl, decimal_not_nil n lt, decimal_digits n lt) refl
 
-dotted_next : (script : ScriptData) (n : ℕ) (name rest : List ℕ) → n < 2 ^ 64 → list_all is_word_byte name ≡ true
-    → only_line_at script (decimal n ++ 32 ∷ (name ++ 46 ∷ rest)) ≡ dotted_line_at script n name rest
-unfolding numbered_line_at
-dotted_next script n name rest lt word =
-    numbered_first script n (name ++ 46 ∷ rest) lt ∙ rw (number_again 32 n (name ++ 46 ∷ rest) lt refl, word_again 46 name rest word refl) refl
-
-looked_next : (script : ScriptData) (n : ℕ) (name rest : List ℕ) → n < 2 ^ 64 → list_all is_word_byte name ≡ true
-    → only_line_at script (decimal n ++ 32 ∷ (name ++ 58 ∷ rest)) ≡ look_line_at script n name rest
-unfolding numbered_line_at
-looked_next script n name rest lt word =
-    numbered_first script n (name ++ 58 ∷ rest) lt ∙ rw (number_again 32 n (name ++ 58 ∷ rest) lt refl, word_again 58 name rest word refl) refl
-
--- an answer is not the word of a copy
-answer_no_copy : (a : Option DomError) (x y : Option Line) → cond (bytes_eq (answer_text a) (codes "copied")) x y ≡ y
-answer_no_copy a x y = grind arith
-
-worded_answer : (n : ℕ) (a : Option DomError) (rest : List ℕ) → worded_line_at n (answer_text a) rest ≡ Some (Line.Result n (StepResult.Local a))
+-- an answer is not the word of a copy, nor that of a result or an entry
+answer_next : (n : ℕ) (a : Option DomError) (x : Option Line) (rest : List ℕ) → cond (bytes_eq (answer_text a) (codes "copied")) x (worded_line_at n (answer_text a) rest) ≡ Some (Line.Result n (StepResult.Local a))
 unfolding worded_line_at worded_result_at
-worded_answer n a rest = grind arith
+answer_next n a x rest = grind arith
 
 copied_next : (script : ScriptData) (n : ℕ) (r : StepResult) (text : List ℕ) → n < 2 ^ 64 → copied_at text ≡ Some r → only_line_at script (decimal n ++ 32 ∷ (codes "copied " ++ text)) ≡ Some (Line.Result n r)
 unfolding numbered_line_at copied_line_at
@@ -215,11 +188,12 @@ result_again : (script : ScriptData) (step : ℕ) (r : StepResult) (rest : List 
 unfolding only_line_at dotted_line_at look_line_at numbered_line_at call_result_at unit_at worded_line_at worded_result_at copied_line_at look_at
 result_again script step (StepResult.Local error) rest names lt fits = simp append_assoc (
     numbered_first script step (answer_text error ++ 10 ∷ rest) lt
-    ∙ rw (number_again 32 step _ lt refl, word_again 10 (answer_text error) rest (answer_is_word error) refl) (answer_no_copy error _ _ ∙ worded_answer step error rest))
+    ∙ rw (number_again 32 step _ lt refl, word_again 10 (answer_text error) rest (answers.word error) refl) (answer_next step error _ rest))
 result_again script step (StepResult.CopiedFrame n layouts bytes) rest names lt fits =
     let regrouped : line_text script (Line.Result step (StepResult.CopiedFrame n layouts bytes)) ++ rest ≡ decimal step ++ 32 ∷ (codes "copied " ++ (decimal n ++ 32 ∷ (layouts_text layouts ++ 32 ∷ (hex_or_dash bytes ++ 10 ∷ rest)))) = simp append_assoc in
     ap (only_line_at script) regrouped ∙ copied_next script step (StepResult.CopiedFrame n layouts bytes) _ lt (frame_again n layouts bytes rest fits.0 fits.1 fits.2)
-result_again script step _ rest names lt fits = search (fields, answer_is_word, answer_again, state_is_word, state_again, look_again, state_alone, copied_again, codec_again script, names.codecs_are_words) depth 20
+result_again script step (StepResult.State n len state size) rest names lt fits = search (fields, states.word, states.again, state_alone, codec_again script, names.codecs_are_words) depth 20
+result_again script step _ rest names lt fits = search (fields, answers.word, answers.again, look_again, copied_again, codec_again script, names.codecs_are_words) depth 20
 
 -- ---- entries of codecs
 
@@ -231,13 +205,13 @@ call_alone c v w x y z = grind arith
 entry_again : (script : ScriptData) (place : ℕ) (e : EntryLine) (rest : List ℕ) → AreNames script → place < 2 ^ 64 → FitsEntryLine script e → only_line_at script (numbered_line place (entry_text script.callers e) ++ rest) ≡ Some (Line.Entry place e)
 unfolding only_line_at numbered_line_at dotted_line_at call_at take_at worded_line_at start_at done_at
 entry_again script place (EntryLine.Reclaim moment) rest names lt fits = search fields depth 20
-entry_again script place _ rest names lt fits = search (fields, call_is_word, call_again, call_alone, answer_at_again, outcome_again, turn_again, caller_again script, short_is, wide, names.callers_are_words) depth 20
+entry_again script place _ rest names lt fits = search (fields, calls.word, calls.again, call_alone, answer_at_again, outcome_again, turn_again, caller_again script, short_is, wide, names.callers_are_words) depth 20
 
 -- ---- entries of the registry and of the pool of media
 
 coder_again : (id : CoderId) (rest : List ℕ) → coder_at (role_text id.role ++ 58 ∷ (codec_text id.codec ++ 32 ∷ rest)) ≡ Some (id, rest)
 unfolding coder_at
-coder_again id rest = search (word_again, role_is_word, role_again, codec_id_is_word, codec_id_again) depth 12
+coder_again id rest = search (word_again, roles.word, roles.again, codec_ids.word, codec_ids.again) depth 12
 
 slot_again : (script : ScriptData) (place : ℕ) (who : By) (op : SlotOp) (rest : List ℕ) → AreNames script → place < 2 ^ 64 → FitsBy script who → FitsOp op
     → only_line_at script (line_text script (Line.Slot place (record { by = who; op = op })) ++ rest) ≡ Some (Line.Slot place (record { by = who; op = op }))
@@ -249,19 +223,19 @@ slot_again script place _ _ rest names lt fits fits_op = search (fields, coder_a
 reference_again : (script : ScriptData) (place : ℕ) (who : By) (op : PoolOp) (rest : List ℕ) → AreNames script → place < 2 ^ 64 → FitsBy script who → FitsPoolOp op
     → only_line_at script (line_text script (Line.Reference place (record { by = who; op = op })) ++ rest) ≡ Some (Line.Reference place (record { by = who; op = op }))
 unfolding only_line_at numbered_line_at dotted_line_at reference_at pool_op_at made_at cloned_at ended_at
-reference_again script place (By.Caller who) (PoolOp.End resource reference last) rest names lt fits fits_op = search (fields, last_is_word, last_again, caller_again script, short_is, wide, names.callers_are_words) depth 20
-reference_again script place (By.Codec n m) (PoolOp.End resource reference last) rest names lt fits fits_op = search (fields, last_is_word, last_again, codec_again script, no_caller_of script, names.codecs_are_words) depth 20
+reference_again script place (By.Caller who) (PoolOp.End resource reference last) rest names lt fits fits_op = search (fields, lasts.word, lasts.again, caller_again script, short_is, wide, names.callers_are_words) depth 20
+reference_again script place (By.Codec n m) (PoolOp.End resource reference last) rest names lt fits fits_op = search (fields, lasts.word, lasts.again, codec_again script, no_caller_of script, names.codecs_are_words) depth 20
 reference_again script place _ _ rest names lt fits fits_op = search (fields, caller_again script, codec_again script, no_caller_of script, short_is, wide, names.callers_are_words, names.codecs_are_words) depth 20
 
 -- ---- what an entry showed
 
 event_again : (script : ScriptData) (s : EventLine) (rest : List ℕ) → FitsEventLine s → only_line_at script (event_text s ++ rest) ≡ Some (Line.Event s)
 unfolding only_line_at event_line_at event_at output_at reject_at sound_at image_at chunk_at config_at
-event_again script (EventLine.Sound samples) rest fits = search (contents, sample_format_is_word, sample_format_again, duration_fits samples.shape fits.frames, fits.are_bytes) depth 20
-event_again script (EventLine.Image picture) rest fits = search (contents, picture_format_is_word, picture_format_again, fits.duration, fits.are_bytes) depth 20
+event_again script (EventLine.Sound samples) rest fits = search (contents, sample_formats.word, sample_formats.again, duration_fits samples.shape fits.frames, fits.are_bytes) depth 20
+event_again script (EventLine.Image picture) rest fits = search (contents, picture_formats.word, picture_formats.again, fits.duration, fits.are_bytes) depth 20
 event_again script (EventLine.Chunk chunk) rest fits =
     let regrouped : event_text (EventLine.Chunk chunk) ++ rest ≡ codes "  output chunk " ++ (chunk_type_text chunk.key ++ 32 ∷ (signed_decimal chunk.timestamp ++ 32 ∷ (number_or_dash chunk.duration ++ 32 ∷ (hex_or_dash chunk.bytes ++ 10 ∷ rest)))) = simp append_assoc in
-    ap (only_line_at script) regrouped ∙ search (contents, key_is_word, key_again, fits.1, fits.2) depth 20
+    ap (only_line_at script) regrouped ∙ search (contents, keys.word, keys.again, fits.1, fits.2) depth 20
 event_again script (EventLine.Config codec rate channels description) rest fits = search (contents, upto_again, fits.0, fits.1, fits.4) depth 20
 event_again script EventLine.Dequeue rest fits = refl
 event_again script _ rest fits = search (append_assoc, number_again, error_at_again) depth 20
@@ -275,7 +249,7 @@ parsed_again script (Line.Entry place entry) rest names fits = entry_again scrip
 parsed_again script (Line.Event s) rest names fits = event_again script s rest fits
 parsed_again script (Line.Reference place entry) rest names fits = reference_again script place entry.by entry.op rest names fits.0 fits.1 fits.2
 parsed_again script (Line.Slot place entry) rest names fits = slot_again script place entry.by entry.op rest names fits.0 fits.1 fits.2
-parsed_again script _ rest names fits = search (fields, short_again, kind_is_word, kind_again, caller_again script, codec_again script, names.callers_are_words, names.codecs_are_words) depth 20
+parsed_again script _ rest names fits = search (fields, short_again, kinds.word, kinds.again, caller_again script, codec_again script, names.callers_are_words, names.codecs_are_words) depth 20
 
 pub line_again : (script : ScriptData) (l : Line) (rest : List ℕ) → AreNames script → FitsLine script l → line_at script (line_text script l ++ rest) ≡ Some (l, rest)
 unfolding line_at

@@ -38,12 +38,9 @@ bytes_then : {B : Type 0} (P : B → Type 0) (mark : ℕ) (bs : List ℕ) (f : L
 bytes_then P mark bs f = bind_fits (λ x. IsBytes x.0) P (bytes_upto mark bs) f (bytes_fits mark bs)
 
 -- the number of a caller's or a codec's name
-position_fits : {X : Type 0} (p : X → Bool) (xs : List X) → IfSome (position p xs) (λ i. i < length xs)
-position_fits p xs = if_fits (λ i. i < length xs) (ltb (position_or_len p xs) (length xs)) _ _ (λ is. ltb-true _ _ is) (λ is. tt)
-
 named_fits : {X : Type 0} (p : X → Bool) (xs : List X) → IfSome (position p xs >>= short) (λ n. (n < length xs) × (n < 2 ^ 32))
 named_fits p xs =
-    bind_fits (λ i. i < length xs) (λ n. (n < length xs) × (n < 2 ^ 32)) (position p xs) short (position_fits p xs)
+    bind_fits (λ i. i < length xs) (λ n. (n < length xs) × (n < 2 ^ 32)) (position p xs) short (if_fits (λ i. i < length xs) (ltb (position_or_len p xs) (length xs)) _ _ (λ is. ltb-true _ _ is) (λ is. tt))
     (λ i lt. if_fits (λ n. (n < length xs) × (n < 2 ^ 32)) (ltb i (2 ^ 32)) _ _ (λ is. (lt, ltb-true _ _ is)) (λ is. tt))
 
 named_then : {X B : Type 0} (P : B → Type 0) (p : X → Bool) (xs : List X) (f : ℕ → Option B) → ((n : ℕ) → (n < length xs) × (n < 2 ^ 32) → IfSome (f n) P) → IfSome (position p xs >>= short >>= f) P
@@ -57,10 +54,6 @@ look_as_fits : (script : ScriptData) (o : Option CodecState) (n len : ℕ) (bs r
 look_as_fits script None n len bs rest codec small = search reading depth 12
 look_as_fits script (Some s) n len bs rest codec small = search reading depth 12
 
-looked_fits : (script : ScriptData) (step : ℕ) (name bs : List ℕ) → step < 2 ^ 64 → IfSome (look_line_at script step name bs) (FitsLine script)
-unfolding look_line_at look_at
-looked_fits script step name bs lt = search (bind_fits (FitsResult script) (FitsLine script), look_as_fits, reading) depth 16
-
 -- ---- copies
 
 layout_then : {B : Type 0} (P : B → Type 0) (mark : ℕ) (bs : List ℕ) (f : PlaneLayout × List ℕ → Option B) → ((x : PlaneLayout × List ℕ) → FitsLayout x.0 → IfSome (f x) P) → IfSome (layout_at mark bs >>= f) P
@@ -72,23 +65,9 @@ no_layout_fits = (omega arith, omega arith)
 abbrev HaveLayouts : Layouts × List ℕ → Type 0
 HaveLayouts x = FitsLayouts x.0
 
-layouts_fit : (bs : List ℕ) → IfSome (layouts_at bs) HaveLayouts
-unfolding layouts_at two_layouts_at three_layouts_at
-layouts_fit bs = search (layout_then, reading, no_layout_fits, inl, inr) depth 20
-
 copied_fits : (script : ScriptData) (bs : List ℕ) → IfSome (copied_at bs) (FitsResult script)
-unfolding copied_at copied_frame_at copied_bytes_at
-copied_fits script bs = search (bind_fits HaveLayouts (FitsResult script), layouts_fit, reading) depth 16
-
--- ---- entries of codecs
-
-outcome_fits : (bs : List ℕ) → IfSome (outcome_at bs) FitsOutcome
-unfolding outcome_at
-outcome_fits bs = search reading depth 16
-
-worded_fits : (script : ScriptData) (n : ℕ) (w rest : List ℕ) → n < 2 ^ 64 → IfSome (worded_line_at n w rest) (FitsLine script)
-unfolding worded_line_at worded_result_at start_at done_at
-worded_fits script n w rest lt = search (bind_fits (FitsEntryLine script) (FitsLine script), bind_fits FitsOutcome (FitsEntryLine script), outcome_fits, reading) depth 24
+unfolding copied_at copied_frame_at copied_bytes_at layouts_at two_layouts_at three_layouts_at
+copied_fits script bs = search (bind_fits HaveLayouts (FitsResult script), layout_then, no_layout_fits, inl, inr, reading) depth 30
 
 -- ---- entries of the registry and of the pool of media
 
@@ -96,22 +75,22 @@ by_fits : (script : ScriptData) (o : Option ℕ) (name : List ℕ) (m : ℕ) →
 by_fits script None name m lt caller = search reading depth 12
 by_fits script (Some k) name m lt caller = search reading depth 12
 
-op_fits : (w bs : List ℕ) → IfSome (op_at w bs) FitsOp
-unfolding op_at acquired_at given_at refused_at
-op_fits w bs = search reading depth 20
-
-pool_op_fits : (w bs : List ℕ) → IfSome (pool_op_at w bs) FitsPoolOp
-unfolding pool_op_at made_at cloned_at ended_at
-pool_op_fits w bs = search reading depth 20
-
 -- ---- lines with a number
 
 by_then : {B : Type 0} (P : B → Type 0) (script : ScriptData) (name : List ℕ) (m : ℕ) (f : By → Option B) → m < 2 ^ 64 → ((x : By) → FitsBy script x → IfSome (f x) P) → IfSome (by_of script name m >>= f) P
 by_then P script name m f lt = bind_fits (FitsBy script) P (by_of script name m) f (by_fits script (caller_of script.callers name) name m lt (named_fits _ script.callers))
 
 dotted_fits : (script : ScriptData) (n : ℕ) (name bs : List ℕ) → n < 2 ^ 64 → IfSome (dotted_line_at script n name bs) (FitsLine script)
-unfolding dotted_line_at call_result_at unit_at slot_at reference_at take_at call_at
-dotted_fits script n name bs lt = search (by_then, bind_fits FitsOp (FitsLine script), bind_fits FitsPoolOp (FitsLine script), op_fits, pool_op_fits, reading) depth 30
+unfolding dotted_line_at call_result_at unit_at slot_at reference_at take_at call_at op_at acquired_at given_at refused_at pool_op_at made_at cloned_at ended_at
+dotted_fits script n name bs lt = search (by_then, bind_fits FitsOp (FitsLine script), bind_fits FitsPoolOp (FitsLine script), reading) depth 40
+
+looked_fits : (script : ScriptData) (step : ℕ) (name bs : List ℕ) → step < 2 ^ 64 → IfSome (look_line_at script step name bs) (FitsLine script)
+unfolding look_line_at look_at
+looked_fits script step name bs lt = search (bind_fits (FitsResult script) (FitsLine script), look_as_fits, reading) depth 16
+
+worded_fits : (script : ScriptData) (n : ℕ) (w rest : List ℕ) → n < 2 ^ 64 → IfSome (worded_line_at n w rest) (FitsLine script)
+unfolding worded_line_at worded_result_at start_at done_at outcome_at
+worded_fits script n w rest lt = search (bind_fits (FitsEntryLine script) (FitsLine script), bind_fits FitsOutcome (FitsEntryLine script), reading) depth 24
 
 numbered_fits : (script : ScriptData) (bs : List ℕ) → IfSome (numbered_line_at script bs) (FitsLine script)
 unfolding numbered_line_at copied_line_at
@@ -125,15 +104,11 @@ upto_then P mark bs f = bind_fits (λ x. Lacks mark x.0) P (upto mark bs) f (upt
 without_feed_then : {B : Type 0} (P : B → Type 0) (text : List ℕ) (f : List ℕ → Option B) → (list_all is_no_feed text ≡ true → IfSome (f text) P) → IfSome (without_feed text >>= f) P
 without_feed_then P text f h = bind_fits (λ w. (w ≡ text) × (list_all is_no_feed text ≡ true)) P (without_feed text) f (if_fits _ (list_all is_no_feed text) _ _ (λ is. (refl, is)) (λ is. tt)) (λ w own. rw own.0 (h own.1))
 
-event_fits : (bs : List ℕ) → IfSome (event_at bs) FitsEventLine
-unfolding event_at output_at sound_at image_at chunk_at config_at reject_at
-event_fits bs = search (upto_then, without_feed_then, reading) depth 40
-
 -- ---- every line
 
 parsed_fits : (script : ScriptData) (bs : List ℕ) → IfSome (only_line_at script bs) (FitsLine script)
-unfolding only_line_at event_line_at headed_line_at caller_at codec_at
-parsed_fits script bs = search (numbered_fits, bind_fits FitsEventLine (FitsLine script), event_fits, reading) depth 30
+unfolding only_line_at event_line_at headed_line_at caller_at codec_at event_at output_at sound_at image_at chunk_at config_at reject_at
+parsed_fits script bs = search (numbered_fits, bind_fits FitsEventLine (FitsLine script), upto_then, without_feed_then, reading) depth 50
 
 pub line_fits : (script : ScriptData) (bs : List ℕ) → IfSome (line_at script bs) (λ read. FitsLine script read.0)
 unfolding line_at

@@ -2,6 +2,7 @@
 use Rattle.std.proofs.Common.{ℕ, zero, suc, ◌≡◌, ◌<◌, ◌+◌, ◌*◌, ◌/◌, ◌%◌, List, [], ◌∷◌, ◌++◌, length, length-append, take, drop, refl, ap, arith, lit<}
 use Rattle.std.specs.Prelude.{map, replicate}
 use Rattle.std.specs.List.{flat_map, range_with_len}
+use Rattle.std.proofs.lemmas.List.{get_or-drop}
 use Rattle.hex.specs.Hex.{IsBytes}
 use Rattle.codec_definitions.specs.Pcm.{bytes_of}
 
@@ -18,14 +19,11 @@ both_small [] ys a b = b
 both_small (x ∷ xs) ys a b = one_small x (xs ++ ys) (a 0) (both_small xs ys (λ j. a (suc j)) b)
 
 pub take_small : (n : ℕ) (xs : List ℕ) → IsBytes xs → IsBytes (take n xs)
-take_small zero xs h = nothing_small
-take_small (suc n) [] h = nothing_small
 take_small (suc n) (x ∷ xs) h = one_small x (take n xs) (h 0) (take_small n xs (λ i. h (suc i)))
+take_small _ _ h = nothing_small
 
 pub drop_small : (n : ℕ) (xs : List ℕ) → IsBytes xs → IsBytes (drop n xs)
-drop_small zero xs h = h
-drop_small (suc n) [] h = nothing_small
-drop_small (suc n) (x ∷ xs) h = drop_small n xs (λ i. h (suc i))
+drop_small n xs h i = rw (get_or-drop n xs i 0) (h (n + i))
 
 pub zeros_small : (n : ℕ) → IsBytes (replicate n 0)
 zeros_small zero = nothing_small

@@ -65,11 +65,9 @@ lowered_16 n small = elim (cases_lt n 2147483648) [
 -- a sample in 16 bits
 sample_16 : (f : SampleFormat) (bytes : List ℕ) (i : ℕ) → IsBytes bytes → Is16 (converted (8 * format_size f) 16 (sample_at (format_size f) bytes i))
 sample_16 SampleFormat.U8 bytes i h = raised_16 (sample_at 1 bytes i) (middle_8 _ (little_small 1 (drop (1 * i) bytes) (drop_small (1 * i) bytes h)))
-sample_16 SampleFormat.S16 bytes i h = kept_16 _ (little_small 2 (drop (2 * i) bytes) (drop_small (2 * i) bytes h))
-sample_16 SampleFormat.S32 bytes i h = lowered_16 _ (little_small 4 (drop (4 * i) bytes) (drop_small (4 * i) bytes h))
-sample_16 SampleFormat.U8Planar bytes i h = raised_16 (sample_at 1 bytes i) (middle_8 _ (little_small 1 (drop (1 * i) bytes) (drop_small (1 * i) bytes h)))
-sample_16 SampleFormat.S16Planar bytes i h = kept_16 _ (little_small 2 (drop (2 * i) bytes) (drop_small (2 * i) bytes h))
-sample_16 SampleFormat.S32Planar bytes i h = lowered_16 _ (little_small 4 (drop (4 * i) bytes) (drop_small (4 * i) bytes h))
+sample_16 _ bytes i h =
+    let of = λ (size : ℕ). little_small size (drop (size * i) bytes) (drop_small (size * i) bytes h) in
+    search (raised_16 (sample_at 1 bytes i) (middle_8 _ (of 1)), kept_16 _ (of 2), lowered_16 _ (of 4))
 
 -- ---- coded samples
 

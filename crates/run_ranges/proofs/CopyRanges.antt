@@ -1,9 +1,9 @@
 -- What copies of sound and pictures, and their sizes, come to is within its types.
-use Rattle.std.proofs.Common.{ℕ, suc, ◌≡◌, ◌<◌, ◌≤◌, ◌+◌, ◌-◌, ◌*◌, ◌^◌, ◌&&◌, ◌⊎◌, inl, inr, not, Bool, true, cond, List, [], ◌∷◌, ◌++◌, length, drop, Option, Result, Ok, Err, refl, ap, ◌∙◌, arith, eq-eqb}
+use Rattle.std.proofs.Common.{ℕ, suc, ◌≡◌, ◌<◌, ◌≤◌, ◌+◌, ◌-◌, ◌*◌, ◌^◌, ◌&&◌, inl, inr, not, Bool, true, cond, List, [], ◌∷◌, ◌++◌, length, drop, Option, Result, Ok, Err, refl, ap, arith, eq-eqb}
 use Rattle.std.specs.Prelude.{nat_lt, nat_le, ◌==◌, is_none}
 use Rattle.std.specs.List.{AllByRecursion, list_all}
 use Rattle.std.proofs.Math.Nat.{mul-le-mul_left}
-use Rattle.std.proofs.lemmas.Bool.{and_parts, cond_both, ltb-true, ltb-false, eqb-true}
+use Rattle.std.proofs.lemmas.Bool.{and_parts, cond_both, ltb-true, ltb-false, eqb-true, not-false}
 use Rattle.std.proofs.lemmas.List.{length-replicate}
 use Rattle.hex.specs.Hex.{IsBytes}
 use Rattle.wc_base.specs.declared.{error.DomError.DomError, media.PictureFormat.PictureFormat, media.PictureShape.PictureShape}
@@ -20,34 +20,32 @@ use Rattle.wc_video.specs.Layouts.{rect_in, layouts_in, is_rect_of, plane_copy, 
 use Rattle.wc_video.specs.Copies as video
 use Rattle.script_types.specs.declared.script.ScriptData.{ScriptData}
 use Rattle.media_variables.specs.Variables.{zeros, audio_copied, frame_copied, planes_copied, chunk_copied, size_found}
-use Rattle.report_lines.specs.Fits.{FitsLayout, FitsLayouts, FitsResult, no_layout}
+use Rattle.report_lines.specs.Fits.{FitsLayout, FitsLayouts, FitsResult}
 use Rattle.run_ranges.proofs.Cases.{by_test}
 use Rattle.run_ranges.proofs.ByteRanges.{both_small, drop_small, zeros_small, bytes_small, flat_small, range_small, bytes_length, flat_length}
 
 -- ---- sound
 
+abbrev sample_in : SoundShape → List ℕ → Plan → ℕ → ℕ → List ℕ
+sample_in shape bytes p channel frame = resized_at (format_size shape.format) (format_size p.format) bytes (place_of shape frame channel)
+
 -- the bytes of a copy are as many as it says that it takes
 sound_length : (shape : SoundShape) (bytes : List ℕ) (p : Plan) → length (sound.copy_of shape bytes p) ≡ sound.copy_size shape p
 sound_length shape bytes p =
     by_test (λ b. length (cond b (channel_of (format_size p.format) shape bytes p.plane p.offset p.count) (frames_of (format_size p.format) shape bytes p.offset p.count)) ≡ format_size p.format * cond b 1 shape.channels * p.count) (is_planar p.format)
-    (λ is. omega (arith, flat_length (λ frame. resized_at (format_size shape.format) (format_size p.format) bytes (place_of shape frame p.plane)) (format_size p.format) (each p.plane) p.offset p.count))
-    (λ is. omega (arith, flat_length (frame_of (format_size p.format) shape bytes) (shape.channels * format_size p.format) frame_each p.offset p.count))
-  where
-    each : (channel frame : ℕ) → length (resized_at (format_size shape.format) (format_size p.format) bytes (place_of shape frame channel)) ≡ format_size p.format
-    each channel frame = bytes_length (format_size p.format) _
-
-    frame_each : (frame : ℕ) → length (frame_of (format_size p.format) shape bytes frame) ≡ shape.channels * format_size p.format
-    frame_each frame = flat_length (λ channel. resized_at (format_size shape.format) (format_size p.format) bytes (place_of shape frame channel)) (format_size p.format) (λ channel. each channel frame) 0 shape.channels
+    (λ is. omega (arith, flat_length (sample_in shape bytes p p.plane) (format_size p.format) (λ frame. bytes_length (format_size p.format) _) p.offset p.count))
+    (λ is. omega (
+      arith,
+      flat_length (frame_of (format_size p.format) shape bytes) (shape.channels * format_size p.format)
+          (λ frame. flat_length (λ channel. sample_in shape bytes p channel frame) (format_size p.format) (λ channel. bytes_length (format_size p.format) _) 0 shape.channels) p.offset p.count,
+    ))
 
 -- each sample of a copy is spelled anew
 sound_small : (shape : SoundShape) (bytes : List ℕ) (p : Plan) → IsBytes (sound.copy_of shape bytes p)
 sound_small shape bytes p =
     cond_both (is_planar p.format) (channel_of (format_size p.format) shape bytes p.plane p.offset p.count) (frames_of (format_size p.format) shape bytes p.offset p.count) IsBytes
-    (λ is. flat_small (λ frame. resized_at (format_size shape.format) (format_size p.format) bytes (place_of shape frame p.plane)) (each p.plane) p.offset p.count)
-    (λ is. flat_small (frame_of (format_size p.format) shape bytes) (λ frame. flat_small (λ channel. resized_at (format_size shape.format) (format_size p.format) bytes (place_of shape frame channel)) (λ channel. each channel frame) 0 shape.channels) p.offset p.count)
-  where
-    each : (channel frame : ℕ) → IsBytes (resized_at (format_size shape.format) (format_size p.format) bytes (place_of shape frame channel))
-    each channel frame = bytes_small (format_size p.format) _
+    (λ is. flat_small (sample_in shape bytes p p.plane) (λ frame. bytes_small (format_size p.format) _) p.offset p.count)
+    (λ is. flat_small (frame_of (format_size p.format) shape bytes) (λ frame. flat_small (λ channel. sample_in shape bytes p channel frame) (λ channel. bytes_small (format_size p.format) _) 0 shape.channels) p.offset p.count)
 
 pub sound_copy_fits : (s : ScriptData) (size : ℕ) (shape : SoundShape) (bytes : List ℕ) (r : Result Plan DomError) → size < 2 ^ 64 → FitsResult s (audio_copied size (sound.copy_into shape bytes size r))
 sound_copy_fits s size shape bytes (Err e) few = tt
@@ -104,14 +102,6 @@ layout_small : (cs : List PlaneCopy) (i : ℕ) → AllByRecursion IsPlaneWithin 
 layout_small [] i h = (omega arith, omega arith)
 layout_small (c ∷ cs) i h = cond_both (i == 0) c.layout (layout_at cs (i - 1)) FitsLayout (λ is. h.0.0) (λ is. layout_small cs (i - 1) h.1)
 
-no_third : (cs : List PlaneCopy) → length cs ≡ 2 → layout_at cs 2 ≡ no_layout
-no_third (a ∷ b ∷ []) two = refl
-no_third _ two = absurd (omega (arith, two))
-
-two_or_three : (f : PictureFormat) → (length (planes_of f) ≡ 2) ⊎ (length (planes_of f) ≡ 3)
-two_or_three PictureFormat.Nv12 = inl refl
-two_or_three _ = inr refl
-
 -- ---- plans of copies of pictures
 
 -- a plan that is no refusal
@@ -119,13 +109,11 @@ abbrev pub IsPlanWithin : Result (List PlaneCopy) DomError → Type 0
 IsPlanWithin (Err e) = Unit {0}
 IsPlanWithin (Ok cs) = FitsLayouts (layouts_of cs) × (size_of cs < 2 ^ 32)
 
+-- the planes are three, or two and no third
 layouts_small : (f : PictureFormat) (cs : List PlaneCopy) → length cs ≡ length (planes_of f) → AllByRecursion IsPlaneWithin cs → FitsLayouts (layouts_of cs)
-layouts_small f cs count h = record {
-  planes = elim (two_or_three f) [ inl two ↦ inl (count ∙ two, no_third cs (count ∙ two)) | inr three ↦ inr (count ∙ three) ];
-  first = layout_small cs 0 h;
-  second = layout_small cs 1 h;
-  third = layout_small cs 2 h;
-}
+layouts_small PictureFormat.Nv12 (a ∷ b ∷ []) count h = record { planes = inl (refl, refl); first = layout_small (a ∷ b ∷ []) 0 h; second = layout_small (a ∷ b ∷ []) 1 h; third = layout_small (a ∷ b ∷ []) 2 h }
+layouts_small PictureFormat.Nv12 _ count h = absurd (omega (arith, count))
+layouts_small _ cs count h = record { planes = inr count; first = layout_small cs 0 h; second = layout_small cs 1 h; third = layout_small cs 2 h }
 
 front : (a b : Bool) → (a && b) ≡ true → a ≡ true
 front a b h = (and_parts a b h).0
@@ -144,12 +132,9 @@ taken_within shape r ls rect count taken =
     (layouts_small shape.format (planes_in shape r ls) same all, size_small (planes_in shape r ls) all)
 
 plan_in_within : (shape : PictureShape) (r : Rect) (ls : List PlaneLayout) → IsPlanWithin (plan_in shape r ls)
-plan_in_within shape r ls = one (is_rect_of shape r) (length ls == length (planes_of shape.format)) (are_taken (planes_in shape r ls)) refl refl refl
-  where
-    one : (a b c : Bool) → is_rect_of shape r ≡ a → (length ls == length (planes_of shape.format)) ≡ b → are_taken (planes_in shape r ls) ≡ c
-        → IsPlanWithin (cond (not a) (Err DomError.TypeErr) (cond (not b) (Err DomError.TypeErr) (cond (not c) (Err DomError.TypeErr) (Ok (planes_in shape r ls)))))
-    one true true true rect count taken = taken_within shape r ls rect count taken
-    one _ _ _ rect count taken = tt
+plan_in_within shape r ls =
+    cond_both (not (is_rect_of shape r)) (Err DomError.TypeErr) _ IsPlanWithin (λ is. tt) (λ rect. cond_both (not (length ls == length (planes_of shape.format))) (Err DomError.TypeErr) _ IsPlanWithin (λ is. tt)
+    (λ count. cond_both (not (are_taken (planes_in shape r ls))) (Err DomError.TypeErr) (Ok (planes_in shape r ls)) IsPlanWithin (λ is. tt) (λ taken. taken_within shape r ls (not-false _ rect) (not-false _ count) (not-false _ taken))))
 
 pub plan_within : (f : Frame) (rect : Option Rect) (layout : Option (List PlaneLayout)) → IsPlanWithin (video.plan_for f rect layout)
 plan_within f rect layout = cond_both (is_none f.held) (Err DomError.InvalidState) (plan_of f.shape rect layout) IsPlanWithin (λ is. tt) (λ is. plan_in_within f.shape (rect_in f.shape rect) (layouts_in f.shape (rect_in f.shape rect) layout))

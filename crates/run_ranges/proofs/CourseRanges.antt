@@ -22,15 +22,15 @@ use Rattle.codec_model.specs.{Control.start_item, Control.may_reclaim, Shown.sho
 use Rattle.codec_model.specs.Replay.{State, opening_state, step as legal_step, replay, replay_from, is_configured}
 use Rattle.codec_model.specs.Held.{running_pairs, waiting_held, held_in, is_removal, is_done, lets_go, leaves_held, adds_held, HeldStays}
 use Rattle.codec_accounts.specs.{Owed.at, Owed.append_at, Registry.BoxOut, AccountLaws.history_at, AccountLaws.histories_more}
-use Rattle.codec_accounts.specs.ListLaws.{Same, Longer, growth, get_more, at_empty}
+use Rattle.codec_accounts.specs.ListLaws.{Same, Longer, growth, get_more}
 use Rattle.codec_accounts.specs.Codec.{CodecValue, Holding, new_codec, BoxStep, Keep, Give, Renew, after_give, holding_by, slots_after, holding_after, step_by, next_by, state_after, state_of, after_entry, codec_at, histories}
 use Rattle.script_types.specs.declared.script.{CallerItem.CallerItem, CodecItem.CodecItem, OrderItem.OrderItem, ScriptData.ScriptData}
 use Rattle.script_types.specs.declared.steps.{MediaStep.MediaStep, Step.Step}
 use Rattle.report_text.specs.declared.result.StepResult.{StepResult}
-use Rattle.media_variables.specs.Variables.{Medium, Came, Brought, sound_at, handed_by, entries_of, media_came, variables_of}
+use Rattle.media_variables.specs.Variables.{Medium, Media, Came, Brought, sound_at, handed_by, entries_of, media_came, variables_of}
 use Rattle.media_variables.specs.Held.{ends_behind, clones_of}
 use Rattle.media_accounts.specs.Accounts.{pool_by}
-use Rattle.trace_text.specs.Follow.{Course, opening_of, steps_of, output_at, chunk_by, chunk_at, chunk_for, Move, Idle, Answer, Advance, Ask, Handle, Receive, with_result, with_entry, with_media, after_move, turn_on, advance, decode_move, encode_move, found_at, handle_move, take_move, media_move, copied_chunk, step_move, next_move, item_move, follow_item, Follows, nothing_yet, order_items}
+use Rattle.trace_text.specs.Follow.{Course, opening_of, steps_of, output_at, chunk_by, chunk_at, chunk_for, Move, Idle, Answer, Advance, Ask, Handle, Receive, with_entry, with_media, after_move, turn_on, advance, decode_move, encode_move, found_at, handle_move, take_move, media_move, copied_chunk, step_move, next_move, item_move, follow_item, Follows, nothing_yet, order_items}
 use Rattle.history_laws.specs.{Outputs.HoldsOwn, OutputLaws.outputs_are, CountLaws.outputs_each}
 use Rattle.run_ranges.specs.Counts.{all_from, all_at}
 use Rattle.run_ranges.specs.Ranges.{IsMoment, IsConfigWithin, IsChunkWithin, IsShapeWithin, AreWithin}
@@ -67,28 +67,23 @@ pub record AreSlotsUpTo (n most long : ℕ) (s : SlotsValue) : Type 0 where
   pub made : length s.made ≤ most
   pub ops : (i : ℕ) (e : SlotEntry) → slice_get s.history i ≡ Some e → IsByUpTo n e.by × IsOpUpTo most e.op
 
--- so much of codecs and their registry
-pub record AreCodecsUpTo (n most : ℕ) (cs : List CodecValue) (s : SlotsValue) : Type 0 where
+-- what codecs were given, and what callers' variables hold, are within their types
+pub record IsCourseOwn (cs : List CodecValue) (m : Media) : Type 0 where
+  pub entries : (k p : ℕ) (e : Entry) → slice_get (at k (histories cs)) p ≡ Some e → IsOwnEntry e
+  pub variables : (c : ℕ) → AreVariables (variables_of c m.variables)
+
+-- with so many entries of each codec, so much in the pool and so many boxes made
+pub record IsCourseUpTo (n pool most : ℕ) (cs : List CodecValue) (s : SlotsValue) (m : Media) : Type 0 where
   pub few : (k : ℕ) → length (at k (histories cs)) ≤ n
   pub slots : AreSlotsUpTo n most (2 * n) s
   pub boxes : (k : ℕ) → IsBoxUpTo most (codec_at k cs).holding.box
-
--- what its codecs were given, and what its callers' variables hold, are within their types
-pub record IsCourseOwn (v : Course) : Type 0 where
-  pub entries : (k p : ℕ) (e : Entry) → slice_get (at k (histories v.codecs)) p ≡ Some e → IsOwnEntry e
-  pub variables : (c : ℕ) → AreVariables (variables_of c v.media.variables)
-
--- with so many results of each caller, so many entries of each codec, so much in the pool and so many boxes made
-pub record IsCourseUpTo (results n pool most : ℕ) (v : Course) : Type 0 where
-  pub callers : (c : ℕ) → length (at c v.callers) ≤ results
-  pub codecs : AreCodecsUpTo n most v.codecs v.slots
-  pub media : length v.media.pool ≤ pool
-  pub own : IsCourseOwn v
+  pub media : length m.pool ≤ pool
+  pub own : IsCourseOwn cs m
 
 -- After so many items. Each item adds to the pool what its codec lets go, which is at most one reference for each of the codec's
 -- entries, and two entries more.
 abbrev pub IsCourseAfter : ℕ → ℕ → Course → Type 0
-IsCourseAfter n most v = IsCourseUpTo n n (n * n + 2 * n) most v
+IsCourseAfter n most v = IsCourseUpTo n (n * n + 2 * n) most v.codecs v.slots v.media
 
 pub by_up : (n m : ℕ) (b : By) → n ≤ m → IsByUpTo n b → IsByUpTo m b
 by_up n m (By.Caller who) le h = tt
@@ -96,23 +91,6 @@ by_up n m (By.Codec k place) le h = omega (arith, le, h)
 
 slots_raised : (n m most long more : ℕ) (s : SlotsValue) → n ≤ m → long ≤ more → AreSlotsUpTo n most long s → AreSlotsUpTo m most more s
 slots_raised n m most long more s le longer h = record { long_at_most = omega (arith, h.long_at_most, longer); made = h.made; ops = λ i e is. (by_up n m e.by le (h.ops i e is).0, (h.ops i e is).1) }
-
-raised : (a b n m p q most : ℕ) (v : Course) → a ≤ b → n ≤ m → p ≤ q → IsCourseUpTo a n p most v → IsCourseUpTo b m q most v
-raised a b n m p q most v results entries pool h = record {
-  callers = λ c. omega (arith, h.callers c, results);
-  codecs = record { few = λ k. omega (arith, h.codecs.few k, entries); slots = slots_raised n m most (2 * n) (2 * m) v.slots entries (omega (arith, entries)) h.codecs.slots; boxes = h.codecs.boxes };
-  media = omega (arith, h.media, pool);
-  own = h.own;
-}
-
-longer : {X : Type 0} (c d n : ℕ) (x : X) (ls : List (List X)) → ((k : ℕ) → length (at k ls) ≤ n) → length (at c (append_at d x ls)) ≤ n + 1
-longer c d n x ls h = elim (growth c d x ls) [
-  | Same e ↦ omega (arith, ap length e, h c)
-  | Longer p e ↦ omega (arith, ap length e, length-append (at c ls) (x ∷ []), h c)
-]
-
-result_up : (a n p most c : ℕ) (r : StepResult) (v : Course) → IsCourseUpTo a n p most v → IsCourseUpTo (a + 1) n p most (with_result c r v)
-result_up a n p most c r v h = record { callers = λ k. longer k c a r v.callers h.callers; codecs = h.codecs; media = h.media; own = record { entries = h.own.entries; variables = h.own.variables } }
 
 -- ---- media
 
@@ -123,10 +101,11 @@ variables_set (suc c) zero vs (ws ∷ all) own h = h (suc c)
 variables_set zero (suc k) vs (ws ∷ all) own h = h 0
 variables_set (suc c) (suc k) vs (ws ∷ all) own h = variables_set c k vs all own (λ i. h (suc i))
 
-media_up : (a n p most : ℕ) (who : Who) (y : Came) (v : Course) → AreVariables y.variables → IsCourseUpTo a n p most v → IsCourseUpTo a n (p + 1) most (with_media who y v)
-media_up a n p most who y v own h = let few = elim y.does as (λ o. length (entries_of who o) ≤ 1) [ None ↦ omega arith | Some o ↦ omega arith ] in record {
-  callers = h.callers;
-  codecs = h.codecs;
+media_up : (n p most : ℕ) (who : Who) (y : Came) (v : Course) → AreVariables y.variables → IsCourseUpTo n p most v.codecs v.slots v.media → IsCourseUpTo n (p + 1) most v.codecs v.slots (with_media who y v).media
+media_up n p most who y v own h = let few = elim y.does as (λ o. length (entries_of who o) ≤ 1) [ None ↦ omega arith | Some o ↦ omega arith ] in record {
+  few = h.few;
+  slots = h.slots;
+  boxes = h.boxes;
   media = omega (arith, length-append v.media.pool (entries_of who y.does), few, h.media);
   own = record { entries = h.own.entries; variables = λ c. variables_set c who.caller y.variables v.media.variables own h.own.variables };
 }
@@ -224,21 +203,21 @@ own_more k e hs all own j p x is = elim (growth j k e hs) [
   | Longer here more ↦ elim (get_more (at j hs) e p x (rw more at is)) [ inl old ↦ all j p x old | inr new ↦ subst IsOwnEntry (sym new.1) own ]
 ]
 
-entry_up : HeldStays → (a n p most k : ℕ) (e : Entry) (v : Course) → IsOwnEntry e → IsCourseUpTo a n p most v → IsCourseUpTo a (n + 1) (p + n + 1) most (with_entry k e v)
-entry_up stays a n p most k e v own h =
+entry_up : HeldStays → (n p most k : ℕ) (e : Entry) (v : Course) → IsOwnEntry e → IsCourseUpTo n p most v.codecs v.slots v.media → IsCourseUpTo (n + 1) (p + n + 1) most (with_entry k e v).codecs (with_entry k e v).slots (with_entry k e v).media
+entry_up stays n p most k e v own h =
     let d = codec_at k v.codecs in
-    let few : length d.history ≤ n = omega (arith, h.codecs.few k, ap length (history_at k v.codecs)) in
-    let slots = slots_raised n (n + 1) most (2 * n) (2 * n) v.slots (omega arith) (omega arith) h.codecs.slots in
+    let few : length d.history ≤ n = omega (arith, h.few k, ap length (history_at k v.codecs)) in
+    let slots = slots_raised n (n + 1) most (2 * n) (2 * n) v.slots (omega arith) (omega arith) h.slots in
     record {
-      callers = h.callers;
-      codecs = record {
-        few = λ j. rw (histories_more k e v.slots v.codecs) (longer j k n e (histories v.codecs) h.codecs.few);
-        slots = slots_raised (n + 1) (n + 1) most (2 * n + 1 + 1) (2 * (n + 1)) _ (omega arith) (omega arith) (slots_up (n + 1) most (2 * n) (next_by k d) (step_by e d) d.holding.box v.slots (omega (arith, few)) (h.codecs.boxes k) slots);
-        boxes = λ j. elim (set_either j k (after_entry k e v.slots d) v.codecs) [
-          | inl old ↦ subst (λ (x : CodecValue). IsBoxUpTo most x.holding.box) (sym old) (h.codecs.boxes j)
-          | inr new ↦ subst (λ (x : CodecValue). IsBoxUpTo most x.holding.box) (sym new) (held_up most (next_by k d) (step_by e d) d.holding v.slots slots.made (h.codecs.boxes k))
-        ];
-      };
+      few = λ j. rw (histories_more k e v.slots v.codecs) (elim (growth j k e (histories v.codecs)) [
+        | Same same ↦ omega (arith, ap length same, h.few j)
+        | Longer here more ↦ omega (arith, ap length more, length-append (at j (histories v.codecs)) (e ∷ []), h.few j)
+      ]);
+      slots = slots_raised (n + 1) (n + 1) most (2 * n + 1 + 1) (2 * (n + 1)) _ (omega arith) (omega arith) (slots_up (n + 1) most (2 * n) (next_by k d) (step_by e d) d.holding.box v.slots (omega (arith, few)) (h.boxes k) slots);
+      boxes = λ j. elim (set_either j k (after_entry k e v.slots d) v.codecs) [
+        | inl old ↦ subst (λ (x : CodecValue). IsBoxUpTo most x.holding.box) (sym old) (h.boxes j)
+        | inr new ↦ subst (λ (x : CodecValue). IsBoxUpTo most x.holding.box) (sym new) (held_up most (next_by k d) (step_by e d) d.holding v.slots slots.made (h.boxes k))
+      ];
       media = omega (arith, pool_few stays (By.Codec k (length d.history)) e d v.media.pool n few, h.media);
       own = record { entries = rw (histories_more k e v.slots v.codecs) (own_more k e (histories v.codecs) h.own.entries own); variables = h.own.variables };
     }
@@ -253,18 +232,23 @@ MoveHolds (Ask c k e error) = IsOwnEntry e
 MoveHolds (Handle who y) = AreVariables y.variables
 MoveHolds (Receive who k e y) = IsOwnEntry e × AreVariables y.variables
 
--- an item adds so much to the pool at most
-settled : (n a b q most : ℕ) (u : Course) → a ≤ n + 1 → b ≤ n + 1 → q ≤ n * n + 2 * n + n + 1 + 1 → IsCourseUpTo a b q most u → IsCourseAfter (n + 1) most u
-settled n a b q most u results entries pool h = raised a (n + 1) b (n + 1) q ((n + 1) * (n + 1) + 2 * (n + 1)) most u results entries (omega (arith, pool, mul-add (n + 1) n 1, mul-one (n + 1), add-mul n 1 n, one-mul n)) h
+-- an item adds an entry of a codec at most, and so much to the pool
+settled : (n b q most : ℕ) (u : Course) → b ≤ n + 1 → q ≤ n * n + 2 * n + n + 1 + 1 → IsCourseUpTo b q most u.codecs u.slots u.media → IsCourseAfter (n + 1) most u
+settled n b q most u entries pool h = record {
+  few = λ k. omega (arith, h.few k, entries);
+  slots = slots_raised b (n + 1) most (2 * b) (2 * (n + 1)) u.slots entries (omega (arith, entries)) h.slots;
+  boxes = h.boxes;
+  media = omega (arith, h.media, pool, mul-add (n + 1) n 1, mul-one (n + 1), add-mul n 1 n, one-mul n);
+  own = h.own;
+}
 
 move_up : HeldStays → (n most : ℕ) (m : Move) (v : Course) → MoveHolds m → IsCourseAfter n most v → IsCourseAfter (n + 1) most (after_move m v)
-move_up stays n most Idle v own h = settled n _ _ _ most _ (omega arith) (omega arith) (omega arith) h
-move_up stays n most (Answer c r) v own h = settled n _ _ _ most _ (omega arith) (omega arith) (omega arith) (result_up n n _ most c r v h)
-move_up stays n most (Advance k e) v own h = settled n _ _ _ most _ (omega arith) (omega arith) (omega arith) (entry_up stays n n _ most k e v own h)
-move_up stays n most (Ask c k e error) v own h = settled n _ _ _ most _ (omega arith) (omega arith) (omega arith) (result_up n (n + 1) _ most c _ (with_entry k e v) (entry_up stays n n _ most k e v own h))
-move_up stays n most (Handle who y) v own h = settled n _ _ _ most _ (omega arith) (omega arith) (omega arith) (result_up n n _ most who.caller y.answer (with_media who y v) (media_up n n _ most who y v own h))
-move_up stays n most (Receive who k e y) v own h = settled n _ _ _ most _ (omega arith) (omega arith) (omega arith)
-    (result_up n (n + 1) _ most who.caller y.answer (with_media who y (with_entry k e v)) (media_up n (n + 1) _ most who y (with_entry k e v) own.1 (entry_up stays n n _ most k e v own.0 h)))
+move_up stays n most (Advance k e) v own h = settled n _ _ most (with_entry k e v) (omega arith) (omega arith) (entry_up stays n _ most k e v own h)
+move_up stays n most (Ask c k e error) v own h = settled n _ _ most (with_entry k e v) (omega arith) (omega arith) (entry_up stays n _ most k e v own h)
+move_up stays n most (Handle who y) v own h = settled n _ _ most (with_media who y v) (omega arith) (omega arith) (media_up n _ most who y v own h)
+move_up stays n most (Receive who k e y) v own h =
+    settled n _ _ most (with_media who y (with_entry k e v)) (omega arith) (omega arith) (media_up (n + 1) _ most who y (with_entry k e v) own.1 (entry_up stays n _ most k e v own.0 h))
+move_up stays n most _ v own h = settled n _ _ most v (omega arith) (omega arith) h
 
 -- ---- what steps are given
 
@@ -298,7 +282,7 @@ output_own laws o h each n u is =
     let own = all_from (HoldsOwn (judge laws)) h (λ p e there. holds_own laws e (each p e there)) in
     all_at IsUnitWithin (outputs_of (shown o h)) n u (outputs_each IsUnitWithin o h (outputs_are (judge laws) o h own)) is
 
-found_own : CodesAreBytes → (k : ℕ) (v : Course) → IsCourseOwn v → IsOutputWithin (found_at k (codec_at k v.codecs))
+found_own : CodesAreBytes → (k : ℕ) (v : Course) → IsCourseOwn v.codecs v.media → IsOutputWithin (found_at k (codec_at k v.codecs))
 found_own laws k v h =
     let d = codec_at k v.codecs in
     let n = (state_of d).control.taken in
@@ -307,12 +291,12 @@ found_own laws k v h =
 
 -- ---- steps
 
-media_holds : CodesAreBytes → (s : ScriptData) (media : List (List Chunk)) (who : Who) (x : MediaStep) (v : Course) → IsContentWithin x → IsCourseOwn v → MoveHolds (media_move s media who x v)
+media_holds : CodesAreBytes → (s : ScriptData) (media : List (List Chunk)) (who : Who) (x : MediaStep) (v : Course) → IsContentWithin x → IsCourseOwn v.codecs v.media → MoveHolds (media_move s media who x v)
 media_holds laws s media who (MediaStep.Take on bind kind) v content h =
     let b : Brought = record { chunk = None; taken = found_at on (codec_at on v.codecs) } in
     let vs = variables_of who.caller v.media.variables in
     by_option (λ o. IsCameWithin o → MoveHolds (take_move who on (codec_at on v.codecs) o)) (media_came v.media.pool who b (MediaStep.Take on bind kind) vs) (λ none. tt) (λ y is fine. (tt, fine))
-    (came_within v.media.pool who b (MediaStep.Take on bind kind) vs content (found_own laws on v h) (h.variables who.caller))
+    (came_within s v.media.pool who b (MediaStep.Take on bind kind) vs content (found_own laws on v h) (h.variables who.caller))
 media_holds laws s media who (MediaStep.Encode on sound) v content h =
     let vs = variables_of who.caller v.media.variables in
     by_option (λ o. IsSoundThere o → MoveHolds (encode_move who on v.media.pool o (codec_at on v.codecs))) (sound_at vs sound.step) (λ none. tt)
@@ -320,9 +304,9 @@ media_holds laws s media who (MediaStep.Encode on sound) v content h =
 media_holds laws s media who x v content h =
     let b : Brought = record { chunk = copied_chunk media (steps_of s who.caller) x; taken = None } in
     let vs = variables_of who.caller v.media.variables in
-    by_option (λ o. IsCameWithin o → MoveHolds (handle_move who o)) (media_came v.media.pool who b x vs) (λ none. tt) (λ y is fine. fine) (came_within v.media.pool who b x vs content tt (h.variables who.caller))
+    by_option (λ o. IsCameWithin o → MoveHolds (handle_move who o)) (media_came v.media.pool who b x vs) (λ none. tt) (λ y is fine. fine) (came_within s v.media.pool who b x vs content tt (h.variables who.caller))
 
-step_holds : CodesAreBytes → (s : ScriptData) (media : List (List Chunk)) (made : List CoderId) (who : Who) (x : Step) (v : Course) → AreWithin s media made → slice_get (steps_of s who.caller) who.step ≡ Some x → IsCourseOwn v → MoveHolds (step_move s media who x v)
+step_holds : CodesAreBytes → (s : ScriptData) (media : List (List Chunk)) (made : List CoderId) (who : Who) (x : Step) (v : Course) → AreWithin s media made → slice_get (steps_of s who.caller) who.step ≡ Some x → IsCourseOwn v.codecs v.media → MoveHolds (step_move s media who x v)
 step_holds laws s media made who (Step.Configure on config) v within is h = λ valid. within.configs who.caller who.step on config is
 step_holds laws s media made who (Step.Decode on chunk) v within is h =
     let vs = variables_of who.caller v.media.variables in
@@ -337,7 +321,7 @@ advance_holds : {X : Type 0} (k : ℕ) (f : X → Entry) (o : Option X) → ((x 
 advance_holds k f None h = tt
 advance_holds k f (Some x) h = h x
 
-item_holds : CodesAreBytes → (s : ScriptData) (media : List (List Chunk)) (made : List CoderId) (wants : Bool) (x : OrderItem) (v : Course) → AreWithin s media made → IsMoment x → IsCourseOwn v → MoveHolds (item_move s media wants x v)
+item_holds : CodesAreBytes → (s : ScriptData) (media : List (List Chunk)) (made : List CoderId) (wants : Bool) (x : OrderItem) (v : Course) → AreWithin s media made → IsMoment x → IsCourseOwn v.codecs v.media → MoveHolds (item_move s media wants x v)
 item_holds laws s media made wants (OrderItem.Caller c) v within own h =
     let who : Who = record { caller = c; step = length (at c v.callers) } in
     by_option (λ o. MoveHolds (next_move s media who o v)) (slice_get (steps_of s c) who.step) tt (λ x is. step_holds laws s media made who x v within is h)
@@ -369,8 +353,9 @@ course_up laws stays s media made u within follows =
   where
     begun : IsCourseAfter 0 (length made) (nothing_yet s made)
     begun = record {
-      callers = λ c. omega (arith, ap length (at_empty {X = StepResult} c s.callers));
-      codecs = record { few = λ k. omega (arith, ap length (no_codec 0 s.codecs k).0); slots = record { long_at_most = omega arith; made = omega arith; ops = λ i e is. absurd cc }; boxes = λ k. (no_codec (length made) s.codecs k).1 };
+      few = λ k. omega (arith, ap length (no_codec 0 s.codecs k).0);
+      slots = record { long_at_most = omega arith; made = omega arith; ops = λ i e is. absurd cc };
+      boxes = λ k. (no_codec (length made) s.codecs k).1;
       media = omega arith;
       own = record { entries = λ k p e is. absurd (let none : None ≡ Some e = rw (no_codec 0 s.codecs k).0 at is in cc); variables = no_variables s.callers };
     }

@@ -7,10 +7,10 @@ use Rattle.wc_base.specs.{Options.cond_is, declared.error.DomError.DomError}
 use Rattle.codec_definitions.specs.declared.unit.Unit as media
 use Rattle.codec_definitions.specs.declared.unit.Unit.TheVariants as unit
 use Rattle.wc_config.specs.declared.config.AudioDecoderConfig.{AudioDecoderConfig}
-use Rattle.codec_model.specs.declared.entry.{Opening.Opening, Entry.Entry, Event.Event, Shown.Shown, WorkKind.WorkKind, Item.Item, Running.Running}
-use Rattle.codec_model.specs.{declared.entry.Task.Task, declared.entry.Ended.Ended, declared.entry.Outcome.Outcome, ShownLaws.replay_append}
+use Rattle.codec_model.specs.declared.entry.{Opening.Opening, Removal.Removal, Call.Call, Entry.Entry, Event.Event, Shown.Shown, WorkKind.WorkKind}
+use Rattle.codec_model.specs.{declared.entry.Task.Task, declared.entry.Ended.Ended, declared.entry.Outcome.Outcome, ShownLaws.replay_append, StepLaws.EachStep, StepLaws.by_steps}
 use Rattle.codec_model.specs.Control.{Control, may_start, carried}
-use Rattle.codec_model.specs.Replay.{State, Given, step, replay, replay_from, start_step, done_step, done_ended, ended_of, ended_run, answer_to, decoder_config, labelled}
+use Rattle.codec_model.specs.Replay.{State, Given, entry_of, removal_entry, step, replay, replay_from, ended_of, ended_run, answer_to, decoder_config, labelled}
 use Rattle.codec_model.specs.Shown.{refusal, rejection, rejections, outputs_from, turn_shows, removal_shows, shows, units_in, shown_at, each_shown_from}
 use Rattle.codec_model.specs.Facts.{NamesEarlier, IsNeverStuck, Always}
 use Rattle.codec_model.specs.Earlier.{pending_below, resolved_below}
@@ -38,15 +38,6 @@ IsEntryWithin s e = elim (who_of e) [ None ↦ Unit {0} | Some who ↦ FitsWho s
 
 -- ---- starts and ends
 
-started_small : (n : ℕ) (is : List Item) (epoch number : ℕ) (s t : State) → s.control.work ≡ is → start_step is epoch number s ≡ Some t → IsUpTo n s.control → (epoch ≤ n) × (number ≤ n)
-started_small n [] epoch number s t e made h = absurd cc
-started_small n (i ∷ is) epoch number s t e made h =
-    let tests = (cond_is (may_start s.control && eqb epoch s.control.epoch && eqb number i.number) _ t made).0 in
-    let last = and_parts (may_start s.control && eqb epoch s.control.epoch) (eqb number i.number) tests in
-    let first = and_parts (may_start s.control) (eqb epoch s.control.epoch) last.0 in
-    let items : AreItemsUpTo n (i ∷ is) = subst (AreItemsUpTo n) e h.queued in
-    (omega (arith, h.epoch, eqb-true epoch s.control.epoch first.1), omega (arith, items.0, eqb-true number i.number last.1))
-
 -- there are as many units where the first carries a config
 labelled_few : (o : Option AudioDecoderConfig) (us : List media.Unit) → length us < 2 ^ 64 → length (labelled o us) < 2 ^ 64
 labelled_few (Some c) (unit.Coded chunk config ∷ us) few = few
@@ -60,24 +51,31 @@ outcome_small laws k g (Outcome.Ran units) e is given own = by_option (λ a. end
 outcome_small laws k g (Outcome.NoSlot n) e is given own = own
 outcome_small laws k g _ e is given own = tt
 
-ended_small : (laws : CodesAreBytes) (n : ℕ) (o : Option Running) (epoch number moment : ℕ) (x : Outcome) (s t : State) → s.control.running ≡ o → done_step o epoch number moment x s ≡ Some t → IsUpTo n s.control → IsOwnGiven (judge laws) s.running_given → IsOutcomeWithin x → (epoch ≤ n) × (number ≤ n) × FitsOutcome x
-ended_small laws n None epoch number moment x s t busy made h given own = absurd cc
-ended_small laws n (Some r) epoch number moment x s t busy made h given own =
-    let parts = cond_is (eqb r.epoch epoch && eqb r.number number) (done_ended r (ended_of r.kind s.running_given x) moment s) t made in
-    let same = and_parts (eqb r.epoch epoch) (eqb r.number number) parts.0 in
-    let small = h.running r busy in (
-      omega (arith, small.0, eqb-true r.epoch epoch same.0),
-      omega (arith, small.1, eqb-true r.number number same.1),
-      by_option (λ e. done_ended r e moment s ≡ Some t → FitsOutcome x) (ended_of r.kind s.running_given x) (λ done. absurd cc) (λ e is done. outcome_small laws r.kind s.running_given x e is given own) parts.1,
-    )
+abbrev IsLineWithin : CodesAreBytes → ScriptData → ℕ → Entry → State → State → Type 0
+IsLineWithin laws script n e s t = IsUpTo n s.control → IsOwnGiven (judge laws) s.running_given → n < 2 ^ 64 → IsEntryWithin script e → FitsEntryLine script (entry_line_of e (shown_at e s))
 
-entry_fits : (laws : CodesAreBytes) (script : ScriptData) (n : ℕ) (e : Entry) (s t : State) → step e s ≡ Some t → IsUpTo n s.control → IsOwnGiven (judge laws) s.running_given → n < 2 ^ 64 → IsEntryWithin script e → FitsEntryLine script (entry_line_of e (shown_at e s))
-entry_fits laws script n (Entry.Start epoch number) s t is h given few own =
-    let small = started_small n s.control.work epoch number s t refl is h in (omega (arith, small.0, few), omega (arith, small.1, few))
-entry_fits laws script n (Entry.Done epoch number moment x) s t is h given few own =
-    let small = ended_small laws n s.control.running epoch number moment x s t refl is h given own.1 in (omega (arith, small.0, few), omega (arith, small.1, few), own.0, small.2)
-entry_fits laws script n Entry.Turn s t is h given few own = tt
-entry_fits laws script n _ s t is h given few own = own
+-- an entry tells what it was given, or numbers of the state
+each_fits : (laws : CodesAreBytes) (script : ScriptData) (n : ℕ) → EachStep (IsLineWithin laws script n)
+each_fits laws script n = record {
+  call = λ who x s. elim x as (λ y. IsLineWithin laws script n (entry_of who y) s s) [ Call.Flush ↦ λ h given few own. own | _ ↦ λ h given few own. own ];
+  gone = λ who s h given few own. own;
+  kept = λ who s off h given few own. own;
+  cloned = λ who x s on h given few own. own;
+  remove = λ who r s. elim r as (λ y. IsLineWithin laws script n (removal_entry who y) s s) [ Removal.Reset ↦ λ h given few own. own | _ ↦ λ h given few own. own ];
+  take = λ who unit s may h given few own. own;
+  start = λ i is epoch number s first may h given few own. (
+      let last = and_parts (may_start s.control && eqb epoch s.control.epoch) (eqb number i.number) may in
+      let items : AreItemsUpTo n (i ∷ is) = subst (AreItemsUpTo n) first h.queued in
+      (omega (arith, few, h.epoch, eqb-true epoch s.control.epoch (and_parts (may_start s.control) (eqb epoch s.control.epoch) last.0).1), omega (arith, few, items.0, eqb-true number i.number last.1))
+      );
+  done = λ r e epoch number moment x s running its ended h given few own. (
+      let same = and_parts (eqb r.epoch epoch) (eqb r.number number) its in
+      let small = h.running r running in
+      (omega (arith, few, small.0, eqb-true r.epoch epoch same.0), omega (arith, few, small.1, eqb-true r.number number same.1), own.0, outcome_small laws r.kind s.running_given x e ended given own.1)
+      );
+  turn = λ x ts s first h given few own. tt;
+  reclaim = λ moment s may h given few own. own;
+}
 
 -- ---- events
 
@@ -153,4 +151,4 @@ lines_within laws script o always some before (e ∷ es) s n r legal h given few
     let names = (always o before s some r).names in
     let promises = shown_promises e s (omega (arith, h.place, small)) names (pending_below s.control names) in
     let rest = lines_within laws script o always some (before ++ e ∷ []) es t (n + 1) (replay_append o before e s r ∙ made.1) made.2 (step_up n e s t made.1 h) (step_own (judge laws) e s t made.1 inputs.0 given) (omega (arith, few)) own.1 inputs.1 (rw made.1 at units.1) in
-    rw made.1 ((small, entry_fits laws script n e s t made.1 h given.busy small own.0), all_append (FitsLine script) (flat_map event_lines (shows e s)) _ (events_fit script (shows e s) promises units.0) rest)
+    rw made.1 ((small, by_steps (IsLineWithin laws script n) (each_fits laws script n) e s t made.1 h given.busy small own.0), all_append (FitsLine script) (flat_map event_lines (shows e s)) _ (events_fit script (shows e s) promises units.0) rest)

@@ -35,10 +35,7 @@ either : (b : Bool) (m n k : ℕ) → m < k → n < k → cond b m n < k
 either b m n k a c = cond_both b m n (λ x. x < k) (λ is. a) (λ is. c)
 
 common_small : (code : ℕ) → common_block_size code < 2 ^ 32
-common_small code =
-    either (code == 1) 192 _ (2 ^ 32) (lit< tt) (either (code == 2) 576 _ (2 ^ 32) (lit< tt) (either (code == 3) 1152 _ (2 ^ 32) (lit< tt) (either (code == 4) 2304 _ (2 ^ 32) (lit< tt)
-    (either (code == 5) 4608 _ (2 ^ 32) (lit< tt) (either (code == 8) 256 _ (2 ^ 32) (lit< tt) (either (code == 9) 512 _ (2 ^ 32) (lit< tt) (either (code == 10) 1024 _ (2 ^ 32) (lit< tt)
-    (either (code == 11) 2048 _ (2 ^ 32) (lit< tt) (either (code == 12) 4096 _ (2 ^ 32) (lit< tt) (either (code == 13) 8192 _ (2 ^ 32) (lit< tt) (either (code == 14) 16384 32768 (2 ^ 32) (lit< tt) (lit< tt))))))))))))
+common_small code = search (either, lit<) depth 30
 
 block_small : (code : ℕ) (p : Place) (x : ℕ × Place) → block_size_at code p ≡ Ok x → x.0 < 2 ^ 32
 unfolding block_size_at

@@ -107,25 +107,6 @@ unit_within pool j answer (unit.Coded chunk config) vs own h = with_within j (ch
 there_within : (vs : List (Option Medium)) (j : ℕ) (m : Medium) → AreVariables vs → medium_at vs j ≡ Some m → IsVariableWithin (Some m)
 there_within vs j m h is = subst IsVariableWithin is (medium_within vs j h)
 
-each_within : (pool : List PoolEntry) (who : Who) (b : Brought) (vs : List (Option Medium)) → IsOutputWithin b.taken → AreVariables vs → EachCame pool who b vs (λ x y. IsContentWithin x → AreVariables y.variables)
-each_within pool who b vs own h = record {
-  refuses = λ x e small. h;
-  absent = λ x small. h;
-  audio = λ bind i small. with_within who.step _ vs (small.0, take_small (audio.needed i.shape) i.content small.1) h;
-  frame = λ bind i small. with_within who.step _ vs (tt, take_small (picture_size i.shape) i.content small) h;
-  takes = λ on bind kind t is small. unit_within pool who.step t.answer t.unit vs (subst IsOutputWithin is own) h;
-  clones = λ of bind m r is holds small. (let its = there_within vs of.step m h is in with_within who.step _ vs (its.0, subst IsHeldWithin holds its.1) h);
-  transfers = λ of bind m r is holds small. (let its = there_within vs of.step m h is in with_within who.step m (with_medium of.step (detached m) vs) its (with_within of.step (detached m) vs (its.0, tt) h));
-  closed = λ of m is holds small. h;
-  closes = λ of m r is holds small. with_within of.step (detached m) vs ((there_within vs of.step m h is).0, tt) h;
-  copies_chunk = λ of size small. h;
-  copies = λ of o size m is small. h;
-  sizes = λ of o m is small. h;
-}
-
-pub came_within : (pool : List PoolEntry) (who : Who) (b : Brought) (x : MediaStep) (vs : List (Option Medium)) → IsContentWithin x → IsOutputWithin b.taken → AreVariables vs → IsCameWithin (media_came pool who b x vs)
-came_within pool who b x vs small own h = by_option IsCameWithin (media_came pool who b x vs) tt (λ y is. by_came pool who b vs _ (each_within pool who b vs own h) x y is small)
-
 -- ---- what steps answer
 
 abbrev pub IsAnswerWithin : ScriptData → Option Came → Type 0
@@ -163,24 +144,33 @@ sizes_fit s _ held _ = tt
 abbrev pub FitsTaken : ScriptData → Option Taken → Type 0
 FitsTaken s o = IfSome o (λ t. FitsResult s t.answer)
 
-each_answers : (s : ScriptData) (pool : List PoolEntry) (who : Who) (b : Brought) (vs : List (Option Medium)) → IsChunkThere b.chunk → FitsTaken s b.taken → AreVariables vs → EachCame pool who b vs (λ x y. IsSizeSmall x → FitsResult s y.answer)
-each_answers s pool who b vs small told h = record {
-  refuses = λ x e few. tt;
-  absent = λ x few. tt;
-  audio = λ bind i few. tt;
-  frame = λ bind i few. tt;
-  takes = λ on bind kind t is few. elim t.unit as (λ u. FitsResult s (unit_came pool who.step t.answer u vs).answer) [ unit.Image picture ↦ subst (FitsTaken s) is told | _ ↦ subst (FitsTaken s) is told ];
-  clones = λ of bind m r is holds few. tt;
-  transfers = λ of bind m r is holds few. tt;
-  closed = λ of m is holds few. tt;
-  closes = λ of m r is holds few. tt;
-  copies_chunk = λ of size few. by_option (λ o. IsChunkThere o → FitsResult s (copy_chunk o size)) (chunk_of_variable b.chunk vs of.step) (λ none. tt) (λ x is own. chunk_copy_fits s size x.bytes (omega (arith, few)) own.2) (chunk_found b.chunk vs of.step small h);
-  copies = λ of o size m is few. copies_fit s m.shape m.held o size few (there_within vs of.step m h is).1;
-  sizes = λ of o m is few. sizes_fit s m.shape m.held o;
+each_came : (s : ScriptData) (pool : List PoolEntry) (who : Who) (b : Brought) (vs : List (Option Medium)) → IsOutputWithin b.taken → AreVariables vs → EachCame pool who b vs (λ x y. (IsContentWithin x → AreVariables y.variables) × (IsChunkThere b.chunk → FitsTaken s b.taken → IsSizeSmall x → FitsResult s y.answer))
+each_came s pool who b vs own h = record {
+  refuses = λ x e. (λ small. h, λ there told few. tt);
+  absent = λ x. (λ small. h, λ there told few. tt);
+  audio = λ bind i. (λ small. with_within who.step _ vs (small.0, take_small (audio.needed i.shape) i.content small.1) h, λ there told few. tt);
+  frame = λ bind i. (λ small. with_within who.step _ vs (tt, take_small (picture_size i.shape) i.content small) h, λ there told few. tt);
+  takes = λ on bind kind t is. (
+    λ small. unit_within pool who.step t.answer t.unit vs (subst IsOutputWithin is own) h,
+    λ there told few. elim t.unit as (λ u. FitsResult s (unit_came pool who.step t.answer u vs).answer) [ unit.Image picture ↦ subst (FitsTaken s) is told | _ ↦ subst (FitsTaken s) is told ],
+  );
+  clones = λ of bind m r is holds. (λ small. (let its = there_within vs of.step m h is in with_within who.step _ vs (its.0, subst IsHeldWithin holds its.1) h), λ there told few. tt);
+  transfers = λ of bind m r is holds. (λ small. (let its = there_within vs of.step m h is in with_within who.step m (with_medium of.step (detached m) vs) its (with_within of.step (detached m) vs (its.0, tt) h)), λ there told few. tt);
+  closed = λ of m is holds. (λ small. h, λ there told few. tt);
+  closes = λ of m r is holds. (λ small. with_within of.step (detached m) vs ((there_within vs of.step m h is).0, tt) h, λ there told few. tt);
+  copies_chunk = λ of size. (
+    λ small. h,
+    λ there told few. by_option (λ o. IsChunkThere o → FitsResult s (copy_chunk o size)) (chunk_of_variable b.chunk vs of.step) (λ none. tt) (λ x is own. chunk_copy_fits s size x.bytes (omega (arith, few)) own.2) (chunk_found b.chunk vs of.step there h),
+  );
+  copies = λ of o size m is. (λ small. h, λ there told few. copies_fit s m.shape m.held o size few (there_within vs of.step m h is).1);
+  sizes = λ of o m is. (λ small. h, λ there told few. sizes_fit s m.shape m.held o);
 }
 
-media_answers : (s : ScriptData) (pool : List PoolEntry) (who : Who) (b : Brought) (x : MediaStep) (vs : List (Option Medium)) → IsChunkThere b.chunk → FitsTaken s b.taken → IsSizeSmall x → AreVariables vs → IsAnswerWithin s (media_came pool who b x vs)
-media_answers s pool who b x vs small told few h = by_option (IsAnswerWithin s) (media_came pool who b x vs) tt (λ y is. by_came pool who b vs _ (each_answers s pool who b vs small told h) x y is few)
+pub came_within : (s : ScriptData) (pool : List PoolEntry) (who : Who) (b : Brought) (x : MediaStep) (vs : List (Option Medium)) → IsContentWithin x → IsOutputWithin b.taken → AreVariables vs → IsCameWithin (media_came pool who b x vs)
+came_within s pool who b x vs small own h = by_option IsCameWithin (media_came pool who b x vs) tt (λ y is. (by_came pool who b vs _ (each_came s pool who b vs own h) x y is).0 small)
+
+media_answers : (s : ScriptData) (pool : List PoolEntry) (who : Who) (b : Brought) (x : MediaStep) (vs : List (Option Medium)) → IsChunkThere b.chunk → IsOutputWithin b.taken → FitsTaken s b.taken → IsSizeSmall x → AreVariables vs → IsAnswerWithin s (media_came pool who b x vs)
+media_answers s pool who b x vs small own told few h = by_option (IsAnswerWithin s) (media_came pool who b x vs) tt (λ y is. (by_came pool who b vs _ (each_came s pool who b vs own h) x y is).1 small told few)
 
 -- ---- a caller's steps
 
@@ -207,13 +197,13 @@ variables_within s steps brought pool c (suc j) given =
     let vs = variables_in steps brought pool c j in
     by_option (λ o. AreVariables (variables_by (option_and_then (λ x. media_came (before_step c j pool) (step_by c j) (brought c j x) x vs) o) vs)) (option_and_then media_of (slice_get (steps c) j)) h
     (λ x is. by_option (λ o. IsCameWithin o → AreVariables (variables_by o vs)) (media_came (before_step c j pool) (step_by c j) (brought c j x) x vs) (λ none. h) (λ y was own. own)
-    (came_within (before_step c j pool) (step_by c j) (brought c j x) x vs (given.contents c j x (media_is (slice_get (steps c) j) x is)) (given.outputs c j x) h))
+    (came_within s (before_step c j pool) (step_by c j) (brought c j x) x vs (given.contents c j x (media_is (slice_get (steps c) j) x is)) (given.outputs c j x) h))
 
 pub came_answers : (s : ScriptData) (steps : ℕ → List Step) (brought : ℕ → ℕ → MediaStep → Brought) (pool : List PoolEntry) (c j : ℕ) → AreSteps s steps brought → IsAnswerWithin s (came_in steps brought pool c j)
 came_answers s steps brought pool c j given =
     let vs = variables_in steps brought pool c j in
     by_option (λ o. IsAnswerWithin s (option_and_then (λ x. media_came (before_step c j pool) (step_by c j) (brought c j x) x vs) o)) (option_and_then media_of (slice_get (steps c) j)) tt
-    (λ x is. media_answers s (before_step c j pool) (step_by c j) (brought c j x) x vs (given.copied c j x) (given.told c j x) (given.sizes c j x (media_is (slice_get (steps c) j) x is)) (variables_within s steps brought pool c j given))
+    (λ x is. media_answers s (before_step c j pool) (step_by c j) (brought c j x) x vs (given.copied c j x) (given.outputs c j x) (given.told c j x) (given.sizes c j x (media_is (slice_get (steps c) j) x is)) (variables_within s steps brought pool c j given))
 
 -- the answer of a step on media
 pub media_fits : (s : ScriptData) (o : Option Came) (r : StepResult) → IsAnswerWithin s o → IsMediaAnswer o r → FitsResult s r

@@ -17,7 +17,7 @@ use Rattle.codec_model.specs.{Held.HeldStays, Facts.IsNeverStuck, Facts.Always}
 use Rattle.script_types.specs.declared.{script.ScriptData.ScriptData, script.CodecItem.CodecItem, steps.MediaStep.MediaStep, steps.Step.Step}
 use Rattle.script_types.specs.Names.{is_name}
 use Rattle.script_types.specs.Sound.{is_sound, any_kind, gives, is_free, is_codec, is_sound_order, most_order, most_codecs, most_callers, most_steps}
-use Rattle.script_types.specs.SoundLaws.{parts_of, codec_at, step_at, codec_within}
+use Rattle.script_types.specs.SoundLaws.{parts_of, codec_at, step_at, codec_within, few_steps}
 use Rattle.report_text.specs.declared.{result.StepResult.StepResult, line.Line.Line}
 use Rattle.trace_text.specs.declared.run.{CallerTrace.CallerTrace, CodecTrace.CodecTrace, Run.Run}
 use Rattle.trace_text.specs.Report.{lines_from, result_lines, caller_lines, entry_lines, codec_lines, pool_lines, slot_lines, lines_of}
@@ -26,7 +26,7 @@ use Rattle.media_accounts.specs.Accounts.{called_at, lent_at}
 use Rattle.trace_text.specs.Follow.{Recorded, opening_at, output_at, steps_of, chunk_at, order_items}
 use Rattle.trace_text.specs.FitsLaws.{look_of, calls_by_places, order_by_places}
 use Rattle.trace_text.specs.Fits.{recorded_of, mark_of, result_in, entry_in, step_in, CallsAreIn, LookShows, LooksAreIn, IsLocalAnswer, LocalsAreIn, IsResultOf, taken_by, variables_at, came_at, brought_to, made_steps, lends_in, Fits, IsLegalTrace, AreLegalTraces, IsLegalRun}
-use Rattle.codec_accounts.specs.{Owed.at, Calls.who_of, Codec.state_after, Registry.BoxesAccounted, Registry.EndSays}
+use Rattle.codec_accounts.specs.{ListLaws.get_some, Owed.at, Calls.who_of, Codec.state_after, Registry.BoxesAccounted, Registry.EndSays}
 use Rattle.codec_accounts.specs.Calls as mark
 use Rattle.codec_accounts.specs.SlotPlaces.{IsOfCodec, cause_there}
 use Rattle.report_lines.specs.Fits.{IsCodec, FitsWho, FitsResult, FitsBy, FitsOp, FitsLine}
@@ -40,59 +40,45 @@ use Rattle.run_ranges.proofs.MediaRanges.{IsChunkThere, IsOutputWithin, IsAnswer
 use Rattle.run_ranges.proofs.EntryRanges.{IsOutcomeWithin, IsEntryWithin, lines_within}
 use Rattle.run_ranges.proofs.CourseRanges.{IsOwnEntry, IsByUpTo, IsOpUpTo, by_up, chunk_made, contents_within, holds_own, output_own, course_up}
 
--- ---- a script's counts
-
-record AreFew (s : ScriptData) : Type 0 where
-  codecs : length s.codecs ≤ most_codecs
-  callers : length s.callers ≤ most_callers
-  order : length (order_items s) ≤ most_order
-
-are_few_in : (s : ScriptData) → is_sound s ≡ true → AreFew s
-are_few_in s sound =
-    let parts = parts_of s sound in
-    let few = and_parts (nat_le (length s.codecs) most_codecs) _ parts.few in
-    record {
-      codecs = leb-true (length s.codecs) most_codecs few.0;
-      callers = leb-true (length s.callers) most_callers (and_parts (nat_le (length s.callers) most_callers) (nat_le (sum_by (λ c. length c.steps) s.callers) most_steps) few.1).0;
-      order = by_option (λ o. is_sound_order (length s.codecs) s.callers o ≡ true → length (unwrap_or o []) ≤ most_order) s.order (λ fine. omega arith) (λ items is fine. leb-true (length items) most_order (and_parts (nat_le (length items) most_order) _ fine).0) parts.order;
-    }
-
 -- ---- what was recorded
 
 -- no more of anything than the order has items, and no more in the pool than each item adds
 pub record IsRecordedUpTo (most : ℕ) (w : Recorded) : Type 0 where
-  results : (c : ℕ) → length (at c w.callers) ≤ most_order
   entries : (k : ℕ) → length (at k w.codecs) ≤ most_order
   slots : length w.slots ≤ 2 * most_order
   pool : length w.pool < 2 ^ 64
   own : (k p : ℕ) (e : Entry) → entry_in w k p ≡ Some e → IsOwnEntry e
   ops : (i : ℕ) (e : SlotEntry) → slice_get w.slots i ≡ Some e → IsByUpTo most_order e.by × IsOpUpTo most e.op
 
--- what was recorded has the script's callers and codecs, and takes that are numbered
-pub record IsKnown (s : ScriptData) (media : List (List Chunk)) (made : List CoderId) (w : Recorded) : Type 0 where
+-- what was recorded has the script's callers and codecs, which are few, and takes that are numbered
+pub record IsKnown (s : ScriptData) (made : List CoderId) (w : Recorded) : Type 0 where
   callers : length w.callers ≡ length s.callers
   codecs : length w.codecs ≡ length s.codecs
-  few : AreFew s
+  few_callers : length s.callers ≤ most_callers
+  few_codecs : length s.codecs ≤ most_codecs
   takes : (k p : ℕ) (who : Who) (unit : ℕ) → entry_in w k p ≡ Some (Entry.Take who unit) → unit ≤ p
   recorded : IsRecordedUpTo (length made) w
   open recorded use *
 
-known : CodesAreBytes → HeldStays → (s : ScriptData) (media : List (List Chunk)) (made : List CoderId) (run : Run) → is_sound s ≡ true → AreWithin s media made → IsLegalRun s run → Fits s media made run → IsKnown s media made (recorded_of run)
+known : CodesAreBytes → HeldStays → (s : ScriptData) (media : List (List Chunk)) (made : List CoderId) (run : Run) → is_sound s ≡ true → AreWithin s media made → IsLegalRun s run → Fits s media made run → IsKnown s made (recorded_of run)
 known laws stays s media made run sound within legal fits =
-    let few = are_few_in s sound in
+    let parts = parts_of s sound in
+    let few = and_parts (nat_le (length s.codecs) most_codecs) _ parts.few in
+    let order : length (order_items s) ≤ most_order =
+    by_option (λ o. is_sound_order (length s.codecs) s.callers o ≡ true → length (unwrap_or o []) ≤ most_order) s.order (λ fine. omega arith) (λ items is fine. leb-true (length items) most_order (and_parts (nat_le (length items) most_order) _ fine).0) parts.order in
     let up = course_up laws stays s media made fits.follows.course within fits.follows.follows in
     record {
       callers = length-map run.callers _ ∙ legal.callers;
       codecs = length-map run.codecs _ ∙ traces_count s.codecs run.codecs legal.codecs;
-      few = few;
+      few_callers = leb-true (length s.callers) most_callers (and_parts (nat_le (length s.callers) most_callers) (nat_le (sum_by (λ c. length c.steps) s.callers) most_steps) few.1).0;
+      few_codecs = leb-true (length s.codecs) most_codecs few.0;
       takes = takes_small s.codecs run.codecs legal.codecs;
       recorded = subst (IsRecordedUpTo (length made)) (sym fits.follows.is_recorded) (record {
-        results = λ c. omega (arith, up.callers c, few.order);
-        entries = λ k. omega (arith, up.codecs.few k, few.order);
-        slots = omega (arith, up.codecs.slots.long_at_most, few.order);
-        pool = omega (arith, up.media, few.order, mul-le-mul few.order few.order);
+        entries = λ k. omega (arith, up.few k, order);
+        slots = omega (arith, up.slots.long_at_most, order);
+        pool = omega (arith, up.media, order, mul-le-mul order order);
         own = up.own.entries;
-        ops = λ i e is. (by_up (length (order_items s)) most_order e.by few.order (up.codecs.slots.ops i e is).0, (up.codecs.slots.ops i e is).1);
+        ops = λ i e is. (by_up (length (order_items s)) most_order e.by order (up.slots.ops i e is).0, (up.slots.ops i e is).1);
       });
     }
 
@@ -101,32 +87,6 @@ at_some k j [] lt = absurd (omega (arith, lt))
 at_some zero j (l ∷ ls) lt = omega arith
 at_some (suc k) j (l ∷ ls) lt = omega (arith, at_some k j ls lt)
 
-codec_known : (s : ScriptData) (media : List (List Chunk)) (made : List CoderId) (w : Recorded) (k : ℕ) → IsKnown s media made w → k < length w.codecs → IsCodec s k
-codec_known s media made w k h lt = (omega (arith, lt, h.codecs), omega (arith, lt, h.codecs, h.few.codecs))
-
--- the codec and the place of an entry
-entry_known : (s : ScriptData) (media : List (List Chunk)) (made : List CoderId) (w : Recorded) (k p : ℕ) (e : Entry) → IsKnown s media made w → entry_in w k p ≡ Some e → IsCodec s k × (p < 2 ^ 64)
-entry_known s media made w k p e h is =
-    let lt = slice_get_within (at k w.codecs) p e is in
-    (codec_known s media made w k h (at_some k p w.codecs lt), omega (arith, lt, h.entries k))
-
--- a caller's step that was made
-step_known : (s : ScriptData) (media : List (List Chunk)) (made : List CoderId) (w : Recorded) (who : Who) → IsKnown s media made w → who.step < length (at who.caller w.callers) → FitsWho s who
-step_known s media made w who h lt =
-    let caller = at_some who.caller who.step w.callers lt in
-    ((omega (arith, caller, h.callers), omega (arith, caller, h.callers, h.few.callers)), omega (arith, lt, h.results who.caller))
-
--- ---- results
-
-call_fits : (s : ScriptData) (media : List (List Chunk)) (made : List CoderId) (w : Recorded) → IsKnown s media made w → CallsAreIn s w → (c j k p : ℕ) (error : Option DomError) → result_in w c j ≡ Some (StepResult.Call k p error) → IsCodec s k × (p < 2 ^ 64)
-call_fits s media made w h calls c j k p error is = let kept = (calls_by_places s w calls).kept c j k p error is in entry_known s media made w k p kept.entry h kept.stands
-
-take_fits : (s : ScriptData) (media : List (List Chunk)) (made : List CoderId) (w : Recorded) → IsKnown s media made w → CallsAreIn s w → (c j k p unit : ℕ) → result_in w c j ≡ Some (StepResult.Unit k p unit) → FitsResult s (StepResult.Unit k p unit)
-take_fits s media made w h calls c j k p unit is =
-    let stands = (calls_by_places s w calls).taken c j k p unit is in
-    let known = entry_known s media made w k p _ h stands in
-    (known.0, known.1, omega (arith, known.1, h.takes k p _ unit stands))
-
 -- the size after a history is at most its length
 replay_up : (h : List Entry) (s t : State) (n : ℕ) → replay_from h s ≡ Some t → IsUpTo n s.control → IsUpTo (n + length h) t.control
 replay_up [] s t n r up = subst (λ (u : State). IsUpTo (n + 0) u.control) (some_same s t r) (subst (λ (m : ℕ). IsUpTo m s.control) (omega arith) up)
@@ -134,42 +94,6 @@ replay_up (e ∷ es) s t n r up = option_and_then_some (replay_from es) (legal_s
 
 size_small : (o : Opening) (h : List Entry) → (state_after o h).control.size ≤ length h
 size_small o h = by_default (λ t. t.control.size ≤ length h) (replay o h) (opening_state o) (omega arith) (λ t is. omega (arith, (replay_up h (opening_state o) t 0 is (opening_up o)).size))
-
--- a codec that a step names
-codec_named : (s : ScriptData) (media : List (List Chunk)) (made : List CoderId) (w : Recorded) (kind : Kind → Bool) (on k : ℕ) → IsKnown s media made w → is_codec s.codecs kind on ≡ true → on ≡ k → IsCodec s k
-codec_named s media made w kind on k h fine same = let there = codec_within s.codecs kind on fine in (omega (arith, same, there), omega (arith, same, there, h.few.codecs))
-
--- a look, by the step that looks
-look_fits : (s : ScriptData) (media : List (List Chunk)) (made : List CoderId) (w : Recorded) (c j l m : ℕ) (x : Step) (r : StepResult) → is_sound s ≡ true → IsKnown s media made w → CallsAreIn s w → step_in s c j ≡ Some x
-    → mark_of r ≡ mark.Look l m → ((k n : ℕ) → look_of r ≡ Some (k, n) → n ≤ length (at k w.codecs)) → LookShows s w c x r → FitsResult s r
-look_fits s media made w c j l m (Step.Await promise) (StepResult.Look k n end) sound h calls is looks seen shows = ((call_fits s media made w h calls c promise.step k shows.0 shows.1 shows.2).0, omega (arith, seen k n refl, h.entries k))
-look_fits s media made w c j l m (Step.Poll promise) (StepResult.Look k n end) sound h calls is looks seen shows = ((call_fits s media made w h calls c promise.step k shows.0 shows.1 shows.2).0, omega (arith, seen k n refl, h.entries k))
-look_fits s media made w c j l m (Step.State on) (StepResult.State k n state size) sound h calls is looks seen shows =
-    let caller = caller_of_step s.callers c j (Step.State on) is in
-    (codec_named s media made w any_kind on k h (step_at s c j caller.0 (Step.State on) sound caller.1 caller.2) shows.0, omega (arith, seen k n refl, h.entries k), omega (arith, shows.2, size_small (opening_at s k) (take n (at k w.codecs)), length-take n (at k w.codecs), h.entries k))
-look_fits s media made w c j l m (Step.Media (MediaStep.Take on bind kind)) (StepResult.NoUnit k n) sound h calls is looks seen shows =
-    let x = Step.Media (MediaStep.Take on bind kind) in
-    let caller = caller_of_step s.callers c j x is in
-    let fine = step_at s c j caller.0 x sound caller.1 caller.2 in
-    (codec_named s media made w (gives kind) on k h (and_parts (is_codec s.codecs (gives kind) on) (is_free (take j caller.0.steps) bind) fine).0 shows.0, omega (arith, seen k n refl, h.entries k))
-look_fits s media made w c j l m x r sound h calls is looks seen shows = grind arith
-
--- what a caller's step took
-taken_known : CodesAreBytes → (s : ScriptData) (media : List (List Chunk)) (made : List CoderId) (w : Recorded) → IsKnown s media made w → CallsAreIn s w → (c j : ℕ) (o : Option StepResult) → result_in w c j ≡ o → IsOutputWithin (taken_by s w o) × FitsTaken s (taken_by s w o)
-taken_known laws s media made w h calls c j (Some (StepResult.Unit k p n)) is =
-    by_option (λ o. IsOutputWithin (option_map (λ u. record { unit = u; answer = StepResult.Unit k p n }) o) × FitsTaken s (option_map (λ u. record { unit = u; answer = StepResult.Unit k p n }) o)) (output_at (opening_at s k) (at k w.codecs) n) (tt, tt)
-    (λ u found. (output_own laws (opening_at s k) (at k w.codecs) (λ q e there. h.own k q e there) n u found, take_fits s media made w h calls c j k p n is))
-taken_known laws s media made w h calls c j o is = (tt, tt)
-
--- what is known of a script's steps on media
-steps_within : CodesAreBytes → (s : ScriptData) (media : List (List Chunk)) (made : List CoderId) (w : Recorded) → is_sound s ≡ true → AreWithin s media made → IsKnown s media made w → CallsAreIn s w → AreSteps s (steps_of s) (brought_to s media w)
-steps_within laws s media made w sound within h calls = record {
-  contents = λ c j x is. contents_within s media made c j x within is;
-  copied = λ c j x. by_option (λ o. IsChunkThere (option_and_then (chunk_at media (steps_of s c)) o)) (chunk_in x) tt (λ i is. chunk_made s media made within c i);
-  outputs = λ c j x. (taken_known laws s media made w h calls c j (result_in w c j) refl).0;
-  told = λ c j x. (taken_known laws s media made w h calls c j (result_in w c j) refl).1;
-  sizes = λ c j x is. (let caller = caller_of_step s.callers c j (Step.Media x) is in size_small_of s.codecs (take j caller.0.steps) x (step_at s c j caller.0 (Step.Media x) sound caller.1 caller.2));
-}
 
 -- copies and sizes are answers of steps on media alone
 local_fits : (s : ScriptData) (media : List (List Chunk)) (w : Recorded) (vs : List (Option Medium)) (came : Option Came) (who : Who) (x : Step) (r : StepResult) → mark_of r ≡ mark.Local → IsAnswerWithin s came → IsResultOf s w who x r → IsLocalAnswer s media vs came who.caller x r → FitsResult s r
@@ -180,54 +104,121 @@ local_fits s media w vs came who (Step.Media (MediaStep.Encode on content)) r lo
 local_fits s media w vs came who (Step.Media m) r local within of h = media_fits s came r within h
 local_fits s media w vs came who x r local within of h = grind arith
 
-results_fit : CodesAreBytes → (s : ScriptData) (media : List (List Chunk)) (made : List CoderId) (w : Recorded) → is_sound s ≡ true → AreWithin s media made → IsKnown s media made w → CallsAreIn s w → LooksAreIn s w → LocalsAreIn s media w → (c j : ℕ) (r : StepResult) → result_in w c j ≡ Some r → FitsResult s r
-results_fit laws s media made w sound within h calls looks locals c j (StepResult.Call k p error) is = call_fits s media made w h calls c j k p error is
-results_fit laws s media made w sound within h calls looks locals c j (StepResult.Unit k p n) is = take_fits s media made w h calls c j k p n is
-results_fit laws s media made w sound within h calls looks locals c j r is =
-    let step = calls.made c j r is in
-    elim (mark_of r) as (λ m. mark_of r ≡ m → FitsResult s r) [
-      | mark.Call k p ↦ λ its. absurd cc
-      | mark.Look k n ↦ λ its. look_fits s media made w c j k n step.0 r sound h calls step.1 its (λ l m same. (order_by_places w looks.climbs).within c j l m r is same) (looks.shows c j step.0 r step.1 is)
-      | mark.Local ↦ λ its. local_fits s media w (variables_at s media w c j) (came_at s media w c j) (record { caller = c; step = j }) step.0 r its (came_answers s (steps_of s) (brought_to s media w) w.pool c j (steps_within laws s media made w sound within h calls)) step.2 (locals c j step.0 r step.1 is)
-    ] refl
-
--- ---- entries
-
-outcome_within : (s : ScriptData) (media : List (List Chunk)) (made : List CoderId) (w : Recorded) (cause : By) (o : Outcome) → IsKnown s media made w → EndSays w.slots cause o → IsOutcomeWithin o
-outcome_within s media made w cause (Outcome.NoSlot n) h says = omega (arith, slice_get_within w.slots n _ says.stands, h.slots)
-outcome_within s media made w cause _ h says = tt
-
-named_within : (s : ScriptData) (media : List (List Chunk)) (made : List CoderId) (w : Recorded) → IsKnown s media made w → CallsAreIn s w → (k p : ℕ) (e : Entry) (who : Who) → entry_in w k p ≡ Some e → who_of e ≡ Some who → FitsWho s who
-named_within s media made w h calls k p e who is names =
-    let kept = (calls_by_places s w calls).only k p e who is names in step_known s media made w who h (slice_get_within (at who.caller w.callers) who.step kept.0 kept.1)
-
-entry_within : (s : ScriptData) (media : List (List Chunk)) (made : List CoderId) (w : Recorded) → IsKnown s media made w → CallsAreIn s w → BoxesAccounted made (opening_at s) w.codecs w.slots → (k p : ℕ) (e : Entry) → entry_in w k p ≡ Some e → IsEntryWithin s e
-entry_within s media made w h calls boxes k p (Entry.Take who unit) is = (named_within s media made w h calls k p (Entry.Take who unit) who is refl, omega (arith, h.takes k p who unit is, (entry_known s media made w k p _ h is).1))
-entry_within s media made w h calls boxes k p (Entry.Done epoch item moment o) is = (h.own k p (Entry.Done epoch item moment o) is, outcome_within s media made w _ o h (boxes.ends k p epoch item moment o is).says)
-entry_within s media made w h calls boxes k p (Entry.Reclaim moment) is = h.own k p (Entry.Reclaim moment) is
-entry_within s media made w h calls boxes k p (Entry.Start epoch item) is = tt
-entry_within s media made w h calls boxes k p Entry.Turn is = tt
-entry_within s media made w h calls boxes k p e is = named_within s media made w h calls k p e _ is refl
-
--- ---- the registry
-
-by_fits : (s : ScriptData) (media : List (List Chunk)) (made : List CoderId) (w : Recorded) (b : By) → IsKnown s media made w → IsOfCodec (length w.codecs) b → IsByUpTo most_order b → FitsBy s b
-by_fits s media made w (By.Caller who) h there up = absurd there
-by_fits s media made w (By.Codec k p) h there up = (codec_known s media made w k h there, omega (arith, up))
-
 op_fits : (most : ℕ) (op : SlotOp) → most < 2 ^ 64 → IsOpUpTo most op → FitsOp op
 op_fits most (SlotOp.Refused id out all) few up = (omega (arith, few, up.0), omega (arith, few, up.1))
 op_fits most _ few up = omega (arith, few, up)
-
--- ---- the pool
 
 -- an entry that calls for something is there
 lent_there : (o : Opening) (h : List Entry) (place : ℕ) → (lent_at o h place ≡ [] → ⊥) → (e : Entry) × (slice_get h place ≡ Some e)
 lent_there o h place some = by_option (λ x. (called_at o h place x ≡ [] → ⊥) → (e : Entry) × (x ≡ Some e)) (slice_get h place) (λ lent. absurd (lent refl)) (λ e is lent. (e, refl)) some
 
-pool_by_fits : (s : ScriptData) (media : List (List Chunk)) (made : List CoderId) (w : Recorded) (b : By) → IsKnown s media made w → IsMadeBy (lends_in s w) (made_steps w) b → FitsBy s b
-pool_by_fits s media made w (By.Codec k place) h some = let there = lent_there (opening_at s k) (at k w.codecs) place some in entry_known s media made w k place there.0 h there.1
-pool_by_fits s media made w (By.Caller who) h step = step_known s media made w who h step
+-- ---- what a run is known to have recorded
+
+module _ (laws : CodesAreBytes) (s : ScriptData) (media : List (List Chunk)) (made : List CoderId) (w : Recorded) (sound : is_sound s ≡ true) (within : AreWithin s media made) (h : IsKnown s made w) (calls : CallsAreIn s w) where
+  codec_known : (k : ℕ) → k < length w.codecs → IsCodec s k
+  codec_known k lt = (omega (arith, lt, h.codecs), omega (arith, lt, h.codecs, h.few_codecs))
+
+  -- the codec and the place of an entry
+  entry_known : (k p : ℕ) (e : Entry) → entry_in w k p ≡ Some e → IsCodec s k × (p < 2 ^ 64)
+  entry_known k p e is =
+      let lt = slice_get_within (at k w.codecs) p e is in
+      (codec_known k (at_some k p w.codecs lt), omega (arith, lt, h.entries k))
+
+  -- a caller's step that was made is one of the script's
+  step_known : (who : Who) (r : StepResult) → result_in w who.caller who.step ≡ Some r → FitsWho s who
+  step_known who r is =
+      let step = calls.made who.caller who.step r is in
+      let caller = caller_of_step s.callers who.caller who.step step.0 step.1 in
+      let there = slice_get_within s.callers who.caller caller.0 caller.1 in
+      ((there, omega (arith, there, h.few_callers)), omega (arith, slice_get_within caller.0.steps who.step step.0 caller.2, few_steps s who.caller caller.0 sound caller.1))
+
+  -- ---- results
+
+  call_fits : (c j k p : ℕ) (error : Option DomError) → result_in w c j ≡ Some (StepResult.Call k p error) → IsCodec s k × (p < 2 ^ 64)
+  call_fits c j k p error is = let kept = (calls_by_places s w calls).kept c j k p error is in entry_known k p kept.entry kept.stands
+
+  take_fits : (c j k p unit : ℕ) → result_in w c j ≡ Some (StepResult.Unit k p unit) → FitsResult s (StepResult.Unit k p unit)
+  take_fits c j k p unit is =
+      let stands = (calls_by_places s w calls).taken c j k p unit is in
+      let known = entry_known k p _ stands in
+      (known.0, known.1, omega (arith, known.1, h.takes k p _ unit stands))
+
+  -- a codec that a step names
+  codec_named : (kind : Kind → Bool) (on k : ℕ) → is_codec s.codecs kind on ≡ true → on ≡ k → IsCodec s k
+  codec_named kind on k fine same = let there = codec_within s.codecs kind on fine in (omega (arith, same, there), omega (arith, same, there, h.few_codecs))
+
+  -- a look, by the step that looks
+  look_fits : (c j l m : ℕ) (x : Step) (r : StepResult) → step_in s c j ≡ Some x
+      → mark_of r ≡ mark.Look l m → ((k n : ℕ) → look_of r ≡ Some (k, n) → n ≤ length (at k w.codecs)) → LookShows s w c x r → FitsResult s r
+  look_fits c j l m (Step.Await promise) (StepResult.Look k n end) is looks seen shows = ((call_fits c promise.step k shows.0 shows.1 shows.2).0, omega (arith, seen k n refl, h.entries k))
+  look_fits c j l m (Step.Poll promise) (StepResult.Look k n end) is looks seen shows = ((call_fits c promise.step k shows.0 shows.1 shows.2).0, omega (arith, seen k n refl, h.entries k))
+  look_fits c j l m (Step.State on) (StepResult.State k n state size) is looks seen shows =
+      let caller = caller_of_step s.callers c j (Step.State on) is in
+      (codec_named any_kind on k (step_at s c j caller.0 (Step.State on) sound caller.1 caller.2) shows.0, omega (arith, seen k n refl, h.entries k), omega (arith, shows.2, size_small (opening_at s k) (take n (at k w.codecs)), length-take n (at k w.codecs), h.entries k))
+  look_fits c j l m (Step.Media (MediaStep.Take on bind kind)) (StepResult.NoUnit k n) is looks seen shows =
+      let x = Step.Media (MediaStep.Take on bind kind) in
+      let caller = caller_of_step s.callers c j x is in
+      let fine = step_at s c j caller.0 x sound caller.1 caller.2 in
+      (codec_named (gives kind) on k (and_parts (is_codec s.codecs (gives kind) on) (is_free (take j caller.0.steps) bind) fine).0 shows.0, omega (arith, seen k n refl, h.entries k))
+  look_fits c j l m x r is looks seen shows = grind arith
+
+  -- what a caller's step took
+  taken_known : (c j : ℕ) (o : Option StepResult) → result_in w c j ≡ o → IsOutputWithin (taken_by s w o) × FitsTaken s (taken_by s w o)
+  taken_known c j (Some (StepResult.Unit k p n)) is =
+      by_option (λ o. IsOutputWithin (option_map (λ u. record { unit = u; answer = StepResult.Unit k p n }) o) × FitsTaken s (option_map (λ u. record { unit = u; answer = StepResult.Unit k p n }) o)) (output_at (opening_at s k) (at k w.codecs) n) (tt, tt)
+      (λ u found. (output_own laws (opening_at s k) (at k w.codecs) (λ q e there. h.own k q e there) n u found, take_fits c j k p n is))
+  taken_known c j o is = (tt, tt)
+
+  -- what is known of a script's steps on media
+  steps_within : AreSteps s (steps_of s) (brought_to s media w)
+  steps_within = record {
+    contents = λ c j x is. contents_within s media made c j x within is;
+    copied = λ c j x. by_option (λ o. IsChunkThere (option_and_then (chunk_at media (steps_of s c)) o)) (chunk_in x) tt (λ i is. chunk_made s media made within c i);
+    outputs = λ c j x. (taken_known c j (result_in w c j) refl).0;
+    told = λ c j x. (taken_known c j (result_in w c j) refl).1;
+    sizes = λ c j x is. (let caller = caller_of_step s.callers c j (Step.Media x) is in size_small_of s.codecs (take j caller.0.steps) x (step_at s c j caller.0 (Step.Media x) sound caller.1 caller.2));
+  }
+
+  results_fit : LooksAreIn s w → LocalsAreIn s media w → (c j : ℕ) (r : StepResult) → result_in w c j ≡ Some r → FitsResult s r
+  results_fit looks locals c j (StepResult.Call k p error) is = call_fits c j k p error is
+  results_fit looks locals c j (StepResult.Unit k p n) is = take_fits c j k p n is
+  results_fit looks locals c j r is =
+      let step = calls.made c j r is in
+      elim (mark_of r) as (λ m. mark_of r ≡ m → FitsResult s r) [
+        | mark.Call k p ↦ λ its. absurd cc
+        | mark.Look k n ↦ λ its. look_fits c j k n step.0 r step.1 its (λ l m same. (order_by_places w looks.climbs).within c j l m r is same) (looks.shows c j step.0 r step.1 is)
+        | mark.Local ↦ λ its. local_fits s media w (variables_at s media w c j) (came_at s media w c j) (record { caller = c; step = j }) step.0 r its (came_answers s (steps_of s) (brought_to s media w) w.pool c j (steps_within)) step.2 (locals c j step.0 r step.1 is)
+      ] refl
+
+  -- ---- entries
+
+  outcome_within : (cause : By) (o : Outcome) → EndSays w.slots cause o → IsOutcomeWithin o
+  outcome_within cause (Outcome.NoSlot n) says = omega (arith, slice_get_within w.slots n _ says.stands, h.slots)
+  outcome_within cause _ says = tt
+
+  named_within : (k p : ℕ) (e : Entry) (who : Who) → entry_in w k p ≡ Some e → who_of e ≡ Some who → FitsWho s who
+  named_within k p e who is names =
+      let kept = (calls_by_places s w calls).only k p e who is names in step_known who kept.0 kept.1
+
+  entry_within : BoxesAccounted made (opening_at s) w.codecs w.slots → (k p : ℕ) (e : Entry) → entry_in w k p ≡ Some e → IsEntryWithin s e
+  entry_within boxes k p (Entry.Take who unit) is = (named_within k p (Entry.Take who unit) who is refl, omega (arith, h.takes k p who unit is, (entry_known k p _ is).1))
+  entry_within boxes k p (Entry.Done epoch item moment o) is = (h.own k p (Entry.Done epoch item moment o) is, outcome_within _ o (boxes.ends k p epoch item moment o is).says)
+  entry_within boxes k p (Entry.Reclaim moment) is = h.own k p (Entry.Reclaim moment) is
+  entry_within boxes k p (Entry.Start epoch item) is = tt
+  entry_within boxes k p Entry.Turn is = tt
+  entry_within boxes k p e is = named_within k p e _ is refl
+
+  -- ---- the registry
+
+  by_fits : (b : By) → IsOfCodec (length w.codecs) b → IsByUpTo most_order b → FitsBy s b
+  by_fits (By.Caller who) there up = absurd there
+  by_fits (By.Codec k p) there up = (codec_known k there, omega (arith, up))
+
+  -- ---- the pool
+
+  pool_by_fits : (b : By) → IsMadeBy (lends_in s w) (made_steps w) b → FitsBy s b
+  pool_by_fits (By.Codec k place) some = let there = lent_there (opening_at s k) (at k w.codecs) place some in entry_known k place there.0 there.1
+  pool_by_fits (By.Caller who) step = let there = get_some (at who.caller w.callers) who.step step in step_known who there.0 there.1
 
 -- ---- the lines of a run
 
@@ -274,24 +265,24 @@ lines_fit laws stays always numbered s media made run sound within legal fits =
     let callers = each_lines (FitsLine s) caller_lines 0 run.callers (λ c t is. (
     let there = slice_get_within run.callers c t is in
     let rs = at_item (λ (x : CallerTrace). x.results) run.callers c t is in (
-      (omega (arith, there, legal.callers), omega (arith, there, legal.callers, h.few.callers)),
+      (omega (arith, there, legal.callers), omega (arith, there, legal.callers, h.few_callers)),
       each_lines (FitsLine s) result_lines 0 t.results
-          (λ j r got. ((omega (arith, slice_get_within t.results j r got, h.results c, ap length rs), results_fit laws s media made w sound within h fits.calls fits.looks fits.locals c j r (rw rs got)), tt)),
+          (λ j r got. (let here : result_in w c j ≡ Some r = rw rs got in ((omega (arith, (step_known laws s media made w sound within h fits.calls (record { caller = c; step = j }) r here).1), results_fit laws s media made w sound within h fits.calls fits.looks fits.locals c j r here), tt))),
     ))) in
     let codecs = each_lines (FitsLine s) codec_lines 0 run.codecs (λ k t is. (
     let there = slice_get_within run.codecs k t is in
     let own = legal_at s.codecs run.codecs legal.codecs k t is in
     let some = saturations s sound k own.0 own.1 in
     let es = at_item (λ (x : CodecTrace). x.entries) run.codecs k t is in (
-      ((omega (arith, there, count), omega (arith, there, count, h.few.codecs)), rw own.2.opening (omega (arith, some.1))),
+      ((omega (arith, there, count), omega (arith, there, count, h.few_codecs)), rw own.2.opening (omega (arith, some.1))),
       trace_lines_fit laws s own.0 t always own.2 some (omega (arith, h.entries k, ap length es))
-          (λ p e got. (let here : entry_in w k p ≡ Some e = rw es got in (entry_within s media made w h fits.calls fits.boxes k p e here, holds_own laws e (h.own k p e here)))),
+          (λ p e got. (let here : entry_in w k p ≡ Some e = rw es got in (entry_within laws s media made w sound within h fits.calls fits.boxes k p e here, holds_own laws e (h.own k p e here)))),
     ))) in
     let pool = each_lines (FitsLine s) pool_lines 0 run.pool (λ n e is. (
     let own = entry_made (steps_of s) (brought_to s media w) (lends_in s w) (made_steps w) w.pool fits.accounted n e is in
-    ((omega (arith, h.pool, slice_get_within run.pool n e is), pool_by_fits s media made w e.by h own, ops_fit numbered [] run.pool (omega (arith, h.pool)) refl fits.accounted.legal n e is), tt))) in
+    ((omega (arith, h.pool, slice_get_within run.pool n e is), pool_by_fits laws s media made w sound within h fits.calls e.by own, ops_fit numbered [] run.pool (omega (arith, h.pool)) refl fits.accounted.legal n e is), tt))) in
     let slots = each_lines (FitsLine s) slot_lines 0 run.slots (λ i e is. (let op = h.ops i e is in
-    ((omega (arith, h.slots, slice_get_within run.slots i e is), by_fits s media made w e.by h (cause_there made (opening_at s) w.codecs w.slots i e fits.boxes is) op.0, op_fits (length made) e.op within.boxes op.1), tt))) in (
+    ((omega (arith, h.slots, slice_get_within run.slots i e is), by_fits laws s media made w sound within h fits.calls e.by (cause_there made (opening_at s) w.codecs w.slots i e fits.boxes is) op.0, op_fits (length made) e.op within.boxes op.1), tt))) in (
       tt,
       all_append (FitsLine s) (lines_from caller_lines 0 run.callers) _ callers
           (all_append (FitsLine s) (lines_from codec_lines 0 run.codecs) _ codecs
