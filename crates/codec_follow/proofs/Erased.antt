@@ -1,30 +1,34 @@
--- A codec with blanks for its outputs takes the same steps.
-use Rattle.std.proofs.Common.{ℕ, zero, suc, ◌≡◌, ◌&&◌, not, Bool, true, false, eqb, cond, List, [], ◌∷◌, ◌++◌, length, map, filter, count_by, Option, Some, None, refl, ap, sym, ◌∙◌}
-use Rattle.std.specs.Prelude.{max, unwrap_or}
+-- A codec with blanks for its outputs takes the same steps, and shows the same where they are filled.
+use Rattle.std.proofs.Common.{ℕ, ◌≡◌, ◌+◌, ◌≤◌, ◌&&◌, Bool, true, false, eqb, cond, List, [], ◌∷◌, ◌++◌, append_assoc, length, length-append, map, take, filter, count_by, Option, Some, None, is_some, refl, ap, sym, ◌∙◌, arith}
+use Rattle.std.specs.Prelude.{unwrap_or, option_map}
 use Rattle.std.proofs.lemmas.List.Sums.{length-filter}
-use Rattle.std.proofs.lemmas.List.{map-append, length-map, length-replicate}
-use Rattle.std.proofs.lemmas.Option.{cond_some}
-use Rattle.wc_base.specs.{declared.error.DomError.DomError, declared.who.Who.Who, Options.some_same}
-use Rattle.wc_config.specs.Configs.{is_supported}
+use Rattle.std.proofs.lemmas.List.{append-nil, map-append, length-map, length-replicate}
+use Rattle.std.proofs.lemmas.Option.{option_and_then_some}
+use Rattle.std.proofs.Math.Seq.{take-append_seam}
+use Rattle.wc_base.specs.{declared.error.DomError.DomError}
+use Rattle.wc_config.specs.{declared.config.AudioDecoderConfig.AudioDecoderConfig, declared.kind.Kind.Kind}
 use Rattle.codec_definitions.specs.declared.unit.Unit as media
-use Rattle.codec_model.specs.declared.entry.{CodecState.TheVariants.Closed, Removal.Removal, Call.Call, Entry.Entry, Work.Work, WorkKind.WorkKind}
-use Rattle.codec_model.specs.declared.entry.{Message.Message, Running.Running, Task.Task, Ended.Ended, Outcome.Outcome}
-use Rattle.codec_model.specs.Control.{Control, is_dequeue, is_desaturate, with_desaturate, with_output, is_taken, after_message, process_queue, at_next_place, run_task, done_running, with_ran, after_end, after_reset, after_close, carried, active_after}
-use Rattle.codec_model.specs.Replay.{State, Given, step, ended_of, ended_refused, answer_to, removed, after_call, call_error, call_step, removal_error, remove_or_refuse, removal_step, entry_of, removal_entry, with_control}
-use Rattle.codec_follow.specs.Follow.{blank, blanks, ran_as, refused_as, ended_as, follow_done, follow_step}
-use Rattle.codec_model.specs.StepLaws.{given_past, task_ran, EachStep, start_made, turn_made, by_steps}
-use Rattle.codec_follow.proofs.Answered.{ran_ends, refused_ends, IsAnswered, Sound}
+use Rattle.codec_model.specs.declared.entry.{Call.Call, Entry.Entry, Work.Work, WorkKind.WorkKind}
+use Rattle.codec_model.specs.declared.entry.{Event.Event, Message.Message, Running.Running, Shown.Shown, Task.Task, Ended.Ended, Outcome.Outcome}
+use Rattle.codec_model.specs.Control.{Control, is_dequeue, is_desaturate, with_desaturate, is_taken, after_message, process_queue, at_next_place, run_task, done_running, after_reset, after_close, carried, active_after}
+use Rattle.codec_model.specs.Replay.{State, Given, opening_state, replay, replay_from, step, ended_of, after_call, with_control}
+use Rattle.codec_model.specs.Shown.{shows, outputs_from, turn_shows, shown_from, shown_at, each_shown_from, word_at, units_in, units_shown, outputs_of}
+use Rattle.codec_follow.specs.Follow.{blanks, ended_as, follow_step, follow_from, filled, filled_at, each_filled_from, each_filled}
+use Rattle.codec_follow.specs.Laws.{LegalFollows, LegalFills, UnitsInOrder}
+use Rattle.history_laws.specs.CountLaws.{length-carried, outputs_tagged}
+use Rattle.codec_model.specs.StepLaws.{task_ran, EachStep, by_steps}
+use Rattle.codec_follow.proofs.Answered.{some_is, IsAnswered, Sound, step_sound, opened}
 
-abbrev pub erased_task : Task → Task
+abbrev erased_task : Task → Task
 erased_task (Task.Output units) = Task.Output (blanks (length units))
 erased_task (Task.Flushed promise units) = Task.Flushed promise (blanks (length units))
 erased_task t = t
 
 -- blanks carry no config, so none is active
-abbrev pub erased : Control → Control
+abbrev erased : Control → Control
 erased c = record c { tasks = map erased_task c.tasks; active = None }
 
-abbrev pub erased_state : State → State
+abbrev erased_state : State → State
 erased_state s = record s { control = erased s.control }
 
 abbrev pub erased_end : Ended → Ended
@@ -32,19 +36,17 @@ erased_end (Ended.Ran units) = Ended.Ran (blanks (length units))
 erased_end e = e
 
 -- blanks stay as they are, and leave no config active
-pub blanks_plain : (n : ℕ) → (carried None (blanks n) ≡ blanks n) × (active_after None (blanks n) ≡ None)
-blanks_plain zero = (refl, refl)
-blanks_plain (suc n) = (refl, refl)
+blanks_plain : (n : ℕ) → (carried None (blanks n) ≡ blanks n) × (active_after None (blanks n) ≡ None)
+blanks_plain n = grind arith
 
 either_way : {X Y : Type 0} (f : X → Y) (b : Bool) (x y : X) → cond b (f x) (f y) ≡ f (cond b x y)
-either_way f true x y = refl
-either_way f false x y = refl
+either_way f b x y = grind arith
 
 pushed : (ts : List Task) (t : Task) → map erased_task (ts ++ t ∷ []) ≡ map erased_task ts ++ erased_task t ∷ []
 pushed ts t = map-append erased_task ts (t ∷ [])
 
 pushed_if : (b : Bool) (t : Task) (ts : List Task) → cond b (map erased_task ts ++ erased_task t ∷ []) (map erased_task ts) ≡ map erased_task (cond b (ts ++ t ∷ []) ts)
-pushed_if b t ts = rw (← pushed ts t) (either_way (map erased_task) b (ts ++ t ∷ []) ts)
+pushed_if b t ts = grind (arith, pushed)
 
 -- what a test of tasks that reads no units finds
 found_erased : (p : Task → Bool) → ((t : Task) → p (erased_task t) ≡ p t) → (ts : List Task) → filter p (map erased_task ts) ≡ map erased_task (filter p ts)
@@ -54,8 +56,7 @@ found_erased p same (t ∷ ts) = rw (same t, found_erased p same ts) (either_way
 -- ---- calls and removals
 
 taken_erased : (w : Work) (at : ℕ) (ms : List Message) (c : Control) → record (after_message (record { place = at; work = w }) (erased c)) { messages = ms } ≡ erased (record (after_message (record { place = at; work = w }) c) { messages = ms })
-taken_erased (Work.Coded chunk) at ms c = ap (λ (ts : List Task). record (after_message (record { place = at; work = Work.Coded chunk }) (erased c)) { messages = ms; tasks = ts }) (pushed_if (not c.scheduled) Task.Dequeue c.tasks)
-taken_erased _ at ms c = refl
+taken_erased w at ms c = grind (arith, pushed)
 
 process_erased : (ms : List Message) (c : Control) → process_queue ms (erased c) ≡ erased (process_queue ms c)
 process_erased [] c = refl
@@ -69,38 +70,18 @@ call_erased None x c = process_erased (c.messages ++ _ ∷ []) _
 call_erased (Some e) x c = refl
 
 reset_erased : (c : Control) → after_reset (erased c) ≡ erased (after_reset c)
-reset_erased c =
-    let kept = found_erased is_dequeue (elim [ Task.Dequeue ↦ refl | _ ↦ refl ]) c.tasks in
-    ap (λ (ts : List Task). record (after_reset (erased c)) { tasks = ts }) (rw kept (pushed_if _ Task.Dequeue (filter is_dequeue c.tasks)))
+reset_erased c = grind (arith, pushed, found_erased is_dequeue)
 
 close_erased : (c : Control) → after_close (erased c) ≡ erased (after_close c)
-close_erased c = ap (λ (d : Control). record d { phase = Closed }) (reset_erased c)
-
-removal_erased : (o : Option DomError) (r : Removal) (s : State) → remove_or_refuse o r (erased_state s) ≡ erased_state (remove_or_refuse o r s)
-removal_erased None Removal.Reset s = ap (λ (d : Control). removed d (erased_state s)) (reset_erased (at_next_place s.control))
-removal_erased None Removal.Close s = ap (λ (d : Control). removed d (erased_state s)) (close_erased (at_next_place s.control))
-removal_erased (Some e) r s = refl
+close_erased c = grind (arith, reset_erased)
 
 -- ---- turns
 
 task_erased : (t : Task) (c : Control) → run_task (erased_task t) (erased c) ≡ erased (run_task t c)
-task_erased Task.Unblock c = ap (λ (ts : List Task). record (erased c) { blocked = false; tasks = ts }) (sym (pushed c.tasks Task.Process))
-task_erased Task.Process c = process_erased c.messages c
-task_erased Task.Desaturate c = process_erased c.messages (record c { saturated = false })
-task_erased (Task.Output units) c = rw ((blanks_plain (length units)).1, length-replicate (length units) blank) refl
-task_erased (Task.Flushed promise units) c = rw ((blanks_plain (length units)).1, length-replicate (length units) blank) refl
-task_erased Task.Dequeue c = refl
-task_erased (Task.Close x) c = close_erased c
-
-past_erased : (t : Task) (g : Given) → given_past (erased_task t) g ≡ given_past t g
-past_erased (Task.Close x) g = refl
-past_erased t g = refl
+task_erased t c = grind (arith, pushed, process_erased c.messages c, process_erased c.messages (record c { saturated = false }), close_erased, blanks_plain, length-replicate)
 
 turn_erased : (t : Task) (ts : List Task) (s : State) → s.control.tasks ≡ t ∷ ts → follow_step Entry.Turn (erased_state s) ≡ Some (erased_state (task_ran t ts s))
-turn_erased t ts s first =
-    turn_made (erased_task t) (map erased_task ts) (erased_state s) (ap (map erased_task) first)
-    ∙ (ap (λ (c : Control). Some (record s { control = c; given = given_past (erased_task t) s.given })) (task_erased t (record (at_next_place s.control) { tasks = ts }))
-    ∙ ap (λ (g : Given). Some (record (erased_state (task_ran t ts s)) { given = g })) (past_erased t s.given))
+turn_erased t ts s first = rw first (grind (arith, task_erased t (record (at_next_place s.control) { tasks = ts })))
 
 -- ---- the ends of items
 
@@ -110,70 +91,106 @@ desaturated_erased b ts =
     let count : count_by is_desaturate (map erased_task ts) ≡ count_by is_desaturate ts = sym (length-filter is_desaturate (map erased_task ts)) ∙ (ap length one ∙ (length-map (filter is_desaturate ts) erased_task ∙ length-filter is_desaturate ts)) in
     rw count (pushed_if (b && eqb (count_by is_desaturate ts) 0) Task.Desaturate ts)
 
-output_erased : (units : List media.Unit) (ts : List Task) → with_output (blanks (length units)) (map erased_task ts) ≡ map erased_task (with_output units ts)
-output_erased units ts = rw (length-replicate (length units) blank, ← pushed ts (Task.Output units)) (either_way (map erased_task) (eqb (length units) 0) ts (ts ++ Task.Output units ∷ []))
-
-ran_erased : (k : WorkKind) (r : Running) (units : List media.Unit) (b : Bool) (ts : List Task) → with_ran (record r { kind = k }) (blanks (length units)) b (map erased_task ts) ≡ map erased_task (with_ran (record r { kind = k }) units b ts)
-ran_erased WorkKind.Coded r units b ts = ap (with_output (blanks (length units))) (desaturated_erased b ts) ∙ output_erased units (with_desaturate b ts)
-ran_erased _ r units b ts = sym (pushed ts _)
-
-settled_erased : (r : Running) (e : Ended) (c : Control) → after_end r (erased_end e) (erased c) ≡ erased (after_end r e c)
-settled_erased r (Ended.Ran units) c = ap (λ (ts : List Task). record (erased c) { tasks = ts }) (ran_erased r.kind r units c.saturated c.tasks)
-settled_erased r _ c = ap (λ (ts : List Task). record (erased c) { halted = true; tasks = ts }) (sym (pushed c.tasks _))
-
 done_erased : (r : Running) (e : Ended) (moment : ℕ) (c : Control) → done_running r (erased_end e) moment (erased c) ≡ erased (done_running r e moment c)
-done_erased r e moment c =
-    let idle = record c { running = None } in
-    let now = record idle { progress = Some (max moment (unwrap_or c.progress moment)) } in
-    rw (settled_erased r e now) (either_way erased (eqb r.epoch c.epoch) (after_end r e now) idle)
-
--- a configure item gives nothing
-blank_answer : (k : WorkKind) (g : Given) (us : List media.Unit) → answer_to k g ≡ Some us → ran_as k (length us) ≡ Some (Ended.Ran (blanks (length us)))
-blank_answer WorkKind.Configure g us h = rw (← (cond_some (is_supported g.config) [] us h).1) refl
-blank_answer _ g us h = refl
-
-refused_erased : (k : WorkKind) (g : Given) (e : Ended) → IsAnswered k g → ended_refused (answer_to k g) ≡ Some e → refused_as k ≡ Some (erased_end e)
-refused_erased WorkKind.Flush g e answered h = let never = sym answered ∙ (refused_ends (answer_to WorkKind.Flush g) e h).0 in absurd cc
-refused_erased k g e answered h = ap (λ (x : Ended). Some (erased_end x)) (refused_ends (answer_to k g) e h).1
-
-no_slot_erased : (k : WorkKind) (g : Given) (n : ℕ) (e : Ended) → ended_of k g (Outcome.NoSlot n) ≡ Some e → ended_as k g (Outcome.NoSlot n) ≡ Some (erased_end e)
-no_slot_erased WorkKind.Configure g n e h = let is = cond_some (is_supported g.config) (Ended.NoSlot n) e h in rw is.0 (ap (λ (x : Ended). Some (erased_end x)) is.1)
-no_slot_erased _ g n e h = absurd cc
+done_erased r e moment c = grind (arith, pushed, desaturated_erased, length-replicate)
 
 -- an end that a codec's definition gives is one that follows, with blanks
 ends_erased : (k : WorkKind) (g : Given) (o : Outcome) (e : Ended) → IsAnswered k g → ended_of k g o ≡ Some e → ended_as k g o ≡ Some (erased_end e)
-ends_erased k g (Outcome.Ran n) e answered h = let ran = ran_ends n (answer_to k g) e h in rw ran.count (blank_answer k g ran.units ran.answered ∙ ap (λ (x : Ended). Some (erased_end x)) ran.is)
-ends_erased k g Outcome.Refused e answered h = refused_erased k g e answered h
-ends_erased k g (Outcome.NoSlot n) e answered h = no_slot_erased k g n e h
-ends_erased k g Outcome.NoMemory e answered h = ap (λ (x : Ended). Some (erased_end x)) (some_same Ended.NoMemory e h)
-
-done_followed : (q : Option Running) (r : Running) (e : Ended) (epoch item moment : ℕ) (o : Outcome) (s : State) → q ≡ Some r → (eqb r.epoch epoch && eqb r.number item) ≡ true → ended_as r.kind s.running_given o ≡ Some (erased_end e) → follow_done q epoch item moment o (erased_state s) ≡ Some (erased_state (with_control (done_running r e moment (at_next_place s.control)) s))
-done_followed q r e epoch item moment o s running own ends = rw (running, own, ends) (ap (λ (d : Control). Some (with_control d s)) (done_erased r e moment (at_next_place s.control)))
+ends_erased k g o e answered h = grind (arith, answered, h)
 
 -- ---- entries
 
-call_followed : (who : Who) (x : Call) (s : State) → follow_step (entry_of who x) (erased_state s) ≡ Some (erased_state (call_step x s))
-call_followed who Call.Flush s = ap (λ (d : Control). Some (with_control d s)) (call_erased (call_error Call.Flush s.control) Call.Flush s.control)
-call_followed who x s = ap (λ (d : Control). Some (with_control d s)) (call_erased (call_error x s.control) x s.control)
-
-removal_followed : (who : Who) (r : Removal) (s : State) → follow_step (removal_entry who r) (erased_state s) ≡ Some (erased_state (removal_step r s))
-removal_followed who Removal.Reset s = ap (λ (u : State). Some u) (removal_erased (removal_error s.control) Removal.Reset s)
-removal_followed who Removal.Close s = ap (λ (u : State). Some u) (removal_erased (removal_error s.control) Removal.Close s)
-
 each_erased : EachStep (λ e s t. Sound s → follow_step e (erased_state s) ≡ Some (erased_state t))
 each_erased = record {
-  call = λ who x s fine. call_followed who x s;
+  call = λ who x s fine. grind (arith, call_erased);
   gone = λ who s fine. refl;
   kept = λ who s off fine. rw off refl;
   cloned = λ who x s on fine. rw on (ap (λ (d : Control). Some (with_control d s)) (process_erased (s.control.messages ++ _ ∷ []) _));
-  remove = λ who r s fine. removal_followed who r s;
+  remove = λ who r s fine. grind (arith, reset_erased, close_erased);
   take = λ who unit s may fine. rw may refl;
-  start = λ i is epoch item s first may fine. start_made i is epoch item (erased_state s) first may;
-  done = λ r e epoch item moment o s running own is fine. done_followed s.control.running r e epoch item moment o s running own (ends_erased r.kind s.running_given o e (rw running at fine.flushed) is);
+  start = λ i is epoch item s first may fine. grind (arith, first, may);
+  done = λ r e epoch item moment o s running own is fine. grind (arith, done_erased r e moment (at_next_place s.control), running, own, ends_erased, is, fine.flushed);
   turn = λ x ts s first fine. turn_erased x ts s first;
-  reclaim = λ moment s may fine. rw may (ap (λ (d : Control). Some (removed d s)) (close_erased (at_next_place s.control)));
+  reclaim = λ moment s may fine. grind (arith, may, close_erased);
 }
 
 -- One step of a legal history, from blanks.
-pub step_erased : (e : Entry) (s t : State) → step e s ≡ Some t → Sound s → follow_step e (erased_state s) ≡ Some (erased_state t)
+step_erased : (e : Entry) (s t : State) → step e s ≡ Some t → Sound s → follow_step e (erased_state s) ≡ Some (erased_state t)
 step_erased = by_steps (λ e s t. Sound s → follow_step e (erased_state s) ≡ Some (erased_state t)) each_erased
+
+-- ---- what is shown with blanks, and filled
+
+-- events with blanks for their outputs, filled with the units of these events, are these
+abbrev Fills : Kind → List Event → List Event → Type 0
+Fills k xs ys = (us : List media.Unit) → filled k xs (units_in ys ++ us) ≡ (ys, us)
+
+fill_own : (k : Kind) (xs : List Event) → Fills k xs xs
+fill_own k [] us = refl
+fill_own k (Event.Output number unit ∷ xs) us = ap (λ (p : List Event × List media.Unit). (Event.Output number unit ∷ p.0, p.1)) (fill_own k xs us)
+fill_own k (x ∷ xs) us = ap (λ (p : List Event × List media.Unit). (x ∷ p.0, p.1)) (fill_own k xs us)
+
+fill_outputs : (k : Kind) (n : ℕ) (vs : List media.Unit) (xs : List Event) → Fills k (outputs_from n (blanks (length vs)) ++ xs) (outputs_from n vs ++ xs)
+fill_outputs k n [] xs us = fill_own k xs us
+fill_outputs k n (v ∷ vs) xs us = ap (λ (p : List Event × List media.Unit). (Event.Output n v ∷ p.0, p.1)) (fill_outputs k (n + 1) vs xs us)
+
+-- outputs as they are shown
+fill_carried : (k : Kind) (n : ℕ) (active : Option AudioDecoderConfig) (vs : List media.Unit) (xs : List Event) → Fills k (outputs_from n (carried None (blanks (length vs))) ++ xs) (outputs_from n (carried active vs) ++ xs)
+fill_carried k n active vs xs us = grind (arith, blanks_plain, length-carried, fill_outputs k n (carried active vs) xs us)
+
+fill_turn : (k : Kind) (ts : List Task) (c : Control) → Fills k (turn_shows (map erased_task ts) (erased c)) (turn_shows ts c)
+fill_turn k (Task.Output units ∷ ts) c us = simp append-nil at (fill_carried k c.shown c.active units [] us)
+fill_turn k (Task.Flushed promise units ∷ ts) c us = fill_carried k c.shown c.active units (Event.Resolve promise ∷ []) us
+fill_turn k ts c us = fill_own k (turn_shows ts c) us
+
+fill_shows : (k : Kind) (e : Entry) (s : State) → Fills k (shows e (erased_state s)) (shows e s)
+fill_shows k e s us = grind (arith, fill_turn, fill_own)
+
+word_erased : (e : Entry) (s : State) → word_at e (erased_state s) ≡ word_at e s
+word_erased e s = grind arith
+
+-- a legal history follows, and shows the same, with its own outputs
+tells : (k : Kind) (h : List Entry) (s t : State) → Sound s → replay_from h s ≡ Some t → (is_some (follow_from h (erased_state s)) ≡ true) × (each_shown_from h s ≡ each_filled_from k h (erased_state s) (outputs_of (shown_from h s)))
+tells k [] s t fine legal = (refl, refl)
+tells k (e ∷ es) s t fine legal = option_and_then_some (replay_from es) (step e s) t legal (λ u is more.
+    let rest = tells k es u t (step_sound e s u is fine) more in
+    let units = outputs_of (shown_from es u) in
+    let next = step_erased e s u is fine in
+    (rw next rest.0, rw (is, outputs_tagged s.control.place (shows e s) (shown_from es u), next, word_erased e s, fill_shows k e s units) (ap (λ (xs : List Shown). shown_at e s ∷ xs) rest.1)))
+
+pub legal_follows : LegalFollows
+legal_follows o h legal = let k = some_is (replay o h) legal in (tells o.kind h (opening_state o) k.0 (opened o) k.1).0
+
+pub legal_fills : LegalFills
+legal_fills o h legal = let k = some_is (replay o h) legal in (tells o.kind h (opening_state o) k.0 (opened o) k.1).1
+
+-- the units come in order
+fill_order : (k : Kind) → (xs : List Event) (us : List media.Unit) → length (units_in (filled k xs us).0) ≤ length us → us ≡ units_in (filled k xs us).0 ++ (filled k xs us).1
+fill_order k [] us few = refl
+fill_order k (Event.Output number unit ∷ xs) [] few = absurd (omega (arith, few))
+fill_order k (Event.Output number unit ∷ xs) (u ∷ us) few = ap (λ (l : List media.Unit). u ∷ l) (fill_order k xs us (omega (arith, few)))
+fill_order k (x ∷ xs) us few = fill_order k xs us few
+
+abbrev Begins : List media.Unit → List media.Unit → Type 0
+Begins us front = (rest : List media.Unit) × (us ≡ front ++ rest)
+
+order_all : (k : Kind) → (h : List Entry) (s : State) (us : List media.Unit) → length (units_shown (each_filled_from k h s us)) ≤ length us → Begins us (units_shown (each_filled_from k h s us))
+order_all k [] s us few = (us, refl)
+order_all k (e ∷ es) s us few = elim (follow_step e s) as (λ o. length (units_shown (next o)) ≤ length us → Begins us (units_shown (next o))) [
+  | None ↦ λ none. (us, refl)
+  | Some t ↦ λ some.
+      let front = units_in (filled k (shows e s) us).0 in
+      let left = (filled k (shows e s) us).1 in
+      let more = units_shown (each_filled_from k es t left) in
+      let here = fill_order k (shows e s) us (omega (arith, some, length-append front more)) in
+      let later = order_all k es t left (omega (arith, some, length-append front more, length-append front left, ap length here)) in
+      (later.0, here ∙ (ap (λ (l : List media.Unit). front ++ l) later.1 ∙ sym (append_assoc front more later.0)))
+] few
+  where
+    next : Option State → List Shown
+    next o = unwrap_or (option_map (λ t. filled_at k e s us ∷ each_filled_from k es t (filled k (shows e s) us).1) o) []
+
+pub units_in_order : UnitsInOrder
+units_in_order o h us few =
+    let front = units_shown (each_filled o h us) in
+    let begins = order_all o.kind h (opening_state o) us few in
+    sym (ap (λ (l : List media.Unit). take (length front) l) begins.1 ∙ take-append_seam front begins.0)

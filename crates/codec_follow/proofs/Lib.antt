@@ -1,5 +1,4 @@
 pub mod Erased
-pub mod Filling
 pub mod Answered
 pub mod Moves
 pub mod OutputLaws

@@ -1,13 +1,11 @@
 -- The outputs of a history are of its codec's kind, where its configs are.
-use Rattle.std.proofs.Common.{ℕ, ◌≡◌, ◌<◌, ◌&&◌, ◌||◌, not, true, List, [], ◌∷◌, length, Option, Some, None, is_some, refl, subst, ◌%◌, ◌^◌, take, drop, bytes_eq, codes}
-use Rattle.std.proofs.lemmas.Bool.{and_parts, leb-true}
-use Rattle.std.specs.Prelude.{◌==◌, nat_le}
+use Rattle.std.proofs.Common.{ℕ, ◌≡◌, ◌<◌, true, List, [], ◌∷◌, length, Option, Some, None, is_some, arith}
+use Rattle.std.proofs.lemmas.Bool.{leb-true}
 use Rattle.std.specs.List.{AllByRecursion}
-use Rattle.wc_base.specs.{declared.media.Samples.Samples, Options.cond_is, Options.some_same}
+use Rattle.wc_base.specs.{declared.media.Samples.Samples}
 use Rattle.wc_config.specs.declared.{codec.Role.Role, config.AudioDecoderConfig.AudioDecoderConfig, config.AudioEncoderConfig.AudioEncoderConfig}
 use Rattle.wc_config.specs.declared.{config.Config.Config, stream_info.StreamInfo.StreamInfo, kind.Kind.Kind}
-use Rattle.wc_config.specs.Streams.{big_endian, stream_info_of, is_usable}
-use Rattle.wc_config.specs.Configs.{is_valid, is_blank, audio_codec, video_codec, id_with, coder_id_of}
+use Rattle.wc_config.specs.Configs.{is_valid, audio_codec, id_with, coder_id_of}
 use Rattle.wc_chunk.specs.declared.chunk.Chunk.{Chunk}
 use Rattle.codec_definitions.specs.declared.unit.Unit as media
 use Rattle.codec_definitions.specs.declared.unit.Unit.TheVariants as unit
@@ -34,22 +32,14 @@ IsOwn k c = IsConfigOf k c
 
 -- a stream that is described has a rate
 described_rate : (d : Option (List ℕ)) (info : StreamInfo) → described d ≡ Some info → 0 < info.rate
-described_rate None info h = absurd cc
-described_rate (Some d) info h =
-    let said = stream_info_of (take 34 (drop 8 d)) in
-    let front = nat_le 42 (length d) && bytes_eq (take 4 d) (codes "fLaC") && (big_endian (take 4 (drop 4 d)) % 2 ^ 31 == 34) in
-    let read = cond_is (front && is_usable said) (Some said) info h in
-    let usable = and_parts front (is_usable said) read.0 in
-    subst (λ (i : StreamInfo). 0 < i.rate) (some_same said info read.1) (leb-true 1 said.rate (and_parts (nat_le 1 said.rate) (nat_le 4 said.depth) usable.1).0)
+described_rate d info h = grind (arith, leb-true, h)
 
 -- what a codec gives is of its kind, where its config is
 sound_own : (k : Kind) (c : AudioDecoderConfig) (samples : Samples) → IsOwn k (Config.AudioDecoder c) → (0 < c.rate → 0 < samples.shape.rate) → IsOutputOf k (unit.Sound samples)
-sound_own Kind.AudioDecoder c samples own rate = rate own
-sound_own _ c samples own rate = absurd own
+sound_own k c samples own rate = grind (arith, own, rate)
 
 chunk_own : (k : Kind) (c : AudioEncoderConfig) (chunk : Chunk) → IsOwn k (Config.AudioEncoder c) → IsOutputOf k (unit.Coded chunk None)
-chunk_own Kind.AudioEncoder c chunk own = tt
-chunk_own _ c chunk own = absurd own
+chunk_own k c chunk own = grind (arith, own)
 
 each_own : (k : Kind) → EachAnswer (λ c before x us. IsOwn k c → AllOf k us)
 each_own k = record {
@@ -64,22 +54,18 @@ each_own k = record {
 -- ---- a config that is valid and of the codec's kind
 
 own_config : (k : Kind) (c : Config) → IsConfigOf k c → is_valid c ≡ true → IsOwn k c
-own_config Kind.AudioDecoder (Config.AudioDecoder c) own h =
-    let front = and_parts (not (is_blank c.codec) && nat_le 1 c.rate) (nat_le 1 c.channels) h in
-    leb-true 1 c.rate (and_parts (not (is_blank c.codec)) (nat_le 1 c.rate) front.0).1
-own_config _ _ own h = own
+own_config k c own h = grind (arith, leb-true, own, h)
 
 -- ---- the config that an encoded output carries
 
 known_text : (text : List ℕ) → is_some (id_with Role.Encode (audio_codec text)) ≡ true → is_codec_string text ≡ true
-known_text text h = elim (audio_codec text) as (λ o. is_some (id_with Role.Encode o) ≡ true → (is_some o || is_some (video_codec text)) ≡ true) [ None ↦ λ e. absurd cc | Some id ↦ λ e. refl ] h
+known_text text h = grind (arith, h)
 
 plain_description : (c : AudioEncoderConfig) → IsPlainDescription (description_for c)
 plain_description c = described_where IsPlainDescription c tt (elim (stream_description c) as (λ l. length l ≡ 42 → IsPlainDescription (Some l)) [ [] ↦ λ long. absurd cc | b ∷ bs ↦ λ long. tt ] (length-stream_description c))
 
 plain_label : (c : Config) (d : AudioDecoderConfig) → is_some (coder_id_of c) ≡ true → decoder_config c ≡ Some d → IsPlainConfig (Some d)
-plain_label (Config.AudioEncoder c) d coder is = subst (λ (x : AudioDecoderConfig). IsPlainConfig (Some x)) (some_same _ d is) (known_text c.codec coder, plain_description c)
-plain_label _ d coder is = absurd cc
+plain_label c d coder is = grind (arith, known_text, plain_description, coder, is)
 
 relabelled : (k : Kind) (c : Chunk) (old new : Option AudioDecoderConfig) → MayCarry (IsOwn k) new → IsOutputOf k (unit.Coded c old) → IsOutputOf k (unit.Coded c new)
 relabelled Kind.AudioEncoder c old None may h = tt

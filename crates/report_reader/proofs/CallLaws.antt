@@ -1,15 +1,14 @@
 -- Calls and takes: what their lines tell, and what the steps of their callers give.
 use Rattle.std.proofs.Common.{arith, ◌≡◌, ℕ, Bool, true, false, List, [], ◌∷◌, Option, Some, None, refl, sym, ap, subst, ◌∙◌}
 use Rattle.std.specs.Prelude.{option_map, option_and_then}
-use Rattle.std.specs.Option.{is_none}
 use Rattle.std.specs.List.{slice_get}
-use Rattle.wc_base.specs.declared.{error.DomError.DomError, media.Samples.Samples, media.SoundShape.SoundShape, who.Who.Who}
+use Rattle.wc_base.specs.declared.{error.DomError.DomError, media.Samples.Samples, who.Who.Who}
 use Rattle.wc_config.specs.declared.kind.Kind.{Kind}
 use Rattle.wc_chunk.specs.declared.chunk.Chunk.{Chunk}
 use Rattle.wc_pool.specs.declared.reference.MediaRef.{MediaRef}
 use Rattle.wc_audio.specs.Sound.{Sound}
 use Rattle.codec_definitions.specs.declared.unit.Unit as media
-use Rattle.codec_model.specs.declared.entry.{Pair.Pair, HeldSound.HeldSound, Handed.Handed, Entry.Entry, Shown.Shown}
+use Rattle.codec_model.specs.declared.entry.{Pair.Pair, Handed.Handed, Entry.Entry, Shown.Shown}
 use Rattle.codec_model.specs.{Replay.State, Held.adds_held}
 use Rattle.codec_model.specs.Shown.{refusal, handed_error, shown_at}
 use Rattle.codec_follow.specs.Follow.{filled, filled_at}
@@ -18,7 +17,7 @@ use Rattle.script_types.specs.declared.{script.ScriptData.ScriptData, steps.Vari
 use Rattle.report_text.specs.declared.{result.StepResult.StepResult, line.CallWord.CallWord, line.EntryLine.EntryLine}
 use Rattle.media_variables.specs.Variables.{sound_at, handed_by, handed_of}
 use Rattle.media_accounts.specs.Samples.{samples_before}
-use Rattle.trace_text.specs.Follow.{Recorded, steps_of, chunk_for, is_gone}
+use Rattle.trace_text.specs.Follow.{Recorded, steps_of, chunk_for}
 use Rattle.trace_text.specs.Fits.{HasArguments, result_in, variables_at}
 use Rattle.trace_text.specs.Report.{refusal_in, entry_line_of}
 use Rattle.report_reader.specs.declared.known.Known.{Known}
@@ -88,8 +87,7 @@ encode_again kind known steps k place who error t us _ e is = absurd cc
 
 encode_there : (kind : Kind) (known : Known) (steps : List Step) (k place : ℕ) (who : Who) (error : Option DomError) (t : State) (us : List media.Unit) (o : Option Step) (e : Entry) → option_and_then (encode_of known steps k place who error) o ≡ Some e
     → option_and_then (encode_of known steps k place who (refusal_in (filled_at kind e t us).events)) o ≡ Some e
-encode_there kind known steps k place who error t us None e is = absurd cc
-encode_there kind known steps k place who error t us (Some s) e is = encode_again kind known steps k place who error t us s e is
+encode_there kind known steps k place who error t us o e is = grind (arith, encode_again, is)
 
 -- ---- the entry that its line tells
 
@@ -115,26 +113,6 @@ pub record AreFound (script : ScriptData) (files : List (List Chunk)) (w : Recor
 abbrev pub HasPair : Known → ℕ → ℕ → Entry → Type 0
 HasPair known k place e = (p : Pair) → adds_held e ≡ p ∷ [] → pair_for k place known.pool ≡ Some p
 
--- data of which a clone is made is not detached
-record IsCloned (shape : SoundShape) (held : Option MediaRef) (sound : HeldSound) : Type 0 where
-  reference : MediaRef
-  is : held ≡ Some reference
-  samples : (let own : Samples = record { shape = shape; bytes = reference.bytes } in own) ≡ sound.samples
-
-cloned_held : (number : ℕ) (accepts : Bool) (shape : SoundShape) (held : Option MediaRef) (sound : HeldSound) → handed_by number accepts shape held ≡ Handed.Cloned sound → IsCloned shape held sound
-cloned_held number true shape (Some r) sound e = record { reference = r; is = refl; samples = cc }
-cloned_held number false shape (Some r) sound e = absurd cc
-cloned_held number _ shape None sound e = absurd cc
-
--- data is gone where it holds no reference
-gone_is : (number : ℕ) (accepts : Bool) (shape : SoundShape) (held : Option MediaRef) → is_none held ≡ is_gone (handed_by number accepts shape held)
-gone_is number accepts shape held = grind arith
-
--- what became of data that is there is told by whether it is detached, by the exception, and by the clone where there is one
-handed_back : (h : Handed) (gone : Bool) (a : Option Samples) (b : Option Pair) → gone ≡ is_gone h → ((x : HeldSound) → h ≡ Handed.Cloned x → a ≡ Some x.samples) → ((x : HeldSound) → h ≡ Handed.Cloned x → b ≡ Some x.pair)
-    → handed_for true gone (handed_error h) (clone_of a b) ≡ Some h
-handed_back h gone a b is samples pair = grind (arith, is, samples, pair)
-
 -- the step that an entry names was made
 abbrev pub IsMadeBy : Recorded → Who → Type 0
 IsMadeBy w who = (r : StepResult) × (result_in w who.caller who.step ≡ Some r)
@@ -143,17 +121,12 @@ encode_made : (script : ScriptData) (files : List (List Chunk)) (w : Recorded) (
     → HasPair known k place (Entry.Encode who (handed_of number accepts x)) → IsMadeBy w who → sound_at (variables_at script files w who.caller who.step) content.step ≡ Some x
     → encode_of known (steps_of script who.caller) k place who (handed_error (handed_of number accepts x)) (Step.Media (MediaStep.Encode on content)) ≡ Some (Entry.Encode who (handed_of number accepts x))
 encode_made script files w known k place who on content number accepts x found pair made there =
-    let steps = steps_of script who.caller in
-    let h : Handed = handed_of number accepts x in
-    let a = samples_before steps (taken_in known who.caller) who.step content.step in
-    let b = pair_for k place known.pool in
-    let samples : (y : HeldSound) → h ≡ Handed.Cloned y → a ≡ Some y.samples =
-    λ y is. let held = cloned_held number accepts x.shape x.held y is in
-    found.sounds who.caller who.step content.step x held.reference there held.is ∙ ap {B = Option Samples} Some held.samples in
-    let detached = is_detached steps (results_of known.callers who.caller) who.step content.step in
     let stand = found.standing who.caller who.step content.step made.0 x made.1 there in
-    let again = handed_back h detached a b (stand.gone ∙ gone_is number accepts x.shape x.held) samples (λ y is. pair y.pair (ap (λ (z : Handed). adds_held (Entry.Encode who z)) is)) in
-    ap (λ (q : Bool). option_map (λ z. Entry.Encode who z) (handed_for q detached (handed_error h) (clone_of a b))) stand.given ∙ ap (option_map (λ z. Entry.Encode who z)) again
+    let encoded : Option MediaRef → Entry = λ o. Entry.Encode who (handed_by number accepts x.shape o) in
+    elim x.held as (λ o. x.held ≡ o → HasPair known k place (encoded o) → encode_of known (steps_of script who.caller) k place who (handed_error (handed_by number accepts x.shape o)) (Step.Media (MediaStep.Encode on content)) ≡ Some (encoded o)) [
+      | None ↦ λ is own. grind (arith, stand.given, stand.gone, is)
+      | Some r ↦ λ is own. grind (arith, stand.given, stand.gone, is, found.sounds who.caller who.step content.step x r there is, own (record { resource = r.resource; reference = number }))
+    ] refl pair
 
 -- ---- the entry that a step makes
 

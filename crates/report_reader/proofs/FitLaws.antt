@@ -2,7 +2,6 @@
 use Rattle.std.proofs.Common.{◌≡◌, ℕ, zero, suc, ◌+◌, ◌^◌, ◌<◌, ◌≤◌, true, List, [], ◌∷◌, ◌++◌, length, drop, Option, Some, None, sym, ap, subst, ◌∙◌, arith}
 use Rattle.std.specs.Prelude.{IfSome, flat_map, unwrap_or, option_map, option_to_list}
 use Rattle.std.specs.List.{AllByRecursion, zip}
-use Rattle.std.proofs.lemmas.Bool.{and_parts, leb-true}
 use Rattle.wc_chunk.specs.declared.chunk.Chunk.{Chunk}
 use Rattle.wc_pool.specs.declared.entry.PoolEntry.{PoolEntry}
 use Rattle.codec_definitions.specs.declared.unit.Unit as media
@@ -13,7 +12,7 @@ use Rattle.codec_model.specs.Shown.{shows, event_units, units_in, units_shown}
 use Rattle.codec_follow.specs.Follow.{follow_step, filled, filled_at, each_filled_from}
 use Rattle.history_laws.specs.OutputLaws.{all_append}
 use Rattle.script_types.specs.{declared.script.ScriptData.ScriptData, SoundLaws.parts_of}
-use Rattle.script_types.specs.Sound.{is_sound, most_codecs, most_callers}
+use Rattle.script_types.specs.Sound.{is_sound}
 use Rattle.report_text.specs.declared.{result.StepResult.StepResult, line.EntryLine.EntryLine, line.Line.Line}
 use Rattle.trace_text.specs.declared.run.{CallerTrace.CallerTrace, CodecTrace.CodecTrace, Run.Run}
 use Rattle.trace_text.specs.Report.{entry_line_of, event_lines, lines_from, result_lines, caller_lines, entry_lines, codec_lines, pool_lines, slot_lines, end_lines, lines_of, report_of}
@@ -25,9 +24,9 @@ use Rattle.report_reader.specs.Told.{IsPlainTrace, IsWithoutLoss, IsTold}
 use Rattle.codec_follow.specs.Outputs.{IsOutputOf, empty_output}
 use Rattle.report_reader.specs.Fits.{FitsEvent, FitsShown, FitsTrace}
 use Rattle.report_reader.proofs.KindLaws.{AreFit, FitsUnit, unit_fits, empty_fits}
-use Rattle.report_reader.proofs.{RunLaws.all_left, RunLaws.all_right, FormLaws.form_parts, FormLaws.forms_again, PassLaws.run_passes}
+use Rattle.report_reader.proofs.RunLaws.{all_left, all_right, run_told, callers_count, codecs_count, run_callers, run_codecs}
+use Rattle.report_reader.proofs.{FormLaws.form_parts, FormLaws.forms_once, FormLaws.text_read, FormLaws.run_passes}
 use Rattle.report_reader.proofs.{NameLaws.sound_names, TraceLaws.by_next, CallLaws.line_with, CallLaws.entry_told}
-use Rattle.report_reader.proofs.ToldLaws.{run_told, callers_count, codecs_count, run_callers, run_codecs}
 
 -- ---- lists
 
@@ -35,8 +34,7 @@ pub all_more : {X : Type 0} (P : X → Type 0) (xs : List X) (x : X) → AllByRe
 all_more P xs x all own = all_append P xs (x ∷ []) all (own, tt)
 
 all_behind : {X : Type 0} (P : X → Type 0) (xs : List X) → AllByRecursion P xs → AllByRecursion P (drop 1 xs)
-all_behind P [] all = tt
-all_behind P (x ∷ xs) all = all.1
+all_behind P xs all = grind (arith, all)
 
 few_behind : {X : Type 0} (xs : List X) → length (drop 1 xs) ≤ length xs
 few_behind xs = grind arith
@@ -57,7 +55,7 @@ record IsLeft (script : ScriptData) (ls left : List Line) : Type 0 where
   few : length left ≤ length ls
 
 further : (script : ScriptData) (ls mid left : List Line) → IsLeft script ls mid → IsLeft script mid left → IsLeft script ls left
-further script ls mid left first then = record { fits = then.fits; few = omega (arith, first.few, then.few) }
+further script ls mid left first then = grind (arith, first, then)
 
 -- what is read in front of some lines, each once, and the lines behind
 record AreInFront (script : ScriptData) (X : Type 0) (P : X → Type 0) (ls : List Line) (xs : List X) (left : List Line) : Type 0 where
@@ -65,20 +63,11 @@ record AreInFront (script : ScriptData) (X : Type 0) (P : X → Type 0) (ls : Li
   count : length xs ≤ length ls
   behind : IsLeft script ls left
 
-none_in_front : (script : ScriptData) (X : Type 0) (P : X → Type 0) (ls : List Line) → AreFit script ls → AreInFront script X P ls [] ls
-none_in_front script X P ls fits = record { items = tt; count = omega arith; behind = record { fits = fits; few = omega arith } }
-
-one_passed : (script : ScriptData) (X : Type 0) (P : X → Type 0) (l : Line) (ls left : List Line) (xs : List X) → AreInFront script X P ls xs left → AreInFront script X P (l ∷ ls) xs left
-one_passed script X P l ls left xs r = record { items = r.items; count = omega (arith, r.count); behind = record { fits = r.behind.fits; few = omega (arith, r.behind.few) } }
-
-one_in_front : (script : ScriptData) (X : Type 0) (P : X → Type 0) (l : Line) (ls left : List Line) (x : X) (xs : List X) → P x → AreInFront script X P ls xs left → AreInFront script X P (l ∷ ls) (x ∷ xs) left
-one_in_front script X P l ls left x xs own r = record { items = (own, r.items); count = omega (arith, r.count); behind = record { fits = r.behind.fits; few = omega (arith, r.behind.few) } }
-
 -- behind the line that begins them
 begun : (script : ScriptData) (X : Type 0) (P : X → Type 0) (items : List Line → List X) (behind : List Line → List Line) → ((ls : List Line) → AreFit script ls → AreInFront script X P ls (items ls) (behind ls))
     → (ls : List Line) → AreFit script ls → AreInFront script X P ls (items (drop 1 ls)) (behind (drop 1 ls))
 begun script X P items behind each [] fits = each [] fits
-begun script X P items behind each (l ∷ ls) fits = one_passed script X P l ls (behind ls) (items ls) (each ls fits.1)
+begun script X P items behind each (l ∷ ls) fits = grind (arith, each ls, fits)
 
 -- the lines of items that fit, numbered up to a bound
 lines_fit : {X : Type 0} (script : ScriptData) (P : X → Type 0) (bound : ℕ) (lines : ℕ → X → List Line) → ((n : ℕ) (x : X) → n < bound → P x → AreFit script (lines n x))
@@ -98,8 +87,8 @@ reads_fit fits script s bs (l ∷ ls) end left r =
 -- ---- callers
 
 results_front : (script : ScriptData) (ls : List Line) → AreFit script ls → AreInFront script StepResult (FitsResult script) ls (results_in ls) (behind_results ls)
-results_front script (Line.Result step found ∷ ls) fits = one_in_front script _ _ _ ls _ found _ fits.0.1 (results_front script ls fits.1)
-results_front script ls fits = none_in_front script _ _ ls fits
+results_front script [] fits = grind (arith, fits)
+results_front script (l ∷ ls) fits = grind (arith, results_front script ls, fits)
 
 record FitsCaller (script : ScriptData) (c : CallerTrace) : Type 0 where
   few : length c.results < 2 ^ 64
@@ -131,9 +120,7 @@ AreFilled k P xs us = AllByRecursion P (units_in (filled k xs us).0) × AllByRec
 
 fill_fits : (k : Kind) (P : media.Unit → Type 0) → P (empty_output k) → (xs : List Event) (us : List media.Unit) → AllByRecursion P us → AreFilled k P xs us
 fill_fits k P none [] us all = (tt, all)
-fill_fits k P none (Event.Output n u ∷ xs) [] all = let more = fill_fits k P none xs [] all in ((none, more.0), more.1)
-fill_fits k P none (Event.Output n u ∷ xs) (v ∷ us) all = let more = fill_fits k P none xs us all.1 in ((all.0, more.0), more.1)
-fill_fits k P none (x ∷ xs) us all = fill_fits k P none xs us all
+fill_fits k P none (x ∷ xs) us all = grind (arith, fill_fits k P none xs, none, all)
 
 each_fits : (k : Kind) (P : media.Unit → Type 0) → P (empty_output k) → (es : List Entry) (s : State) (us : List media.Unit) → AllByRecursion P us → AllByRecursion P (units_shown (each_filled_from k es s us))
 each_fits k P none [] s us all = tt
@@ -150,9 +137,8 @@ each_fits k P none (e ∷ es) s us all = by (follow_step e s) (λ t vs more. eac
 -- ---- entries
 
 entries_front : (script : ScriptData) (ls : List Line) → AreFit script ls → AreInFront script EntryLine (FitsEntryLine script) ls (entry_lines_in ls) (behind_entries ls)
-entries_front script (Line.Entry place t ∷ ls) fits = one_in_front script _ _ _ ls _ t _ fits.0.1 (entries_front script ls fits.1)
-entries_front script (Line.Event s ∷ ls) fits = one_passed script _ _ _ ls _ _ (entries_front script ls fits.1)
-entries_front script ls fits = none_in_front script _ _ ls fits
+entries_front script [] fits = grind (arith, fits)
+entries_front script (l ∷ ls) fits = grind (arith, entries_front script ls, fits)
 
 -- whatever the entry shows, its line fits
 abbrev FitsEntry : ScriptData → Entry → Type 0
@@ -185,12 +171,9 @@ events_fit script k (e ∷ es) fits units =
 
 entry_lines_fit : (script : ScriptData) (k : Kind) (n : ℕ) (es : List Entry) (xs : List Shown) → n + length es < 2 ^ 64 → AllByRecursion (FitsEntry script) es → AllByRecursion FitsShown xs → AllByRecursion (FitsUnit script k) (units_shown xs)
     → AreFit script (lines_from entry_lines n (zip es xs))
-entry_lines_fit script k n (e ∷ es) (x ∷ xs) few fits promises units = (
-  (omega arith, fits.0 x),
-  all_append (FitsLine script) (flat_map event_lines x.events) (lines_from entry_lines (n + 1) (zip es xs))
-      (events_fit script k x.events promises.0 (all_left (FitsUnit script k) (units_in x.events) (units_shown xs) units))
-      (entry_lines_fit script k (n + 1) es xs (omega arith) fits.1 promises.1 (all_right (FitsUnit script k) (units_in x.events) (units_shown xs) units)),
-)
+entry_lines_fit script k n (e ∷ es) (x ∷ xs) few fits promises units =
+    let here = units_in x.events in
+    grind (arith, all_append (FitsLine script), events_fit script k x.events, all_left (FitsUnit script k) here (units_shown xs), all_right (FitsUnit script k) here (units_shown xs), entry_lines_fit script k (n + 1) es xs, few, fits.0 x, fits.1, promises, units)
 entry_lines_fit script k n _ _ few fits promises units = tt
 
 -- ---- codecs
@@ -235,31 +218,26 @@ abbrev FitsReference : ScriptData → PoolEntry → Type 0
 FitsReference script e = FitsBy script e.by × FitsPoolOp e.op
 
 references_front : (script : ScriptData) (ls : List Line) → AreFit script ls → AreInFront script PoolEntry (FitsReference script) ls (pool_in ls) (behind_pool ls)
-references_front script (Line.Reference place e ∷ ls) fits = one_in_front script _ _ _ ls _ e _ (fits.0.1, fits.0.2) (references_front script ls fits.1)
-references_front script ls fits = none_in_front script _ _ ls fits
+references_front script [] fits = grind (arith, fits)
+references_front script (l ∷ ls) fits = grind (arith, references_front script ls, fits)
 
 abbrev FitsSlot : ScriptData → SlotEntry → Type 0
 FitsSlot script e = FitsBy script e.by × FitsOp e.op
 
 -- whatever lines stand behind, none of them is kept here
 slots_front : (script : ScriptData) (ls : List Line) → AreFit script ls → AreInFront script SlotEntry (FitsSlot script) ls (slots_in ls) []
-slots_front script (Line.Slot place e ∷ ls) fits = one_in_front script _ _ _ ls [] e _ (fits.0.1, fits.0.2) (slots_front script ls fits.1)
-slots_front script _ fits = record { items = tt; count = omega arith; behind = record { fits = tt; few = omega arith } }
+slots_front script [] fits = grind (arith, fits)
+slots_front script (l ∷ ls) fits = grind (arith, slots_front script ls, fits)
 
 held_fits : (script : ScriptData) (ls : List Line) → AreFit script ls → held_in ls < 2 ^ 64
-held_fits script (Line.Slot place e ∷ ls) fits = held_fits script ls fits.1
-held_fits script (Line.Held n ∷ ls) fits = fits.0
-held_fits script _ fits = omega arith
+held_fits script [] fits = grind (arith, fits)
+held_fits script (l ∷ ls) fits = grind (arith, held_fits script ls, fits)
 
 -- ---- the run
 
 -- a script with nothing at fault has few callers and codecs
 few_in : (script : ScriptData) → is_sound script ≡ true → (length script.callers < 2 ^ 32) × (length script.codecs < 2 ^ 32)
-few_in script sound =
-    let few = and_parts _ _ (parts_of script sound).few in
-    let codecs : length script.codecs ≤ most_codecs = leb-true _ _ few.0 in
-    let callers : length script.callers ≤ most_callers = leb-true _ _ (and_parts _ _ few.1).0 in
-    (omega arith, omega arith)
+few_in script sound = grind (arith, (parts_of script sound).few)
 
 run_fits : (script : ScriptData) (files : List (List Chunk)) (ls : List Line) → is_sound script ≡ true → length ls < 2 ^ 64 → AreFit script ls → AllByRecursion FitsTrace (run_of script files ls).codecs → IsWithoutLoss script (run_of script files ls)
 unfolding run_of
@@ -299,6 +277,6 @@ forms_told fits again script files bs ls run sound forms few is promises text =
     let own : AllByRecursion FitsTrace (run_of script files ls).codecs = subst (λ (x : Run). AllByRecursion FitsTrace x.codecs) is promises in
     let whole = run_fits script files ls sound few (reads_fit fits script Section.Start bs ls Section.Ended [] forms) own in
     let passes = run_passes script (run_of script files ls) (run_callers script files ls) (run_codecs script files ls) in
-    let same = forms_again again script (sound_names script sound) bs ls (lines_of (run_of script files ls)) forms passes whole.fits (text ∙ ap (report_of script) is) in
+    let same = forms_once script bs ls (lines_of (run_of script files ls)) forms (rw (text ∙ ap (report_of script) is) (text_read again script (sound_names script sound) Section.Start (lines_of (run_of script files ls)) Section.Ended passes whole.fits)) in
     let told : IsTold script files (run_of script files ls) = record { told = run_told script files ls same whole.plain; whole = whole } in
     subst (λ (x : Run). IsTold script files x) (sym is) told

@@ -1,15 +1,17 @@
--- The lines of a text that has its forms are read, and no others.
-use Rattle.std.proofs.Common.{◌≡◌, ℕ, ◌<◌, List, [], ◌∷◌, ◌++◌, length, Option, Some, None, refl, sym, ap, subst, ◌∙◌, arith, append-nil}
-use Rattle.std.specs.List.{AllByRecursion, flat_map}
-use Rattle.std.proofs.lemmas.List.{length-append}
-use Rattle.wc_chunk.specs.declared.chunk.Chunk.{Chunk}
+-- The lines of a text that has its forms are read, and no others; those of a run stand in their places.
+use Rattle.std.proofs.Common.{◌≡◌, ℕ, suc, ◌+◌, ◌<◌, ◌≤◌, List, [], ◌∷◌, ◌++◌, length, Option, Some, None, refl, sym, ap, subst, ◌∙◌, arith, eq-eqb}
+use Rattle.std.specs.Prelude.{flat_map, IfSome}
+use Rattle.std.specs.List.{AllByRecursion, zip}
+use Rattle.std.proofs.lemmas.{List.length-append, Bool.lt-ltb}
+use Rattle.codec_definitions.specs.declared.unit.Unit.TheVariants as unit
+use Rattle.codec_model.specs.declared.entry.{Opening.Opening, Event.Event}
 use Rattle.script_types.specs.declared.script.ScriptData.{ScriptData}
-use Rattle.trace_text.specs.{declared.run.Run.Run, Report.report_of, Report.lines_of}
+use Rattle.trace_text.specs.declared.run.{CallerTrace.CallerTrace, CodecTrace.CodecTrace, Run.Run}
+use Rattle.trace_text.specs.Report.{event_lines, lines_from, result_lines, caller_lines, entry_lines, codec_lines, pool_lines, slot_lines, end_lines, lines_of}
 use Rattle.report_lines.specs.{Words.◌>>=◌, Reading.line_at, Fits.AreNames, Fits.FitsLine, Laws.LineAgain, Laws.LineSound}
-use Rattle.report_text.specs.{declared.line.EventLine.EventLine, declared.line.Line.Line, Text.line_text, Text.numbered_line}
-use Rattle.report_reader.specs.{declared.forms.Section.Section, Read.run_of, Told.IsTold}
-use Rattle.report_reader.specs.Form.{next_in, form_at, Reads, AreForms, Passes}
-use Rattle.report_reader.proofs.RunLaws.{run_again}
+use Rattle.report_text.specs.{declared.line.Line.Line, Text.line_text}
+use Rattle.report_reader.specs.declared.forms.Section.{Section}
+use Rattle.report_reader.specs.Form.{next_part, next, next_in, form_at, Reads, AreForms, Passes, next_number}
 
 -- ---- the loop
 
@@ -18,39 +20,24 @@ pub reads_more : (script : ScriptData) (s : Section) (bs : List ℕ) (ls : List 
 reads_more script s bs [] mid left l rest end r e = (rest, end, rw (r.0, r.1) e, (refl, refl))
 reads_more script s bs (x ∷ ls) mid left l rest end r e = (r.0, r.1, r.2, reads_more script r.1 r.0 ls mid left l rest end r.3 e)
 
-abbrev pub some : {A : Type 0} → A → Option A
+abbrev some : {A : Type 0} → A → Option A
 some x = Some x
 
-pub some_is : {A : Type 0} (x y : A) → some x ≡ some y → x ≡ y
+some_is : {A : Type 0} (x y : A) → some x ≡ some y → x ≡ y
 some_is x y e = cc
-
-pub bind_some : {A B : Type 0} (o : Option A) (f : A → Option B) (y : B) → (o >>= f) ≡ Some y → (x : A) × (o ≡ Some x) × (f x ≡ Some y)
-bind_some None f y e = absurd cc
-bind_some (Some x) f y e = (x, refl, e)
 
 -- ---- a line is not empty
 
-numbered_long : (n : ℕ) (text : List ℕ) → 0 < length (numbered_line n text)
-numbered_long n text = simp length-append (omega arith)
+line_long : (script : ScriptData) (l : Line) → 0 < length (line_text script l)
+line_long script l = grind (arith, length-append)
 
-event_long : (script : ScriptData) (e : EventLine) → 0 < length (line_text script (Line.Event e))
-event_long script (EventLine.Sound samples) = omega arith
-event_long script _ = omega arith
-
-pub line_long : (script : ScriptData) (l : Line) → 0 < length (line_text script l)
-line_long script (Line.Event s) = event_long script s
-line_long script _ = search (numbered_long, arith)
+parts : (o : Option (Line × List ℕ)) (behind : Line → Option Section) (l : Line) (rest : List ℕ) (end : Section)
+    → (o >>= λ x. behind x.0 >>= λ t. (let made : Line × List ℕ × Section = (x.0, x.1, t) in Some made)) ≡ Some (l, rest, end) → (o ≡ Some (l, rest)) × (behind l ≡ Some end)
+parts o behind l rest end e = grind (arith, e)
 
 pub form_parts : (script : ScriptData) (s : Section) (bs : List ℕ) (l : Line) (rest : List ℕ) (end : Section) → form_at script s bs ≡ Some (l, rest, end) → (line_at script bs ≡ Some (l, rest)) × (next_in script s l ≡ Some end)
 unfolding form_at
-form_parts script s bs l rest end e =
-    let x = bind_some (line_at script bs) (λ x. next_in script s x.0 >>= λ behind. Some (x.0, x.1, behind)) (l, rest, end) e in
-    let y = bind_some (next_in script s x.0.0) (λ behind. Some (x.0.0, x.0.1, behind)) (l, rest, end) x.2 in
-    let made : Line × List ℕ × Section = (x.0.0, x.0.1, y.0) in
-    let same : made ≡ (l, rest, end) = some_is made (l, rest, end) y.2 in (
-      x.1 ∙ ap (λ (z : Line × List ℕ × Section). some (z.0, z.1)) same,
-      ap (λ (z : Line × List ℕ × Section). next_in script s z.0) (sym same) ∙ y.1 ∙ ap (λ (z : Line × List ℕ × Section). some z.2) same,
-    )
+form_parts script s bs l rest end e = parts (line_at script bs) (next_in script s) l rest end e
 
 pub form_shorter : LineSound → (script : ScriptData) (s : Section) (bs : List ℕ) (l : Line) (rest : List ℕ) (end : Section) → form_at script s bs ≡ Some (l, rest, end) → length rest < length bs
 form_shorter sound script s bs l rest end e =
@@ -58,92 +45,123 @@ form_shorter sound script s bs l rest end e =
 
 -- ---- a text of lines in their forms
 
-pub form_again : LineAgain → (script : ScriptData) → AreNames script → (s : Section) (l : Line) (rest : List ℕ) (mid : Section) → FitsLine script l → next_in script s l ≡ Some mid
+form_again : LineAgain → (script : ScriptData) → AreNames script → (s : Section) (l : Line) (rest : List ℕ) (mid : Section) → FitsLine script l → next_in script s l ≡ Some mid
     → form_at script s (line_text script l ++ rest) ≡ Some (l, rest, mid)
 unfolding form_at
 form_again again script names s l rest mid fits e = rw (again script l rest names fits, e) refl
 
-nothing_after_none : {A B : Type 0} (o : Option A) → ◌≡◌ {A = Option B} (o >>= λ x. None) None
-nothing_after_none o = grind arith
-
 pub none_at_end : (script : ScriptData) (bs : List ℕ) → form_at script Section.Ended bs ≡ None
 unfolding form_at
-none_at_end script bs = nothing_after_none (line_at script bs)
+none_at_end script bs = grind arith
 
-pub not_some : {A : Type 0} {x : A} → ◌≡◌ {A = Option A} None (Some x) → ⊥
+not_some : {A : Type 0} {x : A} → ◌≡◌ {A = Option A} None (Some x) → ⊥
 not_some e = cc
+
+-- reading stops at one place
+abbrev IsSame : List Line → List Line → Section → Section → List ℕ → List ℕ → Type 0
+IsSame ls ms at there left behind = (ls ≡ ms) × (at ≡ there) × (left ≡ behind)
+
+pub stops_once : (script : ScriptData) (s : Section) (bs : List ℕ) (ls ms : List Line) (at there : Section) (left behind : List ℕ)
+    → Reads script s bs ls at left → form_at script at left ≡ None → Reads script s bs ms there behind → form_at script there behind ≡ None → IsSame ls ms at there left behind
+stops_once script s bs [] [] at there left behind r none q stop = (refl, sym r.0 ∙ q.0, sym r.1 ∙ q.1)
+stops_once script s bs [] (y ∷ ms) at there left behind r none q stop = absurd (not_some (sym (rw (r.0, r.1) none) ∙ q.2))
+stops_once script s bs (x ∷ ls) [] at there left behind r none q stop = absurd (not_some (sym (rw (q.0, q.1) stop) ∙ r.2))
+stops_once script s bs (x ∷ ls) (y ∷ ms) at there left behind r none q stop =
+    let read : Line × List ℕ × Section = (x, r.0, r.1) in
+    let same = some_is read (y, q.0, q.1) (sym r.2 ∙ q.2) in
+    let moved : Reads script q.1 q.0 ls at left = subst (λ (z : Line × List ℕ × Section). Reads script z.2 z.1 ls at left) same r.3 in
+    let more = stops_once script q.1 q.0 ls ms at there left behind moved none q.3 stop in
+    (cc (ap (λ (z : Line × List ℕ × Section). z.0) same, more.0), more.1, more.2)
+
+pub forms_once : (script : ScriptData) (bs : List ℕ) (ls ms : List Line) → AreForms script bs ls → AreForms script bs ms → ls ≡ ms
+forms_once script bs ls ms r q = (stops_once script Section.Start bs ls ms Section.Ended Section.Ended [] [] r (none_at_end script []) q (none_at_end script [])).0
 
 abbrev pub text_of : ScriptData → List Line → List ℕ
 text_of script ls = flat_map (line_text script) ls
 
--- what was read is a front of the lines
-pub record IsFront (script : ScriptData) (ls all : List Line) (at : Section) (left : List ℕ) : Type 0 where
-  pub more : List Line
-  pub parts : all ≡ ls ++ more
-  pub text : left ≡ text_of script more
-  pub passes : Passes script at more Section.Ended
-  pub fits : AllByRecursion (FitsLine script) more
+-- lines that fit and stand in their places are read of their text
+pub text_read : LineAgain → (script : ScriptData) → AreNames script → (s : Section) (ls : List Line) (end : Section) → Passes script s ls end → AllByRecursion (FitsLine script) ls → Reads script s (text_of script ls) ls end []
+text_read again script names s [] end passes fits = (passes, refl)
+text_read again script names s (l ∷ ls) end passes fits =
+    (text_of script ls, passes.0, form_again again script names s l (text_of script ls) passes.0 fits.0 passes.1, text_read again script names passes.0 ls end passes.2 fits.1)
 
-pub reads_front : LineAgain → (script : ScriptData) → AreNames script → (s : Section) (bs : List ℕ) (ls : List Line) (at : Section) (left : List ℕ) (all : List Line)
-    → Reads script s bs ls at left → Passes script s all Section.Ended → AllByRecursion (FitsLine script) all → bs ≡ text_of script all → IsFront script ls all at left
-reads_front again script names s bs [] at left all r passes fits e = record {
-  more = all;
-  parts = refl;
-  text = sym r.1 ∙ e;
-  passes = subst (λ (x : Section). Passes script x all Section.Ended) r.0 passes;
-  fits = fits;
-}
-reads_front again script names s bs (l ∷ ls) at left [] r passes fits e =
-    absurd (not_some (sym (ap (λ (x : Section). form_at script x bs) passes ∙ none_at_end script bs) ∙ r.2))
-reads_front again script names s bs (l ∷ ls) at left (x ∷ all) r passes fits e =
-    let here : form_at script s bs ≡ Some (x, text_of script all, passes.0) = ap (form_at script s) e ∙ form_again again script names s x (text_of script all) passes.0 fits.0 passes.1 in
-    let read : Line × List ℕ × Section = (l, r.0, r.1) in
-    let same = some_is read (x, text_of script all, passes.0) (sym r.2 ∙ here) in
-    let rest_is : r.0 ≡ text_of script all = ap (λ (z : Line × List ℕ × Section). z.1) same in
-    let mid_is : passes.0 ≡ r.1 = sym (ap (λ (z : Line × List ℕ × Section). z.2) same) in
-    let line_is : x ≡ l = sym (ap (λ (z : Line × List ℕ × Section). z.0) same) in
-    let on = reads_front again script names r.1 r.0 ls at left all r.3 (subst (λ (m : Section). Passes script m all Section.Ended) mid_is passes.2) fits.1 rest_is in
-    record { more = on.more; parts = cc (on.parts, line_is); text = on.text; passes = on.passes; fits = on.fits }
+-- ---- numbers rise by one at most
 
-none_more : (script : ScriptData) (ls : List Line) → Passes script Section.Ended ls Section.Ended → ls ≡ []
-none_more script [] passes = refl
-none_more script (l ∷ ls) passes = absurd (not_some passes.1)
+rises : (callers codecs : ℕ) (s : Section) (l : Line) → IfSome (next callers codecs s l) (λ t. next_number t ≤ next_number s + 1)
+rises callers codecs s l = grind arith
 
--- the lines that are read of a report's text are the report's
-pub forms_again : LineAgain → (script : ScriptData) → AreNames script → (bs : List ℕ) (ls all : List Line) → AreForms script bs ls
-    → Passes script Section.Start all Section.Ended → AllByRecursion (FitsLine script) all → bs ≡ text_of script all → ls ≡ all
-forms_again again script names bs ls all r passes fits e =
-    let f = reads_front again script names Section.Start bs ls Section.Ended [] all r passes fits e in
-    sym (f.parts ∙ ap (λ (x : List Line). ls ++ x) (none_more script f.more f.passes) ∙ append-nil ls)
+pub form_numbered : (script : ScriptData) (s : Section) (bs : List ℕ) (l : Line) (rest : List ℕ) (t : Section) → form_at script s bs ≡ Some (l, rest, t) → next_number t ≤ next_number s + 1
+form_numbered script s bs l rest t e = subst (λ (o : Option Section). IfSome o (λ x. next_number x ≤ next_number s + 1)) (form_parts script s bs l rest t e).1 (rises (length script.callers) (length script.codecs) s l)
 
-stuck : LineAgain → (script : ScriptData) → AreNames script → (at : Section) (left : List ℕ) (more : List Line) → (at ≡ Section.Ended → left ≡ [] → ⊥) → form_at script at left ≡ None
-    → left ≡ text_of script more → Passes script at more Section.Ended → AllByRecursion (FitsLine script) more → ⊥
-stuck again script names at left [] not_all none e passes fits = not_all passes e
-stuck again script names at left (l ∷ more) not_all none e passes fits =
-    not_some (sym none ∙ ap (form_at script at) e ∙ form_again again script names at l (text_of script more) passes.0 fits.0 passes.1)
+-- ---- lines that stand one behind another
 
--- a text of lines in their forms has no place without a form
-pub never_stuck : LineAgain → (script : ScriptData) → AreNames script → (bs : List ℕ) (before : List Line) (at : Section) (left : List ℕ) (all : List Line) → Reads script Section.Start bs before at left
-    → (at ≡ Section.Ended → left ≡ [] → ⊥) → form_at script at left ≡ None → Passes script Section.Start all Section.Ended → AllByRecursion (FitsLine script) all → bs ≡ text_of script all → ⊥
-never_stuck again script names bs before at left all r not_all none passes fits e =
-    let f = reads_front again script names Section.Start bs before at left all r passes fits e in
-    stuck again script names at left f.more not_all none f.text f.passes f.fits
+passes_on : (script : ScriptData) (s : Section) (a b : List Line) (mid end : Section) → Passes script s a mid → Passes script mid b end → Passes script s (a ++ b) end
+passes_on script s [] b mid end p q = subst (λ (x : Section). Passes script x b end) (sym p) q
+passes_on script s (l ∷ a) b mid end p q = (p.0, p.1, passes_on script p.0 a b mid end p.2 q)
 
--- ---- the text determines the run
+-- these lines lead to a section of this kind
+abbrev Leads : ScriptData → Section → List Line → (Section → Type 0) → Type 0
+Leads script s ls P = (t : Section) × P t × Passes script s ls t
 
-text_tells : LineAgain → (script : ScriptData) → AreNames script → (a b : List Line) → AllByRecursion (FitsLine script) a → AllByRecursion (FitsLine script) b → text_of script a ≡ text_of script b → a ≡ b
-text_tells again script names [] [] fa fb e = refl
-text_tells again script names [] (y ∷ b) fa fb e = absurd (omega (arith, line_long script y, ap (λ (x : List ℕ). length x) e, length-append (line_text script y) (text_of script b)))
-text_tells again script names (x ∷ a) [] fa fb e = absurd (omega (arith, line_long script x, ap (λ (t : List ℕ). length t) e, length-append (line_text script x) (text_of script a)))
-text_tells again script names (x ∷ a) (y ∷ b) fa fb e =
-    let left : Line × List ℕ = (x, text_of script a) in
-    let same = some_is left (y, text_of script b) (sym (again script x (text_of script a) names fa.0) ∙ ap (line_at script) e ∙ again script y (text_of script b) names fb.0) in
-    let line_is : x ≡ y = ap (λ (z : Line × List ℕ). z.0) same in
-    let rest_is : a ≡ b = text_tells again script names a b fa.1 fb.1 (ap (λ (z : Line × List ℕ). z.1) same) in
-    cc (line_is, rest_is)
+leads_on : (script : ScriptData) (s : Section) (a b : List Line) (P Q : Section → Type 0) → Leads script s a P → ((t : Section) → P t → Leads script t b Q) → Leads script s (a ++ b) Q
+leads_on script s a b P Q first then = let more = then first.0 first.1 in (more.0, more.1, passes_on script s a b first.0 more.0 first.2 more.2)
 
--- Of one script, two runs that are told are equal where their reports are.
-pub report_tells : LineAgain → (script : ScriptData) (media_of : List (List Chunk)) (a b : Run) → AreNames script → IsTold script media_of a → IsTold script media_of b → report_of script a ≡ report_of script b → a ≡ b
-report_tells again script media_of a b names ta tb e =
-    let same = text_tells again script names (lines_of a) (lines_of b) ta.whole.fits tb.whole.fits e in
-    sym (run_again script media_of a ta.told ta.whole.plain) ∙ ap (run_of script media_of) same ∙ run_again script media_of b tb.told tb.whole.plain
+-- so do those of items, one by one, up to a bound
+items_lead : {X : Type 0} (script : ScriptData) (at : ℕ → Section → Type 0) (lines : ℕ → X → List Line) (bound : ℕ) → ((n : ℕ) (x : X) (s : Section) → n < bound → at n s → Leads script s (lines n x) (at (n + 1)))
+    → (n : ℕ) (xs : List X) (s : Section) → n + length xs ≤ bound → at n s → Leads script s (lines_from lines n xs) (at (n + length xs))
+items_lead script at lines bound each n [] s le here = let same : n ≡ n + 0 = omega arith in (s, subst (λ (m : ℕ). at m s) same here, refl)
+items_lead script at lines bound each n (x ∷ xs) s le here =
+    let same : n + 1 + length xs ≡ n + suc (length xs) = omega arith in
+    leads_on script s (lines n x) (lines_from lines (n + 1) xs) (at (n + 1)) (at (n + suc (length xs))) (each n x s (omega arith) here)
+    (λ t there. subst (λ (m : ℕ). Leads script t (lines_from lines (n + 1) xs) (at m)) same (items_lead script at lines bound each (n + 1) xs t (omega arith) there))
+
+-- and those that are numbered from 0 in a section of their own
+numbered_lead : {X : Type 0} (script : ScriptData) (at : ℕ → Section) (lines : ℕ → X → List Line) → ((n : ℕ) (x : X) → Passes script (at n) (lines n x) (at (n + 1))) → (xs : List X) → Passes script (at 0) (lines_from lines 0 xs) (at (length xs))
+numbered_lead script at lines each xs =
+    let all = items_lead script (λ n s. s ≡ at n) lines (length xs) (λ n x s lt here. (at (n + 1), refl, rw here (each n x))) 0 xs (at 0) (omega arith) refl in
+    let same : 0 + length xs ≡ length xs = omega arith in
+    subst (λ (t : Section). Passes script (at 0) (lines_from lines 0 xs) t) (all.1 ∙ ap at same) all.2
+
+abbrev IsCallers : ℕ → Section → Type 0
+IsCallers k s = (n : ℕ) × (s ≡ Section.Callers k n)
+
+events_pass : (script : ScriptData) (k n : ℕ) (es : List Event) → Passes script (Section.Codecs k n) (flat_map event_lines es) (Section.Codecs k n)
+events_pass script k n [] = refl
+events_pass script k n (Event.Refusal x ∷ es) = events_pass script k n es
+events_pass script k n (Event.Output m (unit.Coded chunk (Some c)) ∷ es) = (Section.Codecs k n, refl, (Section.Codecs k n, refl, events_pass script k n es))
+events_pass script k n (e ∷ es) = (Section.Codecs k n, refl, events_pass script k n es)
+
+-- in this section the next codec, or the pool, may stand
+pub record IsReady (script : ScriptData) (s : Section) (k : ℕ) : Type 0 where
+  pub codec : (i : ℕ) (o : Opening) → next_in script s (Line.Codec i o) ≡ next_part (length script.codecs) k (Line.Codec i o)
+  pub pool : next_in script s Line.Pool ≡ next_part (length script.codecs) k Line.Pool
+
+codec_leads : (script : ScriptData) (k : ℕ) (c : CodecTrace) (s : Section) → k < length script.codecs → IsReady script s k → Leads script s (codec_lines k c) (λ t. IsReady script t (k + 1))
+codec_leads script k c s lt ready =
+    let made = zip c.entries c.shown in
+    let entries = numbered_lead script (Section.Codecs (k + 1)) entry_lines (λ n m. (Section.Codecs (k + 1) (n + 1), rw (eq-eqb n n refl) refl, events_pass script (k + 1) (n + 1) m.1.events)) made in
+    (Section.Codecs (k + 1) (length made), record { codec = λ i o. refl; pool = refl }, (Section.Codecs (k + 1) 0, ready.codec k c.opening ∙ rw (eq-eqb k k refl, lt-ltb k (length script.codecs) lt) refl, entries))
+
+caller_leads : (script : ScriptData) (k : ℕ) (c : CallerTrace) (s : Section) → k < length script.callers → IsCallers k s → Leads script s (caller_lines k c) (IsCallers (k + 1))
+caller_leads script k c s lt here =
+    let results = numbered_lead script (Section.Callers (k + 1)) result_lines (λ n r. (Section.Callers (k + 1) (n + 1), rw (lt-ltb 0 (k + 1) (omega arith), eq-eqb n n refl) refl, refl)) c.results in
+    (Section.Callers (k + 1) (length c.results), (length c.results, refl), (Section.Callers (k + 1) 0, rw (here.1, eq-eqb k k refl, lt-ltb k (length script.callers) lt) refl, results))
+
+-- the lines of a run with the script's callers and codecs stand in their places
+pub run_passes : (script : ScriptData) (run : Run) → length run.callers ≡ length script.callers → length run.codecs ≡ length script.codecs → Passes script Section.Start (lines_of run) Section.Ended
+run_passes script run callers_are codecs_are =
+    let end = lines_from slot_lines 0 run.slots ++ end_lines run.held in
+    let pool = lines_from pool_lines 0 run.pool ++ Line.Slots ∷ end in
+    let callers = lines_from caller_lines 0 run.callers in
+    let codecs = lines_from codec_lines 0 run.codecs in
+    let n = length script.callers in
+    let m = length script.codecs in
+    let front = items_lead script IsCallers caller_lines n (caller_leads script) 0 run.callers (Section.Callers 0 0) (omega (arith, callers_are)) (0, refl) in
+    let there : front.0 ≡ Section.Callers n front.1.0 = let same : 0 + length run.callers ≡ n = omega (arith, callers_are) in front.1.1 ∙ ap (λ (k : ℕ). Section.Callers k front.1.0) same in
+    let ready : IsReady script front.0 0 = rw there (record { codec = λ i o. rw (eq-eqb n n refl) refl; pool = rw (eq-eqb n n refl) refl }) in
+    let middle = items_lead script (λ k s. IsReady script s k) codec_lines m (codec_leads script) 0 run.codecs front.0 (omega (arith, codecs_are)) ready in
+    let all_codecs : 0 + length run.codecs ≡ m = omega (arith, codecs_are) in
+    let slots = passes_on script (Section.Slots 0) _ (end_lines run.held) _ Section.Ended (numbered_lead script Section.Slots slot_lines (λ i e. (Section.Slots (i + 1), rw (eq-eqb i i refl) refl, refl)) run.slots) (Section.Held, refl, (Section.Ended, refl, refl)) in
+    let back = passes_on script (Section.Pool 0) _ (Line.Slots ∷ end) _ Section.Ended (numbered_lead script Section.Pool pool_lines (λ i e. (Section.Pool (i + 1), rw (eq-eqb i i refl) refl, refl)) run.pool) (Section.Slots 0, refl, slots) in
+    let rest : Passes script middle.0 (Line.Pool ∷ pool) Section.Ended = (Section.Pool 0, middle.1.pool ∙ rw (eq-eqb (0 + length run.codecs) m all_codecs) refl, back) in
+    (Section.Callers 0 0, refl, passes_on script (Section.Callers 0 0) callers (codecs ++ Line.Pool ∷ pool) front.0 Section.Ended front.2 (passes_on script front.0 codecs (Line.Pool ∷ pool) middle.0 Section.Ended middle.2 rest))

@@ -1,8 +1,8 @@
 -- Legal runs that fit their scripts are told.
-use Rattle.std.proofs.Common.{◌≡◌, ℕ, zero, suc, ◌+◌, Bool, true, false, cond, List, [], ◌∷◌, ◌++◌, map, Option, Some, None, refl, sym, ap, subst, ◌∙◌, arith}
+use Rattle.std.proofs.Common.{◌≡◌, ℕ, zero, suc, ◌+◌, true, false, List, [], ◌∷◌, ◌++◌, map, Option, Some, None, refl, sym, ap, subst, ◌∙◌, arith}
 use Rattle.std.specs.Prelude.{take, option_map, option_and_then, unwrap_or}
 use Rattle.std.specs.Option.{option_or}
-use Rattle.std.specs.List.{AllByRecursion, zip, slice_get}
+use Rattle.std.specs.List.{zip, slice_get}
 use Rattle.wc_config.specs.declared.codec.CoderId.{CoderId}
 use Rattle.wc_chunk.specs.declared.chunk.Chunk.{Chunk}
 use Rattle.wc_pool.specs.declared.entry.{PoolEntry.PoolEntry, PoolOp.PoolOp}
@@ -18,7 +18,7 @@ use Rattle.script_types.specs.declared.{script.ScriptData.ScriptData, script.Cod
 use Rattle.script_types.specs.{declared.steps.MediaStep.MediaStep, declared.steps.Step.Step, Sound.is_sound}
 use Rattle.report_text.specs.declared.result.StepResult.{StepResult}
 use Rattle.media_variables.specs.Variables.{Taken, medium_at, chunk_in_medium}
-use Rattle.media_accounts.specs.Accounts.{is_by_entry, ops_where, without_last, ops_of_entry, called_for, called_at}
+use Rattle.media_accounts.specs.Accounts.{without_last, ops_of_entry, called_for, called_at}
 use Rattle.media_accounts.specs.Samples.{chunk_of_unit, SamplesAreKept, ChunksAreTaken}
 use Rattle.trace_text.specs.{declared.run.CallerTrace.CallerTrace, declared.run.CodecTrace.CodecTrace, declared.run.Run.Run, FitsLaws.calls_by_places}
 use Rattle.trace_text.specs.Follow.{Recorded, steps_of, opening_in, opening_at, chunk_at}
@@ -28,7 +28,7 @@ use Rattle.report_reader.specs.declared.known.Known.{Known}
 use Rattle.report_reader.specs.Arguments.{results_of, output_of, taken_in, cloned, pair_for}
 use Rattle.report_reader.specs.Told.{known_of, HoldAll, IsToldTrace, AreToldTraces, IsTold}
 use Rattle.report_reader.proofs.{RunLaws.shown_units_of, KindLaws.legal_plain, StandingLaws.IsStanding, StandingLaws.stands}
-use Rattle.report_reader.proofs.CallLaws.{AreFound, HasPair, ShowsOwn, shows_own, IsGiven, entry_holds}
+use Rattle.report_reader.proofs.CallLaws.{AreFound, HasPair, shows_own, IsGiven, entry_holds}
 
 -- ---- outputs
 
@@ -65,9 +65,7 @@ taken_output script run legal o t e = grind (arith, outputs_are, unit_of_taken, 
 -- what a report shows of taken outputs is what the run brings to its callers' steps
 taken_is : (script : ScriptData) (files : List (List Chunk)) (run : Run) → AreLegalTraces script.codecs run.codecs → (c j on : ℕ) (bind : List ℕ) (kind : VariableKind) (t : Taken)
     → slice_get (steps_of script c) j ≡ Some (Step.Media (MediaStep.Take on bind kind)) → (brought_to script files (recorded_of run) c j (MediaStep.Take on bind kind)).taken ≡ Some t → taken_in (known_of run) c j ≡ Some t.unit
-taken_is script files run legal c j on bind kind t is brought =
-    let results = results_at run.callers c in
-    ap (λ (rs : List StepResult). output_of (known_of run).outputs (slice_get rs j)) (sym results) ∙ taken_output script run legal (result_in (recorded_of run) c j) t brought
+taken_is script files run legal c j on bind kind t is brought = grind (arith, results_at run.callers c, taken_output script run legal (result_in (recorded_of run) c j) t, brought)
 
 -- ---- what arguments are found in
 
@@ -93,15 +91,10 @@ all_found kept taken script files run legal locals =
 clone_first : (o : PoolOp) (p : Pair) → without_last o ≡ PoolOp.Clone p.resource p.reference → (rest : Option Pair) → option_or (cloned o) rest ≡ Some p
 clone_first o p e rest = grind (arith, e)
 
-pair_by : (k place : ℕ) (e : PoolEntry) (es : List PoolEntry) (p : Pair) (rest : List PoolOp) → (ops_of_entry k place es ≡ PoolOp.Clone p.resource p.reference ∷ rest → pair_for k place es ≡ Some p)
-    → (q : Bool) → is_by_entry k place e.by ≡ q → map without_last (cond q (e.op ∷ ops_where (is_by_entry k place) es) (ops_where (is_by_entry k place) es)) ≡ PoolOp.Clone p.resource p.reference ∷ rest
-    → option_or (cond q (cloned e.op) None) (pair_for k place es) ≡ Some p
-pair_by k place e es p rest later q is ops = grind (arith, clone_first, later, is, ops)
-
 -- the first clone that an entry made is the only one
 pair_is : (k place : ℕ) (pool : List PoolEntry) (p : Pair) (rest : List PoolOp) → ops_of_entry k place pool ≡ PoolOp.Clone p.resource p.reference ∷ rest → pair_for k place pool ≡ Some p
 pair_is k place [] p rest e = absurd cc
-pair_is k place (x ∷ xs) p rest e = pair_by k place x xs p rest (pair_is k place xs p rest) (is_by_entry k place x.by) refl e
+pair_is k place (x ∷ xs) p rest e = grind (arith, clone_first, pair_is k place xs p rest, e)
 
 -- an entry's clone is found
 pair_found : (script : ScriptData) (files : List (List Chunk)) (made : List CoderId) (run : Run) → Fits script files made run → (k place : ℕ) (e : Entry) → entry_in (recorded_of run) k place ≡ Some e → HasPair (known_of run) k place e
@@ -115,30 +108,21 @@ pair_found script files made run fits k place e is p adds =
 
 -- ---- entries
 
--- each entry shows its own
-abbrev AreOwn : List Entry → List Shown → Type 0
-AreOwn es xs = AllByRecursion (λ (m : Entry × Shown). ShowsOwn m.0 m.1) (zip es xs)
+none_hold : (script : ScriptData) (files : List (List Chunk)) (known : Known) (k place : ℕ) (es : List Entry) → HoldAll script files known k place (zip es [])
+none_hold script files known k place [] = tt
+none_hold script files known k place (e ∷ es) = tt
 
-all_own : (es : List Entry) (s : State) → AreOwn es (each_shown_from es s)
-all_own [] s = tt
-all_own (e ∷ es) s = by (legal_step e s) (λ t. all_own es t)
-  where
-    by : (o : Option State) → ((t : State) → AreOwn es (each_shown_from es t)) → AreOwn (e ∷ es) (shown_at e s ∷ unwrap_or (option_map (each_shown_from es) o) [])
-    by None later = (shows_own e s, nothing es)
-      where
-        nothing : (ds : List Entry) → AreOwn ds []
-        nothing [] = tt
-        nothing (d ∷ ds) = tt
-    by (Some t) later = (shows_own e s, later t)
-
-entries_hold : (script : ScriptData) (files : List (List Chunk)) (w : Recorded) (known : Known) (k place : ℕ) (es : List Entry) (xs : List Shown) → AreFound script files w known
-    → AreOwn es xs
-    → ((p n : ℕ) (e : Entry) → n ≡ place + p → slice_get es p ≡ Some e → IsGiven script files w known k n e) → HoldAll script files known k place (zip es xs)
-entries_hold script files w known k place (e ∷ es) (x ∷ xs) found own h = (
-  entry_holds script files w known k place e x found own.0 (h 0 place e (omega arith) refl),
-  entries_hold script files w known k (place + 1) es xs found own.1 (λ p n d same is. h (suc p) n d (omega (arith, same)) is),
+-- each entry shows its own, and so is told again
+entries_hold : (script : ScriptData) (files : List (List Chunk)) (w : Recorded) (known : Known) (k place : ℕ) (es : List Entry) (s : State) → AreFound script files w known
+    → ((p n : ℕ) (e : Entry) → n ≡ place + p → slice_get es p ≡ Some e → IsGiven script files w known k n e) → HoldAll script files known k place (zip es (each_shown_from es s))
+entries_hold script files w known k place [] s found h = tt
+entries_hold script files w known k place (e ∷ es) s found h = (
+  entry_holds script files w known k place e (shown_at e s) found (shows_own e s) (h 0 place e (omega arith) refl),
+  elim (legal_step e s) as (λ o. HoldAll script files known k (place + 1) (zip es (unwrap_or (option_map (each_shown_from es) o) []))) [
+    | None ↦ none_hold script files known k (place + 1) es
+    | Some t ↦ entries_hold script files w known k (place + 1) es t found (λ p n d same is. h (suc p) n d (omega (arith, same)) is)
+  ],
 )
-entries_hold script files w known k place _ _ found own h = tt
 
 -- what is known of legal histories, and of what variables hold
 pub record HistoryLaws : Type 0 where
@@ -154,9 +138,9 @@ pub record HistoryLaws : Type 0 where
 trace_told : HistoryLaws → (script : ScriptData) (files : List (List Chunk)) (w : Recorded) (known : Known) (k : ℕ) (c : CodecItem) (t : CodecTrace) → AreFound script files w known → IsLegalTrace c t
     → ((p : ℕ) (e : Entry) → slice_get t.entries p ≡ Some e → IsGiven script files w known k p e) → IsToldTrace script files known k t
 trace_told laws script files w known k c t found legal h = record {
-  arguments = entries_hold script files w known k 0 t.entries t.shown found
-      (subst (AreOwn t.entries) (sym legal.shown) (all_own t.entries (opening_state t.opening)))
-      (λ p n e same is. let here : n ≡ p = omega (arith, same) in subst (λ (m : ℕ). IsGiven script files w known k m e) (sym here) (h p e is));
+  arguments = subst (λ (xs : List Shown). HoldAll script files known k 0 (zip t.entries xs)) (sym legal.shown)
+      (entries_hold script files w known k 0 t.entries (opening_state t.opening) found
+      (λ p n e same is. let here : n ≡ p = omega (arith, same) in subst (λ (m : ℕ). IsGiven script files w known k m e) (sym here) (h p e is)));
   follows = laws.follow t.opening t.entries legal.legal;
   shows = legal.shown ∙ laws.fill t.opening t.entries legal.legal ∙ ap (each_filled t.opening t.entries) (shown_units t.entries (opening_state t.opening) ∙ ap units_shown (sym legal.shown));
 }

@@ -1,25 +1,16 @@
 -- The names of a script in which nothing is at fault are words, and all differ.
-use Rattle.std.proofs.Common.{ℕ, zero, suc, ◌≡◌, ◌<◌, ◌&&◌, not, Bool, true, false, List, [], ◌∷◌, ◌++◌, take, length, append_assoc, append-nil, Some, refl, ap, sym, ◌∙◌, arith}
+use Rattle.std.proofs.Common.{ℕ, zero, suc, ◌≡◌, ◌<◌, Bool, true, false, List, [], ◌∷◌, ◌++◌, take, length, append_assoc, append-nil, Some, refl, ap, sym, ◌∙◌, arith}
 use Rattle.std.specs.List.{list_all, list_any, slice_get}
 use Rattle.std.specs.Prelude.{unwrap_or, option_map}
 use Rattle.std.specs.Str.{bytes_eq}
-use Rattle.std.proofs.lemmas.Bool.{and_parts, or_parts}
+use Rattle.std.proofs.lemmas.Bool.{or_parts}
 use Rattle.std.proofs.Math.Seq.{take-length}
 use Rattle.std.proofs.lemmas.Slice.Eq.{bytes_eq-Decides}
 use Rattle.script_types.specs.declared.script.{CodecItem.CodecItem, CallerItem.CallerItem, ScriptData.ScriptData}
-use Rattle.script_types.specs.Names.{is_name_byte, is_codec_name, is_caller_name}
+use Rattle.script_types.specs.Names.{is_name_byte, is_codec_name}
 use Rattle.script_types.specs.Sound.{is_sound, is_sound_caller, are_sound_callers}
 use Rattle.script_types.specs.SoundLaws.{parts_of, codec_at}
 use Rattle.report_lines.specs.{Words.is_word_byte, Fits.AreNames}
-
-first : (a b : Bool) → (a && b) ≡ true → a ≡ true
-first a b h = (and_parts a b h).0
-
-second : (a b : Bool) → (a && b) ≡ true → b ≡ true
-second a b h = (and_parts a b h).1
-
-not_so : (q : Bool) → not q ≡ true → q ≡ false
-not_so q h = grind (arith, h)
 
 -- ---- lists
 
@@ -30,10 +21,10 @@ there (x ∷ xs) zero lt = (x, refl)
 there (x ∷ xs) (suc i) lt = there xs i (omega arith)
 
 none_before : {X : Type 0} (p : X → Bool) (xs : List X) (i j : ℕ) (x : X) → i < j → list_any p (take j xs) ≡ false → slice_get xs i ≡ Some x → p x ≡ false
-none_before p [] i j x lt h is = absurd cc
-none_before p (y ∷ ys) i zero x lt h is = absurd (omega arith)
-none_before p (y ∷ ys) zero (suc j) x lt h is = let same : y ≡ x = cc in ap p (sym same) ∙ (or_parts (p y) (list_any p (take j ys)) h).0
 none_before p (y ∷ ys) (suc i) (suc j) x lt h is = none_before p ys i j x (omega arith) (or_parts (p y) (list_any p (take j ys)) h).1 is
+none_before p (y ∷ ys) zero (suc j) x lt h is = let same : y ≡ x = cc in ap p (sym same) ∙ (or_parts (p y) (list_any p (take j ys)) h).0
+none_before p [] i j x lt h is = absurd cc
+none_before p _ i zero x lt h is = absurd (omega arith)
 
 -- an item among some that do not have this name has another
 named_apart : {X : Type 0} (name : X → List ℕ) (xs : List X) (i j : ℕ) (x : X) (w : List ℕ) → i < j → slice_get xs i ≡ Some x → list_any (λ z. bytes_eq (name z) w) (take j xs) ≡ false → name x ≡ w → ⊥
@@ -46,7 +37,7 @@ word_byte b h = grind (arith, h)
 
 word_bytes : (w : List ℕ) → list_all is_name_byte w ≡ true → list_all is_word_byte w ≡ true
 word_bytes [] h = refl
-word_bytes (b ∷ w) h = let parts = and_parts (is_name_byte b) (list_all is_name_byte w) h in rw (word_byte b parts.0, word_bytes w parts.1) refl
+word_bytes (b ∷ w) h = grind (arith, word_byte b, word_bytes w, h)
 
 -- ---- names
 
@@ -62,21 +53,18 @@ record IsNamed (X : Type 0) (name : X → List ℕ) (xs : List X) (i : ℕ) : Ty
   new : list_any (λ z. bytes_eq (name z) (name item)) (take i xs) ≡ false
 
 names_differ : {X : Type 0} (name : X → List ℕ) (xs : List X) → ((i : ℕ) → i < length xs → IsNamed X name xs i) → (i j : ℕ) → i < length xs → j < length xs → name_at name xs i ≡ name_at name xs j → i ≡ j
-names_differ name xs known i j p q e = let before = apart i j p q e in let behind = apart j i q p (sym e) in omega (arith, before, behind)
-  where
-    apart : (i j : ℕ) → i < length xs → j < length xs → name_at name xs i ≡ name_at name xs j → i < j → ⊥
-    apart i j p q e less = let a = known i p in let b = known j q in named_apart name xs i j a.item (name b.item) less a.at b.new (rw (a.at, b.at) at e)
+names_differ name xs known i j p q e =
+    let a = known i p in
+    let b = known j q in
+    let same : name a.item ≡ name b.item = rw (a.at, b.at) at e in
+    grind (arith, named_apart name xs i j a.item (name b.item), named_apart name xs j i b.item (name a.item), a.at, b.at, a.new, b.new, same)
 
 codec_named : (s : ScriptData) → is_sound s ≡ true → (i : ℕ) → i < length s.codecs → IsNamed CodecItem (λ x. x.name) s.codecs i
-codec_named s h i lt =
-    let c = there s.codecs i lt in
-    let sound = codec_at s i c.0 h c.1 in
-    record { item = c.0; at = c.1; word = word_bytes c.0.name (second _ _ (second _ _ (first _ _ sound))); new = not_so _ (first _ _ (second _ _ sound)) }
+codec_named s h i lt = let c = there s.codecs i lt in grind (arith, c.1, codec_at s i c.0 h c.1, word_bytes c.0.name)
 
 caller_from : (codecs : List CodecItem) (before cs : List CallerItem) (i : ℕ) (c : CallerItem) → are_sound_callers codecs before cs ≡ true → slice_get cs i ≡ Some c → is_sound_caller codecs (before ++ take i cs) c ≡ true
-caller_from codecs before [] i c h is = absurd cc
-caller_from codecs before (y ∷ ys) zero c h is = let same : y ≡ c = cc in rw (append-nil before, sym same) (first _ _ h)
-caller_from codecs before (y ∷ ys) (suc i) c h is = rw (sym (append_assoc before (y ∷ []) (take i ys))) (caller_from codecs (before ++ y ∷ []) ys i c (second _ _ h) is)
+caller_from codecs before (y ∷ ys) (suc i) c h is = rw (sym (append_assoc before (y ∷ []) (take i ys))) (caller_from codecs (before ++ y ∷ []) ys i c (grind (arith, h)) is)
+caller_from codecs before _ i c h is = grind (arith, append-nil, h, is)
 
 -- a caller's name is none of a codec's either
 record IsCallerNamed (s : ScriptData) (i : ℕ) : Type 0 where
@@ -87,8 +75,7 @@ caller_named : (s : ScriptData) → is_sound s ≡ true → (i : ℕ) → i < le
 caller_named s h i lt =
     let c = there s.callers i lt in
     let sound = caller_from s.codecs [] s.callers i c.0 (parts_of s h).callers c.1 in
-    let fresh = or_parts (is_codec_name s.codecs c.0.name) (is_caller_name (take i s.callers) c.0.name) (not_so _ (first _ _ (second _ _ sound))) in
-    record { named = record { item = c.0; at = c.1; word = word_bytes c.0.name (second _ _ (second _ _ (first _ _ sound))); new = fresh.1 }; apart = fresh.0 }
+    record { named = record { item = c.0; at = c.1; word = word_bytes c.0.name (grind (arith, sound)); new = grind (arith, sound) }; apart = grind (arith, sound) }
 
 pub sound_names : (s : ScriptData) → is_sound s ≡ true → AreNames s
 sound_names s h = record {

@@ -1,46 +1,49 @@
--- What was read is the report's run, or names its line at fault.
-use Rattle.std.proofs.Common.{◌≡◌, ◌≢◌, ℕ, ◌<◌, ◌^◌, true, List, length, sym, ap, subst, ◌∙◌, inl, inr}
-use Rattle.std.specs.Global.{Vec}
+-- What was read is the report's run, or names its line at fault; a fault has one place.
+use Rattle.std.proofs.Common.{◌≡◌, ℕ, List, [], sym, ap, ◌∙◌, refl, inl, inr}
 use Rattle.std.specs.Prelude.{Result, Ok, Err, IfOk, IfErr}
-use Rattle.std.specs.List.{AllByRecursion}
 use Rattle.wc_chunk.specs.declared.chunk.Chunk.{Chunk}
-use Rattle.script_types.specs.{declared.script.ScriptData.ScriptData, Sound.is_sound}
+use Rattle.script_types.specs.declared.script.ScriptData.{ScriptData}
 use Rattle.trace_text.specs.{declared.run.Run.Run, Report.report_of, Report.lines_of}
 use Rattle.report_text.specs.declared.line.Line.{Line}
-use Rattle.report_lines.specs.{Fits.AreNames, Laws.LineAgain, Laws.LineFits}
-use Rattle.report_reader.specs.{declared.forms.Forms.Forms, declared.fault.ReportFault.ReportFault, Read.run_of, Told.IsTold, Fits.FitsTrace}
-use Rattle.report_reader.specs.Fault.{IsForms, IsRead, IsFault, line_of_difference, Gives}
-use Rattle.report_reader.proofs.{RunLaws.run_again, FormLaws.forms_again, FormLaws.never_stuck, PassLaws.run_passes, FitLaws.forms_told}
+use Rattle.report_lines.specs.{Fits.AreNames, Laws.LineAgain}
+use Rattle.report_reader.specs.{declared.forms.Section.Section, declared.fault.ReportFault.ReportFault, Form.AreForms, Read.run_of, Told.IsTold}
+use Rattle.report_reader.specs.Fault.{IsRead, IsBadForm, IsFault, Gives, line_of_difference}
+use Rattle.report_reader.proofs.{RunLaws.run_again, FormLaws.stops_once, FormLaws.forms_once, FormLaws.none_at_end, FormLaws.text_read, FormLaws.run_passes}
 
-pub read_differs : (script : ScriptData) (media_of : List (List Chunk)) (bs : List ℕ) (f : Forms) (v : Vec Line) (run : Run) (text : List ℕ) (n : ℕ)
-    → f ≡ Forms.Lines v → IsForms script bs f → run ≡ run_of script media_of v.items → text ≡ report_of script run → text ≢ bs → n ≡ line_of_difference text bs → IsFault script media_of bs (ReportFault.BadLine n)
-read_differs script media_of bs f v run text n f_is told run_is text_is differs line =
-    let own : IsForms script bs (Forms.Lines v) = subst (λ (x : Forms). IsForms script bs x) f_is told in
-    let whole : text ≡ report_of script (run_of script media_of v.items) = text_is ∙ ap (report_of script) run_is in
-    inr (record { lines = v.items; forms = own; differs = λ e. differs (whole ∙ e); number = line ∙ ap (λ (x : List ℕ). line_of_difference x bs) whole })
+-- a text of lines in their forms has no place without a form
+never_bad : (script : ScriptData) (bs : List ℕ) (n : ℕ) (ls : List Line) → IsBadForm script bs n → AreForms script bs ls → ⊥
+never_bad script bs n ls f forms =
+    let same = stops_once script Section.Start bs f.before ls f.at Section.Ended f.left [] f.reads f.none forms (none_at_end script []) in
+    f.not_all same.1 same.2
 
-pub read_same : (script : ScriptData) (media_of : List (List Chunk)) (bs : List ℕ) (f : Forms) (v : Vec Line) (run : Run) (text : List ℕ)
-    → f ≡ Forms.Lines v → IsForms script bs f → run ≡ run_of script media_of v.items → text ≡ report_of script run → text ≡ bs → IsRead script media_of bs run
-read_same script media_of bs f v run text f_is told run_is text_is same =
-    let own : IsForms script bs (Forms.Lines v) = subst (λ (x : Forms). IsForms script bs x) f_is told in
-    record { lines = v.items; forms = own; shown = run_is; text = sym same ∙ text_is }
+pub fault_is_one : (script : ScriptData) (files : List (List Chunk)) (bs : List ℕ) (m n : ℕ) → IsFault script files bs (ReportFault.BadLine m) → IsFault script files bs (ReportFault.BadLine n) → m ≡ n
+fault_is_one script files bs m n (inl f) (inl g) =
+    let same = stops_once script Section.Start bs f.before g.before f.at g.at f.left g.left f.reads f.none g.reads g.none in
+    f.number ∙ rw same.0 (sym g.number)
+fault_is_one script files bs m n (inl f) (inr d) = absurd (never_bad script bs m d.lines f d.forms)
+fault_is_one script files bs m n (inr d) (inl f) = absurd (never_bad script bs n d.lines f d.forms)
+fault_is_one script files bs m n (inr d) (inr e) =
+    d.number ∙ ap (λ (ls : List Line). line_of_difference (report_of script (run_of script files ls)) bs) (forms_once script bs d.lines e.lines d.forms e.forms) ∙ sym e.number
 
--- what is told is read
-pub read_again : LineAgain → (script : ScriptData) (media_of : List (List Chunk)) (bs : List ℕ) (result : Result Run ReportFault) (run : Run) → AreNames script
-    → IfOk result (IsRead script media_of bs) → IfErr result (IsFault script media_of bs) → IsTold script media_of run → bs ≡ report_of script run → Gives result run
-read_again again script media_of bs (Ok x) run names ok bad told e =
-    let same = forms_again again script names bs ok.lines (lines_of run) ok.forms (run_passes script run told.told.callers told.told.codecs) told.whole.fits e in
-    ok.shown ∙ ap (run_of script media_of) same ∙ run_again script media_of run told.told told.whole.plain
-read_again again script media_of bs (Err ReportFault.NoMemory) run names ok bad told e = tt
-read_again again script media_of bs (Err (ReportFault.BadLine n)) run names ok (inl form) told e =
-    never_stuck again script names bs form.before form.at form.left (lines_of run) form.reads form.not_all form.none (run_passes script run told.told.callers told.told.codecs) told.whole.fits e
-read_again again script media_of bs (Err (ReportFault.BadLine n)) run names ok (inr d) told e =
-    let same = forms_again again script names bs d.lines (lines_of run) d.forms (run_passes script run told.told.callers told.told.codecs) told.whole.fits e in
-    d.differs (ap (report_of script) (ap (run_of script media_of) same ∙ run_again script media_of run told.told told.whole.plain) ∙ sym e)
+-- ---- a run that is told
 
--- what the lines show is told, where its report is the text
-pub shown_told : LineFits → LineAgain → (script : ScriptData) (media_of : List (List Chunk)) (bs : List ℕ) (f : Forms) (v : Vec Line) (run : Run) (text : List ℕ) → is_sound script ≡ true
-    → f ≡ Forms.Lines v → IsForms script bs f → length v.items < 2 ^ 64 → run ≡ run_of script media_of v.items → AllByRecursion FitsTrace run.codecs → text ≡ report_of script run → text ≡ bs → IsTold script media_of run
-shown_told fits again script media_of bs f v run text sound f_is told few run_is promises text_is same =
-    let own : IsForms script bs (Forms.Lines v) = subst (λ (x : Forms). IsForms script bs x) f_is told in
-    forms_told fits again script media_of bs v.items run sound own few run_is promises (sym same ∙ text_is)
+module _ (again : LineAgain) (script : ScriptData) (files : List (List Chunk)) (names : AreNames script) (run : Run) (told : IsTold script files run) where
+  -- its report has the forms of its lines
+  told_forms : (bs : List ℕ) → bs ≡ report_of script run → AreForms script bs (lines_of run)
+  told_forms bs e = rw e (text_read again script names Section.Start (lines_of run) Section.Ended (run_passes script run told.told.callers told.told.codecs) told.whole.fits)
+
+  -- and shows it
+  forms_show : (bs : List ℕ) (ls : List Line) → bs ≡ report_of script run → AreForms script bs ls → run_of script files ls ≡ run
+  forms_show bs ls e forms = ap (run_of script files) (forms_once script bs ls (lines_of run) forms (told_forms bs e)) ∙ run_again script files run told.told told.whole.plain
+
+  -- so it is read
+  pub read_again : (bs : List ℕ) (result : Result Run ReportFault) → IfOk result (IsRead script files bs) → IfErr result (IsFault script files bs) → bs ≡ report_of script run → Gives result run
+  read_again bs (Ok x) ok bad e = ok.shown ∙ forms_show bs ok.lines e ok.forms
+  read_again bs (Err ReportFault.NoMemory) ok bad e = tt
+  read_again bs (Err (ReportFault.BadLine n)) ok (inl form) e = never_bad script bs n (lines_of run) form (told_forms bs e)
+  read_again bs (Err (ReportFault.BadLine n)) ok (inr d) e = d.differs (ap (report_of script) (forms_show bs d.lines e d.forms) ∙ sym e)
+
+-- Of one script, two runs that are told are equal where their reports are.
+pub report_tells : LineAgain → (script : ScriptData) (files : List (List Chunk)) (a b : Run) → AreNames script → IsTold script files a → IsTold script files b → report_of script a ≡ report_of script b → a ≡ b
+report_tells again script files a b names ta tb e =
+    sym (run_again script files a ta.told ta.whole.plain) ∙ forms_show again script files names b tb (report_of script a) (lines_of a) e (told_forms again script files names a ta (report_of script a) refl)

@@ -1,6 +1,6 @@
--- The lines of a run that is told show that run.
-use Rattle.std.proofs.Common.{◌≡◌, ℕ, suc, ◌+◌, true, List, [], ◌∷◌, ◌++◌, length, map, drop, Option, Some, None, is_some, refl, sym, ap, subst, ◌∙◌, arith, append_assoc}
-use Rattle.std.specs.Prelude.{flat_map, option_and_then}
+-- The lines of a run that is told show that run, and what lines show is told.
+use Rattle.std.proofs.Common.{◌≡◌, ℕ, zero, suc, ◌+◌, true, List, [], ◌∷◌, ◌++◌, length, map, drop, Some, None, is_some, refl, sym, ap, subst, ◌∙◌, arith, append_assoc}
+use Rattle.std.specs.Prelude.{flat_map}
 use Rattle.std.specs.List.{AllByRecursion, zip}
 use Rattle.wc_chunk.specs.declared.chunk.Chunk.{Chunk}
 use Rattle.wc_pool.specs.declared.entry.PoolEntry.{PoolEntry}
@@ -8,7 +8,7 @@ use Rattle.codec_definitions.specs.declared.unit.Unit as media
 use Rattle.codec_definitions.specs.declared.unit.Unit.TheVariants as unit
 use Rattle.coder_api.specs.declared.slot.SlotEntry.{SlotEntry}
 use Rattle.wc_config.specs.declared.kind.Kind.{Kind}
-use Rattle.codec_model.specs.{declared.entry.Entry.Entry, declared.entry.Event.Event, declared.entry.Shown.Shown, Replay.State, Replay.opening_state}
+use Rattle.codec_model.specs.{declared.entry.Opening.Opening, declared.entry.Entry.Entry, declared.entry.Event.Event, declared.entry.Shown.Shown, Replay.State, Replay.opening_state}
 use Rattle.codec_model.specs.Shown.{shows, units_in, units_shown}
 use Rattle.codec_follow.specs.Follow.{follow_step, follow_from, filled, each_filled_from}
 use Rattle.script_types.specs.declared.script.ScriptData.{ScriptData}
@@ -19,7 +19,7 @@ use Rattle.report_reader.specs.declared.known.Known.{Known}
 use Rattle.report_reader.specs.Read.{results_in, behind_results, callers_in, entries_from, entry_lines_in, behind_entries, config_in, outputs_in, trace_of, codecs_in, all_outputs_in, pool_in, behind_pool, slots_in, held_in, run_of}
 use Rattle.report_reader.specs.Told.{known_of, HoldAll, IsPlainTrace, IsToldTrace, AreToldTraces, IsToldRun}
 use Rattle.codec_follow.specs.Outputs.{IsOutputOf}
-use Rattle.report_reader.proofs.KindLaws.{outputs_events}
+use Rattle.report_reader.proofs.{KindLaws.outputs_events, TraceLaws.by_next, CallLaws.told_holds}
 
 -- What is read of the lines of items, in front of others, is what is told by the items, where the lines of each add what it tells.
 read_again : {X Y : Type 0} (read : List Line → Y) (told : List X → Y) (lines : ℕ → X → List Line) (rest : List Line) → ((n : ℕ) (x : X) (xs : List X) (ls : List Line) → read ls ≡ told xs → read (lines n x ++ ls) ≡ told (x ∷ xs))
@@ -114,17 +114,11 @@ shown_again _ _ same = absurd (omega arith)
 
 -- the state after an entry that follows with those behind it
 pub step_of_followed : (e : Entry) (es : List Entry) (s : State) → is_some (follow_from (e ∷ es) s) ≡ true → (t : State) × (follow_step e s ≡ Some t) × (is_some (follow_from es t) ≡ true)
-step_of_followed e es s some = by (follow_step e s) refl some
-  where
-    by : (o : Option State) → follow_step e s ≡ o → is_some (option_and_then (follow_from es) o) ≡ true → (t : State) × (follow_step e s ≡ Some t) × (is_some (follow_from es t) ≡ true)
-    by None is some = absurd cc
-    by (Some t) is some = (t, is, some)
+step_of_followed e es s some = grind (arith, some)
 
 pub filled_length : (k : Kind) → (es : List Entry) (s : State) (us : List media.Unit) → is_some (follow_from es s) ≡ true → length (each_filled_from k es s us) ≡ length es
 filled_length k [] s us some = refl
-filled_length k (e ∷ es) s us some =
-    let next = step_of_followed e es s some in
-    rw (next.1) (ap (λ (n : ℕ). suc n) (filled_length k es next.0 (filled k (shows e s) us).1 next.2))
+filled_length k (e ∷ es) s us some = grind (arith, filled_length k es, step_of_followed e es s some)
 
 entries_again : (script : ScriptData) (media_of : List (List Chunk)) (known : Known) (k place : ℕ) (s : State) (es : List Entry) (xs : List Shown) → length xs ≡ length es → HoldAll script media_of known k place (zip es xs) → is_some (follow_from es s) ≡ true
     → entries_from script media_of known k place s (map entry_line_of_pair (zip es xs)) ≡ es
@@ -176,7 +170,7 @@ codecs_again script media_of known i (c ∷ cs) rest ends told plain =
 -- ---- the run
 
 pool_ends : (rest : List Line) → EndsEntries (Line.Pool ∷ rest)
-pool_ends rest = record { told = refl; outputs = λ k. refl; config = refl }
+pool_ends rest = grind arith
 
 codecs_end_results : (i : ℕ) (cs : List CodecTrace) (rest : List Line) → EndsResults (lines_from codec_lines i cs ++ Line.Pool ∷ rest)
 codecs_end_results i [] rest = refl
@@ -221,3 +215,89 @@ run_again script media_of run told plain =
       ap (λ (p : List SlotEntry × ℕ). p.0) slots,
       ap (λ (p : List SlotEntry × ℕ). p.1) slots,
     ) refl
+
+-- ---- the entries of a history that lines show
+
+all_hold : (script : ScriptData) (files : List (List Chunk)) (known : Known) (k place : ℕ) (kind : Kind) (ts : List EntryLine) (s : State) (us : List media.Unit) → HoldAll script files known k place (zip (entries_from script files known k place s ts) (each_filled_from kind (entries_from script files known k place s ts) s us))
+all_hold script files known k place kind [] s us = tt
+all_hold script files known k place kind (t ∷ ts) s us =
+    by_next script files known k place t ts s (λ es. HoldAll script files known k place (zip es (each_filled_from kind es s us))) tt
+    (λ e u is step. rw step (told_holds script files known k place t e kind s us is, all_hold script files known k (place + 1) kind ts u (filled kind (shows e s) us).1))
+
+all_follow : (script : ScriptData) (files : List (List Chunk)) (known : Known) (k place : ℕ) (ts : List EntryLine) (s : State) → is_some (follow_from (entries_from script files known k place s ts) s) ≡ true
+all_follow script files known k place [] s = refl
+all_follow script files known k place (t ∷ ts) s =
+    by_next script files known k place t ts s (λ es. is_some (follow_from es s) ≡ true) refl (λ e u is step. rw step (all_follow script files known k (place + 1) ts u))
+
+-- ---- shown with its own outputs
+
+filled_again : (k : Kind) → (xs : List Event) (us rest : List media.Unit) → filled k xs (units_in (filled k xs us).0 ++ rest) ≡ ((filled k xs us).0, rest)
+filled_again k [] us rest = refl
+filled_again k (x ∷ xs) us rest = grind (arith, filled_again k xs)
+
+each_again : (k : Kind) → (es : List Entry) (s : State) (us : List media.Unit) → is_some (follow_from es s) ≡ true → each_filled_from k es s (units_shown (each_filled_from k es s us)) ≡ each_filled_from k es s us
+each_again k [] s us some = refl
+each_again k (e ∷ es) s us some =
+    let next = step_of_followed e es s some in
+    rw (next.1, filled_again k (shows e s) us (units_shown (each_filled_from k es next.0 (filled k (shows e s) us).1)), each_again k es next.0 (filled k (shows e s) us).1 next.2) refl
+
+-- ---- the run that lines show
+
+trace_told : (script : ScriptData) (files : List (List Chunk)) (known : Known) (k : ℕ) (o : Opening) (ts : List EntryLine) (us : List media.Unit) → IsToldTrace script files known k (trace_of script files known k o ts us)
+trace_told script files known k o ts us = record {
+  arguments = all_hold script files known k 0 o.kind ts (opening_state o) us;
+  follows = all_follow script files known k 0 ts (opening_state o);
+  shows = sym (each_again o.kind (entries_from script files known k 0 (opening_state o) ts) (opening_state o) us (all_follow script files known k 0 ts (opening_state o)));
+}
+
+pub callers_count : (n : ℕ) (ls : List Line) → length (callers_in n ls).0 ≡ n
+callers_count zero ls = refl
+callers_count (suc n) ls = ap (λ (k : ℕ). suc k) (callers_count n (behind_results (drop 1 ls)))
+
+pub codecs_count : (script : ScriptData) (files : List (List Chunk)) (known : Known) (k n : ℕ) (ls : List Line) → length (codecs_in script files known k n ls) ≡ n
+codecs_count script files known k zero ls = refl
+codecs_count script files known k (suc n) ls = ap (λ (m : ℕ). suc m) (codecs_count script files known (k + 1) n (behind_entries (drop 1 ls)))
+
+codecs_told : (script : ScriptData) (files : List (List Chunk)) (known : Known) (k n : ℕ) (ls : List Line) → AreToldTraces script files known k (codecs_in script files known k n ls)
+codecs_told script files known k zero ls = tt
+codecs_told script files known k (suc n) ls = (trace_told script files known k _ _ _, codecs_told script files known (k + 1) n (behind_entries (drop 1 ls)))
+
+-- what the lines show of arguments
+abbrev known_in : ScriptData → List Line → Known
+known_in script ls =
+    let callers = callers_in (length script.callers) (drop 1 ls) in
+    let outputs = all_outputs_in (length script.codecs) callers.1 in
+    record { callers = callers.0; outputs = outputs.0; pool = pool_in (drop 1 outputs.1) }
+
+-- The lines show so many callers and codecs. Where the lines of the run that they show are these lines, and its outputs are of
+-- their codecs' kinds, the run is told.
+pub run_callers : (script : ScriptData) (files : List (List Chunk)) (ls : List Line) → length (run_of script files ls).callers ≡ length script.callers
+unfolding run_of
+run_callers script files ls = callers_count (length script.callers) (drop 1 ls)
+
+pub run_codecs : (script : ScriptData) (files : List (List Chunk)) (ls : List Line) → length (run_of script files ls).codecs ≡ length script.codecs
+unfolding run_of
+run_codecs script files ls = codecs_count script files (known_in script ls) 0 (length script.codecs) (callers_in (length script.callers) (drop 1 ls)).1
+
+traces_told : (script : ScriptData) (files : List (List Chunk)) (ls : List Line) → AreToldTraces script files (known_in script ls) 0 (run_of script files ls).codecs
+unfolding run_of
+traces_told script files ls = codecs_told script files (known_in script ls) 0 (length script.codecs) (callers_in (length script.callers) (drop 1 ls)).1
+
+known_same : (script : ScriptData) (files : List (List Chunk)) (ls : List Line) → outputs_behind (length script.callers) (length script.codecs) ls ≡ map shown_units_of (run_of script files ls).codecs → known_in script ls ≡ known_of (run_of script files ls)
+unfolding run_of
+known_same script files ls same =
+    let known = known_in script ls in
+    ap (λ (os : List (List media.Unit)). let k : Known = record { callers = known.callers; outputs = os; pool = known.pool } in k) same
+
+pub run_told : (script : ScriptData) (files : List (List Chunk)) (ls : List Line) → ls ≡ lines_of (run_of script files ls) → AllByRecursion IsPlainTrace (run_of script files ls).codecs → IsToldRun script files (run_of script files ls)
+run_told script files ls same plain =
+    let run = run_of script files ls in
+    let traces = traces_told script files ls in
+    let callers = run_callers script files ls in
+    let codecs = run_codecs script files ls in
+    let outputs = ap (outputs_behind (length script.callers) (length script.codecs)) same ∙ rw (callers, codecs) at (run_outputs script files (known_in script ls) run traces plain) in
+    record {
+      callers = callers;
+      codecs = codecs;
+      traces = subst (λ (known : Known). AreToldTraces script files known 0 run.codecs) (known_same script files ls outputs) traces;
+    }

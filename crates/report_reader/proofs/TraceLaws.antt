@@ -1,8 +1,7 @@
 -- A codec is followed, entry after entry.
 use Rattle.std.proofs.Common.{ℕ, ◌≡◌, suc, ◌+◌, ◌-◌, ◌<◌, take, drop, get_or, List, [], ◌∷◌, ◌++◌, length, Option, Some, None, refl, sym, ap, subst, ◌∙◌, arith, append_assoc, append-nil, length-append}
-use Rattle.std.specs.Prelude.{option_map, option_and_then, unwrap_or}
+use Rattle.std.specs.Prelude.{option_map, option_and_then}
 use Rattle.std.proofs.Math.Seq.{take-length}
-use Rattle.wc_base.specs.Options.{some_same}
 use Rattle.wc_chunk.specs.declared.chunk.Chunk.{Chunk}
 use Rattle.codec_definitions.specs.declared.unit.Unit as media
 use Rattle.codec_model.specs.declared.entry.{Opening.Opening, Entry.Entry, Event.Event, Shown.Shown}
@@ -32,19 +31,11 @@ noted e found = option_map {U = Entry × Shown} (λ x. (e, x)) found
 abbrev showing_at : State → Option (Entry × State) → Option (Entry × Shown)
 showing_at s o = option_map {U = Entry × Shown} (λ x. (x.0, shown_at x.0 s)) o
 
-shown_of : (e : Entry) (s : State) (o : Option State) (found : Option Shown) → option_map (λ t. shown_at e s) o ≡ found
-    → showing_at s (paired e o) ≡ noted e found
-shown_of e s o found is = grind (arith, is)
-
-next_after : (e d : Entry) (u : State) (o : Option State) (s : State) → paired e o ≡ Some (d, u) → unwrap_or o s ≡ u
-next_after e d u o s is = grind (arith, is)
-
 pub entry_follows : (script : ScriptData) (media_of : List (List Chunk)) (known : Known) (k place : ℕ) (t : EntryLine) (e : Entry) (old new : FollowerValue) (found : Option Shown) → entry_of script media_of known k place t ≡ Some e → Follows e old found new
     → NextIs script media_of known k place t old (noted e found) new
 entry_follows script media_of known k place t e old new found is follows = record {
-  answer = λ s same. rw is (shown_of e s (follow_step e s) found (follows.answer s same));
-  after = λ s same d u next. let there : paired e (follow_step e s) ≡ Some (d, u) = rw is at next in
-      ap follower_of (sym (next_after e d u (follow_step e s) s there)) ∙ follows.after s same;
+  answer = λ s same. grind (arith, is, follows.answer s same);
+  after = λ s same d u next. grind (arith, is, follows.after s same, next);
 }
 
 -- ---- the loop
@@ -83,10 +74,9 @@ next_in script media_of known k place t s e blank h = by (next_of script media_o
     by : (o : Option (Entry × State)) → next_of script media_of known k place s t ≡ o → showing_at s o ≡ Some (e, blank) → IsNext script media_of known k place t s e blank
     by None is none = absurd cc
     by (Some (d, u)) is there =
-        let same = some_same {X = Entry × Shown} (d, shown_at d s) (e, blank) there in
-        let entry : d ≡ e = ap (λ (x : Entry × Shown). x.0) same in
-        let next : next_of script media_of known k place s t ≡ Some (e, u) = is ∙ ap (λ (x : Entry). some (x, u)) entry in
-        (u, (bound s e u (entry_of script media_of known k place t) next).1, next, sym (ap (λ (x : Entry × Shown). x.1) same) ∙ ap (λ (x : Entry). shown_at x s) entry)
+        let same : (d ≡ e) × (shown_at d s ≡ blank) = grind (arith, there) in
+        let next : next_of script media_of known k place s t ≡ Some (e, u) = is ∙ ap (λ (x : Entry). some (x, u)) same.0 in
+        (u, (bound s e u (entry_of script media_of known k place t) next).1, next, sym same.1 ∙ ap (λ (x : Entry). shown_at x s) same.0)
 
 none_next : (s : State) (o : Option (Entry × State)) → showing_at s o ≡ None → o ≡ None
 none_next s o h = grind (arith, h)
@@ -119,20 +109,13 @@ tracing_more script media_of known k o told units follower new entries made show
           (append_assoc shown (filled_at o.kind e s left ∷ []) (each_filled_from o.kind tail n.0 (filled o.kind (shows e s) left).1) ∙ rw (split, n.2, n.1) at tracing.shown_are));
     }
 
--- nothing more is made of what is told
-tracing_done : (script : ScriptData) (media_of : List (List Chunk)) (known : Known) (k : ℕ) (o : Opening) (told : List EntryLine) (units : List media.Unit) (follower : FollowerValue) (entries : List Entry) (shown : List Shown) (rest : List EntryLine) (left : List media.Unit) (trace : CodecTrace)
-    → (tracing : IsTracing script media_of known k o told units follower entries shown rest left) → entries_from script media_of known k (length entries) tracing.state rest ≡ [] → trace ≡ record { opening = o; entries = entries; shown = shown } → trace ≡ trace_of script media_of known k o told units
-tracing_done script media_of known k o told units follower entries shown rest left trace tracing none made =
-    made ∙ rw (sym (append-nil entries) ∙ rw none at tracing.entries_are, sym (append-nil shown) ∙ rw none at tracing.shown_are) refl
-
 -- the loop stops at an entry that is not to be had
 pub tracing_stop : (script : ScriptData) (media_of : List (List Chunk)) (known : Known) (k : ℕ) (o : Opening) (told : List EntryLine) (units : List media.Unit) (follower new : FollowerValue) (entries : List Entry) (shown : List Shown) (t : EntryLine) (rest : List EntryLine) (left : List media.Unit) (trace : CodecTrace)
     → 0 < length rest → t ≡ get_or rest 0 t
     → IsTracing script media_of known k o told units follower entries shown rest left → NextIs script media_of known k (length entries) t follower None new → trace ≡ record { opening = o; entries = entries; shown = shown }
     → trace ≡ trace_of script media_of known k o told units
 tracing_stop script media_of known k o told units follower new entries shown t rest left trace lt is tracing next made =
-    let n : next_of script media_of known k (length entries) tracing.state t ≡ None = none_next tracing.state (next_of script media_of known k (length entries) tracing.state t) (next.answer tracing.state tracing.is) in
-    tracing_done script media_of known k o told units follower entries shown rest left trace tracing (rw (rest_split rest t lt is, n) refl) made
+    grind (arith, append-nil, rest_split rest t lt is, none_next, next.answer tracing.state tracing.is, tracing.entries_are, tracing.shown_are, made)
 
 -- the first item, whatever stands for one where there is none
 pub head_is : {X : Type 0} (rest : List X) (d : X) → 0 < length rest → get_or rest 0 d ≡ get_or rest 0 (get_or rest 0 d)

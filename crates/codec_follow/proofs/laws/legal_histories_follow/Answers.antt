@@ -1,4 +1,4 @@
-use Rattle.codec_follow.proofs.Filling.{legal_follows, legal_fills, units_in_order}
+use Rattle.codec_follow.proofs.Erased.{legal_follows, legal_fills, units_in_order}
 use Rattle.codec_follow.proofs.laws.legal_histories_follow.Goals as goal
 
 pub returns : goal.returns

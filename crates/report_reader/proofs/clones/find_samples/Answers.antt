@@ -1,7 +1,7 @@
 use Rattle.std.proofs.Common.{sym, ◌∙◌, arith}
 use Rattle.media_accounts.specs.Samples.{samples_before}
 use Rattle.report_reader.specs.Arguments.{taken_in}
-use Rattle.report_reader.proofs.ArgumentLaws.{defined_read, defined_past, undefined_at}
+use Rattle.report_reader.proofs.TableLaws.{defined_read, defined_past, undefined_at}
 use Rattle.report_reader.proofs.clones.find_samples.Goals as goal
 
 pub returns-in_default : goal.returns-in_default

@@ -1,5 +1,5 @@
 use Rattle.std.proofs.Common.{sym, ◌∙◌}
-use Rattle.report_reader.proofs.ArgumentLaws.{results_read, results_past}
+use Rattle.report_reader.proofs.TableLaws.{results_read, results_past}
 use Rattle.report_reader.proofs.known.results_at.Goals as goal
 
 pub returns-in-Some : goal.returns-in-Some

@@ -1,4 +1,4 @@
-use Rattle.report_reader.proofs.FaultLaws.{fault_is_one}
+use Rattle.report_reader.proofs.ReadLaws.{fault_is_one}
 use Rattle.report_reader.proofs.laws.faults_are_one.Goals as goal
 
 pub returns : goal.returns

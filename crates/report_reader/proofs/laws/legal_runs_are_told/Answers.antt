@@ -1,4 +1,4 @@
-use Rattle.report_reader.proofs.{LegalLaws.HistoryLaws, LegalLaws.legal_told, FormLaws.report_tells, NameLaws.sound_names}
+use Rattle.report_reader.proofs.{LegalLaws.HistoryLaws, LegalLaws.legal_told, ReadLaws.report_tells, NameLaws.sound_names}
 use Rattle.report_reader.proofs.laws.legal_runs_are_told.Goals as goal
 
 pub returns : goal.returns

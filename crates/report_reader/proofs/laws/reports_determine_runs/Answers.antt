@@ -1,4 +1,4 @@
-use Rattle.report_reader.proofs.{RunLaws.run_again, FormLaws.report_tells}
+use Rattle.report_reader.proofs.{RunLaws.run_again, ReadLaws.report_tells}
 use Rattle.report_reader.proofs.laws.reports_determine_runs.Goals as goal
 
 pub returns : goal.returns

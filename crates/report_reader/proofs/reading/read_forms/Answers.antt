@@ -1,6 +1,6 @@
 use Rattle.std.proofs.Common.{◌∷◌, [], arith}
 use Rattle.std.proofs.lemmas.List.{length-append}
-use Rattle.report_reader.proofs.{FormLaws.form_shorter, FormLaws.reads_more, PassLaws.form_numbered}
+use Rattle.report_reader.proofs.{FormLaws.form_shorter, FormLaws.reads_more, FormLaws.form_numbered}
 use Rattle.report_reader.proofs.reading.read_forms.Goals as goal
 
 pub loop-rest-smaller : goal.loop-rest-smaller

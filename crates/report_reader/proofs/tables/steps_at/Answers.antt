@@ -1,5 +1,5 @@
 use Rattle.std.proofs.Common.{sym, ◌∙◌}
-use Rattle.report_reader.proofs.ArgumentLaws.{steps_read, steps_past}
+use Rattle.report_reader.proofs.TableLaws.{steps_read, steps_past}
 use Rattle.report_reader.proofs.tables.steps_at.Goals as goal
 
 pub returns-in-Some : goal.returns-in-Some
