@@ -25,10 +25,10 @@ use Rattle.order_laws.specs.Course.{held_by_codecs}
 pub codec_count : (v : Course) (k : ℕ) (e : Entry) → length (with_entry k e v).codecs ≡ length v.codecs
 codec_count v k e = set_count k (after_entry k e v.slots (codec_at k v.codecs)) v.codecs
 
-pub opened_still : (s : ScriptData) (v : Course) (k : ℕ) (e : Entry) → k < length v.codecs → ((j : ℕ) → (codec_at j v.codecs).opening ≡ opening_at s j) → (j : ℕ) → (codec_at j (with_entry k e v).codecs).opening ≡ opening_at s j
-opened_still s v k e lt opened j = elim (cases_eq j k) [
-  | inl same ↦ rw same (ap (λ (d : CodecValue). d.opening) (set_here k (after_entry k e v.slots (codec_at k v.codecs)) v.codecs lt) ∙ opened k)
-  | inr other ↦ ap (λ (d : CodecValue). d.opening) (set_other j k (after_entry k e v.slots (codec_at k v.codecs)) v.codecs other) ∙ opened j
+pub opened_still : (v : Course) (k j : ℕ) (e : Entry) → k < length v.codecs → (codec_at j (with_entry k e v).codecs).opening ≡ (codec_at j v.codecs).opening
+opened_still v k j e lt = elim (cases_eq j k) [
+  | inl same ↦ rw (same, set_here k (after_entry k e v.slots (codec_at k v.codecs)) v.codecs lt) refl
+  | inr other ↦ rw (set_other j k (after_entry k e v.slots (codec_at k v.codecs)) v.codecs other) refl
 ]
 
 pub call_fits : (e : Entry) (who : Who) (refusal : Option ℕ) → who_of e ≡ Some who → EntryFits e refusal
@@ -98,9 +98,7 @@ entry_more stays s v k e t lt opened replays steps may =
     let o = opening_at s k in
     let now : at k (histories v.codecs) ≡ d.history = history_at k v.codecs in
     let longer : at k (histories (with_entry k e v).codecs) ≡ d.history ++ e ∷ [] = this_history v k e lt ∙ ap (λ (l : List Entry). l ++ e ∷ []) now in
-    let state : state_of (codec_at k (with_entry k e v).codecs) ≡ t =
-    ap state_of (set_here k (after_entry k e v.slots d) v.codecs lt)
-    ∙ ap (λ (x : Option State). unwrap_or x (opening_state d.opening)) (replay_append d.opening d.history e (state_of d) replays ∙ steps) in
+    let state : state_of (codec_at k (with_entry k e v).codecs) ≡ t = rw (set_here k (after_entry k e v.slots d) v.codecs lt, replay_append d.opening d.history e (state_of d) replays, steps) refl in
     record {
       adds = may;
       parts = held_parts e (state_of d);

@@ -27,15 +27,11 @@ legal_state o h l = some_is (replay o h) (opening_state o) l
 pub shown_kept : (o : Opening) (h more : List Entry) (p : ℕ) → IsLegal o h → p < length h → slice_get (each_shown o (h ++ more)) p ≡ slice_get (each_shown o h) p
 shown_kept o h more p l lt =
     let r = legal_state o h l in
-    let below : p < length (each_shown o h) = omega (arith, each_length o h (state_after o h) r) in
-    ap (λ xs. slice_get xs p) (each_append o h more (state_after o h) r) ∙ get_within (each_shown o h) (each_shown_from more (state_after o h)) p below
+    rw (each_append o h more (state_after o h) r) (get_within (each_shown o h) (each_shown_from more (state_after o h)) p (omega (arith, lt, each_length o h (state_after o h) r)))
 
 -- what the last entry of a history shows
 pub shown_last : (o : Opening) (h : List Entry) (e : Entry) → IsLegal o h → slice_get (each_shown o (h ++ e ∷ [])) (length h) ≡ Some (shown_at e (state_after o h))
-shown_last o h e l =
-    let r = legal_state o h l in
-    ap (λ xs. slice_get xs (length h)) (each_more o h e (state_after o h) r)
-    ∙ (ap (λ n. slice_get (each_shown o h ++ shown_at e (state_after o h) ∷ []) n) (sym (each_length o h (state_after o h) r)) ∙ get_end (each_shown o h) (shown_at e (state_after o h)))
+shown_last o h e l = let r = legal_state o h l in rw (each_more o h e (state_after o h) r, sym (each_length o h (state_after o h) r)) (get_end (each_shown o h) (shown_at e (state_after o h)))
 
 -- a take of the first output that was shown and not taken yet
 pub take_legal : (who : Who) (s : State) → s.control.taken < s.control.shown → Steps (Entry.Take who s.control.taken) s

@@ -3,6 +3,5 @@ pub mod Grown
 pub mod Answers
 pub mod Entries
 pub mod Moves
-pub mod Items
 pub mod Orders
 pub mod Same
