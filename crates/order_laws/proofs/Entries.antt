@@ -1,7 +1,7 @@
 -- What one entry more makes of a course: of its codecs and their histories, and of what codecs call for in the pool's history
 -- and hold of it.
 use Rattle.std.proofs.Common.{ℕ, ◌≡◌, ◌≢◌, ◌≤◌, ◌<◌, ◌++◌, ◌⊎◌, inl, inr, Bool, true, false, if◌then◌else◌, List, [], ◌∷◌, length, length-append, Option, Some, None, refl, ap, sym, ◌∙◌, arith}
-use Rattle.std.specs.Prelude.{slice_get, unwrap_or}
+use Rattle.std.specs.Prelude.{slice_get}
 use Rattle.std.proofs.Math.Seq.{take-length}
 use Rattle.std.proofs.lemmas.Bool.{cases_eq, cases_lt}
 use Rattle.std.proofs.lemmas.List.{take-append-le}
@@ -9,7 +9,7 @@ use Rattle.std.proofs.lemmas.Option.{slice_get_past}
 use Rattle.wc_base.specs.declared.who.Who.{Who}
 use Rattle.wc_pool.specs.declared.entry.PoolEntry.{PoolEntry}
 use Rattle.codec_model.specs.{declared.entry.Entry.Entry, declared.entry.Opening.Opening, declared.entry.Pair.Pair, ShownLaws.replay_append}
-use Rattle.codec_model.specs.Replay.{State, opening_state, replay, step as entry_step}
+use Rattle.codec_model.specs.Replay.{State, replay, step as entry_step}
 use Rattle.codec_model.specs.Held.{adds_held, lets_go, leaves_held, running_pairs, waiting_held, held_in, is_done, is_removal, HeldStays}
 use Rattle.codec_accounts.specs.{Owed.at, Calls.who_of}
 use Rattle.codec_accounts.specs.ListLaws.{IsNew, at_same, at_other, at_grows, get_end, get_within, result_more}

@@ -1,19 +1,17 @@
 -- What is recorded grows: what was there stays, and what it says of the script too.
-use Rattle.std.proofs.Common.{ℕ, zero, suc, ◌≡◌, ◌≤◌, ◌<◌, ◌++◌, List, take, length, Option, Some, None, refl, ap, sym, ◌∙◌, arith}
-use Rattle.std.specs.Prelude.{slice_get, option_map, option_and_then}
+use Rattle.std.proofs.Common.{ℕ, zero, suc, ◌≡◌, ◌≤◌, ◌<◌, ◌++◌, List, take, length, Option, Some, None, refl, ap, ◌∙◌, arith}
 use Rattle.std.proofs.lemmas.List.{take-append-le}
 use Rattle.std.proofs.lemmas.Option.{slice_get_within}
-use Rattle.wc_base.specs.declared.{error.DomError.DomError, who.Who.Who}
+use Rattle.wc_base.specs.declared.{who.Who.Who}
 use Rattle.wc_chunk.specs.declared.chunk.Chunk.{Chunk}
 use Rattle.codec_definitions.specs.declared.unit.Unit as media
-use Rattle.codec_model.specs.{declared.entry.Entry.Entry, declared.entry.Shown.Shown, Replay.IsLegal}
+use Rattle.codec_model.specs.{declared.entry.Entry.Entry, Replay.IsLegal}
 use Rattle.history_laws.specs.CountLaws.{outputs_stay}
 use Rattle.codec_accounts.specs.{Owed.at, ListLaws.get_some, ListLaws.get_kept}
 use Rattle.script_types.specs.declared.{script.ScriptData.ScriptData, steps.Step.Step, steps.MediaStep.MediaStep}
 use Rattle.report_text.specs.declared.result.StepResult.{StepResult}
-use Rattle.trace_text.specs.Report.{refusal_in}
-use Rattle.trace_text.specs.Follow.{Recorded, opening_at, steps_of, copied_chunk, output_at}
-use Rattle.trace_text.specs.Fits.{result_in, entry_in, step_in, called, taken_from, exception_at, made_steps, taken_by, brought_to, came_at, variables_at, IsAnswerOf, IsResultBy, IsResultOf, LookShows, IsLocalAnswer, MarksClimb}
+use Rattle.trace_text.specs.Follow.{Recorded, opening_at, output_at}
+use Rattle.trace_text.specs.Fits.{result_in, step_in, called, taken_from, made_steps, taken_by, brought_to, came_at, variables_at, IsResultBy, IsResultOf, LookShows, IsLocalAnswer, MarksClimb}
 use Rattle.media_variables.specs.Variables.{Came, Taken, Brought}
 use Rattle.media_accounts.specs.Accounts.{variables_by, IsBroughtToo}
 use Rattle.trace_text.specs.FitsLaws.{made_at, look_of, order_by_places}

@@ -1,5 +1,5 @@
 -- Each entry that following an order makes is legal.
-use Rattle.std.proofs.Common.{ℕ, ◌≡◌, ◌<◌, Bool, true, false, eq-eqb, List, [], ◌∷◌, ◌++◌, length, Option, Some, None, is_some, refl, ap, sym, subst, ◌∙◌, arith}
+use Rattle.std.proofs.Common.{ℕ, ◌≡◌, ◌<◌, Bool, true, false, eq-eqb, List, [], ◌∷◌, ◌++◌, length, Option, Some, None, is_some, refl, ap, sym, subst, arith}
 use Rattle.std.specs.Prelude.{unwrap_or, slice_get}
 use Rattle.wc_base.specs.{Options.some_same, Options.cond_is, declared.who.Who.Who}
 use Rattle.codec_definitions.specs.declared.unit.Unit as media

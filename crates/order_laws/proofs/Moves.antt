@@ -15,8 +15,8 @@ use Rattle.slot_registry.specs.Slots.{SlotsValue}
 use Rattle.wc_chunk.specs.declared.chunk.Chunk.{Chunk}
 use Rattle.codec_definitions.specs.declared.unit.Unit as output
 use Rattle.codec_definitions.specs.declared.unit.Unit.TheVariants as unit
-use Rattle.codec_model.specs.declared.entry.{Opening.Opening, Call.Call, Entry.Entry, Handed.Handed, Item.Item, Pair.Pair, Removal.Removal, Running.Running, Task.Task}
-use Rattle.codec_model.specs.{Control.start_item, Control.may_reclaim, Held.HeldStays, Held.adds_held, StepLaws.turn_made}
+use Rattle.codec_model.specs.declared.entry.{Opening.Opening, Call.Call, Entry.Entry, Item.Item, Removal.Removal, Running.Running, Task.Task}
+use Rattle.codec_model.specs.{Control.start_item, Control.may_reclaim, Held.HeldStays, StepLaws.turn_made}
 use Rattle.codec_model.specs.Replay.{State, step as entry_step, entry_of, removal_entry, call_error, encode_error, is_configured, removal_error, answer_to}
 use Rattle.codec_model.specs.Shown.{refusal, rejection, removal_shows, shows, shown, outputs_of, exception_of}
 use Rattle.history_laws.specs.CountLaws.{shown_counted}

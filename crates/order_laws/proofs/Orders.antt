@@ -16,8 +16,8 @@ use Rattle.codec_accounts.specs.BoxAccounts.{nothing_accounted, boxes_accounted}
 use Rattle.script_types.specs.declared.script.{CallerItem.CallerItem, CodecItem.CodecItem, OrderItem.OrderItem, ScriptData.ScriptData}
 use Rattle.report_text.specs.declared.result.StepResult.{StepResult}
 use Rattle.trace_text.specs.declared.run.Run.{Run}
-use Rattle.trace_text.specs.Follow.{Recorded, Course, record_of, opening_of, opening_in, opening_at, steps_of, order_items, follow_item, item_move, Follows, nothing_yet}
-use Rattle.trace_text.specs.Fits.{recorded_of, mark_of, marks_of, CallsAreIn, LooksAreIn, ArgumentsAreIn, LocalsAreIn, LookShows, IsLocalAnswer, brought_to, made_steps, came_at, variables_at, lends_in, FollowsTheOrder, Fits}
+use Rattle.trace_text.specs.Follow.{Recorded, Course, record_of, opening_of, opening_in, opening_at, steps_of, order_items, follow_item, Follows, nothing_yet}
+use Rattle.trace_text.specs.Fits.{recorded_of, mark_of, marks_of, CallsAreIn, LooksAreIn, ArgumentsAreIn, LocalsAreIn, brought_to, made_steps, lends_in, FollowsTheOrder, Fits}
 use Rattle.media_accounts.specs.Accounts.{lent_at, Lending, nothing_lent, MediaAreIn, MediaStand}
 use Rattle.order_laws.specs.{Sound.IsSound, Course.IsCourse}
 use Rattle.order_laws.proofs.Entries.{lending_of}

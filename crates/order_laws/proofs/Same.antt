@@ -1,5 +1,5 @@
 -- Following an order makes one run, where the same ends want memory and as many boxes of each id are there.
-use Rattle.std.proofs.Common.{ℕ, zero, suc, ◌≡◌, ◌<◌, Bool, true, false, List, [], ◌∷◌, ◌++◌, length, map, Option, Some, None, refl, ap, sym, subst, ◌∙◌, arith, append_assoc, append-nil, map-id}
+use Rattle.std.proofs.Common.{ℕ, zero, suc, ◌≡◌, ◌<◌, Bool, false, List, [], ◌∷◌, ◌++◌, length, map, Option, Some, None, refl, ap, sym, subst, ◌∙◌, arith, append_assoc, append-nil, map-id}
 use mathlib.Core.List.{map-map}
 use Rattle.std.specs.Prelude.{slice_get, option_map}
 use Rattle.wc_base.specs.declared.who.{By.By, Who.Who}
@@ -10,8 +10,8 @@ use Rattle.slot_registry.specs.Slots.{SlotsValue}
 use Rattle.codec_definitions.specs.declared.unit.Unit as media
 use Rattle.codec_model.specs.{declared.entry.Entry.Entry, declared.entry.Opening.Opening, declared.entry.Running.Running, Replay.answer_to}
 use Rattle.codec_model.specs.Shown.{each_shown}
-use Rattle.codec_accounts.specs.{Owed.at, ListLaws.get_kept, ListLaws.get_end, Registry.BoxOut}
-use Rattle.codec_accounts.specs.Codec.{Holding, CodecValue, state_of, codec_at, histories, BoxStep, Keep, Give, Renew, slots_after, holding_after, next_by, step_by}
+use Rattle.codec_accounts.specs.{Owed.at, ListLaws.get_kept, ListLaws.get_end}
+use Rattle.codec_accounts.specs.Codec.{Holding, CodecValue, state_of, codec_at, histories, BoxStep, Renew, slots_after, holding_after, next_by, step_by}
 use Rattle.script_types.specs.declared.{script.CodecItem.CodecItem, script.OrderItem.OrderItem, script.ScriptData.ScriptData, steps.Step.Step}
 use Rattle.script_types.specs.declared.steps.MediaStep.{MediaStep}
 use Rattle.report_text.specs.declared.result.StepResult.{StepResult}
