@@ -22,7 +22,7 @@ use Rattle.codec_model.specs.Shown.{refusal, rejection, removal_shows, shows, sh
 use Rattle.history_laws.specs.CountLaws.{shown_counted}
 use Rattle.codec_accounts.specs.{Owed.at, Owed.append_at, StartLaws.EndFits}
 use Rattle.codec_accounts.specs.ListLaws.{append_at_length, at_same, at_other, get_some, get_end, result_kept, result_new, result_more}
-use Rattle.codec_accounts.specs.Calls.{who_of, Mark, reach, named, call_in}
+use Rattle.codec_accounts.specs.Calls.{who_of, Mark, Climbs, reach, named, call_in}
 use Rattle.codec_accounts.specs.Calls as mark
 use Rattle.codec_accounts.specs.CallsLaws.{names_call, named_more, calls_in_more, climbs_on, climbs_add, MayClimb}
 use Rattle.codec_accounts.specs.Codec.{CodecValue, new_codec, state_after, state_of, codec_at, histories}
@@ -140,9 +140,6 @@ result_grows v c r m = record { stays = λ b j q h. result_kept b c j r q v.call
 -- one entry more, and the result of its caller
 both_grow : (v : Course) (c k : ℕ) (e : Entry) (r : StepResult) (m : Media) → Grows (record_of v) (record_of (told_by c r m (with_entry k e v)))
 both_grow v c k e r m = record { stays = λ b j q h. result_kept b c j r q v.callers h; more = λ n. longer_history v k n e }
-
-up_to : (w v : Recorded) → Grows w v → (k : ℕ) → length (at k w.codecs) ≤ length (at k v.codecs)
-up_to w v g k = let m = g.more k in let l = ap length m.1 in let a = length-append (at k w.codecs) m.0 in omega (arith, l, a)
 
 -- one caller has one result more
 one_more : (v u : Course) (c : ℕ) (r : StepResult) → u.callers ≡ append_at c r v.callers → c < length v.callers → OneMore (made_steps (record_of v)) (made_steps (record_of u)) c
@@ -315,136 +312,147 @@ module _ (laws : MediaLaws) (s : ScriptData) (media : List (List Chunk)) (made :
       let long = marks_long who.caller v.callers in
       (had.0, had.1, rw (variables_stay s media (record_of v) (record_of u) who.caller who.step told (omega (arith, lt, long))) had.2)
 
-  -- what stands after one result more of a caller
-  told_stands : (u : Course) (c : ℕ) (r : StepResult) → u.callers ≡ append_at c r v.callers → c < length v.callers → Grows (record_of v) (record_of u) → IsMarked v u c r → CodecsStand s made u.codecs u.slots → SameMedia s media (record_of v) (record_of u)
-      → ArgumentsAreIn s media (record_of u) → ResultFits s media (record_of u) c (length (at c v.callers)) r → MediaAt s media u → Stands s media made u
-  told_stands u c r callers lt g marked codecs told arguments fits stand = record {
-    callers = ap length callers ∙ (append_at_length c r v.callers ∙ st.callers);
-    codecs = codecs;
-    results = λ b j q is. elim (result_more b c j r q v.callers (ap (λ (ls : List (List StepResult)). slice_get (at b ls) j) (sym callers) ∙ is)) [
-      | inl was ↦ result_stays s (record_of v) (record_of u) g media legals st.climbs told b j q was (st.results b j q was)
-      | inr new ↦ rw (new.place, new.value, new.number) fits
-    ];
-    arguments = arguments;
-    once = λ k. (
-        let m = g.more k in
+  -- what the results say climbs still where only histories go on
+  climbs_still : (u : Course) → Grows (record_of v) (record_of u) → (c k : ℕ) → Climbs k 0 (map mark_of (at c v.callers)) (length (at k (histories u.codecs)))
+  climbs_still u g c k =
+      let m = g.more k in
+      let l = ap length m.1 in
+      let a = length-append (at k (histories v.codecs)) m.0 in
+      climbs_on k 0 (map mark_of (at c v.callers)) (length (at k (histories v.codecs))) (length (at k (histories u.codecs))) (omega (arith, l, a)) (st.climbs c k)
+
+  -- ---- a result of a caller that is there
+
+  module _ (c : ℕ) (caller : c < length v.callers) where
+    -- what stands after it
+    told_stands : (u : Course) (r : StepResult) → u.callers ≡ append_at c r v.callers → Grows (record_of v) (record_of u) → IsMarked v u c r → CodecsStand s made u.codecs u.slots → SameMedia s media (record_of v) (record_of u)
+        → ArgumentsAreIn s media (record_of u) → ResultFits s media (record_of u) c (length (at c v.callers)) r → MediaAt s media u → Stands s media made u
+    told_stands u r callers g marked codecs told arguments fits stand = record {
+      callers = ap length callers ∙ (append_at_length c r v.callers ∙ st.callers);
+      codecs = codecs;
+      results = λ b j q is. elim (result_more b c j r q v.callers (ap (λ (ls : List (List StepResult)). slice_get (at b ls) j) (sym callers) ∙ is)) [
+        | inl was ↦ result_stays s (record_of v) (record_of u) g media legals st.climbs told b j q was (st.results b j q was)
+        | inr new ↦ rw (new.place, new.value, new.number) fits
+      ];
+      arguments = arguments;
+      once = λ k. (
+          let m = g.more k in
+          let here = at k (histories v.codecs) in
+          let marks = marks_of (record_of v) in
+          let there : c < length marks = (let n = length-map v.callers (λ rs. map mark_of rs) in omega (arith, caller, n)) in
+          let same : named (here ++ m.0) ≡ named here ++ call_in k (record { caller = c; step = length (at c marks) }) (mark_of r) = rw (marks_long c v.callers, sym m.1) (marked k).1 in
+          rw (callers, marks_append c r v.callers, m.1) (calls_in_more k c (mark_of r) marks here m.0 there (st.once k) (λ t. ap (sum_by t) same))
+          );
+      climbs = λ b k. elim (cases_eq b c) [
+        | inr other ↦ rw (callers, at_other b c r v.callers other) (climbs_still u g b k)
+        | inl same ↦ rw (same, callers, at_same c r v.callers caller, map-append mark_of (at c v.callers) (r ∷ [])) (climbs_add k 0 (map mark_of (at c v.callers)) (length (at k (histories v.codecs))) (mark_of r) (length (at k (histories u.codecs))) (st.climbs c k) (marked k).0)
+      ];
+      stand = stand;
+    }
+
+    -- and without an entry, with these media
+    result_stands : (r : StepResult) (m : Media) → let u = told_by c r m v in IsMarked v v c r → SameMedia s media (record_of v) (record_of u) → ResultFits s media (record_of u) c (length (at c v.callers)) r → MediaAt s media u → Stands s media made u
+    result_stands r m marked told fits stand = let u = told_by c r m v in told_stands u r refl (result_grows v c r m) marked st.codecs told (arguments_stay u told) fits stand
+
+    -- of a step that has no part in media
+    answer_stands : (r : StepResult) → let w = record_of (with_result c r v) in IsMarked v v c r → (SameBefore s media v w c → ResultFits s media w c (length (at c v.callers)) r) → IsQuiet (steps_of s) (brought_to s media w) c (length (at c v.callers)) → Stands s media made (with_result c r v)
+    answer_stands r marked fits quiet =
+        let u = with_result c r v in
+        let later = later_stands u (result_grows v c r v.media) in
+        result_stands r v.media marked later.same (fits (same_before u c later.same)) (laws.others _ _ _ _ _ _ _ c later.stands (one_more v u c r refl caller) quiet)
+
+    -- of a step on media, to which no output is brought
+    handled_stands : (x : MediaStep) (y : Came) → step_in s c (length (at c v.callers)) ≡ Some (Step.Media x) → media_came v.media.pool (next_who v c) (brought (copied_chunk media (steps_of s c) x) None) x (variables_of c v.media.variables) ≡ Some y
+        → Stands s media made (after_move (Handle (next_who v c) y) v)
+    handled_stands x y is_step comes =
+        let u = after_move (Handle (next_who v c) y) v in
+        let w = record_of u in
+        let r = y.answer in
+        let chunk = copied_chunk media (steps_of s c) x in
+        let vs = variables_at s media w c (length (at c v.callers)) in
+        let own : IsOwn r = media_own v.media.pool (next_who v c) chunk x (variables_of c v.media.variables) y comes in
+        let facts = own_facts s media w v.media.pool (next_who v c) chunk vs (variables_of c v.media.variables) y c x r comes own refl in
+        let none : taken_by s w (result_in w c (length (at c v.callers))) ≡ None = ap (taken_by s w) (result_new c r v.callers caller) ∙ facts.took in
+        let later = later_stands u (result_grows v c r u.media) in
+        let told : StepStands (steps_of s) (brought_to s media w) (lending_of s v.codecs) (made_steps (record_of v)) (made_steps w) (length s.callers) v.media c y =
+        laws.media _ _ _ _ _ _ _ c x y later.stands (rw (sym st.callers) caller) (one_more v u c r refl caller) is_step (rw none comes) in
+        let answers = subst (λ (o : Option Came). IsLocalAnswer s media vs o c (Step.Media x) r) (sym told.here) facts.answers in
+        result_stands r u.media (local_marked v c r own) (λ d j lt. told.earlier d j lt ∙ later.same d j lt)
+        (record { step = Step.Media x; is_step = is_step; made = facts.made; found = facts.found; shows = facts.shows; answers = answers }) told.stands
+
+  -- ---- an entry of a codec that is there, with its state after it
+
+  module _ (k : ℕ) (e : Entry) (t : State) (codec : k < length v.codecs) (steps : entry_step e (state_of (codec_at k v.codecs)) ≡ Some t) where
+    -- what stands of the codecs
+    codecs_more : EntryFits e (codec_at k v.codecs).holding.refusal → CodecsStand s made (with_entry k e v).codecs (with_entry k e v).slots
+    codecs_more fits = record {
+      count = codec_count v k e ∙ st.codecs.count;
+      opened = λ j. opened_still v k j e codec ∙ st.codecs.opened j;
+      same_made = made_stays v k e ∙ st.codecs.same_made;
+      boxes = accounted_more v.codecs v.slots k e t st.codecs.boxes codec steps fits;
+    }
+
+    -- all media stand, where the course goes on to u
+    entry_stands : (u : Course) → MayAddAll v.media.pool e → Grows (record_of v) (record_of u)
+        → EntryStands (steps_of s) (brought_to s media (record_of u)) (lending_of s (with_entry k e v).codecs) (made_steps (record_of v)) (length s.callers) k (next_place v k) e (state_of (codec_at k v.codecs)) v.media
+    entry_stands u may g = laws.codecs _ _ _ _ _ _ _ _ _ _ _ (later_stands u g).stands (entry_more laws.held s v k e t codec (st.codecs.opened k) (st.codecs.boxes.each k).replays steps may)
+
+    -- entries have what their steps give still, where this one has
+    entry_arguments : (u : Course) → u.codecs ≡ (with_entry k e v).codecs → SameMedia s media (record_of v) (record_of u) → ((who : Who) → who_of e ≡ Some who → HasStep s media (record_of u) who e) → ArgumentsAreIn s media (record_of u)
+    entry_arguments u codecs told has n q f who is names =
+        elim (entries_new v k q n e f (ap (λ (ds : List CodecValue). slice_get (at n (histories ds)) q) (sym codecs) ∙ is)) [
+          | inl was ↦ arguments_stay u told n q f who was names
+          | inr new ↦ rw new.value (has who (ap who_of (sym new.value) ∙ names))
+        ]
+
+    -- an entry of no caller
+    advance_stands : who_of e ≡ None → EntryFits e (codec_at k v.codecs).holding.refusal → Stands s media made (with_entry k e v)
+    advance_stands nobody fits =
+        let u = with_entry k e v in
+        let grows : Grows (record_of v) (record_of u) = record { stays = λ b j q h. h; more = λ n. longer_history v k n e } in
+        let stands = entry_stands u (nobody_adds v.media.pool e nobody) grows in
+        let told : SameMedia s media (record_of v) (record_of u) = λ d j lt. stands.same d j ∙ (later_stands u grows).same d j lt in
         let here = at k (histories v.codecs) in
-        let marks = marks_of (record_of v) in
-        let there : c < length marks = (let n = length-map v.callers (λ rs. map mark_of rs) in omega (arith, lt, n)) in
-        let same : named (here ++ m.0) ≡ named here ++ call_in k (record { caller = c; step = length (at c marks) }) (mark_of r) = rw (marks_long c v.callers, sym m.1) (marked k).1 in
-        rw (callers, marks_append c r v.callers, m.1) (calls_in_more k c (mark_of r) marks here m.0 there (st.once k) (λ t. ap (sum_by t) same))
-        );
-    climbs = λ b k. elim (cases_eq b c) [
-      | inr other ↦ rw (callers, at_other b c r v.callers other) (climbs_on k 0 (map mark_of (at b v.callers)) (length (at k (histories v.codecs))) (length (at k (histories u.codecs))) (up_to (record_of v) (record_of u) g k) (st.climbs b k))
-      | inl same ↦ rw (same, callers, at_same c r v.callers lt, map-append mark_of (at c v.callers) (r ∷ []))
-          (climbs_add k 0 (map mark_of (at c v.callers)) (length (at k (histories v.codecs))) (mark_of r) (length (at k (histories u.codecs))) (st.climbs c k) (marked k).0)
-    ];
-    stand = stand;
-  }
+        let still : named (here ++ e ∷ []) ≡ named here = rw (named_more here e, nobody, append-nil (named here)) refl in
+        record {
+          callers = st.callers;
+          codecs = codecs_more fits;
+          results = λ b j q is. result_stays s (record_of v) (record_of u) grows media legals st.climbs told b j q is (st.results b j q is);
+          arguments = entry_arguments u refl told (λ who names. absurd (let bad = sym nobody ∙ names in cc));
+          once = λ n. elim (cases_eq n k) [
+            | inr other ↦ rw (same_history v k n e other) (st.once n)
+            | inl same ↦ rw (same, this_history v k e codec) (λ t. ap (sum_by t) still ∙ st.once k t)
+          ];
+          climbs = climbs_still u grows;
+          stand = stands.stands;
+        }
 
-  -- what stands after a result without an entry, with these media
-  result_stands : (c : ℕ) (r : StepResult) (m : Media) → c < length v.callers → IsMarked v v c r → SameMedia s media (record_of v) (record_of (told_by c r m v)) → ResultFits s media (record_of (told_by c r m v)) c (length (at c v.callers)) r → MediaAt s media (told_by c r m v) → Stands s media made (told_by c r m v)
-  result_stands c r m lt marked told fits stand = told_stands (told_by c r m v) c r refl lt (result_grows v c r m) marked st.codecs told (arguments_stay (told_by c r m v) told) fits stand
+    -- an entry of a caller and its result, with these media
+    entered_stands : (c : ℕ) (r : StepResult) (m : Media) (x : Step) → let u = told_by c r m (with_entry k e v) in c < length v.callers → who_of e ≡ Some (next_who v c) → mark_of r ≡ mark.Call k (next_place v k) → step_in s c (length (at c v.callers)) ≡ Some x
+        → HasArguments s media (variables_of c v.media.variables) (next_who v c) e x → SameMedia s media (record_of v) (record_of u) → ResultFits s media (record_of u) c (length (at c v.callers)) r → MediaAt s media u → Stands s media made u
+    entered_stands c r m x caller names marks is_step has told fits stand =
+        let u = told_by c r m (with_entry k e v) in
+        told_stands c caller u r refl (both_grow v c k e r m) (call_marked v c k e r codec names marks) (codecs_more (call_fits e (next_who v c) (codec_at k v.codecs).holding.refusal names)) told
+        (entry_arguments u refl told (λ who is. rw (some_same who (next_who v c) (sym is ∙ names)) (x, is_step, rw (same_before u c told) has))) fits stand
 
-  -- a result of a step that has no part in media
-  answer_stands : (c : ℕ) (r : StepResult) → c < length v.callers → IsMarked v v c r → (SameBefore s media v (record_of (with_result c r v)) c → ResultFits s media (record_of (with_result c r v)) c (length (at c v.callers)) r)
-      → IsQuiet (steps_of s) (brought_to s media (record_of (with_result c r v))) c (length (at c v.callers)) → Stands s media made (with_result c r v)
-  answer_stands c r lt marked fits quiet =
-      let u = with_result c r v in
-      let later = later_stands u (result_grows v c r v.media) in
-      result_stands c r v.media lt marked later.same (fits (same_before u c later.same)) (laws.others _ _ _ _ _ _ _ c later.stands (one_more v u c r refl lt) quiet)
-
-  -- a step on media of this caller, to which no output is brought
-  handled_stands : (c : ℕ) (x : MediaStep) (y : Came) → c < length v.callers → step_in s c (length (at c v.callers)) ≡ Some (Step.Media x) → media_came v.media.pool (next_who v c) (brought (copied_chunk media (steps_of s c) x) None) x (variables_of c v.media.variables) ≡ Some y
-      → Stands s media made (after_move (Handle (next_who v c) y) v)
-  handled_stands c x y lt is_step comes =
-      let u = after_move (Handle (next_who v c) y) v in
-      let w = record_of u in
-      let r = y.answer in
-      let chunk = copied_chunk media (steps_of s c) x in
-      let vs = variables_at s media w c (length (at c v.callers)) in
-      let own : IsOwn r = media_own v.media.pool (next_who v c) chunk x (variables_of c v.media.variables) y comes in
-      let facts = own_facts s media w v.media.pool (next_who v c) chunk vs (variables_of c v.media.variables) y c x r comes own refl in
-      let none : taken_by s w (result_in w c (length (at c v.callers))) ≡ None = ap (taken_by s w) (result_new c r v.callers lt) ∙ facts.took in
-      let later = later_stands u (result_grows v c r u.media) in
-      let told : StepStands (steps_of s) (brought_to s media w) (lending_of s v.codecs) (made_steps (record_of v)) (made_steps w) (length s.callers) v.media c y =
-      laws.media _ _ _ _ _ _ _ c x y later.stands (rw (sym st.callers) lt) (one_more v u c r refl lt) is_step (rw none comes) in
-      result_stands c r u.media lt (local_marked v c r own) (λ d j lt. told.earlier d j lt ∙ later.same d j lt)
-      (record { step = Step.Media x; is_step = is_step; made = facts.made; found = facts.found; shows = facts.shows; answers = subst (λ (o : Option Came). IsLocalAnswer s media vs o c (Step.Media x) r) (sym told.here) facts.answers }) told.stands
-
-  -- ---- entries, of a codec that is there, with its state after it
-
-  -- what stands of the codecs
-  codecs_more : (k : ℕ) (e : Entry) (t : State) → k < length v.codecs → entry_step e (state_of (codec_at k v.codecs)) ≡ Some t → EntryFits e (codec_at k v.codecs).holding.refusal → CodecsStand s made (with_entry k e v).codecs (with_entry k e v).slots
-  codecs_more k e t lt steps fits = record {
-    count = codec_count v k e ∙ st.codecs.count;
-    opened = λ j. opened_still v k j e lt ∙ st.codecs.opened j;
-    same_made = made_stays v k e ∙ st.codecs.same_made;
-    boxes = accounted_more v.codecs v.slots k e t st.codecs.boxes lt steps fits;
-  }
-
-  -- all media stand, where the course goes on to u
-  entry_stands : (u : Course) (k : ℕ) (e : Entry) (t : State) → k < length v.codecs → entry_step e (state_of (codec_at k v.codecs)) ≡ Some t → MayAddAll v.media.pool e → Grows (record_of v) (record_of u)
-      → EntryStands (steps_of s) (brought_to s media (record_of u)) (lending_of s (with_entry k e v).codecs) (made_steps (record_of v)) (length s.callers) k (next_place v k) e (state_of (codec_at k v.codecs)) v.media
-  entry_stands u k e t lt steps may g = laws.codecs _ _ _ _ _ _ _ _ _ _ _ (later_stands u g).stands (entry_more laws.held s v k e t lt (st.codecs.opened k) (st.codecs.boxes.each k).replays steps may)
-
-  -- entries have what their steps give still, where the new one has
-  entry_arguments : (u : Course) (k : ℕ) (e : Entry) → u.codecs ≡ (with_entry k e v).codecs → SameMedia s media (record_of v) (record_of u) → ((who : Who) → who_of e ≡ Some who → HasStep s media (record_of u) who e) → ArgumentsAreIn s media (record_of u)
-  entry_arguments u k e codecs told has n q f who is names =
-      elim (entries_new v k q n e f (ap (λ (ds : List CodecValue). slice_get (at n (histories ds)) q) (sym codecs) ∙ is)) [
-        | inl was ↦ arguments_stay u told n q f who was names
-        | inr new ↦ rw new.value (has who (ap who_of (sym new.value) ∙ names))
-      ]
-
-  -- an entry of no caller
-  advance_stands : (k : ℕ) (e : Entry) (t : State) → k < length v.codecs → entry_step e (state_of (codec_at k v.codecs)) ≡ Some t → who_of e ≡ None → EntryFits e (codec_at k v.codecs).holding.refusal → Stands s media made (with_entry k e v)
-  advance_stands k e t lt steps nobody fits =
-      let u = with_entry k e v in
-      let grows : Grows (record_of v) (record_of u) = record { stays = λ b j q h. h; more = λ n. longer_history v k n e } in
-      let stands = entry_stands u k e t lt steps (nobody_adds v.media.pool e nobody) grows in
-      let told : SameMedia s media (record_of v) (record_of u) = λ d j lt. stands.same d j ∙ (later_stands u grows).same d j lt in
-      let here = at k (histories v.codecs) in
-      let still : named (here ++ e ∷ []) ≡ named here = rw (named_more here e, nobody, append-nil (named here)) refl in
-      record {
-        callers = st.callers;
-        codecs = codecs_more k e t lt steps fits;
-        results = λ b j q is. result_stays s (record_of v) (record_of u) grows media legals st.climbs told b j q is (st.results b j q is);
-        arguments = entry_arguments u k e refl told (λ who names. absurd (let bad = sym nobody ∙ names in cc));
-        once = λ n. elim (cases_eq n k) [
-          | inr other ↦ rw (same_history v k n e other) (st.once n)
-          | inl same ↦ rw (same, this_history v k e lt) (λ t. ap (sum_by t) still ∙ st.once k t)
-        ];
-        climbs = λ c n. climbs_on n 0 (map mark_of (at c v.callers)) (length (at n (histories v.codecs))) (length (at n (histories u.codecs))) (up_to (record_of v) (record_of u) grows n) (st.climbs c n);
-        stand = stands.stands;
-      }
-
-  -- an entry of a caller and its result, with these media
-  entered_stands : (c k : ℕ) (e : Entry) (r : StepResult) (m : Media) (t : State) (x : Step) → c < length v.callers → k < length v.codecs → who_of e ≡ Some (next_who v c) → mark_of r ≡ mark.Call k (next_place v k) → entry_step e (state_of (codec_at k v.codecs)) ≡ Some t → step_in s c (length (at c v.callers)) ≡ Some x
-      → HasArguments s media (variables_of c v.media.variables) (next_who v c) e x → SameMedia s media (record_of v) (record_of (told_by c r m (with_entry k e v))) → ResultFits s media (record_of (told_by c r m (with_entry k e v))) c (length (at c v.callers)) r
-      → MediaAt s media (told_by c r m (with_entry k e v)) → Stands s media made (told_by c r m (with_entry k e v))
-  entered_stands c k e r m t x caller codec names marks steps is_step has told fits stand =
-      let u = told_by c r m (with_entry k e v) in
-      told_stands u c r refl caller (both_grow v c k e r m) (call_marked v c k e r codec names marks) (codecs_more k e t codec steps (call_fits e (next_who v c) (codec_at k v.codecs).holding.refusal names)) told
-      (entry_arguments u k e refl told (λ who is. rw (some_same who (next_who v c) (sym is ∙ names)) (x, is_step, rw (same_before u c told) has))) fits stand
-
-  -- a call of a caller: the script's step, its entry, and the exception that it shows
-  ask_stands : (c k : ℕ) (e : Entry) (error : Option DomError) (t : State) (x : Step) → c < length v.callers → k < length v.codecs → step_in s c (length (at c v.callers)) ≡ Some x → called x ≡ Some k → entry_step e (state_of (codec_at k v.codecs)) ≡ Some t → who_of e ≡ Some (next_who v c)
-      → HasArguments s media (variables_of c v.media.variables) (next_who v c) e x → MayAddAll v.media.pool e → error ≡ refusal_in (shows e (state_of (codec_at k v.codecs))) → Stands s media made (after_move (Ask c k e error) v)
-  ask_stands c k e error t x caller codec is_step calls steps names has adds shows_error =
-      let u = after_move (Ask c k e error) v in
-      let r = call_result v k error in
-      let p = next_place v k in
-      let grows = both_grow v c k e r u.media in
-      let stands = entry_stands u k e t codec steps adds grows in
-      let shown : error ≡ exception_at (opening_at s k) (at k (histories u.codecs)) p = rw (this_history v k e codec, sym (history_there v k), shown_last (opening_at s k) (at k (histories v.codecs)) e (legals k), history_at k v.codecs, sym (st.codecs.opened k)) shows_error in
-      let none = no_look s media (record_of u) c k p x error calls in
-      entered_stands c k e r u.media t x caller codec names refl steps is_step has (λ d j lt. stands.same d j ∙ (later_stands u grows).same d j lt)
-      (record { step = x; is_step = is_step; made = rw (none.0, calls) (refl, shown); found = tt; shows = none.1; answers = none.2 _ _ })
-      (laws.others _ _ _ _ _ _ _ c stands.stands (one_more v u c r refl caller) (call_quiet s (brought_to s media (record_of u)) c (length (at c v.callers)) k x is_step calls))
+    -- a call of a caller: the script's step, its entry, and the exception that it shows
+    ask_stands : (c : ℕ) (error : Option DomError) (x : Step) → c < length v.callers → step_in s c (length (at c v.callers)) ≡ Some x → called x ≡ Some k → who_of e ≡ Some (next_who v c) → HasArguments s media (variables_of c v.media.variables) (next_who v c) e x → MayAddAll v.media.pool e
+        → error ≡ refusal_in (shows e (state_of (codec_at k v.codecs))) → Stands s media made (after_move (Ask c k e error) v)
+    ask_stands c error x caller is_step calls names has adds shows_error =
+        let u = after_move (Ask c k e error) v in
+        let r = call_result v k error in
+        let p = next_place v k in
+        let grows = both_grow v c k e r u.media in
+        let stands = entry_stands u adds grows in
+        let shown : error ≡ exception_at (opening_at s k) (at k (histories u.codecs)) p = rw (this_history v k e codec, sym (history_there v k), shown_last (opening_at s k) (at k (histories v.codecs)) e (legals k), history_at k v.codecs, sym (st.codecs.opened k)) shows_error in
+        let none = no_look s media (record_of u) c k p x error calls in
+        entered_stands c r u.media x caller names refl is_step has (λ d j lt. stands.same d j ∙ (later_stands u grows).same d j lt)
+        (record { step = x; is_step = is_step; made = rw (none.0, calls) (refl, shown); found = tt; shows = none.1; answers = none.2 _ _ })
+        (laws.others _ _ _ _ _ _ _ c stands.stands (one_more v u c r refl caller) (call_quiet s (brought_to s media (record_of u)) c (length (at c v.callers)) k x is_step calls))
 
   -- a take of the output with this number, which was shown: all but its caller's media are as after a call
-  received_stands : (c k n : ℕ) (y : Came) (bind : List ℕ) (holds : VariableKind) (t : State) (o : output.Unit) → c < length v.callers → k < length v.codecs → step_in s c (length (at c v.callers)) ≡ Some (Step.Media (MediaStep.Take k bind holds)) → entry_step (Entry.Take (next_who v c) n) (state_of (codec_at k v.codecs)) ≡ Some t
-      → output_at (opening_at s k) (at k (histories v.codecs)) n ≡ Some o → media_came v.media.pool (next_who v c) (brought None (Some (taken_as (take_result v k n) o))) (MediaStep.Take k bind holds) (variables_of c v.media.variables) ≡ Some y → Stands s media made (after_move (Receive (next_who v c) k (Entry.Take (next_who v c) n) y) v)
+  received_stands : (c k n : ℕ) (y : Came) (bind : List ℕ) (holds : VariableKind) (t : State) (o : output.Unit) → let x = MediaStep.Take k bind holds in c < length v.callers → k < length v.codecs → step_in s c (length (at c v.callers)) ≡ Some (Step.Media x)
+      → entry_step (Entry.Take (next_who v c) n) (state_of (codec_at k v.codecs)) ≡ Some t → output_at (opening_at s k) (at k (histories v.codecs)) n ≡ Some o
+      → media_came v.media.pool (next_who v c) (brought None (Some (taken_as (take_result v k n) o))) x (variables_of c v.media.variables) ≡ Some y → Stands s media made (after_move (Receive (next_who v c) k (Entry.Take (next_who v c) n) y) v)
   received_stands c k n y bind holds t o caller codec is_step steps there comes =
       let e = Entry.Take (next_who v c) n in
       let x = MediaStep.Take k bind holds in
@@ -457,10 +465,10 @@ module _ (laws : MediaLaws) (s : ScriptData) (media : List (List Chunk)) (made :
       let shown : output_at (opening_at s k) (at k (histories u.codecs)) n ≡ Some o = output_stays s (record_of v) w grows k n o there in
       let stood : entry_in w k (next_place v k) ≡ Some e = rw (this_history v k e codec, sym (history_there v k)) (get_end (at k (histories v.codecs)) e) in
       let took : taken_by s w (result_in w c (length (at c v.callers))) ≡ Some (taken_as r o) = rw (result_new c y.answer v.callers caller, answers, shown) refl in
-      let stands = entry_stands u k e t codec steps (λ i p is. absurd cc) grows in
+      let stands = entry_stands k e t codec steps u (λ i p is. absurd cc) grows in
       let told : StepStands (steps_of s) (brought_to s media w) (lending_of s u.codecs) (made_steps (record_of v)) (made_steps w) (length s.callers) (with_entry k e v).media c y =
       laws.media _ _ _ _ _ _ _ c x y stands.stands (rw (sym st.callers) caller) (one_more v u c y.answer refl caller) is_step (rw (took, append-nil v.media.pool) comes) in
-      entered_stands c k e y.answer u.media t (Step.Media x) caller codec refl (ap mark_of answers) steps is_step (n, refl) (λ d j lt. told.earlier d j lt ∙ (stands.same d j ∙ (later_stands u grows).same d j lt))
+      entered_stands k e t codec steps c y.answer u.media (Step.Media x) caller refl (ap mark_of answers) is_step (n, refl) (λ d j lt. told.earlier d j lt ∙ (stands.same d j ∙ (later_stands u grows).same d j lt))
       (rw answers (record { step = Step.Media x; is_step = is_step; made = (refl, stood); found = (o, shown); shows = tt; answers = tt })) told.stands
 
   -- ---- the next step of a caller, where the script is sound
@@ -479,13 +487,13 @@ module _ (laws : MediaLaws) (s : ScriptData) (media : List (List Chunk)) (made :
         → who_of e ≡ Some (next_who v c) → HasArguments s media (variables_of c v.media.variables) (next_who v c) e x → After (Ask c k e error)
     asks k x e error is calls said names has =
         let after = legal_after e (state_of (codec_at k v.codecs)) said.0 in
-        ask_stands c k e error after.0 x (caller_there x is) (omega (arith, sound.called c (length (at c v.callers)) k x is calls, st.codecs.count)) is calls after.1 names has said.2 said.1
+        ask_stands k e after.0 (omega (arith, sound.called c (length (at c v.callers)) k x is calls, st.codecs.count)) after.1 c error x (caller_there x is) is calls names has said.2 said.1
 
     answered : (x : Step) (r : StepResult) → IsNext s v c x → IsMarked v v c r → IsResultOf s (record_of (with_result c r v)) (next_who v c) x r → IsFound s (record_of (with_result c r v)) r
         → LookShows s (record_of (with_result c r v)) c x r → ((o : Option Came) → IsLocalAnswer s media (variables_of c v.media.variables) o c x r) → IsQuiet (steps_of s) (brought_to s media (record_of (with_result c r v))) c (length (at c v.callers)) → After (Answer c r)
     answered x r is marked made_of found looks answers quiet =
         let w = record_of (with_result c r v) in
-        answer_stands c r (caller_there x is) marked
+        answer_stands c (caller_there x is) r marked
         (λ before. record { step = x; is_step = is; made = made_of; found = found; shows = looks; answers = (let came = came_at s media w c (length (at c v.callers)) in subst (λ (vs : List (Option Medium)). IsLocalAnswer s media vs came c x r) (sym before) (answers came)) }) quiet
 
     -- a step that is none on media
@@ -517,7 +525,7 @@ module _ (laws : MediaLaws) (s : ScriptData) (media : List (List Chunk)) (made :
     -- a step on media, to which no output is brought
     handles : (x : MediaStep) (o : Option Came) → IsNext s v c (Step.Media x) → media_came v.media.pool (next_who v c) (brought (copied_chunk media (steps_of s c) x) None) x (variables_of c v.media.variables) ≡ o → After (handle_move (next_who v c) o)
     handles x None is comes = st
-    handles x (Some y) is comes = handled_stands c x y (caller_there (Step.Media x) is) is comes
+    handles x (Some y) is comes = handled_stands c (caller_there (Step.Media x) is) x y is comes
 
     -- a take that found nothing comes to nothing of media
     take_quiet : (k n : ℕ) (bind : List ℕ) (holds : VariableKind) → c < length v.callers → IsNext s v c (Step.Media (MediaStep.Take k bind holds)) → IsQuiet (steps_of s) (brought_to s media (record_of (with_result c (StepResult.NoUnit k n) v))) c (length (at c v.callers))
