@@ -9,7 +9,7 @@ use Rattle.slot_registry.specs.Slots.{SlotsValue, acquired}
 use Rattle.codec_model.specs.declared.entry.{Ended.Ended, Entry.Entry, Item.Item, Task.Task, Work.Work, Pair.Pair}
 use Rattle.codec_model.specs.Control.{Control, kind_of, front, start_item, may_start}
 use Rattle.codec_model.specs.Replay.{State, missing_coder, answer_to, turn_step}
-use Rattle.codec_core.specs.Codec.{Codec, item_parts, state_at, Makes, kept_box, handed_back, closes_now}
+use Rattle.codec_core.specs.Codec.{Codec, item_parts, state_at, Makes, kept_box, handed_back}
 use Rattle.codec_core.specs.Job.{JobValue, DoneValue, EndsBy, outcome_of, stopped_box, missing_id}
 use Rattle.codec_accounts.specs.Boxes.{Act, act_of, start_act, removal_act}
 use Rattle.codec_model.specs.Held.{running_pairs}

@@ -1,9 +1,9 @@
 -- One codec among all: what looks show of it, and what becomes of it by an item.
-use Rattle.std.proofs.Common.{ℕ, zero, suc, ◌≡◌, ◌≤◌, ◌<◌, List, [], ◌∷◌, length, get_or, Option, Some, None, refl, ap, sym, ◌∙◌}
+use Rattle.std.proofs.Common.{ℕ, zero, suc, ◌≡◌, List, [], ◌∷◌, length, Option, Some, None, refl, ap, ◌∙◌}
 use Rattle.std.specs.Prelude.{slice_set}
-use Rattle.std.proofs.lemmas.Option.{slice_get_read, slice_get_past, some_pair_parts}
+use Rattle.std.proofs.lemmas.Option.{some_pair_parts}
 use Rattle.slot_registry.specs.Slots.{SlotsValue}
-use Rattle.codec_model.specs.declared.entry.{Entry.Entry, PromiseState.PromiseState, PromiseState.TheVariants.Pending}
+use Rattle.codec_model.specs.declared.entry.{Entry.Entry}
 use Rattle.codec_accounts.specs.Codec.{CodecValue, codec_at}
 use Rattle.media_variables.specs.Variables.{Media}
 use Rattle.report_text.specs.declared.result.StepResult.{StepResult}
