@@ -15,7 +15,7 @@ use Rattle.trace_text.specs.Fits.{result_in, step_in, called, taken_from, made_s
 use Rattle.media_variables.specs.Variables.{Came, Taken, Brought}
 use Rattle.media_accounts.specs.Accounts.{variables_by, IsBroughtToo}
 use Rattle.trace_text.specs.FitsLaws.{made_at, look_of, order_by_places}
-use Rattle.order_laws.proofs.Legal.{shown_kept}
+use Rattle.order_laws.proofs.Entries.{shown_kept}
 
 -- each codec's history is legal
 abbrev pub Legals : ScriptData → Recorded → Type 0

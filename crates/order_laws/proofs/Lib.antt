@@ -1,4 +1,3 @@
-pub mod Legal
 pub mod Grown
 pub mod Answers
 pub mod Entries

@@ -37,8 +37,7 @@ use Rattle.trace_text.specs.Follow.{Recorded, Course, record_of, opening_at, pro
 use Rattle.trace_text.specs.Fits.{result_in, entry_in, step_in, called, taken_from, exception_at, mark_of, marks_of, taken_by, brought_to, made_steps, came_at, variables_at, IsResultOf, LookShows, IsLocalAnswer, HasArguments, ArgumentsAreIn, MarksClimb}
 use Rattle.order_laws.specs.Sound.{IsSound, promise_of, IsFlush}
 use Rattle.order_laws.specs.SoundSteps.{stands_in}
-use Rattle.order_laws.proofs.Legal.{Steps, some_is, MayBeRefused, shown_last, take_legal, start_legal, done_legal}
-use Rattle.order_laws.proofs.Entries.{codec_count, opened_still, call_fits, history_there, entries_new, longer_history, made_stays, same_history, this_history, lending_of, MayAddAll, entry_more, nobody_adds}
+use Rattle.order_laws.proofs.Entries.{Steps, some_is, MayBeRefused, shown_last, take_legal, start_legal, done_legal, codec_count, opened_still, call_fits, history_there, entries_new, longer_history, made_stays, same_history, this_history, lending_of, MayAddAll, entry_more, nobody_adds}
 use Rattle.order_laws.proofs.Grown.{Legals, Grows, SameMedia, variables_stay, IsFound, ResultFits, taken_as, brought, output_stays, brought_stays, result_stays}
 use Rattle.order_laws.proofs.Answers.{IsOwn, own_facts, media_own}
 
@@ -527,21 +526,14 @@ module _ (laws : MediaLaws) (s : ScriptData) (media : List (List Chunk)) (made :
     handles x None is comes = st
     handles x (Some y) is comes = handled_stands c (caller_there (Step.Media x) is) x y is comes
 
-    -- a take that found nothing comes to nothing of media
-    take_quiet : (k n : ℕ) (bind : List ℕ) (holds : VariableKind) → c < length v.callers → IsNext s v c (Step.Media (MediaStep.Take k bind holds)) → IsQuiet (steps_of s) (brought_to s media (record_of (with_result c (StepResult.NoUnit k n) v))) c (length (at c v.callers))
-    take_quiet k n bind holds lt is x pool vs named =
-        let w = record_of (with_result c (StepResult.NoUnit k n) v) in
-        let same : MediaStep.Take k bind holds ≡ x = some_same (MediaStep.Take k bind holds) x (sym (ap (option_and_then media_of) is) ∙ named) in
-        let none : taken_by s w (result_in w c (length (at c v.callers))) ≡ None = ap (taken_by s w) (result_new c (StepResult.NoUnit k n) v.callers lt) in
-        rw (sym same, none) refl
-
     takes : (k : ℕ) (bind : List ℕ) (holds : VariableKind) (o : Option output.Unit) → IsNext s v c (Step.Media (MediaStep.Take k bind holds)) → output_at (codec_at k v.codecs).opening (codec_at k v.codecs).history (state_of (codec_at k v.codecs)).control.taken ≡ o
         → After (take_move (next_who v c) k (codec_at k v.codecs) (taken_came v.media.pool (length (at c v.callers)) (option_map (taken_as (take_result v k (state_of (codec_at k v.codecs)).control.taken)) o) (variables_of c v.media.variables)))
     takes k bind holds None is none =
         let x = Step.Media (MediaStep.Take k bind holds) in
         let n = next_place v k in
         answered x (StepResult.NoUnit k n) is (look_marked v c k (StepResult.NoUnit k n) refl) refl tt
-        (refl, sym (all_there (λ o h. output_at o h (state_after o h).control.taken) s media made v k st) ∙ none) (λ o. tt) (take_quiet k n bind holds (caller_there x is) is)
+        (refl, sym (all_there (λ o h. output_at o h (state_after o h).control.taken) s media made v k st) ∙ none) (λ o. tt) (λ z pool vs named.
+          (let w = record_of (with_result c (StepResult.NoUnit k n) v) in rw (sym (some_same (MediaStep.Take k bind holds) z (sym (ap (option_and_then media_of) is) ∙ named)), ap (taken_by s w) (result_new c (StepResult.NoUnit k n) v.callers (caller_there x is))) refl))
     takes k bind holds (Some u) is some =
         let x = Step.Media (MediaStep.Take k bind holds) in
         let d = codec_at k v.codecs in
