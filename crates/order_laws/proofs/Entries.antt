@@ -34,18 +34,15 @@ pub some_is : {X : Type 0} (o : Option X) (d : X) → is_some o ≡ true → o �
 some_is None d h = absurd cc
 some_is (Some x) d h = refl
 
-pub legal_state : (o : Opening) (h : List Entry) → IsLegal o h → replay o h ≡ Some (state_after o h)
-legal_state o h l = some_is (replay o h) (opening_state o) l
-
 -- what the entries of a legal history show stays as it is
 pub shown_kept : (o : Opening) (h more : List Entry) (p : ℕ) → IsLegal o h → p < length h → slice_get (each_shown o (h ++ more)) p ≡ slice_get (each_shown o h) p
 shown_kept o h more p l lt =
-    let r = legal_state o h l in
+    let r = some_is (replay o h) (opening_state o) l in
     rw (each_append o h more (state_after o h) r) (get_within (each_shown o h) (each_shown_from more (state_after o h)) p (omega (arith, lt, each_length o h (state_after o h) r)))
 
 -- what the last entry of a history shows
 pub shown_last : (o : Opening) (h : List Entry) (e : Entry) → IsLegal o h → slice_get (each_shown o (h ++ e ∷ [])) (length h) ≡ Some (shown_at e (state_after o h))
-shown_last o h e l = let r = legal_state o h l in rw (each_more o h e (state_after o h) r, sym (each_length o h (state_after o h) r)) (get_end (each_shown o h) (shown_at e (state_after o h)))
+shown_last o h e l = let r = some_is (replay o h) (opening_state o) l in rw (each_more o h e (state_after o h) r, sym (each_length o h (state_after o h) r)) (get_end (each_shown o h) (shown_at e (state_after o h)))
 
 -- a take of the first output that was shown and not taken yet
 pub take_legal : (who : Who) (s : State) → s.control.taken < s.control.shown → Steps (Entry.Take who s.control.taken) s
@@ -82,9 +79,6 @@ done_legal s r moment wants refusal h may =
     (rw (eq-eqb r.epoch r.epoch refl, eq-eqb r.number r.number refl) (outcome_legal r s moment wants refusal may))
 
 -- ---- codecs and their histories
-
-pub codec_count : (v : Course) (k : ℕ) (e : Entry) → length (with_entry k e v).codecs ≡ length v.codecs
-codec_count v k e = set_count k (after_entry k e v.slots (codec_at k v.codecs)) v.codecs
 
 pub opened_still : (v : Course) (k j : ℕ) (e : Entry) → k < length v.codecs → (codec_at j (with_entry k e v).codecs).opening ≡ (codec_at j v.codecs).opening
 opened_still v k j e lt = elim (cases_eq j k) [

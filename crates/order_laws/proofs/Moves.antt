@@ -25,8 +25,8 @@ use Rattle.codec_accounts.specs.ListLaws.{append_at_length, at_same, at_other, g
 use Rattle.codec_accounts.specs.Calls.{who_of, Mark, Climbs, reach, named, call_in}
 use Rattle.codec_accounts.specs.Calls as mark
 use Rattle.codec_accounts.specs.CallsLaws.{names_call, named_more, calls_in_more, climbs_on, climbs_add, MayClimb}
-use Rattle.codec_accounts.specs.Codec.{CodecValue, new_codec, state_after, state_of, codec_at, histories}
-use Rattle.codec_accounts.specs.AccountLaws.{Accounted, EntryFits, accounted_more, history_at}
+use Rattle.codec_accounts.specs.Codec.{CodecValue, after_entry, new_codec, state_after, state_of, codec_at, histories}
+use Rattle.codec_accounts.specs.AccountLaws.{Accounted, EntryFits, accounted_more, history_at, set_count}
 use Rattle.script_types.specs.declared.{script.OrderItem.OrderItem, script.ScriptData.ScriptData, steps.Step.Step, steps.MediaStep.MediaStep, steps.Variable.Variable, steps.VariableKind.VariableKind}
 use Rattle.report_text.specs.declared.result.StepResult.{StepResult}
 use Rattle.trace_text.specs.Report.{refusal_in}
@@ -37,7 +37,7 @@ use Rattle.trace_text.specs.Follow.{Recorded, Course, record_of, opening_at, pro
 use Rattle.trace_text.specs.Fits.{result_in, entry_in, step_in, called, taken_from, exception_at, mark_of, marks_of, taken_by, brought_to, made_steps, came_at, variables_at, IsResultOf, LookShows, IsLocalAnswer, HasArguments, ArgumentsAreIn, MarksClimb}
 use Rattle.order_laws.specs.Sound.{IsSound, promise_of, IsFlush}
 use Rattle.order_laws.specs.SoundSteps.{stands_in}
-use Rattle.order_laws.proofs.Entries.{Steps, some_is, MayBeRefused, shown_last, take_legal, start_legal, done_legal, codec_count, opened_still, call_fits, history_there, entries_new, longer_history, made_stays, same_history, this_history, lending_of, MayAddAll, entry_more, nobody_adds}
+use Rattle.order_laws.proofs.Entries.{Steps, some_is, MayBeRefused, shown_last, take_legal, start_legal, done_legal, opened_still, call_fits, history_there, entries_new, longer_history, made_stays, same_history, this_history, lending_of, MayAddAll, entry_more, nobody_adds}
 use Rattle.order_laws.proofs.Grown.{Legals, Grows, SameMedia, variables_stay, IsFound, ResultFits, taken_as, brought, output_stays, brought_stays, result_stays}
 use Rattle.order_laws.proofs.Answers.{IsOwn, own_facts, media_own}
 
@@ -384,7 +384,7 @@ module _ (laws : MediaLaws) (s : ScriptData) (media : List (List Chunk)) (made :
     -- what stands of the codecs
     codecs_more : EntryFits e (codec_at k v.codecs).holding.refusal → CodecsStand s made (with_entry k e v).codecs (with_entry k e v).slots
     codecs_more fits = record {
-      count = codec_count v k e ∙ st.codecs.count;
+      count = set_count k (after_entry k e v.slots (codec_at k v.codecs)) v.codecs ∙ st.codecs.count;
       opened = λ j. opened_still v k j e codec ∙ st.codecs.opened j;
       same_made = made_stays v k e ∙ st.codecs.same_made;
       boxes = accounted_more v.codecs v.slots k e t st.codecs.boxes codec steps fits;

@@ -67,12 +67,10 @@ module _ (s : ScriptData) (media : List (List Chunk)) (others : List CoderId) wh
   step_same who (Step.Media (MediaStep.Take on bind kind)) v = refl
   step_same who x v = refl
 
-  next_same : (who : Who) (o : Option Step) (v : Course) → next_move s media who o (with_made others v) ≡ next_move s media who o v
-  next_same who None v = refl
-  next_same who (Some x) v = step_same who x v
-
   item_same : (wants : Bool) (x : OrderItem) (v : Course) → item_move s media wants x (with_made others v) ≡ item_move s media wants x v
-  item_same wants (OrderItem.Caller c) v = let j = length (at c v.callers) in next_same (record { caller = c; step = j }) (slice_get (steps_of s c) j) v
+  item_same wants (OrderItem.Caller c) v =
+      let who : Who = record { caller = c; step = length (at c v.callers) } in
+      elim (slice_get (steps_of s c) who.step) as (λ (o : Option Step). next_move s media who o (with_made others v) ≡ next_move s media who o v) [ None ↦ refl | Some x ↦ step_same who x v ]
   item_same wants x v = refl
 
   follow_same : (wants : Bool) (x : OrderItem) (v : Course) → SameBoxes v.slots.made others → follow_item s media wants x (with_made others v) ≡ with_made others (follow_item s media wants x v)
