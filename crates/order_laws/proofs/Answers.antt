@@ -1,5 +1,5 @@
 -- What steps on media answer, to which no output is brought, is neither a call of a codec, nor a look at one, nor a take.
-use Rattle.std.proofs.Common.{ℕ, ◌≡◌, List, [], Option, Some, None, Result, Ok, Err, refl}
+use Rattle.std.proofs.Common.{ℕ, ◌≡◌, List, [], Option, Some, None, Result, Ok, Err, refl, rules}
 use Rattle.std.specs.Prelude.{unwrap_or, option_map}
 use Rattle.wc_base.specs.declared.{error.DomError.DomError, who.Who.Who}
 use Rattle.wc_chunk.specs.{declared.chunk.Chunk.Chunk, Copied.copied_count, Copied.copied_to}
@@ -32,13 +32,8 @@ pub record OwnFacts (s : ScriptData) (files : List (List Chunk)) (w : Recorded) 
 pub own_facts : (s : ScriptData) (files : List (List Chunk)) (w : Recorded) (pool : List PoolEntry) (who : Who) (chunk : Option Chunk) (before vs : List (Option Medium)) (y : Came) (c : ℕ) (x : MediaStep) (r : StepResult)
     → media_came pool who (brought chunk None) x vs ≡ Some y → IsOwn r → r ≡ y.answer → OwnFacts s files w who before y c x r
 own_facts s files w pool who chunk before vs y c x (StepResult.Call k place error) comes own same = absurd cc
-own_facts s files w pool who chunk before vs y c x (StepResult.Look k n end) comes own same = absurd cc
-own_facts s files w pool who chunk before vs y c x (StepResult.State k n state size) comes own same = absurd cc
-own_facts s files w pool who chunk before vs y c x (StepResult.Unit k place n) comes own same = absurd cc
-own_facts s files w pool who chunk before vs y c x (StepResult.NoUnit k n) comes own same = absurd cc
 own_facts s files w pool who chunk before vs y c (MediaStep.Take on bind kind) r comes own same = absurd cc
-own_facts s files w pool who chunk before vs y c (MediaStep.Encode on content) r comes own same = absurd cc
-own_facts s files w pool who chunk before vs y c x r comes own same = record { made = tt; found = tt; shows = tt; answers = same; took = refl }
+own_facts s files w pool who chunk before vs y c x r comes own same = search rules
 
 -- ---- copies and sizes
 

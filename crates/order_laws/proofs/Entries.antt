@@ -1,34 +1,89 @@
--- What one entry more makes of a course: of its codecs and their histories, and of what codecs call for in the pool's history
--- and hold of it.
-use Rattle.std.proofs.Common.{ℕ, ◌≡◌, ◌≢◌, ◌≤◌, ◌<◌, ◌++◌, ◌⊎◌, inl, inr, Bool, true, false, if◌then◌else◌, List, [], ◌∷◌, length, length-append, Option, Some, None, refl, ap, sym, ◌∙◌, arith}
+-- Each entry that following an order makes is legal; and what one entry more makes of a course: of its codecs and their
+-- histories, and of what codecs call for in the pool's history and hold of it.
+use Rattle.std.proofs.Common.{ℕ, ◌≡◌, ◌≢◌, ◌≤◌, ◌<◌, ◌++◌, ◌⊎◌, inl, inr, Bool, true, false, if◌then◌else◌, eq-eqb, List, [], ◌∷◌, length, length-append, Option, Some, None, is_some, refl, ap, sym, subst, ◌∙◌, arith}
 use Rattle.std.specs.Prelude.{slice_get, unwrap_or}
 use Rattle.std.proofs.Math.Seq.{take-length}
-use Rattle.std.proofs.lemmas.Bool.{cases_eq, cases_lt}
+use Rattle.std.proofs.lemmas.Bool.{cases_eq, cases_lt, lt-ltb}
 use Rattle.std.proofs.lemmas.List.{take-append-le}
 use Rattle.std.proofs.lemmas.Option.{slice_get_past}
-use Rattle.wc_base.specs.declared.who.Who.{Who}
+use Rattle.wc_base.specs.{Options.some_same, Options.cond_is, declared.who.Who.Who}
 use Rattle.wc_pool.specs.declared.entry.PoolEntry.{PoolEntry}
-use Rattle.codec_model.specs.{declared.entry.Entry.Entry, declared.entry.Opening.Opening, declared.entry.Pair.Pair, ShownLaws.replay_append}
-use Rattle.codec_model.specs.Replay.{State, opening_state, replay, step as entry_step}
+use Rattle.codec_definitions.specs.declared.unit.Unit as media
+use Rattle.codec_model.specs.declared.entry.{Opening.Opening, Item.Item, Pair.Pair, Running.Running, Outcome.Outcome, Ended.Ended, Entry.Entry}
+use Rattle.codec_model.specs.Control.{may_start, front, start_item}
+use Rattle.codec_model.specs.Replay.{State, step as entry_step, opening_state, replay, answer_to, start_step, done_step, done_ended, ended_of, IsLegal}
+use Rattle.codec_model.specs.Shown.{shown_at, each_shown, each_shown_from}
+use Rattle.codec_model.specs.ShownLaws.{replay_append, each_append, each_more, each_length}
 use Rattle.codec_model.specs.Held.{adds_held, lets_go, leaves_held, running_pairs, waiting_held, held_in, is_done, is_removal, HeldStays}
 use Rattle.codec_accounts.specs.{Owed.at, Calls.who_of}
 use Rattle.codec_accounts.specs.ListLaws.{IsNew, at_same, at_other, at_grows, get_end, get_within, result_more}
-use Rattle.codec_accounts.specs.Codec.{CodecValue, state_of, codec_at, histories, after_entry, slots_after, next_by, step_by, BoxStep, Keep, Give, Renew}
+use Rattle.codec_accounts.specs.Codec.{CodecValue, state_after, state_of, codec_at, histories, after_entry, slots_after, next_by, step_by, BoxStep, Keep, Give, Renew}
 use Rattle.codec_accounts.specs.AccountLaws.{EntryFits, histories_more, history_at, histories_count, set_here, set_other, set_count}
 use Rattle.script_types.specs.declared.script.ScriptData.{ScriptData}
 use Rattle.media_accounts.specs.Accounts.{called_at, lent_at, Lending, MayAdd, AreParts, EntryMore}
-use Rattle.trace_text.specs.Follow.{Course, opening_at, with_entry}
+use Rattle.trace_text.specs.Follow.{Course, opening_at, with_entry, outcome_by, outcome_for}
 use Rattle.order_laws.specs.Course.{held_by_codecs}
+
+-- ---- legal entries
+
+-- an entry is legal after a state
+abbrev pub Steps : Entry → State → Type 0
+Steps e s = is_some (entry_step e s) ≡ true
+
+pub some_is : {X : Type 0} (o : Option X) (d : X) → is_some o ≡ true → o ≡ Some (unwrap_or o d)
+some_is None d h = absurd cc
+some_is (Some x) d h = refl
+
+-- what the entries of a legal history show stays as it is
+pub shown_kept : (o : Opening) (h more : List Entry) (p : ℕ) → IsLegal o h → p < length h → slice_get (each_shown o (h ++ more)) p ≡ slice_get (each_shown o h) p
+shown_kept o h more p l lt =
+    let r = some_is (replay o h) (opening_state o) l in
+    rw (each_append o h more (state_after o h) r) (get_within (each_shown o h) (each_shown_from more (state_after o h)) p (omega (arith, lt, each_length o h (state_after o h) r)))
+
+-- what the last entry of a history shows
+pub shown_last : (o : Opening) (h : List Entry) (e : Entry) → IsLegal o h → slice_get (each_shown o (h ++ e ∷ [])) (length h) ≡ Some (shown_at e (state_after o h))
+shown_last o h e l = let r = some_is (replay o h) (opening_state o) l in rw (each_more o h e (state_after o h) r, sym (each_length o h (state_after o h) r)) (get_end (each_shown o h) (shown_at e (state_after o h)))
+
+-- a take of the first output that was shown and not taken yet
+pub take_legal : (who : Who) (s : State) → s.control.taken < s.control.shown → Steps (Entry.Take who s.control.taken) s
+take_legal who s lt = rw (eq-eqb s.control.taken s.control.taken refl, lt-ltb s.control.taken s.control.shown lt) refl
+
+start_on : (is : List Item) (i : Item) (s : State) → may_start s.control ≡ true → front is ≡ Some i → is_some (start_step is s.control.epoch i.number s) ≡ true
+start_on [] i s may f = absurd cc
+start_on (j ∷ rest) i s may f =
+    rw (may, eq-eqb s.control.epoch s.control.epoch refl, eq-eqb i.number j.number (ap (λ (x : Item). x.number) (sym (some_same j i f)))) refl
+
+pub start_legal : (s : State) (i : Item) → start_item s.control ≡ Some i → Steps (Entry.Start s.control.epoch i.number) s
+start_legal s i h =
+    let may = cond_is (may_start s.control) (front s.control.work) i h in
+    start_on s.control.work i s may.0 may.1
+
+-- an end by the codec's definition
+answered : (r : Running) (s : State) (moment : ℕ) (a : Option (List media.Unit)) → answer_to r.kind s.running_given ≡ a → is_some (done_ended r (ended_of r.kind s.running_given (outcome_by a)) moment s) ≡ true
+answered r s moment None e = rw e refl
+answered r s moment (Some us) e = rw (e, eq-eqb (length us) (length us) refl) refl
+
+-- what is known of the running item where its end says that it was refused a box
+abbrev pub MayBeRefused : Running → State → Option ℕ → Type 0
+MayBeRefused r s None = Unit {0}
+MayBeRefused r s (Some e) = ended_of r.kind s.running_given (Outcome.NoSlot e) ≡ Some (Ended.NoSlot e)
+
+outcome_legal : (r : Running) (s : State) (moment : ℕ) (wants : Bool) (refusal : Option ℕ) → MayBeRefused r s refusal → is_some (done_ended r (ended_of r.kind s.running_given (outcome_for wants refusal (answer_to r.kind s.running_given))) moment s) ≡ true
+outcome_legal r s moment true refusal may = refl
+outcome_legal r s moment false None may = answered r s moment (answer_to r.kind s.running_given) refl
+outcome_legal r s moment false (Some e) may = rw may refl
+
+pub done_legal : (s : State) (r : Running) (moment : ℕ) (wants : Bool) (refusal : Option ℕ) → s.control.running ≡ Some r → MayBeRefused r s refusal → Steps (Entry.Done r.epoch r.number moment (outcome_for wants refusal (answer_to r.kind s.running_given))) s
+done_legal s r moment wants refusal h may =
+    subst (λ (o : Option Running). is_some (done_step o r.epoch r.number moment (outcome_for wants refusal (answer_to r.kind s.running_given)) s) ≡ true) (sym h)
+    (rw (eq-eqb r.epoch r.epoch refl, eq-eqb r.number r.number refl) (outcome_legal r s moment wants refusal may))
 
 -- ---- codecs and their histories
 
-pub codec_count : (v : Course) (k : ℕ) (e : Entry) → length (with_entry k e v).codecs ≡ length v.codecs
-codec_count v k e = set_count k (after_entry k e v.slots (codec_at k v.codecs)) v.codecs
-
-pub opened_still : (s : ScriptData) (v : Course) (k : ℕ) (e : Entry) → k < length v.codecs → ((j : ℕ) → (codec_at j v.codecs).opening ≡ opening_at s j) → (j : ℕ) → (codec_at j (with_entry k e v).codecs).opening ≡ opening_at s j
-opened_still s v k e lt opened j = elim (cases_eq j k) [
-  | inl same ↦ rw same (ap (λ (d : CodecValue). d.opening) (set_here k (after_entry k e v.slots (codec_at k v.codecs)) v.codecs lt) ∙ opened k)
-  | inr other ↦ ap (λ (d : CodecValue). d.opening) (set_other j k (after_entry k e v.slots (codec_at k v.codecs)) v.codecs other) ∙ opened j
+pub opened_still : (v : Course) (k j : ℕ) (e : Entry) → k < length v.codecs → (codec_at j (with_entry k e v).codecs).opening ≡ (codec_at j v.codecs).opening
+opened_still v k j e lt = elim (cases_eq j k) [
+  | inl same ↦ rw (same, set_here k (after_entry k e v.slots (codec_at k v.codecs)) v.codecs lt) refl
+  | inr other ↦ rw (set_other j k (after_entry k e v.slots (codec_at k v.codecs)) v.codecs other) refl
 ]
 
 pub call_fits : (e : Entry) (who : Who) (refusal : Option ℕ) → who_of e ≡ Some who → EntryFits e refusal
@@ -98,9 +153,7 @@ entry_more stays s v k e t lt opened replays steps may =
     let o = opening_at s k in
     let now : at k (histories v.codecs) ≡ d.history = history_at k v.codecs in
     let longer : at k (histories (with_entry k e v).codecs) ≡ d.history ++ e ∷ [] = this_history v k e lt ∙ ap (λ (l : List Entry). l ++ e ∷ []) now in
-    let state : state_of (codec_at k (with_entry k e v).codecs) ≡ t =
-    ap state_of (set_here k (after_entry k e v.slots d) v.codecs lt)
-    ∙ ap (λ (x : Option State). unwrap_or x (opening_state d.opening)) (replay_append d.opening d.history e (state_of d) replays ∙ steps) in
+    let state : state_of (codec_at k (with_entry k e v).codecs) ≡ t = rw (set_here k (after_entry k e v.slots d) v.codecs lt, replay_append d.opening d.history e (state_of d) replays, steps) refl in
     record {
       adds = may;
       parts = held_parts e (state_of d);

@@ -1,24 +1,22 @@
 -- What is recorded grows: what was there stays, and what it says of the script too.
-use Rattle.std.proofs.Common.{ℕ, zero, suc, ◌≡◌, ◌≤◌, ◌<◌, ◌++◌, List, take, length, Option, Some, None, refl, ap, sym, ◌∙◌, arith}
-use Rattle.std.specs.Prelude.{slice_get, option_map, option_and_then}
+use Rattle.std.proofs.Common.{ℕ, zero, suc, ◌≡◌, ◌≤◌, ◌<◌, ◌++◌, List, take, length, Option, Some, None, refl, ap, ◌∙◌, arith}
 use Rattle.std.proofs.lemmas.List.{take-append-le}
 use Rattle.std.proofs.lemmas.Option.{slice_get_within}
-use Rattle.wc_base.specs.declared.{error.DomError.DomError, who.Who.Who}
+use Rattle.wc_base.specs.declared.{who.Who.Who}
 use Rattle.wc_chunk.specs.declared.chunk.Chunk.{Chunk}
 use Rattle.codec_definitions.specs.declared.unit.Unit as media
-use Rattle.codec_model.specs.{declared.entry.Entry.Entry, declared.entry.Shown.Shown, Replay.IsLegal}
+use Rattle.codec_model.specs.{declared.entry.Entry.Entry, Replay.IsLegal}
 use Rattle.history_laws.specs.CountLaws.{outputs_stay}
 use Rattle.codec_accounts.specs.{Owed.at, ListLaws.get_some, ListLaws.get_kept}
 use Rattle.script_types.specs.declared.{script.ScriptData.ScriptData, steps.Step.Step, steps.MediaStep.MediaStep}
 use Rattle.script_types.specs.Names.{called, taken_from}
 use Rattle.report_text.specs.declared.result.StepResult.{StepResult}
-use Rattle.trace_text.specs.Report.{refusal_in}
-use Rattle.trace_text.specs.Follow.{Recorded, opening_at, steps_of, copied_chunk, output_at}
-use Rattle.trace_text.specs.Fits.{result_in, entry_in, step_in, exception_at, made_steps, taken_by, brought_to, came_at, variables_at, IsAnswerOf, IsResultBy, IsResultOf, LookShows, IsLocalAnswer, MarksClimb}
+use Rattle.trace_text.specs.Follow.{Recorded, opening_at, output_at}
+use Rattle.trace_text.specs.Fits.{result_in, step_in, made_steps, taken_by, brought_to, came_at, variables_at, IsResultBy, IsResultOf, LookShows, IsLocalAnswer, MarksClimb}
 use Rattle.media_variables.specs.Variables.{Came, Taken, Brought}
 use Rattle.media_accounts.specs.Accounts.{variables_by, IsBroughtToo}
 use Rattle.trace_text.specs.FitsLaws.{made_at, look_of, order_by_places}
-use Rattle.order_laws.proofs.Legal.{shown_kept}
+use Rattle.order_laws.proofs.Entries.{shown_kept}
 
 -- each codec's history is legal
 abbrev pub Legals : ScriptData → Recorded → Type 0
@@ -58,79 +56,64 @@ pub record ResultFits (s : ScriptData) (media : List (List Chunk)) (w : Recorded
   pub shows : LookShows s w c step r
   pub answers : IsLocalAnswer s media (variables_at s media w c j) (came_at s media w c j) c step r
 
-answer_stays : (s : ScriptData) (w v : Recorded) → Legals s w → Grows w v → (o : Option ℕ) (r : StepResult) → ((k p : ℕ) (e : Option DomError) → r ≡ StepResult.Call k p e → p < length (at k w.codecs)) → IsAnswerOf s w o r → IsAnswerOf s v o r
-answer_stays s w v legal g (Some k) (StepResult.Call other p error) within h =
-    let more = g.more k in
-    let here : p < length (at k w.codecs) = (let lt = within other p error refl in let same = ap (λ n. length (at n w.codecs)) h.0 in omega (arith, lt, same)) in
-    (h.0, h.1 ∙ sym (ap (λ (l : List Entry). exception_at (opening_at s k) l p) more.1 ∙ ap (λ (o : Option Shown). option_and_then (λ (x : Shown). refusal_in x.events) o) (shown_kept (opening_at s k) (at k w.codecs) more.0 p (legal k) here)))
-answer_stays s w v legal g o StepResult.Absent within h = h
-answer_stays s w v legal g o r within h = h
-
-entry_stays : (w v : Recorded) → Grows w v → (k p : ℕ) (e : Entry) → entry_in w k p ≡ Some e → entry_in v k p ≡ Some e
-entry_stays w v g k p e is = let m = g.more k in ap (λ (l : List Entry). slice_get l p) m.1 ∙ get_kept (at k w.codecs) m.0 p e is
-
-made_stays : (s : ScriptData) (w v : Recorded) → Legals s w → Grows w v → (who : Who) (t o : Option ℕ) (r : StepResult) → ((k p : ℕ) (e : Option DomError) → r ≡ StepResult.Call k p e → p < length (at k w.codecs)) → IsResultBy s w who t o r → IsResultBy s v who t o r
-made_stays s w v legal g who None o r within h = answer_stays s w v legal g o r within h
-made_stays s w v legal g who (Some k) o (StepResult.Unit other p n) within h = (h.0, entry_stays w v g k p (Entry.Take who n) h.1)
-made_stays s w v legal g who (Some k) o r within h = h
-
--- ---- outputs
-
-pub output_stays : (s : ScriptData) (w v : Recorded) → Grows w v → (k n : ℕ) (u : media.Unit) → output_at (opening_at s k) (at k w.codecs) n ≡ Some u → output_at (opening_at s k) (at k v.codecs) n ≡ Some u
-output_stays s w v g k n u is =
-    let m = g.more k in
-    ap (λ (l : List Entry). output_at (opening_at s k) l n) m.1 ∙ outputs_stay (opening_at s k) (at k w.codecs) m.0 n u is
-
-found_stays : (s : ScriptData) (w v : Recorded) → Grows w v → (r : StepResult) → IsFound s w r → IsFound s v r
-found_stays s w v g (StepResult.Unit k p n) found = (found.0, output_stays s w v g k n found.0 found.1)
-found_stays s w v g r found = found
-
 -- this output is taken, by a step that answers so
 abbrev pub taken_as : StepResult → media.Unit → Taken
 taken_as answer u = record { unit = u; answer = answer }
-
-taken_stays : (s : ScriptData) (w v : Recorded) → Grows w v → (r : StepResult) → IsFound s w r → taken_by s v (Some r) ≡ taken_by s w (Some r)
-taken_stays s w v g (StepResult.Unit k p n) found =
-    ap (option_map (taken_as (StepResult.Unit k p n))) (output_stays s w v g k n found.0 found.1 ∙ sym found.1)
-taken_stays s w v g r found = refl
 
 -- this chunk and this output are brought to a step
 abbrev pub brought : Option Chunk → Option Taken → Brought
 brought chunk taken = record { chunk = chunk; taken = taken }
 
--- what is brought to a step that was made is the same when what is recorded grows
-pub brought_stays : (s : ScriptData) (media : List (List Chunk)) (w v : Recorded) → Grows w v → ((c j : ℕ) (r : StepResult) → result_in w c j ≡ Some r → IsFound s w r) → IsBroughtToo (made_steps w) (brought_to s media w) (brought_to s media v)
-brought_stays s media w v g found c j x lt =
-    let there = get_some (at c w.callers) j lt in
-    let now : taken_by s v (result_in v c j) ≡ taken_by s v (Some there.0) = ap (taken_by s v) (g.stays c j there.0 there.1) in
-    let was : taken_by s w (result_in w c j) ≡ taken_by s w (Some there.0) = ap (taken_by s w) there.1 in
-    ap (brought (copied_chunk media (steps_of s c) x)) (now ∙ (taken_stays s w v g there.0 (found c j there.0 there.1) ∙ sym was))
+module _ (s : ScriptData) (w v : Recorded) (g : Grows w v) where
+  made_stays : Legals s w → (who : Who) (t o : Option ℕ) (r : StepResult) → ((k p : ℕ) → made_at r ≡ Some (k, p) → p < length (at k w.codecs)) → IsResultBy s w who t o r → IsResultBy s v who t o r
+  made_stays legal who None (Some k) (StepResult.Call other p error) within h =
+      let m = g.more k in (h.0, rw (m.1, shown_kept (opening_at s k) (at k w.codecs) m.0 p (legal k) (rw h.0 at (within other p refl))) h.1)
+  made_stays legal who (Some k) o (StepResult.Unit other p n) within h = (let m = g.more k in (h.0, rw m.1 (get_kept (at k w.codecs) m.0 p (Entry.Take who n) h.1)))
+  made_stays legal who t o StepResult.Absent within h = h
+  made_stays legal who t o r within h = h
 
--- ---- looks
+  -- ---- outputs
 
-front_stays : (w v : Recorded) (k n : ℕ) → Grows w v → n ≤ length (at k w.codecs) → take n (at k v.codecs) ≡ take n (at k w.codecs)
-front_stays w v k n g within = let m = g.more k in ap (take n) m.1 ∙ take-append-le n (at k w.codecs) m.0 within
+  pub output_stays : (k n : ℕ) (u : media.Unit) → output_at (opening_at s k) (at k w.codecs) n ≡ Some u → output_at (opening_at s k) (at k v.codecs) n ≡ Some u
+  output_stays k n u is = let m = g.more k in rw m.1 (outputs_stay (opening_at s k) (at k w.codecs) m.0 n u is)
 
-shows_stays : (s : ScriptData) (w v : Recorded) → Grows w v → (c : ℕ) (x : Step) (r : StepResult) → ((k n : ℕ) → look_of r ≡ Some (k, n) → n ≤ length (at k w.codecs)) → LookShows s w c x r → LookShows s v c x r
-shows_stays s w v g c (Step.Await promise) (StepResult.Look k n end) within h =
-    (h.0, h.1, g.stays c promise.step (StepResult.Call k h.0 h.1) h.2, rw (front_stays w v k n g (within k n refl)) h.3)
-shows_stays s w v g c (Step.Poll promise) (StepResult.Look k n end) within h =
-    (h.0, h.1, g.stays c promise.step (StepResult.Call k h.0 h.1) h.2, rw (front_stays w v k n g (within k n refl)) h.3)
-shows_stays s w v g c (Step.State on) (StepResult.State k n state size) within h = rw (front_stays w v k n g (within k n refl)) h
-shows_stays s w v g c (Step.Media (MediaStep.Take on bind kind)) (StepResult.NoUnit k n) within h = rw (front_stays w v k n g (within k n refl)) h
-shows_stays s w v g c x StepResult.Absent within h = h
-shows_stays s w v g c x r within h = h
+  found_stays : (r : StepResult) → IsFound s w r → IsFound s v r
+  found_stays (StepResult.Unit k p n) found = (found.0, output_stays k n found.0 found.1)
+  found_stays r found = found
 
--- a result that fits does so still
-pub result_stays : (s : ScriptData) (media : List (List Chunk)) (w v : Recorded) → Legals s w → MarksClimb w → Grows w v → SameMedia s media w v → (c j : ℕ) (r : StepResult) → result_in w c j ≡ Some r → ResultFits s media w c j r → ResultFits s media v c j r
-result_stays s media w v legal climbs g same c j r is fits =
-    let order = order_by_places w climbs in
-    let made : j < made_steps w c = slice_get_within (at c w.callers) j r is in
-    record {
-      step = fits.step;
-      is_step = fits.is_step;
-      made = made_stays s w v legal g (record { caller = c; step = j }) (taken_from fits.step) (called fits.step) r (λ k p e call. order.stands c j k p r is (ap made_at call)) fits.made;
-      found = found_stays s w v g r fits.found;
-      shows = shows_stays s w v g c fits.step r (λ k n l. order.within c j k n r is l) fits.shows;
-      answers = rw (same c j made, variables_stay s media w v c j same (omega (arith, made))) fits.answers;
-    }
+  taken_stays : (r : StepResult) → IsFound s w r → taken_by s v (Some r) ≡ taken_by s w (Some r)
+  taken_stays (StepResult.Unit k p n) found = rw (output_stays k n found.0 found.1, found.1) refl
+  taken_stays r found = refl
+
+  -- what is brought to a step that was made is the same when what is recorded grows
+  pub brought_stays : (media : List (List Chunk)) → ((c j : ℕ) (r : StepResult) → result_in w c j ≡ Some r → IsFound s w r) → IsBroughtToo (made_steps w) (brought_to s media w) (brought_to s media v)
+  brought_stays media found c j x lt =
+      let there = get_some (at c w.callers) j lt in
+      rw (g.stays c j there.0 there.1, there.1, taken_stays there.0 (found c j there.0 there.1)) refl
+
+  -- ---- looks
+
+  front_stays : (k n : ℕ) → n ≤ length (at k w.codecs) → take n (at k v.codecs) ≡ take n (at k w.codecs)
+  front_stays k n within = let m = g.more k in rw m.1 (take-append-le n (at k w.codecs) m.0 within)
+
+  shows_stays : (c : ℕ) (x : Step) (r : StepResult) → ((k n : ℕ) → look_of r ≡ Some (k, n) → n ≤ length (at k w.codecs)) → LookShows s w c x r → LookShows s v c x r
+  shows_stays c (Step.Await promise) (StepResult.Look k n end) within h = (h.0, h.1, g.stays c promise.step (StepResult.Call k h.0 h.1) h.2, rw (front_stays k n (within k n refl)) h.3)
+  shows_stays c (Step.Poll promise) (StepResult.Look k n end) within h = (h.0, h.1, g.stays c promise.step (StepResult.Call k h.0 h.1) h.2, rw (front_stays k n (within k n refl)) h.3)
+  shows_stays c (Step.State on) (StepResult.State k n state size) within h = rw (front_stays k n (within k n refl)) h
+  shows_stays c (Step.Media (MediaStep.Take on bind kind)) (StepResult.NoUnit k n) within h = rw (front_stays k n (within k n refl)) h
+  shows_stays c x StepResult.Absent within h = h
+  shows_stays c x r within h = h
+
+  -- a result that fits does so still
+  pub result_stays : (media : List (List Chunk)) → Legals s w → MarksClimb w → SameMedia s media w v → (c j : ℕ) (r : StepResult) → result_in w c j ≡ Some r → ResultFits s media w c j r → ResultFits s media v c j r
+  result_stays media legal climbs same c j r is fits =
+      let order = order_by_places w climbs in
+      let made : j < made_steps w c = slice_get_within (at c w.callers) j r is in
+      record {
+        step = fits.step;
+        is_step = fits.is_step;
+        made = made_stays legal (record { caller = c; step = j }) (taken_from fits.step) (called fits.step) r (λ k p call. order.stands c j k p r is call) fits.made;
+        found = found_stays r fits.found;
+        shows = shows_stays c fits.step r (λ k n l. order.within c j k n r is l) fits.shows;
+        answers = rw (same c j made, variables_stay s media w v c j same (omega (arith, made))) fits.answers;
+      }

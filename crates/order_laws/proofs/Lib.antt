@@ -1,8 +1,6 @@
-pub mod Legal
 pub mod Grown
 pub mod Answers
 pub mod Entries
 pub mod Moves
-pub mod Items
 pub mod Orders
 pub mod Same

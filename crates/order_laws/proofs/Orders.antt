@@ -16,12 +16,12 @@ use Rattle.codec_accounts.specs.BoxAccounts.{nothing_accounted, boxes_accounted}
 use Rattle.script_types.specs.declared.script.{CallerItem.CallerItem, CodecItem.CodecItem, OrderItem.OrderItem, ScriptData.ScriptData}
 use Rattle.report_text.specs.declared.result.StepResult.{StepResult}
 use Rattle.trace_text.specs.declared.run.Run.{Run}
-use Rattle.trace_text.specs.Follow.{Recorded, Course, record_of, opening_of, opening_in, opening_at, steps_of, order_items, follow_item, item_move, Follows, nothing_yet}
-use Rattle.trace_text.specs.Fits.{recorded_of, mark_of, marks_of, CallsAreIn, LooksAreIn, ArgumentsAreIn, LocalsAreIn, LookShows, IsLocalAnswer, brought_to, made_steps, came_at, variables_at, lends_in, FollowsTheOrder, Fits}
+use Rattle.trace_text.specs.Follow.{Recorded, Course, record_of, opening_of, opening_in, opening_at, steps_of, order_items, follow_item, Follows, nothing_yet}
+use Rattle.trace_text.specs.Fits.{recorded_of, mark_of, marks_of, CallsAreIn, LooksAreIn, ArgumentsAreIn, LocalsAreIn, brought_to, made_steps, lends_in, FollowsTheOrder, Fits}
 use Rattle.media_accounts.specs.Accounts.{lent_at, Lending, nothing_lent, MediaAreIn, MediaStand}
 use Rattle.order_laws.specs.{Sound.IsSound, Course.IsCourse}
-use Rattle.order_laws.proofs.{Entries.lending_of, Items.item_fits}
-use Rattle.order_laws.proofs.Moves.{MediaLaws, Stands, legals, move_stands}
+use Rattle.order_laws.proofs.Entries.{lending_of}
+use Rattle.order_laws.proofs.Moves.{MediaLaws, Stands, legals, item_stands}
 
 -- ---- the beginning
 
@@ -48,66 +48,64 @@ none_lent s made = λ i. record {
   holds = λ k. sym (ap (λ (d : CodecValue). held_in (state_of d)) (new_at s.codecs k)) i;
 }
 
-nothing_stands : MediaLaws → (s : ScriptData) (media : List (List Chunk)) (made : List CoderId) → Stands s media made (nothing_yet s made)
-nothing_stands laws s media made = record {
-  callers = length-map s.callers _;
-  count = length-map s.codecs _;
-  opened = λ k. ap (λ (d : CodecValue). d.opening) (new_at s.codecs k);
-  same_made = refl;
-  boxes = subst (λ (ds : List CodecValue). Accounted ds (record { made = made; history = [] })) (map-map new_codec opening_of s.codecs) (nothing_accounted (map opening_of s.codecs) made);
-  results = λ c j r is. absurd (let none : None ≡ Some r = sym (ap (λ (xs : List StepResult). slice_get xs j) (at_empty c s.callers)) ∙ is in cc);
-  arguments = λ k p e who is names. absurd (let none : None ≡ Some e = sym (ap (λ (xs : List Entry). slice_get xs p) (no_history s.codecs k)) ∙ is in cc);
-  once = λ k. subst (λ (h : List Entry). mark.CallsAreIn k h (marks_of (record_of (nothing_yet s made)))) (sym (no_history s.codecs k)) (λ t. ap (sum_by t) (sym (no_calls k 0 s.callers)));
-  climbs = λ c k. subst (λ (l : List StepResult). Climbs k 0 (map mark_of l) (length (at k (histories (nothing_yet s made).codecs)))) (sym (at_empty c s.callers)) (omega arith);
-  stand = subst (λ (l : Lending). MediaStand (steps_of s) (brought_to s media (record_of (nothing_yet s made))) l (made_steps (record_of (nothing_yet s made))) (length s.callers) (nothing_yet s made).media) (none_lent s made)
-      (subst (λ (steps : ℕ → ℕ). MediaStand (steps_of s) (brought_to s media (record_of (nothing_yet s made))) nothing_lent steps (length s.callers) (nothing_yet s made).media) (none_made s made) (laws.nothing (steps_of s) (brought_to s media (record_of (nothing_yet s made))) s.callers));
-}
+module _ (laws : MediaLaws) (s : ScriptData) (media : List (List Chunk)) (made : List CoderId) where
+  nothing_stands : Stands s media made (nothing_yet s made)
+  nothing_stands = record {
+    callers = length-map s.callers _;
+    codecs = record {
+      count = length-map s.codecs _;
+      opened = λ k. ap (λ (d : CodecValue). d.opening) (new_at s.codecs k);
+      same_made = refl;
+      boxes = subst (λ (ds : List CodecValue). Accounted ds (record { made = made; history = [] })) (map-map new_codec opening_of s.codecs) (nothing_accounted (map opening_of s.codecs) made);
+    };
+    results = λ c j r is. absurd (let none : None ≡ Some r = sym (ap (λ (xs : List StepResult). slice_get xs j) (at_empty c s.callers)) ∙ is in cc);
+    arguments = λ k p e who is names. absurd (let none : None ≡ Some e = sym (ap (λ (xs : List Entry). slice_get xs p) (no_history s.codecs k)) ∙ is in cc);
+    once = λ k. subst (λ (h : List Entry). mark.CallsAreIn k h (marks_of (record_of (nothing_yet s made)))) (sym (no_history s.codecs k)) (λ t. ap (sum_by t) (sym (no_calls k 0 s.callers)));
+    climbs = λ c k. subst (λ (l : List StepResult). Climbs k 0 (map mark_of l) (length (at k (histories (nothing_yet s made).codecs)))) (sym (at_empty c s.callers)) (omega arith);
+    stand = subst (λ (l : Lending). MediaStand (steps_of s) (brought_to s media (record_of (nothing_yet s made))) l (made_steps (record_of (nothing_yet s made))) (length s.callers) (nothing_yet s made).media) (none_lent s made)
+        (subst (λ (steps : ℕ → ℕ). MediaStand (steps_of s) (brought_to s media (record_of (nothing_yet s made))) nothing_lent steps (length s.callers) (nothing_yet s made).media) (none_made s made) (laws.nothing (steps_of s) (brought_to s media (record_of (nothing_yet s made))) s.callers));
+  }
 
--- ---- item after item
+  -- ---- item after item
 
-order_stands : MediaLaws → (s : ScriptData) (media : List (List Chunk)) (made : List CoderId) → IsSound s → (xs : List OrderItem) (v u : Course) → Stands s media made v → Follows s media xs v u → Stands s media made u
-order_stands laws s media made sound [] v u st follows = subst (Stands s media made) (sym follows) st
-order_stands laws s media made sound (x ∷ xs) v u st follows =
-    order_stands laws s media made sound xs (follow_item s media follows.0 x v) u (move_stands laws s media made v (item_move s media follows.0 x v) st (item_fits laws.numbered s media made v follows.0 x sound st)) follows.1
+  order_stands : IsSound s → (xs : List OrderItem) (v u : Course) → Stands s media made v → Follows s media xs v u → Stands s media made u
+  order_stands sound [] v u st follows = subst (Stands s media made) (sym follows) st
+  order_stands sound (x ∷ xs) v u st follows = order_stands sound xs (follow_item s media follows.0 x v) u (item_stands laws s media made v follows.0 x sound st) follows.1
 
-stands_of : MediaLaws → (s : ScriptData) (media : List (List Chunk)) (made : List CoderId) (items : List OrderItem) (v : Course) → IsSound s → Follows s media items (nothing_yet s made) v → Stands s media made v
-stands_of laws s media made items v sound follows = order_stands laws s media made sound items (nothing_yet s made) v (nothing_stands laws s media made) follows
+  stands_of : (items : List OrderItem) (v : Course) → IsSound s → Follows s media items (nothing_yet s made) v → Stands s media made v
+  stands_of items v sound follows = order_stands sound items (nothing_yet s made) v nothing_stands follows
 
-pub course_of : MediaLaws → (s : ScriptData) (media : List (List Chunk)) (made : List CoderId) (items : List OrderItem) (v : Course) → IsSound s → Follows s media items (nothing_yet s made) v → IsCourse s made v
-course_of laws s media made items v sound follows =
-    let st = stands_of laws s media made items v sound follows in
-    record {
-      callers = st.callers;
-      codecs = st.count;
-      openings = st.opened;
-      legal = λ k. ap is_some (st.boxes.each k).replays;
-      media = st.stand.there;
-      boxes = st.same_made;
-      givable = are_givable v.codecs v.slots st.boxes;
-      lent = st.stand.lent;
-    }
+  pub course_of : (items : List OrderItem) (v : Course) → IsSound s → Follows s media items (nothing_yet s made) v → IsCourse s made v
+  course_of items v sound follows =
+      let st = stands_of items v sound follows in
+      record {
+        callers = st.callers;
+        codecs = st.codecs.count;
+        openings = st.codecs.opened;
+        legal = λ k. ap is_some (st.codecs.boxes.each k).replays;
+        media = st.stand.there;
+        boxes = st.codecs.same_made;
+        givable = are_givable v.codecs v.slots st.codecs.boxes;
+        lent = st.stand.lent;
+      }
 
--- ---- a whole run
+  -- ---- a whole run
 
-pub fits_of : MediaLaws → (s : ScriptData) (media : List (List Chunk)) (made : List CoderId) (run : Run) → IsSound s → FollowsTheOrder s media made run → Fits s media made run
-fits_of laws s media made run sound follows =
-    let v = follows.course in
-    let st = stands_of laws s media made (order_items s) v sound follows.follows in
-    let is = sym follows.is_recorded in
-    record {
-      calls = subst (λ (w : Recorded). CallsAreIn s w) is (record { made = λ c j r at. (let f = st.results c j r at in (f.step, f.is_step, f.made)); once = st.once });
-      looks = subst (λ (w : Recorded). LooksAreIn s w) is (record {
-        climbs = st.climbs;
-        shows = λ c j x r there at. (let f = st.results c j r at in subst (λ y. LookShows s (record_of v) c y r) (some_same f.step x (sym f.is_step ∙ there)) f.shows);
-      });
-      arguments = subst (λ (w : Recorded). ArgumentsAreIn s media w) is st.arguments;
-      locals = subst (λ (w : Recorded). LocalsAreIn s media w) is (λ c j x r there at. (let f = st.results c j r at in subst (λ y. IsLocalAnswer s media (variables_at s media (record_of v) c j) (came_at s media (record_of v) c j) c y r) (some_same f.step x (sym f.is_step ∙ there)) f.answers));
-      accounted = subst (λ (w : Recorded). MediaAreIn (steps_of s) (brought_to s media w) (lends_in s w) (made_steps w) w.pool) is st.stand.accounted;
-      boxes = subst (λ (w : Recorded). BoxesAccounted made (opening_at s) w.codecs w.slots) is
-          (subst (λ (l : List CoderId). BoxesAccounted l (opening_at s) (histories v.codecs) v.slots.history) st.same_made (boxes_accounted (opening_at s) v.codecs v.slots (λ k lt. st.opened k) st.boxes));
-      follows = follows;
-    }
+  pub fits_of : (run : Run) → IsSound s → FollowsTheOrder s media made run → Fits s media made run
+  fits_of run sound follows =
+      let v = follows.course in
+      let st = stands_of (order_items s) v sound follows.follows in
+      let is = sym follows.is_recorded in
+      record {
+        calls = subst (CallsAreIn s) is (record { made = λ c j r at. (let f = st.results c j r at in (f.step, f.is_step, f.made)); once = st.once });
+        looks = subst (LooksAreIn s) is (record { climbs = st.climbs; shows = λ c j x r there at. (let f = st.results c j r at in rw (some_same f.step x (sym f.is_step ∙ there)) at f.shows) });
+        arguments = subst (ArgumentsAreIn s media) is st.arguments;
+        locals = subst (LocalsAreIn s media) is (λ c j x r there at. (let f = st.results c j r at in rw (some_same f.step x (sym f.is_step ∙ there)) at f.answers));
+        accounted = subst (λ (w : Recorded). MediaAreIn (steps_of s) (brought_to s media w) (lends_in s w) (made_steps w) w.pool) is st.stand.accounted;
+        boxes = subst (λ (w : Recorded). BoxesAccounted made (opening_at s) w.codecs w.slots) is (rw st.codecs.same_made at (boxes_accounted (opening_at s) v.codecs v.slots (λ k lt. st.codecs.opened k) st.codecs.boxes));
+        follows = follows;
+      }
 
-pub legal_of : MediaLaws → (s : ScriptData) (media : List (List Chunk)) (made : List CoderId) (run : Run) (k : ℕ) → IsSound s → FollowsTheOrder s media made run → IsLegal (opening_at s k) (at k (recorded_of run).codecs)
-legal_of laws s media made run k sound follows =
-    subst (λ (w : Recorded). IsLegal (opening_at s k) (at k w.codecs)) (sym follows.is_recorded) (legals s media made follows.course (stands_of laws s media made (order_items s) follows.course sound follows.follows) k)
+  pub legal_of : (run : Run) (k : ℕ) → IsSound s → FollowsTheOrder s media made run → IsLegal (opening_at s k) (at k (recorded_of run).codecs)
+  legal_of run k sound follows =
+      subst (λ (w : Recorded). IsLegal (opening_at s k) (at k w.codecs)) (sym follows.is_recorded) (legals laws s media made follows.course (stands_of (order_items s) follows.course sound follows.follows) k)

@@ -3,21 +3,13 @@ use Rattle.std.proofs.Common.{◌≡◌, ℕ, List, [], ◌++◌, Option, Some, 
 use Rattle.wc_base.specs.Told.{appended, AppendsPart}
 
 -- nothing is appended
-pub appended-nil : (told : Option (List ℕ)) → told ≡ appended told []
+appended-nil : (told : Option (List ℕ)) → told ≡ appended told []
 appended-nil None = refl
 appended-nil (Some bytes) = ap Some (sym (append-nil bytes))
 
 appended-append : (told : Option (List ℕ)) (a b : List ℕ) → appended (appended told a) b ≡ appended told (a ++ b)
 appended-append None a b = refl
 appended-append (Some bytes) a b = ap Some (append_assoc bytes a b)
-
--- one text, and then another
-pub appended_twice : (old mid new : Option (List ℕ)) (a b : List ℕ) → mid ≡ appended old a → new ≡ appended mid b → new ≡ appended old (a ++ b)
-appended_twice old mid new a b p q = rw (q, p) (appended-append old a b)
-
--- nothing yet is a beginning
-pub part_none : (old : Option (List ℕ)) (text : List ℕ) → AppendsPart old text old
-part_none old text = record { part = []; rest = text; whole = refl; told = appended-nil old }
 
 -- the whole is a beginning
 pub part_whole : (old : Option (List ℕ)) (text : List ℕ) (new : Option (List ℕ)) → new ≡ appended old text → AppendsPart old text new
@@ -42,7 +34,7 @@ pub so_far_more : (old mid new : Option (List ℕ)) (text piece left : List ℕ)
 so_far_more old mid new text piece left s e = record {
   front = s.front ++ piece;
   whole = append_assoc s.front piece left ∙ s.whole;
-  told = appended_twice old mid new s.front piece s.told e;
+  told = rw (e, s.told) (appended-append old s.front piece);
 }
 
 -- all
@@ -58,8 +50,8 @@ pub so_far_part : (old mid new : Option (List ℕ)) (text piece left : List ℕ)
 so_far_part old mid new text piece left s p = record {
   part = s.front ++ p.part;
   rest = p.rest ++ left;
-  whole = append_assoc s.front p.part (p.rest ++ left) ∙ ap (λ x. s.front ++ x) (sym (append_assoc p.part p.rest left) ∙ ap (λ x. x ++ left) p.whole) ∙ s.whole;
-  told = appended_twice old mid new s.front p.part s.told p.told;
+  whole = rw (append_assoc, sym (append_assoc p.part p.rest left), p.whole) s.whole;
+  told = rw (p.told, s.told) (appended-append old s.front p.part);
 }
 
 pub ruleset so_far = (next_piece, so_far_start, so_far_end, so_far_more, so_far_is_part, so_far_part, part_whole)

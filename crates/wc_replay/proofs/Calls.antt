@@ -1,7 +1,7 @@
 -- What the calls of callers make: their entry, its effect on the callers' media, and their answer.
 use Rattle.std.proofs.Common.{ℕ, ◌≡◌, ◌∙◌, Bool, true, false, List, length, Option, Some, None, is_some, refl, ap, sym}
 use Rattle.std.specs.Prelude.{slice_set, IfSome, if◌then◌else◌}
-use Rattle.wc_base.specs.declared.{error.DomError.DomError, who.Who.Who}
+use Rattle.wc_base.specs.declared.{error.DomError.DomError, who.Who.Who, media.SoundShape.SoundShape}
 use Rattle.wc_pool.specs.{declared.entry.PoolEntry.PoolEntry, declared.reference.MediaRef.MediaRef, Bag.references_made}
 use Rattle.wc_audio.specs.Sound.{Sound}
 use Rattle.codec_model.specs.declared.entry.{Entry.Entry, Handed.Handed, HeldSound.HeldSound}
@@ -10,7 +10,7 @@ use Rattle.codec_core.specs.Codec.{refused_as}
 use Rattle.codec_accounts.specs.Owed.{append_at}
 use Rattle.codec_accounts.specs.Codec.{CodecValue, codec_at, state_of, after_entry, slots_by}
 use Rattle.report_text.specs.declared.result.StepResult.{StepResult}
-use Rattle.media_variables.specs.{declared.lending.SoundFound.SoundFound, Variables.Media, Variables.handed_of, Held.sound_found}
+use Rattle.media_variables.specs.{declared.lending.SoundFound.SoundFound, Variables.Media, Variables.handed_by, Variables.handed_of, Held.sound_found}
 use Rattle.trace_text.specs.Follow.{Course, Ask, after_move, encode_move, hand_move, media_by}
 use Rattle.wc_replay.specs.Desk.{more}
 
@@ -27,27 +27,22 @@ asked v c k place e pool error shows callers codecs m keeps stays adds made at s
 
 -- ---- what is handed
 
+-- what is open and refused is kept
+kept_of : (number : ℕ) (b : Bool) (shape : SoundShape) (held : Option MediaRef) → sound_found (Some (record { shape = shape; held = held })) ≡ SoundFound.Open → is_some (if b then None else Some DomError.InvalidState) ≡ true → handed_by number b shape held ≡ refused_as false
+kept_of number false shape (Some r) is refused = refl
+kept_of number b shape held is refused = absurd cc
+
 pub hands_kept : (v : Course) (who : Who) (k : ℕ) (o : Option Sound) → sound_found o ≡ SoundFound.Open → is_some (encode_error false (state_of (codec_at k v.codecs)).control) ≡ true
     → encode_move who k v.media.pool o (codec_at k v.codecs) ≡ hand_move who k (refused_as false) (codec_at k v.codecs)
 hands_kept v who k None is refused = absurd cc
-hands_kept v who k (Some s) is refused = by s.held refl
-  where
-    off : (b : Bool) → is_some (if b then None else Some DomError.InvalidState) ≡ true → b ≡ false
-    off true h = absurd cc
-    off false h = refl
+hands_kept v who k (Some s) is refused = rw (kept_of (references_made v.media.pool) (is_configured (state_of (codec_at k v.codecs)).control) s.shape s.held is refused) refl
 
-    by : (held : Option MediaRef) → s.held ≡ held → encode_move who k v.media.pool (Some s) (codec_at k v.codecs) ≡ hand_move who k (refused_as false) (codec_at k v.codecs)
-    by None none = absurd (let was = rw none at is in cc)
-    by (Some r) some = let closed = off (is_configured (state_of (codec_at k v.codecs)).control) refused in rw (some, closed) refl
+accepted_is : (b : Bool) → ◌≡◌ {A = Option DomError} (if b then None else Some DomError.InvalidState) None → b ≡ true
+accepted_is true h = refl
+accepted_is false h = absurd cc
 
 pub hands_clone : (v : Course) (who : Who) (k : ℕ) (o : Option Sound) (x : HeldSound) → sound_found o ≡ SoundFound.Open → encode_error false (state_of (codec_at k v.codecs)).control ≡ None
     → IfSome o (λ s. handed_of (references_made v.media.pool) true s ≡ Handed.Cloned x)
     → encode_move who k v.media.pool o (codec_at k v.codecs) ≡ hand_move who k (Handed.Cloned x) (codec_at k v.codecs)
 hands_clone v who k None x is accepted clones = absurd cc
-hands_clone v who k (Some s) x is accepted clones =
-    ap (λ (b : Bool). hand_move who k (handed_of (references_made v.media.pool) b s) (codec_at k v.codecs)) (on (is_configured (state_of (codec_at k v.codecs)).control) accepted)
-    ∙ ap (λ (h : Handed). hand_move who k h (codec_at k v.codecs)) clones
-  where
-    on : (b : Bool) → ◌≡◌ {A = Option DomError} (if b then None else Some DomError.InvalidState) None → b ≡ true
-    on true h = refl
-    on false h = absurd cc
+hands_clone v who k (Some s) x is accepted clones = rw (accepted_is (is_configured (state_of (codec_at k v.codecs)).control) accepted, clones) refl

@@ -9,7 +9,7 @@ use Rattle.slot_registry.specs.Slots.{SlotsValue, acquired}
 use Rattle.codec_model.specs.declared.entry.{Ended.Ended, Entry.Entry, Item.Item, Task.Task, Work.Work, Pair.Pair}
 use Rattle.codec_model.specs.Control.{Control, kind_of, front, start_item, may_start}
 use Rattle.codec_model.specs.Replay.{State, missing_coder, answer_to, turn_step}
-use Rattle.codec_core.specs.Codec.{Codec, item_parts, state_at, Makes, kept_box, handed_back, closes_now}
+use Rattle.codec_core.specs.Codec.{Codec, item_parts, state_at, Makes, kept_box, handed_back}
 use Rattle.codec_core.specs.Job.{JobValue, DoneValue, EndsBy, outcome_of, stopped_box, missing_id}
 use Rattle.codec_accounts.specs.Boxes.{Act, act_of, start_act, removal_act}
 use Rattle.codec_model.specs.Held.{running_pairs}
@@ -19,7 +19,7 @@ use Rattle.codec_accounts.specs.Codec.{Holding, CodecValue, next_by, Keep, Give,
 use Rattle.trace_text.specs.Follow.{outcome_for, start_entry, done_entry, turn_on, media_by}
 use Rattle.wc_replay.specs.Desk as desk
 use Rattle.wc_replay.specs.Desk.{box_out, holding_with, box_of, holding_of, JobMatches, LacksBox, IsRefused, OwnsJob, IsDesk, more, renewal, codec_by, registry_by, media_by_option, media_without}
-use Rattle.wc_replay.proofs.Lent.{closes_same, media_same, ended_media}
+use Rattle.wc_replay.proofs.Lent.{media_same, ended_media}
 
 -- what contracts see
 abbrev pub seen : Codec → Option JobValue → Option ℕ → CodecValue
@@ -28,9 +28,6 @@ seen core job refusal = record { opening = core.opening; history = core.history;
 -- one more entry
 pub seen_more : (old new : Codec) (e : Entry) (job job' : Option JobValue) (refusal refusal' : Option ℕ) (h : Holding) → Makes old new e → holding_of new.slot job' refusal' ≡ h → seen new job' refusal' ≡ record { opening = old.opening; history = old.history ++ e ∷ []; holding = h }
 seen_more old new e job job' refusal refusal' h made is = λ i. record { opening = made.same_opening i; history = made.longer i; holding = is i }
-
-pub seen_reserved : (old mid : Codec) (n : ℕ) (job : Option JobValue) (refusal : Option ℕ) → mid ≡ record old { spare = n } → seen mid job refusal ≡ seen old job refusal
-seen_reserved old mid n job refusal is = ap (λ (c : Codec). seen c job refusal) is
 
 -- ---- boxes that stay or go back
 
@@ -43,17 +40,11 @@ none_given : (cause : By) (s : SlotsValue) → after_give cause None s ≡ s
 none_given cause s = ap (λ (l : List SlotEntry). record s { history = l }) (append-nil s.history)
 
 -- a removal, where it is one
-part_holding : (goes : Bool) (slot : Option Lent) (job : Option JobValue) (refusal : Option ℕ) (s : State) (cause : By) (slots : SlotsValue) → JobMatches s job → IsRefused job refusal
-    → holding_of (kept_box (not goes) slot) job refusal ≡ holding_after cause (box_step (removal_act goes) s.control refusal) (holding_of slot job refusal) slots
-part_holding false slot job refusal s cause slots matches refused = refl
-part_holding true slot None refusal s cause slots matches refused = rw (matches, refused) refl
-part_holding true slot (Some job) refusal s cause slots matches refused = rw matches.is_running refl
-
-part_slots : (goes : Bool) (slot : Option Lent) (job : Option JobValue) (refusal : Option ℕ) (s : State) (cause : By) (slots : SlotsValue) → JobMatches s job → (is_some job ≡ true → slot ≡ None)
-    → after_give cause (option_map box_out (handed_back (not goes) slot)) slots ≡ slots_after cause (box_step (removal_act goes) s.control refusal) (box_of slot job) slots
-part_slots false slot job refusal s cause slots matches away = none_given cause slots
-part_slots true slot None refusal s cause slots matches away = rw (matches, stopped_out slot) refl
-part_slots true slot (Some job) refusal s cause slots matches away = rw (matches.is_running, away refl) (none_given cause slots)
+part_box : (goes : Bool) (slot : Option Lent) (job : Option JobValue) (refusal : Option ℕ) (s : State) (cause : By) (slots : SlotsValue) → JobMatches s job → IsRefused job refusal → (is_some job ≡ true → slot ≡ None) → let step = box_step (removal_act goes) s.control refusal in
+    (holding_of (kept_box (not goes) slot) job refusal ≡ holding_after cause step (holding_of slot job refusal) slots) × (after_give cause (option_map box_out (handed_back (not goes) slot)) slots ≡ slots_after cause step (box_of slot job) slots)
+part_box false slot job refusal s cause slots matches refused away = (refl, none_given cause slots)
+part_box true slot None refusal s cause slots matches refused away = rw (matches, refused, stopped_out slot) (refl, refl)
+part_box true slot (Some job) refusal s cause slots matches refused away = rw (matches.is_running, away refl) (refl, none_given cause slots)
 
 -- what becomes of a codec and of the registry by an entry that is a removal or leaves its box alone
 pub parts_of : (k : ℕ) (e : Entry) (old new : Codec) (job : Option JobValue) (refusal : Option ℕ) (goes : Bool) (s : SlotsValue) (place : ℕ) (box : Option BoxOut) → IsDesk old job refusal → Makes old new e → act_of e (state_at old) ≡ removal_act goes → new.slot ≡ kept_box (not goes) old.slot
@@ -62,13 +53,10 @@ parts_of k e old new job refusal goes s place box d made act slot at is =
     let t = state_at old in
     let v = seen old job refusal in
     let step : step_by e v ≡ box_step (removal_act goes) t.control refusal = ap (λ (a : Act). box_step a t.control refusal) act in
-    let holding : holding_of new.slot job refusal ≡ holding_after (next_by k v) (step_by e v) v.holding s = rw (slot, step) (part_holding goes old.slot job refusal t (next_by k v) s d.matches d.refused) in
-    (seen_more old new e job job refusal refusal _ made holding, rw (at, is, step) (part_slots goes old.slot job refusal t (next_by k v) s d.matches d.away))
+    let box_is = part_box goes old.slot job refusal t (next_by k v) s d.matches d.refused d.away in
+    (seen_more old new e job job refusal refusal (holding_after (next_by k v) (step_by e v) v.holding s) made (rw (slot, step) box_is.0), rw (at, is, step) box_is.1)
 
 -- ---- turns
-
-pub turn_goes : (t : State) → act_of Entry.Turn t ≡ removal_act (closes_now t.control)
-turn_goes t = ap removal_act (sym (closes_same t.control))
 
 -- a turn that was made is of a task
 pub turn_there : (ts : List Task) (s t : State) → turn_step ts s ≡ Some t → turn_on ts ≡ Some Entry.Turn
@@ -76,10 +64,6 @@ turn_there [] s t is = absurd cc
 turn_there (x ∷ ts) s t is = refl
 
 -- ---- what a desk made
-
--- nothing was made
-pub makes_none : (k : ℕ) (o : Option Entry) (s : SlotsValue) (m : Media) (d new : CodecValue) → o ≡ None → new ≡ d → desk.Makes k o s s m m d new
-makes_none k o s m d new is same = record { codec = rw is same; registry = rw is refl; media = rw is refl }
 
 pub makes_some : (k : ℕ) (o : Option Entry) (e : Entry) (s next : SlotsValue) (m after : Media) (d new : CodecValue) → o ≡ Some e → new ≡ after_entry k e s d → next ≡ slots_by k e s d → after ≡ media_by k e d m → desk.Makes k o s next m after d new
 makes_some k o e s next m after d new is codec registry media = record { codec = rw is codec; registry = rw is registry; media = rw is media }
@@ -101,17 +85,11 @@ abbrev with_box : Option BoxOut → Holding
 with_box x = record { box = x; refusal = None }
 
 -- the box of an end: it stays with its codec, unless a new epoch began or it was refused
-end_holding : (b : Bool) (refusal : Option ℕ) (slot coder : Option Lent) (job : JobValue) (cause : By) (s : SlotsValue) → option_map box_out coder ≡ option_map box_out job.coder → LacksBox job refusal
-    → holding_of (kept_box b coder) None None ≡ holding_after cause (cond (not b || is_some refusal) Give Keep) (holding_of slot (Some job) refusal) s
-end_holding false refusal slot coder job cause s is lacks = refl
-end_holding true None slot coder job cause s is lacks = ap with_box is
-end_holding true (Some n) slot coder job cause s is lacks = ap with_box (is ∙ ap (option_map box_out) lacks.1)
-
-end_slots : (b : Bool) (refusal : Option ℕ) (coder : Option Lent) (job : JobValue) (cause : By) (s : SlotsValue) → option_map box_out coder ≡ option_map box_out job.coder → LacksBox job refusal
-    → after_give cause (option_map box_out (handed_back b coder)) s ≡ slots_after cause (cond (not b || is_some refusal) Give Keep) (option_map box_out job.coder) s
-end_slots false refusal coder job cause s is lacks = rw (stopped_out coder, is) refl
-end_slots true None coder job cause s is lacks = none_given cause s
-end_slots true (Some n) coder job cause s is lacks = rw lacks.1 refl
+end_box : (b : Bool) (refusal : Option ℕ) (slot coder : Option Lent) (job : JobValue) (cause : By) (s : SlotsValue) → option_map box_out coder ≡ option_map box_out job.coder → LacksBox job refusal → let step = cond (not b || is_some refusal) Give Keep in
+    (holding_of (kept_box b coder) None None ≡ holding_after cause step (holding_of slot (Some job) refusal) s) × (after_give cause (option_map box_out (handed_back b coder)) s ≡ slots_after cause step (option_map box_out job.coder) s)
+end_box false refusal slot coder job cause s is lacks = (refl, rw (stopped_out coder, is) refl)
+end_box true None slot coder job cause s is lacks = (ap with_box is, none_given cause s)
+end_box true (Some n) slot coder job cause s is lacks = (ap with_box (is ∙ ap (option_map box_out) lacks.1), rw lacks.1 refl)
 
 -- the end of the running item
 pub ended_makes : (k : ℕ) (old new : Codec) (job : JobValue) (d : DoneValue) (refusal : Option ℕ) (moment : ℕ) (wants : Bool) (s next : SlotsValue) (m after : Media) (ps : List Pair) (place : ℕ) (back : Option Lent) → IsDesk old (Some job) refusal → d.epoch ≡ job.epoch → d.number ≡ job.number
@@ -127,11 +105,9 @@ ended_makes k old new job d refusal moment wants s next m after ps place back is
     let runs = is.matches in
     let entry_is : done_entry wants moment v ≡ Some e = rw (runs.is_running, runs.same_epoch, runs.same_number, runs.same_kind, epoch, number, ends) refl in
     let step : step_by e v ≡ cond (not b || is_some refusal) Give Keep = rw (runs.is_running, runs.same_epoch, epoch) refl in
-    let codec : seen new None None ≡ after_entry k e s v =
-    seen_more old new e (Some job) None refusal None (holding_after (next_by k v) (step_by e v) v.holding s) made
-    (rw (slot, step) (end_holding b refusal old.slot d.coder job (next_by k v) s box is.refused)) in
-    let registry : next ≡ slots_by k e s v = rw (gave_back, at, handed, step) (end_slots b refusal d.coder job (next_by k v) s box is.refused) in
-    makes_some k (done_entry wants moment v) e s next m after v (seen new None None) entry_is codec registry (ended ∙ ended_media k e v place ps m refl at pairs)
+    let box_is = end_box b refusal old.slot d.coder job (next_by k v) s box is.refused in
+    makes_some k (done_entry wants moment v) e s next m after v (seen new None None) entry_is (seen_more old new e (Some job) None refusal None (holding_after (next_by k v) (step_by e v) v.holding s) made (rw (slot, step) box_is.0))
+    (rw (gave_back, at, handed, step) box_is.1) (ended ∙ ended_media k e v place ps m refl at pairs)
 
 -- ---- starts
 
@@ -161,9 +137,8 @@ started_makes k old new job0 refusal r job job' place s next m is epoch started 
     let e = Entry.Start job.epoch job.number in
     let entry_is : start_entry v ≡ Some e = rw (i.1, i.2, epoch) refl in
     let step : step_by e v ≡ renewal (missing_id job) = rw (i.1, i.3, lacks) (start_step_is (missing_coder t.given job.work) t.control refusal) in
-    let holding_is : holding_with job'.coder r ≡ holding_after (next_by k v) (step_by e v) v.holding s = rw (step, none, idle, sym coder, sym (at ∙ started)) holding in
-    let slots_are : next ≡ slots_by k e s v = rw (step, idle, sym coder, sym (at ∙ started)) slots in
-    makes_some k (start_entry v) e s next m m v (seen new (Some job') r) entry_is (seen_more old new e job0 (Some job') refusal r _ made holding_is) slots_are (sym (media_same m))
+    makes_some k (start_entry v) e s next m m v (seen new (Some job') r) entry_is (seen_more old new e job0 (Some job') refusal r (holding_after (next_by k v) (step_by e v) v.holding s) made (rw (step, none, idle, sym coder, sym (at ∙ started)) holding))
+    (rw (step, idle, sym coder, sym (at ∙ started)) slots) (sym (media_same m))
 
 -- an item that lacked a box: the older one went back, and the registry was asked for one
 pub renewed : (s t u : SlotsValue) (cause : By) (id : CoderId) (missing : Option CoderId) (box handed : Option BoxOut) → missing ≡ Some id → handed ≡ box → t ≡ after_give cause handed s → u ≡ acquired cause id t → u ≡ slots_after cause (renewal missing) box s

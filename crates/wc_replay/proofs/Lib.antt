@@ -1,6 +1,5 @@
 pub mod Calls
 pub mod Desks
-pub mod Ends
 pub mod Lent
 pub mod Looks
 pub mod Orders

@@ -1,9 +1,9 @@
 -- One codec among all: what looks show of it, and what becomes of it by an item.
-use Rattle.std.proofs.Common.{ℕ, zero, suc, ◌≡◌, ◌≤◌, ◌<◌, List, [], ◌∷◌, length, get_or, Option, Some, None, refl, ap, sym, ◌∙◌}
+use Rattle.std.proofs.Common.{ℕ, zero, suc, ◌≡◌, List, [], ◌∷◌, length, Option, Some, None, refl, ap, ◌∙◌}
 use Rattle.std.specs.Prelude.{slice_set}
-use Rattle.std.proofs.lemmas.Option.{slice_get_read, slice_get_past, some_pair_parts}
+use Rattle.std.proofs.lemmas.Option.{some_pair_parts}
 use Rattle.slot_registry.specs.Slots.{SlotsValue}
-use Rattle.codec_model.specs.declared.entry.{Entry.Entry, PromiseState.PromiseState, PromiseState.TheVariants.Pending}
+use Rattle.codec_model.specs.declared.entry.{Entry.Entry}
 use Rattle.codec_accounts.specs.Codec.{CodecValue, codec_at}
 use Rattle.media_variables.specs.Variables.{Media}
 use Rattle.report_text.specs.declared.result.StepResult.{StepResult}
@@ -11,28 +11,13 @@ use Rattle.trace_text.specs.Follow.{Course, after_move, advance, look_of_flush, 
 use Rattle.wc_replay.specs.Desk.{codec_by, registry_by, media_by_option}
 use Rattle.wc_replay.specs.Player.{call_in}
 
--- the codec with this number is the one that was read there
-pub codec_is : (k : ℕ) (ds : List CodecValue) (d : CodecValue) → k < length ds → d ≡ get_or ds k d → codec_at k ds ≡ d
-codec_is k ds d lt is = rw (slice_get_read ds (length ds) k d refl lt is) refl
-
 -- what a look shows of a codec
 abbrev look_at : List CodecValue → ℕ → ℕ → StepResult
 look_at ds k place = let d = codec_at k ds in StepResult.Look k (length d.history) (promise_after d.opening d.history place)
 
 pub look_of_call : (ds : List CodecValue) (flush : Option StepResult) (k place : ℕ) → call_in flush ≡ Some (k, place) → look_at ds k place ≡ look_of_flush ds flush
-look_of_call ds None k place is = absurd cc
-look_of_call ds (Some (StepResult.Call n p error)) k place is =
-    let parts = some_pair_parts n k p place is in
-    sym (ap (λ (m : ℕ). look_at ds m p) parts.0 ∙ ap (λ (q : ℕ). look_at ds k q) parts.1)
-look_of_call ds (Some r) k place is = absurd cc
-
--- a codec that was read, looked at
-pub look_read : (ds : List CodecValue) (k place n : ℕ) (d : CodecValue) (end : PromiseState) → codec_at k ds ≡ d → n ≡ length d.history → end ≡ promise_after d.opening d.history place → StepResult.Look k n end ≡ look_at ds k place
-look_read ds k place n d end is at_end ends = rw (at_end, ends, is) refl
-
--- a codec that is not there has no entry
-pub look_past : (ds : List CodecValue) (k place : ℕ) → length ds ≤ k → StepResult.Look k 0 Pending ≡ look_at ds k place
-look_past ds k place beyond = rw (slice_get_past ds k beyond) refl
+look_of_call ds (Some (StepResult.Call n p error)) k place is = let parts = some_pair_parts n k p place is in rw (parts.0, parts.1) refl
+look_of_call ds r k place is = absurd cc
 
 pub set_same : (ds : List CodecValue) (k : ℕ) → slice_set ds k (codec_at k ds) ≡ ds
 set_same [] k = refl

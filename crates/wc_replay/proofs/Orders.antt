@@ -1,11 +1,15 @@
 -- Items of an order, followed one after another.
-use Rattle.std.proofs.Common.{ℕ, ◌≡◌, ◌+◌, Bool, List, [], ◌∷◌, ◌++◌, take, Some, ap}
+use Rattle.std.proofs.Common.{ℕ, ◌≡◌, ◌+◌, ◌<◌, Bool, List, [], ◌∷◌, ◌++◌, take, length, get_or, Some, ap, sym}
 use Rattle.std.specs.Prelude.{slice_get}
 use Rattle.std.proofs.lemmas.List.{take_more}
-use Rattle.std.proofs.lemmas.Option.{slice_get_within, get_or_from_slice_get}
+use Rattle.std.proofs.lemmas.Option.{slice_get_within, slice_get-get_or, get_or_from_slice_get}
 use Rattle.wc_chunk.specs.declared.chunk.Chunk.{Chunk}
 use Rattle.script_types.specs.declared.script.{OrderItem.OrderItem, ScriptData.ScriptData}
 use Rattle.trace_text.specs.Follow.{order_items, Course, follow_item, Follows}
+
+-- the item that a slice of the order has at an index
+pub item_at : (order items : List OrderItem) (i : ℕ) (d : OrderItem) → items ≡ order → i < length items → slice_get order i ≡ Some (get_or items i d)
+item_at order items i d is lt = rw (sym is) (slice_get-get_or items i d lt)
 
 -- one more item of an order
 pub follows_more : (s : ScriptData) (media : List (List Chunk)) (xs : List OrderItem) (x : OrderItem) (wants : Bool) (v u : Course) → Follows s media xs v u → Follows s media (xs ++ x ∷ []) v (follow_item s media wants x u)

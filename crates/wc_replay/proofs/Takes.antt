@@ -30,9 +30,8 @@ at_each P (y ∷ ys) zero x all is = subst P (some_same y x is) all.0
 at_each P (y ∷ ys) (suc n) x all is = at_each P ys n x all.1 is
 
 enough : (u : media.Unit) → IsWholeUnit u → IsEnoughUnit u
-enough (unit.Sound s) h = omega (arith, h)
-enough (unit.Image p) h = omega (arith, h)
 enough (unit.Coded chunk config) h = tt
+enough u h = omega (arith, h)
 
 -- where no output may be taken none is left
 none_left : (old : Codec) (job : Option JobValue) (refusal : Option ℕ) → IsDesk old job refusal → false ≡ may_take (state_at old).control.taken (state_at old).control → slice_get (outputs_of (shown old.opening old.history)) (state_at old).control.taken ≡ None

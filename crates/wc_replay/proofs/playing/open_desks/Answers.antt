@@ -1,9 +1,8 @@
-use Rattle.std.proofs.Common.{◌++◌, ◌∷◌, [], length, refl, ap, ◌∙◌}
+use Rattle.std.proofs.Common.{length, refl, sym}
+use Rattle.std.proofs.lemmas.List.{map_more}
 use Rattle.std.proofs.lemmas.Option.{slice_get_read}
-use Rattle.codec_accounts.specs.Codec.{CodecValue}
 use Rattle.wc_replay.specs.Player.{is_openable, new_desk}
 use Rattle.script_types.specs.SoundLaws.{all_at}
-use Rattle.wc_replay.proofs.Ends.{next_made}
 use Rattle.wc_replay.proofs.playing.open_desks.Goals as goal
 
 pub open_desk-requires-after_bounds : goal.open_desk-requires-after_bounds
@@ -14,6 +13,5 @@ open_desk-requires-after_bounds g c κs within =
 
 pub loop-codec-preserved : goal.loop-codec-preserved
 loop-codec-preserved g c =
-    let made = c.loop-codec.desks.items in
-    next_made new_desk c.args.codecs.now c.loop-codec.codec-index c.codec-item.result made c.try_push.new.items.items c.loop-codec-test.true c.codec-item.is c.loop-codec.invariant
-    (c.in_ok-try_push.ensures.ok ∙ ap (λ (d : CodecValue). made ++ d ∷ []) c.in_ok-desk.ensures)
+    let x = c.codec-item.result in
+    rw (c.in_ok-try_push.ensures.ok, c.loop-codec.invariant, c.in_ok-desk.ensures, map_more new_desk c.args.codecs.now c.loop-codec.codec-index x c.loop-codec-test.true, sym c.codec-item.is) refl
