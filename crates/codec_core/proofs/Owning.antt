@@ -93,6 +93,14 @@ own_stopped at (Some lent) own = own
 pub job_same : (at : Option ℕ) (a b : Option Lent) → stopped_box b ≡ stopped_box a → IsAskedAt at a → IsAskedAt at b
 job_same at a b is own = own_stopped at b (rw is (stopped_own at a own))
 
+-- whose box a job has that has none where it lacks one
+pub none_asked : (at : Option ℕ) (job : JobValue) → IsOwnJob at job → (is_some (missing_id job) ≡ true → job.coder ≡ None) → IsAskedAt at job.coder
+none_asked at job own none = by (missing_id job) refl
+  where
+    by : (o : Option CoderId) → missing_id job ≡ o → IsAskedAt at job.coder
+    by None is = own.has is
+    by (Some id) is = rw (none (rw is refl)) tt
+
 back_box : (old new : Codec) (e : Entry) (slot : Option Lent) → Makes old new e → (is_some slot ≡ true → LetsGo (act_of e (state_at old)) (state_at old)) → IsAskedAt (asked_of old) slot → GoesBack new (length old.history) slot
 back_box old new e None makes goes own = tt
 back_box old new e (Some lent) makes goes own = back_by old new e lent makes (goes refl) own

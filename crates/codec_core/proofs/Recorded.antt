@@ -12,7 +12,8 @@ use Rattle.codec_model.specs.declared.entry.{Call.Call, Entry.Entry, Event.Event
 use Rattle.codec_model.specs.Control.{Control, carried, left, front, may_take, after_take, at_next_place}
 use Rattle.codec_model.specs.{Replay.with_control, Replay.call_error, ShownLaws.each_more, Earlier.pending_below, Earlier.resolved_below}
 use Rattle.codec_model.specs.Facts.{Always, IsNeverStuck, NamesEarlier}
-use Rattle.codec_model.specs.Shown.{shows as events_of, units_in, units_shown, ends_of, shown, outputs_of, shown_at, call_shows, removal_shows, close_shows, rejections, turn_shows}
+use Rattle.codec_model.specs.StepLaws.{own_promise}
+use Rattle.codec_model.specs.Shown.{shows as events_of, units_in, units_shown, ends_of, shown, outputs_of, shown_at, promise_of, refused_shows, call_shows, removal_shows, close_shows, rejections, turn_shows}
 use Rattle.codec_accounts.specs.{Asked.asked_at, Boxes.act_of, Boxes.removal_act}
 use Rattle.history_laws.specs.CountLaws.{step_counts}
 use Rattle.codec_core.specs.Codec.{IsAskedAt, IsKept, IsCore, OutputsWait, kept_box, reclaims}
@@ -131,10 +132,12 @@ ends_below always {h = h} {k = k} kept x y is below =
     rw (is, ← kept.is_place) (higher k.place (k.place + 1) (ends_of y.events) (omega arith) (below names))
 
 call_below : (x : Call) (n : ℕ) (o : Option DomError) → EndsBelow (n + 1) (call_shows x n o)
-call_below Call.Flush n (Some error) = (omega arith, tt)
-call_below Call.Flush n None = tt
-call_below x n (Some error) = tt
-call_below x n None = tt
+call_below x n o = by (promise_of x n) (own_promise x n) o
+  where
+    by : (p : Option ℕ) → ((q : ℕ) → p ≡ Some q → q ≡ n) → (o : Option DomError) → EndsBelow (n + 1) (refused_shows p o)
+    by (Some q) own (Some error) = (omega (arith, own q refl), tt)
+    by None own (Some error) = tt
+    by p own None = elim p as (λ (q : Option ℕ). EndsBelow (n + 1) (refused_shows q None)) [ None ↦ tt | Some q ↦ tt ]
 
 pub call_ends : {h : List Entry} {slot : Option Lent} {k : Control} (kept : IsKept h slot k) (x : Call) (y : Shown) → y ≡ record { turn = None; events = call_shows x k.place (call_error x k) } → EndsBelow (length h + 1) y.events
 call_ends {k = k} kept x y is = rw (ap (λ (z : Shown). z.events) is, ← kept.is_place) (call_below x k.place (call_error x k))

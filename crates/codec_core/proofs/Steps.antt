@@ -1,22 +1,23 @@
 -- Steps of a history, and where the box is after each.
 use Rattle.std.proofs.Common.{ℕ, ◌≡◌, ◌+◌, ◌≤◌, ◌<◌, ◌||◌, not, Bool, true, false, eqb, cond, List, [], ◌∷◌, ◌++◌, drop, length-append, Option, Some, None, is_some, is_none, refl, ap, sym, subst, eq-eqb, ◌∙◌, arith}
-use Rattle.std.specs.Prelude.{unwrap_or, max, IfNone, OnSome}
+use Rattle.std.specs.Prelude.{unwrap_or, max, IfNone, OnSome, option_and_then}
 use Rattle.std.proofs.lemmas.Bool.{and_parts, eqb-true, not-true}
 use Rattle.std.proofs.lemmas.Bool.Decides.{nat_tests}
 use Rattle.wc_base.specs.{Options.cond_is, Options.some_same, declared.error.DomError.DomError, declared.who.Who.Who}
 use Rattle.codec_definitions.specs.declared.unit.Unit as media
 use Rattle.coder_api.specs.Lent.{Lent}
+use Rattle.wc_config.specs.{declared.config.Config.Config, Configs.coder_id_of}
 use Rattle.codec_model.specs.declared.entry.{CodecState.CodecState, Opening.Opening, Removal.Removal, Call.Call, Entry.Entry, HeldSound.HeldSound}
 use Rattle.codec_model.specs.declared.entry.CodecState.TheVariants.{Unconfigured, Configured, Closed}
 use Rattle.codec_model.specs.declared.entry.{Handed.Handed, Coded.Coded, Work.Work, Message.Message, Item.Item, Running.Running, Task.Task}
 use Rattle.codec_model.specs.{declared.entry.Ended.Ended, declared.entry.Event.Event, ShownLaws.replay_more}
 use Rattle.codec_model.specs.Control.{Control, is_decoder, after_message, process, with_message, at_next_place, is_close, turn_closes, run_task, run_front, kind_of, after_done, done_running, after_end, after_turn, after_close, after_removal, may_reclaim, front, may_start, start_item, after_start, after_encode, after_take, may_take}
-use Rattle.codec_model.specs.Replay.{State, call_step, removal_step, Given, missing_coder, opening_state, step, with_control, removed, after_call, call_error, entry_of, removal_error, removal_entry, remove_or_refuse, is_configured, encode_error}
+use Rattle.codec_model.specs.Replay.{State, call_step, removal_step, Given, missing_coder, opening_state, step, with_control, removed, after_call, call_error, entry_of, removal_error, removal_entry, remove_or_refuse, is_configured, encode_error, accepted, config_asked, coder_wanted, serves_too, encode_entry, refused_encode}
 use Rattle.codec_model.specs.Shown.{refusal, shown_at, call_shows, removal_shows}
 use Rattle.codec_accounts.specs.Boxes.{act_of, removal_act}
-use Rattle.codec_model.specs.StepLaws.{by_queue, begun, start_made}
-use Rattle.codec_core.specs.Job.{DoneValue, missing_for, CoderAt, CoderFor, StillAt, IsEndOf, IsJobOf, outcome_of}
-use Rattle.codec_core.specs.Codec.{state_at, Makes, CoderHome, IsKept, kept_box, reclaims, refused_as}
+use Rattle.codec_model.specs.StepLaws.{by_calls, by_items, begun, start_made, asked, work_of, call_sends, encode_sends, closed_refuses}
+use Rattle.codec_core.specs.Job.{DoneValue, missing_for, CoderAt, CoderFor, StillAt, IsEndOf, IsJobOf, outcome_of, holds}
+use Rattle.codec_core.specs.Codec.{state_at, Makes, CoderHome, IsKept, kept_box, reclaims}
 
 -- what processing leaves as it is
 pub record Rest : Type 0 where
@@ -31,12 +32,8 @@ pub record Rest : Type 0 where
 abbrev pub rest_of : Control → Rest
 rest_of c = record { running = c.running; halted = c.halted; epoch = c.epoch; place = c.place; opening = c.opening; phase = c.phase; taken = c.taken }
 
-message_keeps : (w : Work) (place : ℕ) (ms : List Message) (s : Control) → rest_of (record (after_message (record { place = place; work = w }) s) { messages = ms }) ≡ rest_of s
-message_keeps (Work.Coded input) place ms s = refl
-message_keeps w place ms s = refl
-
 process_keeps : (s : Control) → rest_of (process s) ≡ rest_of s
-process_keeps s = by_queue (λ c. rest_of c ≡ rest_of s) (λ m ms c e h. message_keeps m.work m.place ms c ∙ h) s.messages s refl refl
+process_keeps s = by_items (λ c. rest_of c ≡ rest_of s) (λ m ms c blocked saturated scheduled event size few e h. h) s.messages s refl refl
 
 queued_keeps : (place : ℕ) (w : Work) (s : Control) → rest_of (with_message place w s) ≡ rest_of s
 queued_keeps place w s = process_keeps (record s { messages = s.messages ++ record { place = place; work = w } ∷ [] })
@@ -142,14 +139,15 @@ home_idle s slot may home =
 
 -- the box at home is missing for an item exactly where the coder that was given all does not serve it
 lacks_at : (w : Work) (slot : Option Lent) (g : Given) → CoderAt slot g → missing_for w slot ≡ missing_coder g w
-lacks_at (Work.Configure config) None g at = rw at refl
-lacks_at (Work.Configure config) (Some lent) g at = rw at.asked refl
-lacks_at (Work.Coded input) slot g at = refl
-lacks_at w slot g at = refl
+lacks_at w slot g at = by (config_asked w) slot at
+  where
+    by : (o : Option Config) (slot : Option Lent) → CoderAt slot g → option_and_then (coder_wanted (holds slot)) o ≡ option_and_then (coder_wanted (serves_too (coder_id_of g.config))) o
+    by (Some config) None at = rw at refl
+    by (Some config) (Some lent) at = rw at.asked refl
+    by None slot at = refl
 
 coder_for : (w : Work) (slot : Option Lent) (before : Given) → CoderAt slot before → CoderFor w slot before
-coder_for (Work.Configure config) slot before at = tt
-coder_for w slot before at = at
+coder_for w slot before at = elim (config_asked w) as (λ (o : Option Config). IfNone o (CoderAt slot before)) [ None ↦ at | Some config ↦ tt ]
 
 -- ---- an end
 
@@ -190,8 +188,9 @@ pub record EntryIs (e : Entry) (s t : State) (events : List Event) (removes : Bo
   pub act : act_of e s ≡ removal_act removes
 
 pub call_is : (who : Who) (x : Call) (s : State) → EntryIs (entry_of who x) s (call_step x s) (call_shows x s.control.place (call_error x s.control)) false
-call_is who Call.Flush s = record { steps = refl; takes_none = refl; shows = refl; act = refl }
-call_is who x s = record { steps = refl; takes_none = refl; shows = refl; act = refl }
+call_is who x s =
+    by_calls (λ (y : Call). EntryIs (entry_of who y) s (call_step y s) (call_shows y s.control.place (call_error y s.control)) false) (λ config. record { steps = refl; takes_none = refl; shows = refl; act = refl })
+    (λ chunk. record { steps = refl; takes_none = refl; shows = refl; act = refl }) (record { steps = refl; takes_none = refl; shows = refl; act = refl }) x
 
 pub removal_is : (who : Who) (r : Removal) (s : State) → EntryIs (removal_entry who r) s (removal_step r s) (removal_shows (removal_error s.control) s.control.pending) (is_none (removal_error s.control))
 removal_is who Removal.Reset s = record { steps = refl; takes_none = refl; shows = refl; act = refl }
@@ -206,7 +205,7 @@ is_refused : (b : Bool) (x : DomError) → cond b None (Some DomError.InvalidSta
 is_refused true x e = absurd cc
 is_refused false x e = refl
 
-pub refusal_is : (who : Who) (detached : Bool) (x : DomError) (s : State) → encode_error detached s.control ≡ Some x → EntryIs (Entry.Encode who (refused_as detached)) s (with_control (at_next_place s.control) s) (refusal (encode_error detached s.control)) false
+pub refusal_is : (who : Who) (detached : Bool) (x : DomError) (s : State) → encode_error detached s.control ≡ Some x → EntryIs (refused_encode who detached) s (with_control (at_next_place s.control) s) (refusal (encode_error detached s.control)) false
 refusal_is who true x s e = record { steps = refl; takes_none = refl; shows = refl; act = refl }
 refusal_is who false x s e = let off = is_refused (is_configured s.control) x e in record { steps = rw off refl; takes_none = refl; shows = rw off refl; act = refl }
 
@@ -215,17 +214,14 @@ next_moved : (slot : Option Lent) (e : Entry) (s : State) → step e s ≡ Some 
 next_moved slot e s steps home = moved_by slot e s (at_next_place s.control) s.control.phase s.control.taken refl (omega arith) (λ none. refl) steps home
 
 call_moved : (slot : Option Lent) (who : Who) (x : Call) (s : State) (error : Option DomError) → call_error x s.control ≡ error → step (entry_of who x) s ≡ Some (with_control (after_call error x s.control) s) → CoderHome slot s → Moved slot (entry_of who x) s (after_call error x s.control)
-call_moved slot who (Call.Configure config) s None e steps home =
-    let c = s.control in
-    let same = queued_keeps c.place (Work.Configure config) (record (at_next_place c) { phase = Configured; key_required = is_decoder c.opening.kind || c.key_required }) in
-    moved_by slot (Entry.Configure who config) s _ Configured c.taken same (omega (arith, open_phase _ c.phase e)) (λ none. refl) steps home
-call_moved slot who (Call.Decode chunk) s None e steps home =
-    let same = queued_keeps s.control.place (Work.Coded (Coded.Chunk chunk)) (record (at_next_place s.control) { key_required = false; size = s.control.size + 1 }) in
-    moved_by slot (Entry.Decode who chunk) s _ s.control.phase s.control.taken same (omega arith) (λ none. refl) steps home
-call_moved slot who Call.Flush s None e steps home =
-    let c = s.control in
-    let same = queued_keeps c.place Work.Flush (record (at_next_place c) { key_required = is_decoder c.opening.kind || c.key_required; pending = c.pending ++ c.place ∷ [] }) in
-    moved_by slot (Entry.Flush who) s _ c.phase c.taken same (omega arith) (λ none. refl) steps home
+call_moved slot who x s None e steps home =
+    let k = call_sends x s.control in
+    let same = ap rest_of k.is ∙ queued_keeps s.control.place (work_of x) (asked s.control k.phase k.key_required k.size k.pending) in
+    moved_by slot (entry_of who x) s (accepted x s.control) k.phase s.control.taken same (omega (arith, most_reclaims k.phase, open_call s.control.phase refl)) (λ none. refl) steps home
+  where
+    open_call : (p : CodecState) → s.control.phase ≡ p → reclaims p ≡ 1
+    open_call Closed is = absurd (let bad = closed_refuses x s.control is in let none = rw e at bad in cc)
+    open_call p is = refl
 call_moved slot who x s (Some error) e steps home = next_moved slot (entry_of who x) s steps home
 
 -- ---- removals
@@ -329,16 +325,17 @@ module _ {h : List Entry} {slot : Option Lent} {k : Control} (kept : IsKept h sl
       let s = kept.state in rw (after, ← kept.is_control) (call_moved slot who x s (call_error x s.control) refl (call_is who x s).steps kept.home)
 
   -- an encode is queued like a call
-  pub encode_moves : {k' : Control} (who : Who) (x : HeldSound) → encode_error false k ≡ None → k' ≡ after_encode k.place x (at_next_place k) → Moved slot (Entry.Encode who (Handed.Cloned x)) kept.state k'
+  pub encode_moves : {k' : Control} (who : Who) (x : HeldSound) → encode_error false k ≡ None → k' ≡ after_encode k.place x (at_next_place k) → Moved slot (encode_entry who x) kept.state k'
   encode_moves who x e after =
       let s = kept.state in
       let fine = not_refused (is_configured s.control) (ap (encode_error false) kept.is_control ∙ e) in
-      let same = queued_keeps s.control.place (Work.Coded (Coded.Sound x)) (record (at_next_place s.control) { size = s.control.size + 1 }) in
-      rw (after, ← kept.is_control) (moved_by slot (Entry.Encode who (Handed.Cloned x)) s (after_encode s.control.place x (at_next_place s.control)) s.control.phase s.control.taken same (omega arith) (λ none. refl) (rw fine refl) kept.home)
+      let sent = encode_sends x s.control in
+      let same = ap rest_of sent.is ∙ queued_keeps s.control.place _ (asked s.control sent.phase sent.key_required sent.size sent.pending) in
+      rw (after, ← kept.is_control) (moved_by slot (encode_entry who x) s (after_encode s.control.place x (at_next_place s.control)) s.control.phase s.control.taken same (omega arith) (λ none. refl) (rw fine refl) kept.home)
 
-  pub refusal_moves : {k' : Control} (who : Who) (detached : Bool) (x : DomError) → encode_error detached k ≡ Some x → k' ≡ at_next_place k → Moved slot (Entry.Encode who (refused_as detached)) kept.state k'
+  pub refusal_moves : {k' : Control} (who : Who) (detached : Bool) (x : DomError) → encode_error detached k ≡ Some x → k' ≡ at_next_place k → Moved slot (refused_encode who detached) kept.state k'
   refusal_moves who detached x e after =
-      rw (after, ← kept.is_control) (next_moved slot (Entry.Encode who (refused_as detached)) kept.state (refusal_is who detached x kept.state (ap (encode_error detached) kept.is_control ∙ e)).steps kept.home)
+      rw (after, ← kept.is_control) (next_moved slot (refused_encode who detached) kept.state (refusal_is who detached x kept.state (ap (encode_error detached) kept.is_control ∙ e)).steps kept.home)
 
   pub take_moves : {k' : Control} (who : Who) (n : ℕ) → may_take n k ≡ true → k' ≡ after_take (at_next_place k) → Moved slot (Entry.Take who n) kept.state k'
   take_moves who n may after =
@@ -350,8 +347,8 @@ module _ {h : List Entry} {slot : Option Lent} {k : Control} (kept : IsKept h sl
   removal_moves who r slot_is after = rw (slot_is, after, ← kept.is_control) (by r (removal_error kept.state.control) refl (removal_is who r kept.state).steps)
     where
       by : (r : Removal) (o : Option DomError) → removal_error kept.state.control ≡ o → step (removal_entry who r) kept.state ≡ Some (remove_or_refuse o r kept.state) → Moved (kept_box (is_some o) slot) (removal_entry who r) kept.state (removal_of o r kept.state.control)
-      by Removal.Reset None e steps = removed_moved slot (Entry.Reset who) kept.state _ Unconfigured refl (omega (arith, open_phase true kept.state.control.phase e)) steps kept.home
-      by Removal.Close None e steps = removed_moved slot (Entry.Close who) kept.state _ Closed refl (omega arith) steps kept.home
+      by Removal.Reset None e steps = removed_moved slot (removal_entry who Removal.Reset) kept.state _ Unconfigured refl (omega (arith, open_phase true kept.state.control.phase e)) steps kept.home
+      by Removal.Close None e steps = removed_moved slot (removal_entry who Removal.Close) kept.state _ Closed refl (omega arith) steps kept.home
       by r (Some error) e steps = next_moved slot (removal_entry who r) kept.state steps kept.home
 
   pub reclaim_moves : {k' : Control} (now : ℕ) → may_reclaim now k ≡ true → k' ≡ after_close (at_next_place k) → Moved None (Entry.Reclaim now) kept.state k'

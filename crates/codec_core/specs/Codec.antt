@@ -10,9 +10,6 @@ use Rattle.codec_model.specs.declared.entry.Opening.{Opening}
 use Rattle.codec_model.specs.declared.entry.CodecState.{CodecState}
 use Rattle.codec_model.specs.declared.entry.CodecState.TheVariants.{Unconfigured, Configured, Closed}
 use Rattle.codec_model.specs.declared.entry.Call.{Call}
-use Rattle.codec_model.specs.declared.entry.Call.TheVariants as call
-use Rattle.codec_model.specs.declared.entry.Handed.{Handed}
-use Rattle.codec_model.specs.declared.entry.Handed.TheVariants as handed
 use Rattle.codec_model.specs.declared.entry.Entry.{Entry}
 use Rattle.codec_model.specs.declared.entry.Work.{Work}
 use Rattle.codec_model.specs.declared.entry.Item.{Item}
@@ -139,16 +136,6 @@ item_parts i = (i.number, i.work)
 -- the moment of the last item that ended, of a configured codec
 abbrev pub progress_of : Control → Option ℕ
 progress_of s = elim (s.phase) [ Unconfigured ↦ None | Configured ↦ s.progress | Closed ↦ None ]
-
--- a flush gives a promise, which is named by its entry's place
-abbrev pub promise_of : Call → ℕ → Option ℕ
-promise_of (call.Configure config) at = None
-promise_of (call.Decode chunk) at = None
-promise_of call.Flush at = Some at
-
--- what became of the data of an encode that is refused
-abbrev pub refused_as : Bool → Handed
-refused_as detached = if detached then handed.Gone else handed.Kept
 
 -- the call's entry was made, and this is the exception that it shows
 pub record Replied (old new : Codec) (who : Who) (x : Call) (at : ℕ) (error : Option DomError) : Type 0 where

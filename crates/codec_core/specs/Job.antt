@@ -1,5 +1,5 @@
 -- A job and its end as contracts see them, and what they stand for.
-use Rattle.std.specs.Prelude.{ℕ, ◌≡◌, Bool, true, false, ◌&&◌, not, List, [], ◌∷◌, ◌++◌, length, Option, Some, None, is_some, option_map, if◌then◌else◌, Result, Ok, Err}
+use Rattle.std.specs.Prelude.{ℕ, ◌≡◌, Bool, true, false, ◌&&◌, not, List, [], ◌∷◌, ◌++◌, length, Option, Some, None, is_some, option_map, option_and_then, IfNone, Result, Ok, Err}
 use Rattle.wc_config.specs.declared.codec.CoderId.{CoderId}
 use Rattle.wc_config.specs.declared.config.Config.{Config}
 use Rattle.wc_config.specs.declared.config.AudioDecoderConfig.{AudioDecoderConfig}
@@ -13,7 +13,6 @@ use Rattle.codec_definitions.specs.Answers.{answer_after}
 use Rattle.coder_api.specs.Meaning.{Meaning, IsAt, IsConfigured, serves}
 use Rattle.coder_api.specs.Lent.{Lent, stopped_lent}
 use Rattle.codec_model.specs.declared.entry.Work.{Work}
-use Rattle.codec_model.specs.declared.entry.Work.TheVariants as work
 use Rattle.codec_model.specs.declared.entry.WorkKind.{WorkKind}
 use Rattle.codec_model.specs.declared.entry.Ended.{Ended}
 use Rattle.codec_model.specs.declared.entry.Ended.TheVariants as ended
@@ -21,7 +20,7 @@ use Rattle.codec_model.specs.declared.entry.Outcome.{Outcome}
 use Rattle.codec_model.specs.declared.entry.Outcome.TheVariants as outcome
 use Rattle.codec_model.specs.declared.entry.Running.{Running}
 use Rattle.codec_model.specs.Control.{kind_of}
-use Rattle.codec_model.specs.Replay.{Given, State, nothing_given, given_more, answer_to, ended_of, labelled}
+use Rattle.codec_model.specs.Replay.{Given, State, nothing_given, config_asked, coder_wanted, given_more, answer_to, ended_of, labelled}
 
 -- an item that is at work, with the box that its codec held
 pub record JobValue : Type 0 where
@@ -47,9 +46,7 @@ holds (Some lent) config = serves lent.id config
 
 -- the coder id of which a configure item needs a box that is not there: its config is supported, and no box serves it
 abbrev pub missing_for : Work → Option Lent → Option CoderId
-missing_for (work.Configure config) coder = if is_supported config && not (holds coder config) then coder_id_of config else None
-missing_for (work.Coded input) coder = None
-missing_for work.Flush coder = None
+missing_for w coder = option_and_then (coder_wanted (holds coder)) (config_asked w)
 
 abbrev pub missing_id : JobValue → Option CoderId
 missing_id job = missing_for job.work job.coder
@@ -63,10 +60,9 @@ abbrev pub IsReadyBox : Option Lent → Type 0
 IsReadyBox None = Unit {0}
 IsReadyBox (Some lent) = IsConfigured lent.meaning
 
+-- a configure item goes with any box
 abbrev pub IsReady : Work → Option Lent → Type 0
-IsReady (work.Configure config) coder = Unit {0}
-IsReady (work.Coded input) coder = IsReadyBox coder
-IsReady work.Flush coder = IsReadyBox coder
+IsReady w coder = IfNone (config_asked w) (IsReadyBox coder)
 
 -- none of the commands was refused after those before it
 abbrev pub none_refused_from : CoderId → Config → List Command → List Command → Bool
@@ -87,9 +83,7 @@ CoderAt (Some lent) g = WasGiven lent g
 
 -- a coded or flush item goes with the box that was given all before; any box may go with a configure item
 abbrev pub CoderFor : Work → Option Lent → Given → Type 0
-CoderFor (work.Configure config) coder before = Unit {0}
-CoderFor (work.Coded input) coder before = CoderAt coder before
-CoderFor work.Flush coder before = CoderAt coder before
+CoderFor w coder before = IfNone (config_asked w) (CoderAt coder before)
 
 -- the job's work is the last of what was given
 pub record IsJob (g : Given) (job : JobValue) : Type 0 where

@@ -1,26 +1,21 @@
 // One codec, which keeps its history.
 ghost use Rattle.std.specs.Prelude.{◌≡◌, ◌==◌, max, ◌≤◌, ◌+◌, ◌^◌, IfOk, IfErr, IfNone, IfSome, OnSome, OnOk, OnErr, None, Some, [], length, map, option_map, not, is_some, slice_get, false, true};
 ghost use Rattle.codec_model.specs.declared.entry.Entry.TheVariants as entry;
-ghost use Rattle.codec_model.specs.declared.entry.Handed.TheVariants as handed;
 ghost use Rattle.codec_model.specs.Control.{start_item, may_take, may_reclaim};
-ghost use Rattle.codec_model.specs.Replay.{entry_of, removal_entry as the_removal_entry, call_error, encode_error, missing_coder, removal_error, IsLegal};
+ghost use Rattle.codec_model.specs.Replay.{entry_of, encode_entry, refused_encode, removal_entry as the_removal_entry, call_error, encode_error, missing_coder, removal_error, IsLegal};
 ghost use Rattle.codec_model.specs.Facts.{IsNeverStuck};
-ghost use Rattle.codec_model.specs.Shown.{shown, shown_of, outputs_of, each_shown, ends_in, promise_state, exception_of};
+ghost use Rattle.codec_model.specs.Shown.{shown, shown_of, promise_of, outputs_of, each_shown, ends_in, promise_state, exception_of};
 ghost use Rattle.codec_core.specs.Job.{IsJobOf, IsEndOf, outcome_of, missing_id, stopped_box};
 ghost use Rattle.codec_core.specs.Owning.{asked_of, IsOwnJob, GoesBack, KeepsAsked};
-ghost use Rattle.codec_core.specs.Codec.{state_at, Makes, IsAskedAt, KeepsRunning, Replied, FaultIs, promise_of, kept_box, handed_back, removed_if, closes_now, progress_of, item_parts, refused_as};
+ghost use Rattle.codec_core.specs.Codec.{state_at, Makes, IsAskedAt, KeepsRunning, Replied, FaultIs, kept_box, handed_back, removed_if, closes_now, progress_of, item_parts};
 
 use crate::job::{DoneJob, Job};
-use crate::parts::{
-    copy_of_sound, entry_of_call, hand_back, more_places, promise, refused_as, removal_entry,
-    removed_if,
-};
+use crate::parts::{hand_back, more_places, removed_if};
 use crate::reply::{Back, CallFault, Removed, Reply, Taken, Turned};
 use crate::trace::Trace;
 use crate::work::outcome_of_end;
 use codec_model::{
-    Call, CodecState, Entry, Handed, HeldSound, Kind, Opening, PromiseState, Removal, Showing,
-    never_stuck,
+    Call, CodecState, Entry, HeldSound, Kind, Opening, PromiseState, Removal, Showing, never_stuck,
 };
 use codec_queues::Machine;
 use coder_api::{Coder, SlotBox};
@@ -170,7 +165,7 @@ impl<C: Coder> Core<C> {
         ensures slot { self.new.slot ≡ self.old.slot }
         ensures spare { self.new.spare ≡ self.old.spare }
     {
-        let promise = promise(&call, self.machine.place());
+        let promise = call.promise(self.machine.place());
         match self.make(who, call) {
             Ok((place, None)) => Ok(Reply { place, promise }),
             Ok((place, Some(error))) => Err(CallFault::Dom { error, place }),
@@ -191,7 +186,7 @@ impl<C: Coder> Core<C> {
         ensures slot { self.new.slot ≡ self.old.slot }
         ensures spare { self.new.spare ≡ self.old.spare }
     {
-        let entry = entry_of_call(who, &call)?;
+        let entry = call.entry(who)?;
         let places = more_places(self.machine.room(), self.spare)?;
         self.trace.reserve(places)?;
         let answer = self.machine.call(call)?;
@@ -212,7 +207,7 @@ impl<C: Coder> Core<C> {
     pub fn encode(&mut self, who: Who, sound: HeldSound) -> Result<u64, NoMemory>
         requires { encode_error false (state_at self.old).control ≡ None }
         ensures made { OnOk result
-            (Makes self.old self.new (entry.Encode who (handed.Cloned sound))) }
+            (Makes self.old self.new (encode_entry who sound)) }
         ensures place { IfOk result (λ place. place ≡ length self.old.history) }
         ensures err { OnErr result (self.new ≡ self.old) }
         ensures running { KeepsRunning (state_at self.old) (state_at self.new) }
@@ -220,13 +215,12 @@ impl<C: Coder> Core<C> {
         ensures slot { self.new.slot ≡ self.old.slot }
         ensures spare { self.new.spare ≡ self.old.spare }
     {
-        let again = copy_of_sound(&sound)?;
+        let again = sound.copy()?;
         let places = more_places(self.machine.room(), self.spare)?;
         self.trace.reserve(places)?;
         let answer = self.machine.encode(again)?;
-        let handed = Handed::Cloned(sound);
         self.trace
-            .push(Entry::Encode { who, handed }, answer.showing);
+            .push(Entry::of_encode(who, sound), answer.showing);
         Ok(answer.place)
     }
 
@@ -235,7 +229,7 @@ impl<C: Coder> Core<C> {
     pub fn refuse_encode(&mut self, who: Who, detached: bool) -> Result<(DomError, u64), NoMemory>
         requires { is_some (encode_error detached (state_at self.old).control) ≡ true }
         ensures made { OnOk result
-            (Makes self.old self.new (entry.Encode who (refused_as detached))) }
+            (Makes self.old self.new (refused_encode who detached)) }
         ensures error { IfOk result
             (λ a. encode_error detached (state_at self.old).control ≡ Some a.0) }
         ensures place { IfOk result (λ a. a.1 ≡ length self.old.history) }
@@ -247,7 +241,6 @@ impl<C: Coder> Core<C> {
     {
         let places = more_places(self.machine.room(), self.spare)?;
         self.trace.reserve(places)?;
-        let handed = refused_as(detached);
         let answer = match self.machine.refuse_encode(detached) {
             Some(answer) => answer,
             None => unreachable!(),
@@ -257,7 +250,7 @@ impl<C: Coder> Core<C> {
             None => unreachable!(),
         };
         self.trace
-            .push(Entry::Encode { who, handed }, answer.showing);
+            .push(Entry::of_refused_encode(who, detached), answer.showing);
         Ok((error, answer.place))
     }
 
@@ -458,7 +451,7 @@ impl<C: Coder> Core<C> {
         let answer = self.machine.remove(removal);
         let coder = hand_back(&mut self.slot, answer.exception.is_some());
         self.spare -= 1;
-        let entry = removal_entry(who, removal);
+        let entry = removal.entry(who);
         self.trace.push(entry, answer.showing);
         let place = answer.place;
         (Removed { place, coder }, answer.exception)

@@ -9,8 +9,8 @@ ghost use Rattle.codec_queues.specs.Labels.{label_of};
 ghost use Rattle.codec_model.specs.declared.entry.Ended.TheVariants as ended;
 
 use crate::labels::with_label;
-use crate::work::{kind_of_work, missing_id, work_end};
-use codec_model::{Coded, Ended, Pair, Work, WorkKind};
+use crate::work::{missing_id, work_end};
+use codec_model::{Ended, Pair, Work, WorkKind};
 use coder_api::{Coder, SlotBox};
 use std::alloc::Global;
 use std::marker::Model;
@@ -79,12 +79,7 @@ impl<C: Coder> Job<C> {
     pub fn held(&self) -> Option<Pair>
         ensures { result ≡ held_of self.now.work }
     {
-        match &self.work {
-            Work::Coded(Coded::Sound(sound)) => Some(sound.pair),
-            Work::Coded(Coded::Chunk(_)) => None,
-            Work::Configure(_) => None,
-            Work::Flush => None,
-        }
+        self.work.held()
     }
 
     /// The id of the coder that the job has no box of: some exactly for the configure job of a supported config whose
@@ -134,6 +129,7 @@ impl<C: Coder> Job<C> {
     }
 
     /// The job's end where memory was wanted. A job that lacks a box has none.
+    #[tactic(auto, using(crate::proofs::Owning::none_asked))]
     pub fn no_memory(self) -> DoneJob<C>
         requires none { is_some (missing_id self) ≡ true → self.coder ≡ None }
         ensures done { result ≡ done_with ended.NoMemory self }
@@ -147,7 +143,7 @@ impl<C: Coder> Job<C> {
         requires { label_of ended ≡ None }
         ensures { result ≡ done_with ended self }
     {
-        let kind = kind_of_work(&self.work);
+        let kind = self.work.kind();
         DoneJob {
             epoch: self.epoch,
             number: self.number,
@@ -178,7 +174,7 @@ impl<C: Coder> Job<C> {
             work,
             mut coder,
         } = self;
-        let kind = kind_of_work(&work);
+        let kind = work.kind();
         let end = work_end(alloc, &work, &mut coder);
         let (ended, label) = with_label(end);
         DoneJob {

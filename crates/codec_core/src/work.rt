@@ -4,26 +4,15 @@ ghost use Rattle.coder_api.specs.Meaning.{IsConfigured};
 ghost use Rattle.codec_definitions.specs.declared.command.Command.TheVariants as command;
 ghost use Rattle.codec_core.specs.Job.{EndsCommand, EndsWork, IsReady, IsReadyBox, end_by, holds, missing_for, outcome_of};
 ghost use Rattle.codec_model.specs.declared.entry.Work.TheVariants as work;
-ghost use Rattle.codec_model.specs.Control.{kind_of};
 ghost use Rattle.codec_model.specs.Replay.{command_of};
 
 use crate::labels::label_end;
-use codec_model::{Coded, Ended, Outcome, Work, WorkKind};
+use codec_model::{Coded, Ended, Outcome, Work};
 use coder_api::{Coder, CoderFault, Input, SlotBox, Unit};
 use std::alloc::Global;
 use wc_base::{List, Samples};
 use wc_chunk::Chunk;
 use wc_config::{CoderId, Config, Role};
-
-pub(crate) fn kind_of_work(work: &Work) -> WorkKind
-    ensures { result ≡ kind_of work.now }
-{
-    match work {
-        Work::Configure(_) => WorkKind::Configure,
-        Work::Coded(_) => WorkKind::Coded,
-        Work::Flush => WorkKind::Flush,
-    }
-}
 
 /// The outcome that an end is.
 pub(crate) fn outcome_of_end(end: &Ended) -> Outcome
@@ -43,16 +32,11 @@ pub(crate) fn outcome_of_end(end: &Ended) -> Outcome
 pub(crate) fn missing_id<C: Coder>(work: &Work, coder: &Option<SlotBox<C>>) -> Option<CoderId>
     ensures { result ≡ missing_for work.now coder.now }
 {
-    match work {
-        Work::Configure(config) => {
-            if config.supported() && !holds(coder, config) {
-                config.coder_id()
-            } else {
-                None
-            }
-        }
-        Work::Coded(_) => None,
-        Work::Flush => None,
+    let config = work.config()?;
+    if config.supported() && !holds(coder, config) {
+        config.coder_id()
+    } else {
+        None
     }
 }
 

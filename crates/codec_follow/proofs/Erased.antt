@@ -11,12 +11,12 @@ use Rattle.codec_definitions.specs.declared.unit.Unit as media
 use Rattle.codec_model.specs.declared.entry.{Call.Call, Entry.Entry, Work.Work, WorkKind.WorkKind}
 use Rattle.codec_model.specs.declared.entry.{Event.Event, Message.Message, Running.Running, Shown.Shown, Task.Task, Ended.Ended, Outcome.Outcome}
 use Rattle.codec_model.specs.Control.{Control, is_dequeue, is_desaturate, with_desaturate, is_taken, after_message, process_queue, at_next_place, run_task, done_running, after_reset, after_close, carried, active_after}
-use Rattle.codec_model.specs.Replay.{State, Given, opening_state, replay, replay_from, step, ended_of, after_call, with_control}
+use Rattle.codec_model.specs.Replay.{State, Given, opening_state, replay, replay_from, step, ended_of, accepted, after_call, with_control}
 use Rattle.codec_model.specs.Shown.{shows, outputs_from, turn_shows, shown_from, shown_at, each_shown_from, word_at, units_in, units_shown, outputs_of}
 use Rattle.codec_follow.specs.Follow.{blanks, ended_as, follow_step, follow_from, filled, filled_at, each_filled_from, each_filled}
 use Rattle.codec_follow.specs.Laws.{LegalFollows, LegalFills, UnitsInOrder}
 use Rattle.history_laws.specs.CountLaws.{length-carried, outputs_tagged}
-use Rattle.codec_model.specs.StepLaws.{task_ran, EachStep, by_steps}
+use Rattle.codec_model.specs.StepLaws.{task_ran, EachStep, by_calls, by_steps}
 use Rattle.codec_follow.proofs.Answered.{some_is, IsAnswered, Sound, step_sound, opened}
 
 abbrev erased_task : Task → Task
@@ -65,8 +65,8 @@ process_erased (m ∷ ms) c =
     (either_way erased (is_taken m c) (process_queue ms (record (after_message m c) { messages = ms })) c)
 
 call_erased : (o : Option DomError) (x : Call) (c : Control) → after_call o x (erased c) ≡ erased (after_call o x c)
-call_erased None Call.Flush c = process_erased (c.messages ++ _ ∷ []) _
-call_erased None x c = process_erased (c.messages ++ _ ∷ []) _
+call_erased None x c =
+    by_calls (λ (y : Call). accepted y (erased c) ≡ erased (accepted y c)) (λ config. process_erased (c.messages ++ _ ∷ []) _) (λ chunk. process_erased (c.messages ++ _ ∷ []) _) (process_erased (c.messages ++ _ ∷ []) _) x
 call_erased (Some e) x c = refl
 
 reset_erased : (c : Control) → after_reset (erased c) ≡ erased (after_reset c)

@@ -7,7 +7,7 @@ use Rattle.wc_base.specs.declared.who.Who.{Who}
 use Rattle.wc_pool.specs.declared.reference.MediaRef.{MediaRef}
 use Rattle.codec_model.specs.declared.entry.{Pair.Pair, Call.Call, Task.Task, Work.Work, Item.Item}
 use Rattle.coder_api.specs.Lent.{Lent}
-use Rattle.codec_model.specs.{declared.entry.Running.Running, declared.entry.Entry.Entry, Replay.State, Replay.entry_of, Held.HeldMoves}
+use Rattle.codec_model.specs.{declared.entry.Running.Running, declared.entry.Entry.Entry, Replay.State, Replay.entry_of, Held.HeldMoves, StepLaws.by_call}
 use Rattle.codec_model.specs.Control.{held_of, front, may_start, start_item, turn_closes}
 use Rattle.codec_model.specs.Held.{in_order, held_by, items_held, messages_held, running_pairs, waiting_held, front_held, behind_held, waiting_after, running_after, closes_codec}
 use Rattle.codec_core.specs.{declared.reply.Reply.Reply, declared.reply.CallFault.CallFault}
@@ -23,9 +23,7 @@ holds_after held_moves old new e working waiting m r w =
 
 -- a call leaves what waits and what runs
 call_keeps : (who : Who) (x : Call) (s : State) → (running_after (entry_of who x) s ≡ running_pairs s) × (waiting_after (entry_of who x) s ≡ waiting_held s.control ++ [])
-call_keeps who (Call.Configure config) s = (refl, refl)
-call_keeps who (Call.Decode chunk) s = (refl, refl)
-call_keeps who Call.Flush s = (refl, refl)
+call_keeps who x s = by_call (λ e. (running_after e s ≡ running_pairs s) × (waiting_after e s ≡ waiting_held s.control ++ [])) who (λ config. (refl, refl)) (λ chunk. (refl, refl)) (refl, refl) x
 
 made_call : HeldMoves → (old new : Codec) (who : Who) (x : Call) (working : Option MediaRef) (waiting : List MediaRef) → Makes old new (entry_of who x) → IsHolding old working waiting → IsHolding new working waiting
 made_call moves old new who x working waiting m h =

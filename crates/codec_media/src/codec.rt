@@ -1,14 +1,13 @@
 // One codec with the references that it holds.
 ghost use Rattle.std.specs.Prelude.{◌≡◌, ◌==◌, ◌++◌, ◌∷◌, [], ◌≤◌, ◌+◌, max, IfOk, IfErr, IfNone, IfSome, OnSome, OnOk, OnErr, None, Some, length, map, option_map, not, is_some, slice_get, true, false};
 ghost use Rattle.codec_model.specs.declared.entry.Entry.TheVariants as entry;
-ghost use Rattle.codec_model.specs.declared.entry.Handed.TheVariants as handed;
 ghost use Rattle.codec_model.specs.Control.{start_item, may_take, may_reclaim};
-ghost use Rattle.codec_model.specs.Shown.{shown, outputs_of};
+ghost use Rattle.codec_model.specs.Shown.{shown, promise_of, outputs_of};
 ghost use Rattle.codec_model.specs.Held.{in_order, running_pairs};
-ghost use Rattle.codec_model.specs.Replay.{encode_error, missing_coder, removal_error, removal_entry as the_removal_entry};
+ghost use Rattle.codec_model.specs.Replay.{encode_entry, encode_error, refused_encode, missing_coder, removal_error, removal_entry as the_removal_entry};
 ghost use Rattle.codec_core.specs.Job.{IsJobOf, IsEndOf, outcome_of, missing_id, stopped_box};
 ghost use Rattle.codec_core.specs.Owning.{asked_of, IsOwnJob, GoesBack, KeepsAsked};
-ghost use Rattle.codec_core.specs.Codec.{state_at, Makes, IsAskedAt, KeepsRunning, Replied, FaultIs, promise_of, kept_box, handed_back, closes_now, item_parts, refused_as};
+ghost use Rattle.codec_core.specs.Codec.{state_at, Makes, IsAskedAt, KeepsRunning, Replied, FaultIs, kept_box, handed_back, closes_now, item_parts};
 ghost use Rattle.codec_media.specs.Holding.{pair_of, all_of, SameHeld, LetsGo};
 
 use crate::queue::{let_go, room_for, take_if, with_media};
@@ -130,8 +129,7 @@ impl<C: Coder> HoldingCore<C> {
         requires { encode_error false (state_at self.old.codec).control ≡ None }
         ensures made { OnOk result
             (Makes self.old.codec self.new.codec
-            (entry.Encode who
-            (handed.Cloned (record { samples = samples; pair = pair_of held })))) }
+            (encode_entry who (record { samples = samples; pair = pair_of held }))) }
         ensures place { IfOk result (λ place. place ≡ length self.old.codec.history) }
         ensures running { KeepsRunning (state_at self.old.codec) (state_at self.new.codec) }
         ensures asked { KeepsAsked self.old.codec self.new.codec }
@@ -166,7 +164,7 @@ impl<C: Coder> HoldingCore<C> {
     pub fn refuse_encode(&mut self, who: Who, detached: bool) -> Result<(DomError, u64), NoMemory>
         requires { is_some (encode_error detached (state_at self.old.codec).control) ≡ true }
         ensures made { OnOk result
-            (Makes self.old.codec self.new.codec (entry.Encode who (refused_as detached))) }
+            (Makes self.old.codec self.new.codec (refused_encode who detached)) }
         ensures error { IfOk result
             (λ a. encode_error detached (state_at self.old.codec).control ≡ Some a.0) }
         ensures place { IfOk result (λ a. a.1 ≡ length self.old.codec.history) }

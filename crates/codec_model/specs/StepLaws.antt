@@ -1,5 +1,5 @@
 -- What legal entries do to a codec's state, case by case: what holds in each case holds of each step.
-use Rattle.std.proofs.Common.{ℕ, ◌≡◌, ◌≤◌, ◌+◌, ◌-◌, ◌&&◌, not, Bool, true, false, eqb, cond, List, [], ◌∷◌, ◌++◌, Option, Some, None, refl, ap, sym, subst, ◌∙◌, arith}
+use Rattle.std.proofs.Common.{ℕ, ◌≡◌, ◌≤◌, ◌+◌, ◌-◌, ◌&&◌, not, Bool, true, false, eqb, cond, List, [], ◌∷◌, ◌++◌, Option, Some, None, is_some, refl, ap, sym, subst, ◌∙◌, arith}
 use Rattle.std.specs.Prelude.{◌||◌}
 use Rattle.std.proofs.lemmas.Bool.{and_parts}
 use Rattle.wc_base.specs.declared.error.DomError.{DomError}
@@ -8,14 +8,14 @@ use Rattle.wc_base.specs.declared.who.Who.{Who}
 use Rattle.wc_base.specs.Options.{cond_is, some_same}
 use Rattle.wc_config.specs.declared.config.Config.{Config}
 use Rattle.wc_config.specs.declared.codec.CoderId.{CoderId}
-use Rattle.wc_config.specs.Configs.{is_supported, coder_id_of}
+use Rattle.wc_config.specs.Configs.{is_valid, is_supported, coder_id_of}
 use Rattle.wc_chunk.specs.declared.chunk.Chunk.{Chunk}
 use Rattle.codec_model.specs.declared.entry.Removal.{Removal}
 use Rattle.codec_model.specs.declared.entry.Removal.TheVariants as removal
 use Rattle.codec_model.specs.declared.entry.Call.{Call}
 use Rattle.codec_model.specs.declared.entry.Call.TheVariants as call
 use Rattle.codec_model.specs.declared.entry.CodecState.{CodecState}
-use Rattle.codec_model.specs.declared.entry.CodecState.TheVariants.{Configured}
+use Rattle.codec_model.specs.declared.entry.CodecState.TheVariants.{Configured, Closed}
 use Rattle.codec_model.specs.declared.entry.Coded.{Coded}
 use Rattle.codec_model.specs.declared.entry.Coded.TheVariants as coded
 use Rattle.codec_model.specs.declared.entry.Work.{Work}
@@ -39,7 +39,7 @@ use Rattle.codec_model.specs.declared.entry.Outcome.{Outcome}
 use Rattle.codec_model.specs.declared.entry.Outcome.TheVariants as outcome
 use Rattle.codec_model.specs.Control.{Control, kind_of, held_of, is_decoder, coded_out, is_taken, with_item, after_message, process_queue, with_message, at_next_place, start_first, may_start, after_close, after_encode, after_take, may_take, may_reclaim, run_first, run_task, done_running}
 use Rattle.codec_model.specs.Replay.{State, Given, nothing_given, given_more, serves_too, missing_coder, answers_to, answer_to, decoder_config, labelled_answer, call_error, configure_error, decode_error, flush_error, removal_error, is_configured, with_control, removed, accepted, entry_of, removal_entry, call_step, removal_step, start_step, done_step, done_ended, ended_of, turn_step, step}
-use Rattle.codec_model.specs.Shown.{refused_shows, call_shows, removal_shows, rejections, close_shows, turn_shows, handed_error, shows, units_in}
+use Rattle.codec_model.specs.Shown.{promise_of, refused_shows, call_shows, removal_shows, rejections, close_shows, turn_shows, handed_error, shows, units_in}
 
 -- what holds of a codec, and stays as each message is taken, holds when its queue was processed
 pub by_queue : (Q : Control → Type 0) → ((m : Message) (ms : List Message) (c : Control) → c.messages ≡ m ∷ ms → Q c → Q (record (after_message m c) { messages = ms })) → (ms : List Message) (c : Control) → c.messages ≡ ms → Q c → Q (process_queue ms c)
@@ -52,11 +52,15 @@ by_queue Q taken (m ∷ ms) c e h = by (is_taken m c) (by_queue Q taken ms (reco
 
 -- ---- the cases of a call, of a removal and of a work item
 
+-- what holds of each call
+pub by_calls : (P : Call → Type 0) → ((config : Config) → P (call.Configure config)) → ((chunk : Chunk) → P (call.Decode chunk)) → P call.Flush → (x : Call) → P x
+by_calls P configure decode flush (call.Configure config) = configure config
+by_calls P configure decode flush (call.Decode chunk) = decode chunk
+by_calls P configure decode flush call.Flush = flush
+
 -- what holds of the entry of each call
 pub by_call : (P : Entry → Type 0) (who : Who) → ((config : Config) → P (entry.Configure who config)) → ((chunk : Chunk) → P (entry.Decode who chunk)) → P (entry.Flush who) → (x : Call) → P (entry_of who x)
-by_call P who configure decode flush (call.Configure config) = configure config
-by_call P who configure decode flush (call.Decode chunk) = decode chunk
-by_call P who configure decode flush call.Flush = flush
+by_call P who configure decode flush x = by_calls (λ (y : Call). P (entry_of who y)) configure decode flush x
 
 -- what holds of the entry of each removal
 pub by_removal : (P : Entry → Type 0) (who : Who) → P (entry.Reset who) → P (entry.Close who) → (r : Removal) → P (removal_entry who r)
@@ -90,6 +94,22 @@ pub calls_hold_none : (x : Call) → held_of (work_of x) ≡ None
 calls_hold_none (call.Configure config) = refl
 calls_hold_none (call.Decode chunk) = refl
 calls_hold_none call.Flush = refl
+
+-- its promise is named by the place of its entry
+pub own_promise : (x : Call) (place p : ℕ) → promise_of x place ≡ Some p → p ≡ place
+own_promise (call.Configure config) place p h = absurd cc
+own_promise (call.Decode chunk) place p h = absurd cc
+own_promise call.Flush place p h = cc
+
+-- a closed codec refuses it
+pub closed_refuses : (x : Call) (c : Control) → c.phase ≡ Closed → is_some (call_error x c) ≡ true
+closed_refuses (call.Configure config) c closed = rw closed (by (is_valid config))
+  where
+    by : (b : Bool) → is_some (cond b (Some dom.InvalidState) (Some dom.TypeErr)) ≡ true
+    by true = refl
+    by false = refl
+closed_refuses (call.Decode chunk) c closed = rw closed refl
+closed_refuses call.Flush c closed = rw closed refl
 
 -- what calls and encodes change before their message is processed: these four at most, beside the place
 abbrev pub asked : Control → CodecState → Bool → ℕ → List ℕ → Control

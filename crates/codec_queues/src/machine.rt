@@ -7,8 +7,8 @@ ghost use Rattle.codec_queues.specs.Labels.{label_of};
 
 use crate::labels::{Queued, carry};
 use crate::queues::{
-    close_answer, halts, keep_dequeues, later, queue_end, remove_promise, reserve_places,
-    room_for, schedule_dequeue, turn_answer,
+    close_answer, halts, keep_dequeues, later, queue_end, remove_promise, reserve_places, room_for,
+    schedule_dequeue, turn_answer,
 };
 use codec_model::{
     Answer, Call, CodecState, Coded, Ended, HeldSound, Item, Message, Opening, Removal, Running,

@@ -534,7 +534,7 @@ module _ (laws : MediaLaws) (s : ScriptData) (media : List (List Chunk)) (made :
         let n = next_place v k in
         answered x (StepResult.NoUnit k n) is (look_marked v c k (StepResult.NoUnit k n) refl) refl tt
         (refl, sym (all_there (λ o h. output_at o h (state_after o h).control.taken) s media made v k st) ∙ none) (λ o. tt) (λ z pool vs named.
-          (let w = record_of (with_result c (StepResult.NoUnit k n) v) in rw (sym (some_same (MediaStep.Take k bind holds) z (sym (ap (option_and_then media_of) is) ∙ named)), ap (taken_by s w) (result_new c (StepResult.NoUnit k n) v.callers (caller_there x is))) refl))
+        (let w = record_of (with_result c (StepResult.NoUnit k n) v) in rw (sym (some_same (MediaStep.Take k bind holds) z (sym (ap (option_and_then media_of) is) ∙ named)), ap (taken_by s w) (result_new c (StepResult.NoUnit k n) v.callers (caller_there x is))) refl))
     takes k bind holds (Some u) is some =
         let x = Step.Media (MediaStep.Take k bind holds) in
         let d = codec_at k v.codecs in

@@ -9,6 +9,7 @@ use Rattle.coder_api.specs.declared.slot.SlotEntry.{SlotEntry}
 use Rattle.wc_config.specs.declared.kind.Kind.{Kind}
 use Rattle.wc_config.specs.declared.kind.Kind.TheVariants as kind
 use Rattle.codec_model.specs.declared.entry.Opening.{Opening}
+use Rattle.codec_model.specs.Control.{no_opening}
 use Rattle.codec_model.specs.declared.entry.Entry.{Entry}
 use Rattle.codec_model.specs.Replay.{State, opening_state}
 use Rattle.codec_follow.specs.Follow.{follow_step, each_filled}
@@ -112,7 +113,7 @@ outputs_in k (l ∷ ls) = []
 -- how the codec whose line is in front was opened
 abbrev pub opening_of : List Line → Opening
 opening_of (line.Codec n opening ∷ ls) = opening
-opening_of _ = record { kind = kind.AudioDecoder; saturation = 1 }
+opening_of _ = no_opening
 
 -- a codec opened so, with the entries that are told, and these outputs
 abbrev pub trace_of : ScriptData → List (List Chunk) → Known → ℕ → Opening → List EntryLine → List media.Unit → CodecTrace

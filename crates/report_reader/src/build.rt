@@ -263,10 +263,7 @@ pub fn opening_of(lines: &[Line]) -> Opening
 {
     match lines {
         [Line::Codec { codec: _, opening }, ..] => *opening,
-        _ => Opening {
-            kind: Kind::AudioDecoder,
-            saturation: 1,
-        },
+        _ => Opening::none(),
     }
 }
 

@@ -8,7 +8,7 @@ use Rattle.codec_definitions.specs.declared.unit.Unit as media
 use Rattle.codec_definitions.specs.declared.unit.Unit.TheVariants as unit
 use Rattle.wc_config.specs.declared.config.AudioDecoderConfig.{AudioDecoderConfig}
 use Rattle.codec_model.specs.declared.entry.{Opening.Opening, Removal.Removal, Call.Call, Entry.Entry, Event.Event, Shown.Shown, WorkKind.WorkKind}
-use Rattle.codec_model.specs.{declared.entry.Task.Task, declared.entry.Ended.Ended, declared.entry.Outcome.Outcome, ShownLaws.replay_append, StepLaws.EachStep, StepLaws.by_steps}
+use Rattle.codec_model.specs.{declared.entry.Task.Task, declared.entry.Ended.Ended, declared.entry.Outcome.Outcome, ShownLaws.replay_append, StepLaws.EachStep, StepLaws.by_call, StepLaws.by_steps}
 use Rattle.codec_model.specs.Control.{Control, may_start, carried}
 use Rattle.codec_model.specs.Replay.{State, Given, entry_of, removal_entry, step, replay, replay_from, ended_of, ended_run, answer_to, decoder_config, labelled}
 use Rattle.codec_model.specs.Shown.{refusal, rejection, rejections, outputs_from, turn_shows, removal_shows, shows, units_in, shown_at, each_shown_from}
@@ -57,7 +57,7 @@ IsLineWithin laws script n e s t = IsUpTo n s.control → IsOwnGiven (judge laws
 -- an entry tells what it was given, or numbers of the state
 each_fits : (laws : CodesAreBytes) (script : ScriptData) (n : ℕ) → EachStep (IsLineWithin laws script n)
 each_fits laws script n = record {
-  call = λ who x s. elim x as (λ y. IsLineWithin laws script n (entry_of who y) s s) [ Call.Flush ↦ λ h given few own. own | _ ↦ λ h given few own. own ];
+  call = λ who x s. by_call (λ e. IsLineWithin laws script n e s s) who (λ config h given few own. own) (λ chunk h given few own. own) (λ h given few own. own) x;
   gone = λ who s h given few own. own;
   kept = λ who s off h given few own. own;
   cloned = λ who x s on h given few own. own;

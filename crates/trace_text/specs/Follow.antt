@@ -9,7 +9,6 @@ use Rattle.wc_chunk.specs.declared.chunk.Chunk.{Chunk}
 use Rattle.codec_definitions.specs.declared.unit.Unit as media
 use Rattle.coder_api.specs.declared.slot.SlotEntry.{SlotEntry}
 use Rattle.slot_registry.specs.Slots.{SlotsValue}
-use Rattle.wc_config.specs.declared.kind.Kind.TheVariants as kind
 use Rattle.codec_model.specs.declared.entry.Opening.{Opening}
 use Rattle.codec_model.specs.declared.entry.Call.{Call}
 use Rattle.codec_model.specs.declared.entry.Call.TheVariants as call
@@ -24,7 +23,7 @@ use Rattle.codec_model.specs.declared.entry.Entry.{Entry}
 use Rattle.codec_model.specs.declared.entry.Entry.TheVariants as entry
 use Rattle.codec_model.specs.declared.entry.Handed.{Handed}
 use Rattle.codec_model.specs.declared.entry.Handed.TheVariants as handed
-use Rattle.codec_model.specs.Control.{start_item, may_reclaim}
+use Rattle.codec_model.specs.Control.{no_opening, start_item, may_reclaim}
 use Rattle.codec_model.specs.Replay.{Given, entry_of, removal_entry, call_error, removal_error, answer_to, encode_error, is_configured}
 use Rattle.codec_model.specs.Shown.{shown, outputs_of, ends_in, promise_state, exception_of}
 use Rattle.codec_accounts.specs.Owed.{at, append_at}
@@ -72,7 +71,7 @@ opening_of c = record { kind = c.kind; saturation = c.saturation }
 
 -- how the codec with this number is opened
 abbrev pub opening_in : List CodecItem → ℕ → Opening
-opening_in [] k = record { kind = kind.AudioDecoder; saturation = 4 }
+opening_in [] k = no_opening
 opening_in (c ∷ cs) zero = opening_of c
 opening_in (c ∷ cs) (suc k) = opening_in cs k
 

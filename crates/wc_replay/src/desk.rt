@@ -1,14 +1,13 @@
 // A codec at work in a replay.
 ghost use Rattle.std.specs.Prelude.{◌≡◌, ◌≤◌, Bool, [], ◌∷◌, ◌++◌, ℕ, Option, IfOk, IfSome, OnOk, OnErr, OnSome, IfNone, length, None, Some, is_some, is_none, not, option_map, true, false};
 ghost use Rattle.codec_accounts.specs.Codec.{new_codec, state_of, next_by, after_entry, slots_by, IsGivable};
-ghost use Rattle.codec_core.specs.Codec.{state_at, Makes as CoreMakes, KeepsRunning, IsAskedAt, kept_box, handed_back, closes_now, refused_as};
+ghost use Rattle.codec_core.specs.Codec.{state_at, Makes as CoreMakes, KeepsRunning, IsAskedAt, kept_box, handed_back, closes_now};
 ghost use Rattle.codec_core.specs.Owning.{IsOwnJob, KeepsAsked};
 ghost use Rattle.codec_core.specs.Job.{IsJobOf, IsEndOf, outcome_of};
 ghost use Rattle.codec_model.specs.declared.entry.Entry.TheVariants as entry;
-ghost use Rattle.codec_model.specs.declared.entry.Handed.TheVariants as handed;
 ghost use Rattle.codec_model.specs.Control.{kind_of};
 ghost use Rattle.codec_model.specs.Held.{held_in};
-ghost use Rattle.codec_model.specs.Replay.{State, entry_of, removal_entry, call_error, encode_error, removal_error, answer_to};
+ghost use Rattle.codec_model.specs.Replay.{State, entry_of, encode_entry, refused_encode, removal_entry, call_error, encode_error, removal_error, answer_to};
 ghost use Rattle.codec_model.specs.Shown.{each_shown, exception_of};
 ghost use Rattle.media_variables.specs.Held.{AreApart, pair_of};
 ghost use Rattle.media_variables.specs.Variables.{Media};
@@ -104,8 +103,7 @@ impl<C: Coder> Desk<C> {
         ensures made { OnOk result
             (self.new
             ≡ more
-            (entry.Encode who
-            (handed.Cloned (record { samples = samples; pair = pair_of held }))) self.old) }
+            (encode_entry who (record { samples = samples; pair = pair_of held })) self.old) }
         ensures place { IfOk result (λ a. a.place ≡ length self.old.history) }
         ensures error { IfOk result (λ a. a.error ≡ None) }
     {
@@ -119,7 +117,7 @@ impl<C: Coder> Desk<C> {
     pub(crate) fn refuse_encode(&mut self, who: Who, detached: bool) -> Result<Answer, NoMemory>
         requires { is_some (encode_error detached (state_of self.old).control) ≡ true }
         ensures made { OnOk result
-            (self.new ≡ more (entry.Encode who (refused_as detached)) self.old) }
+            (self.new ≡ more (refused_encode who detached) self.old) }
         ensures place { IfOk result (λ a. a.place ≡ length self.old.history) }
         ensures error { IfOk result
             (λ a. a.error ≡ encode_error detached (state_of self.old).control) }

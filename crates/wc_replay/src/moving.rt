@@ -1,12 +1,9 @@
 // What callers and the order do to one codec among all, with the boxes and the references that it takes and lets go.
 ghost use Rattle.std.specs.Prelude.{◌≡◌, ◌<◌, Bool, IfOk, OnOk, None, false, is_some, length, slice_set, true};
 ghost use Rattle.codec_accounts.specs.Codec.{codec_at, codecs_after, slots_by, state_of, next_by, IsGivable};
-ghost use Rattle.codec_core.specs.Codec.{refused_as};
-ghost use Rattle.codec_model.specs.declared.entry.Entry.TheVariants as entry;
-ghost use Rattle.codec_model.specs.declared.entry.Handed.TheVariants as handed;
 ghost use Rattle.codec_model.specs.declared.entry.HeldSound.{HeldSound};
 ghost use Rattle.codec_model.specs.Held.{held_in};
-ghost use Rattle.codec_model.specs.Replay.{entry_of, removal_entry, call_error, encode_error, removal_error};
+ghost use Rattle.codec_model.specs.Replay.{entry_of, encode_entry, refused_encode, removal_entry, call_error, encode_error, removal_error};
 ghost use Rattle.codec_model.specs.Shown.{exception_of};
 ghost use Rattle.media_variables.specs.Held.{AreApart, pair_of};
 ghost use Rattle.trace_text.specs.Follow.{item_entry, media_by};
@@ -110,7 +107,7 @@ pub(crate) fn refuse_at<C: Coder>(
     ensures made { OnOk result
         (desks.new.items
         ≡ slice_set desks.old.items codec
-        (more (entry.Encode who (refused_as detached)) (codec_at codec desks.old.items))) }
+        (more (refused_encode who detached) (codec_at codec desks.old.items))) }
     ensures place { IfOk result (λ a. a.place ≡ length (codec_at codec desks.old.items).history) }
     ensures error { let control = (state_of (codec_at codec desks.old.items)).control in
         IfOk result (λ a. a.error ≡ encode_error detached control) }
@@ -136,7 +133,7 @@ pub(crate) fn encode_at<C: Coder>(
         OnOk result
         (desks.new.items
         ≡ slice_set desks.old.items codec
-        (more (entry.Encode who (handed.Cloned sound)) (codec_at codec desks.old.items))) }
+        (more (encode_entry who sound) (codec_at codec desks.old.items))) }
     ensures place { IfOk result (λ a. a.place ≡ length (codec_at codec desks.old.items).history) }
     ensures error { IfOk result (λ a. a.error ≡ None) }
 {

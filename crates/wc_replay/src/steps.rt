@@ -2,8 +2,7 @@
 ghost use Rattle.std.specs.Prelude.{◌≡◌, ◌≤◌, ◌<◌, Bool, false, true, Some, OnOk, IfOk, is_some, length, slice_get, option_copied, None};
 ghost use Rattle.codec_accounts.specs.Codec.{codec_at, state_of, AreGivable};
 ghost use Rattle.codec_accounts.specs.Owed.{at};
-ghost use Rattle.codec_core.specs.Codec.{refused_as};
-ghost use Rattle.codec_model.specs.Replay.{encode_error};
+ghost use Rattle.codec_model.specs.Replay.{encode_error, refused_as};
 ghost use Rattle.media_accounts.specs.Accounts.{AreLent};
 ghost use Rattle.media_variables.specs.Held.{sound_found};
 ghost use Rattle.media_variables.specs.declared.lending.SoundFound.TheVariants as found;

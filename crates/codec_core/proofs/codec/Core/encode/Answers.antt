@@ -7,7 +7,7 @@ use Rattle.codec_core.proofs.codec.Core.encode.Goals as goal
 pub invariant_of-self-2 : goal.invariant_of-self-2
 invariant_of-self-2 g c =
     let m = encode_moves c.self.invariant.kept c.args.who c.args.sound (rw (control_at c.self.invariant c.self.view_is) at c.requires) (rw c.in_ok-again.ensures at c.in_ok-answer.ensures.ok) in
-    rw (c.push.ensures, c.in_ok-reserve.ensures.ok)
+    rw (c.push.ensures, c.in_ok-reserve.ensures.ok, c.of_encode.ensures)
     (core_next c.self.invariant _ c.self.inside.spare _ m c.in_ok-answer.ensures.answer.is_shown refl (
       omega (arith, c.in_ok-answer.ensures.left, c.in_ok-places.ensures, most_reclaims c.encode.new.self.phase),
       rw c.in_ok-reserve.ensures.ok at c.in_ok-reserve.ensures.fits,
@@ -16,7 +16,7 @@ invariant_of-self-2 g c =
 pub returns-clause-made : goal.returns-clause-made
 returns-clause-made g c =
     let m = encode_moves c.self.invariant.kept c.args.who c.args.sound (rw (control_at c.self.invariant c.self.view_is) at c.requires) (rw c.in_ok-again.ensures at c.in_ok-answer.ensures.ok) in
-    rw (← c.self.view_is, c.push.ensures, c.in_ok-reserve.ensures.ok) (makes_more c.self.invariant.kept m c.self.inside.spare c.self.inside.spare)
+    rw (← c.self.view_is, c.push.ensures, c.in_ok-reserve.ensures.ok, c.of_encode.ensures) (makes_more c.self.invariant.kept m c.self.inside.spare c.self.inside.spare)
 
 pub returns-clause-running : goal.returns-clause-running
 returns-clause-running g c = keeps_running false (returns-clause-made g c) refl

@@ -24,7 +24,7 @@ invariant_of-self g c =
     let is = removal_is c.args.who c.args.removal kept.state in
     let shows = c.remove-answer.ensures.answer.is_shown ∙ sym (removal_is c.args.who c.args.removal (with_control k kept.state)).shows in
     let m = removal_moves kept c.args.who c.args.removal (left_is g c) (removal_after (removal_error k) c.args.removal k _ c.remove-answer.ensures.made c.remove-answer.ensures.refused) in
-    rw (c.push.ensures, c.removal_entry-entry.ensures)
+    rw (c.push.ensures, c.entry-entry.ensures)
     (core_next c.self.invariant _ (c.self.inside.spare - 1) _ m shows is.takes_none
     (omega (arith, c.remove-answer.ensures.left, c.requires, ap (λ (v : Codec). v.spare) c.self.view_is, c.self.invariant.places, place_kept kept m), c.self.invariant.fits)
     (is_some (removal_error kept.state.control)) is.act (rw kept.is_control (left_is g c)))
@@ -33,7 +33,7 @@ pub returns-clause-made : goal.returns-clause-made
 returns-clause-made g c =
     let k = c.self.inside.machine in
     let m = removal_moves c.self.invariant.kept c.args.who c.args.removal (left_is g c) (removal_after (removal_error k) c.args.removal k _ c.remove-answer.ensures.made c.remove-answer.ensures.refused) in
-    rw (← c.self.view_is, c.push.ensures, c.removal_entry-entry.ensures) (makes_more c.self.invariant.kept m c.self.inside.spare (c.self.inside.spare - 1))
+    rw (← c.self.view_is, c.push.ensures, c.entry-entry.ensures) (makes_more c.self.invariant.kept m c.self.inside.spare (c.self.inside.spare - 1))
 
 pub returns-clause-running : goal.returns-clause-running
 returns-clause-running g c = keeps_running _ (returns-clause-made g c) (removal_is c.args.who c.args.removal _).act

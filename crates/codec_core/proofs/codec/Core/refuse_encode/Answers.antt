@@ -13,7 +13,7 @@ error g c = some_is (encode_error c.args.detached c.self.inside.machine) (rw (co
 pub invariant_of-self-2 : goal.invariant_of-self-2
 invariant_of-self-2 g c =
     let is = refusal_is c.args.who c.args.detached (error g c).0 (with_control c.self.inside.machine c.self.invariant.kept.state) (error g c).1 in
-    rw (c.push.ensures, c.in_ok-reserve.ensures.ok, c.refused_as-handed.ensures)
+    rw (c.push.ensures, c.in_ok-reserve.ensures.ok, c.of_refused_encode.ensures)
     (core_next c.self.invariant _ c.self.inside.spare _ (refusal_moves c.self.invariant.kept c.args.who c.args.detached (error g c).0 (error g c).1 c.in-Some.ensures.after) (c.in-Some.ensures.answer.is_shown ∙ sym is.shows) refl (
       omega (arith, c.in-Some.ensures.left, c.in_ok-places.ensures, most_reclaims c.refuse_encode.new.self.phase),
       rw c.in_ok-reserve.ensures.ok at c.in_ok-reserve.ensures.fits,
@@ -21,7 +21,7 @@ invariant_of-self-2 g c =
 
 pub returns-clause-made : goal.returns-clause-made
 returns-clause-made g c =
-    rw (← c.self.view_is, c.push.ensures, c.in_ok-reserve.ensures.ok, c.refused_as-handed.ensures) (makes_more c.self.invariant.kept (refusal_moves c.self.invariant.kept c.args.who c.args.detached (error g c).0 (error g c).1 c.in-Some.ensures.after) c.self.inside.spare c.self.inside.spare)
+    rw (← c.self.view_is, c.push.ensures, c.in_ok-reserve.ensures.ok, c.of_refused_encode.ensures) (makes_more c.self.invariant.kept (refusal_moves c.self.invariant.kept c.args.who c.args.detached (error g c).0 (error g c).1 c.in-Some.ensures.after) c.self.inside.spare c.self.inside.spare)
 
 pub returns-clause-running : goal.returns-clause-running
 returns-clause-running g c = keeps_running false (returns-clause-made g c) refl

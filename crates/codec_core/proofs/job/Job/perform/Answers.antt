@@ -8,7 +8,7 @@ ends : (g : Over) (c : goal.Joined-work g) → EndsWork c.self.inside.coder c.se
 ends g c = ends_or_wants c.self.inside.coder c.work_end-end.new.coder c.self.inside.work c.work_end-end.result c.with_label-ended.result.0 c.work_end-end.ensures c.with_label-ended.ensures.end
 
 pub returns-clause-end : goal.returns-clause-end
-returns-clause-end g c = λ s is. job_ends s _ _ (rw (← c.self.view_is) at is) refl refl c.kind_of_work-kind.ensures (ends g c)
+returns-clause-end g c = λ s is. job_ends s _ _ (rw (← c.self.view_is) at is) refl refl c.kind-kind.ensures (ends g c)
 
 pub returns-clause-answer : goal.returns-clause-answer
 returns-clause-answer g c = λ given is. rw (← c.self.view_is) (job_answers given _ c.with_label-ended.result.0 c.work_end-end.new.coder (rw (← c.self.view_is) at is) (ends g c))
