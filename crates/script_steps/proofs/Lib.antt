@@ -1,6 +1,5 @@
 mod ConfigLaws
 mod FileLaws
-mod OptionLaws
 mod ReferenceLaws
 mod SourceLaws
 mod MediaLaws

@@ -1,11 +1,11 @@
 -- What is known of a step of media resources that was read.
-use Rattle.std.proofs.Common.{◌≡◌, ◌≤◌, ℕ, codes, true, List, Some, Result, Ok, IfOk, refl, subst, ◌∙◌, arith}
+use Rattle.std.proofs.Common.{◌≡◌, ◌≤◌, ℕ, codes, true, List, Option, Some, Result, Ok, IfOk, refl, subst, ◌∙◌, arith}
 use Rattle.std.proofs.lemmas.Result.{IfOk-at_ok}
 use Rattle.serde_json.specs.Data.{Data}
 use Rattle.wc_config.specs.declared.kind.Kind.{Kind}
 use Rattle.chunk_files.specs.declared.fault.Stop.{Stop}
-use Rattle.script_types.specs.declared.{fault.Wrong.Wrong, script.CodecItem.CodecItem, steps.Step.Step, steps.MediaStep.MediaStep, steps.Variable.Variable, steps.VariableKind.VariableKind, options.Options.Options}
-use Rattle.script_types.specs.Names.{outputs_of, is_copied}
+use Rattle.script_types.specs.declared.{fault.Wrong.Wrong, found.FoundVariable.FoundVariable, script.CodecItem.CodecItem, steps.Step.Step, steps.MediaStep.MediaStep, steps.Variable.Variable, steps.VariableKind.VariableKind, options.Options.Options}
+use Rattle.script_types.specs.Names.{outputs_of, is_copied, is_medium}
 use Rattle.script_types.specs.Sound.{encodes, gives, is_variable, is_free, are_options_of, is_sound_media, bytes_of_media, bytes_of_sound, bytes_of_picture}
 use Rattle.script_steps.specs.Members.{and_then, known, name_in, object_in}
 use Rattle.script_steps.specs.{Media.data_of_init, Media.data_of_step, Media.sound_of, Media.picture_of, declared.words.StepWord.StepWord, declared.words.MediaWord.MediaWord}
@@ -15,7 +15,6 @@ use Rattle.script_steps.specs.MediaSteps.{size_in, options_in, media_by}
 use Rattle.script_steps.specs.Chains.{all_true}
 use Rattle.script_steps.specs.NameLaws.{variable_is_right}
 use Rattle.script_steps.proofs.ReferenceLaws.{by_part, made, new_name, variable_sound, bound_on_sound, given_to_sound, bound_from_sound}
-use Rattle.script_steps.proofs.OptionLaws.{medium_is_copied, options_of_found}
 use Rattle.script_steps.proofs.SourceLaws.{sound_bytes, picture_bytes, step_data}
 
 pub record SoundMedia (codecs : List CodecItem) (before : List Step) (d : Data) (w : MediaWord) (s : MediaStep) : Type 0 where
@@ -44,6 +43,14 @@ of_part : {A : Type 0} → (codecs : List CodecItem) (before : List Step) (d : D
 of_part codecs before d w r make sound bytes = made r make (λ a. is_sound_media codecs before (make a) ≡ true) _ sound (λ a s. record { sound = s; bytes = bytes a })
 
 -- ---- copies
+
+medium_is_copied : (kind : VariableKind) → is_medium kind ≡ true → is_copied kind ≡ true
+medium_is_copied kind h = grind (arith, h)
+
+-- those of a variable that was found
+options_of_found : (m : Option FoundVariable) (f : FoundVariable) (d : Data) (o : Options) → known m ≡ Ok f → is_copied f.kind ≡ true
+    → options_in m d ≡ Ok o → are_options_of o f.kind ≡ true
+options_of_found m f d o h k g = grind (arith, h, k, g)
 
 -- a step with a variable, and with options of what it holds
 of_options : (codecs : List CodecItem) (before : List Step) (d : Data) (w : MediaWord) (needed : Needed) (of : List ℕ) (make : Variable → Options → MediaStep) → ((k : VariableKind) → is_right needed k ≡ true → is_copied k ≡ true)
