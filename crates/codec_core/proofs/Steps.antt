@@ -15,7 +15,7 @@ use Rattle.codec_model.specs.Control.{Control, is_decoder, after_message, proces
 use Rattle.codec_model.specs.Replay.{State, call_step, removal_step, Given, missing_coder, opening_state, step, with_control, removed, after_call, call_error, entry_of, removal_error, removal_entry, remove_or_refuse, is_configured, encode_error, accepted, config_asked, coder_wanted, serves_too, encode_entry, refused_encode}
 use Rattle.codec_model.specs.Shown.{refusal, shown_at, call_shows, removal_shows}
 use Rattle.codec_accounts.specs.Boxes.{act_of, removal_act}
-use Rattle.codec_model.specs.StepLaws.{by_calls, by_items, begun, start_made, asked, work_of, call_sends, encode_sends, closed_refuses}
+use Rattle.codec_model.specs.StepLaws.{by_calls, by_items, begun, start_made, asked, work_of, call_sends, closed_refuses}
 use Rattle.codec_core.specs.Job.{DoneValue, missing_for, CoderAt, CoderFor, StillAt, IsEndOf, IsJobOf, outcome_of, holds}
 use Rattle.codec_core.specs.Codec.{state_at, Makes, CoderHome, IsKept, kept_box, reclaims}
 
@@ -329,8 +329,7 @@ module _ {h : List Entry} {slot : Option Lent} {k : Control} (kept : IsKept h sl
   encode_moves who x e after =
       let s = kept.state in
       let fine = not_refused (is_configured s.control) (ap (encode_error false) kept.is_control ∙ e) in
-      let sent = encode_sends x s.control in
-      let same = ap rest_of sent.is ∙ queued_keeps s.control.place _ (asked s.control sent.phase sent.key_required sent.size sent.pending) in
+      let same : rest_of (after_encode s.control.place x (at_next_place s.control)) ≡ rest_of (at_next_place s.control) = queued_keeps s.control.place _ (record (at_next_place s.control) { size = s.control.size + 1 }) in
       rw (after, ← kept.is_control) (moved_by slot (encode_entry who x) s (after_encode s.control.place x (at_next_place s.control)) s.control.phase s.control.taken same (omega arith) (λ none. refl) (rw fine refl) kept.home)
 
   pub refusal_moves : {k' : Control} (who : Who) (detached : Bool) (x : DomError) → encode_error detached k ≡ Some x → k' ≡ at_next_place k → Moved slot (refused_encode who detached) kept.state k'

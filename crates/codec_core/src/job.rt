@@ -129,7 +129,6 @@ impl<C: Coder> Job<C> {
     }
 
     /// The job's end where memory was wanted. A job that lacks a box has none.
-    #[tactic(auto, using(crate::proofs::Owning::none_asked))]
     pub fn no_memory(self) -> DoneJob<C>
         requires none { is_some (missing_id self) ≡ true → self.coder ≡ None }
         ensures done { result ≡ done_with ended.NoMemory self }

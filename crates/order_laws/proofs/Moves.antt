@@ -596,7 +596,7 @@ module _ (laws : MediaLaws) (s : ScriptData) (media : List (List Chunk)) (made :
     refused_item r (Some n) is refusal =
         let needs = (st.codecs.boxes.each k).has.needs n refusal in
         let same : needs.running ≡ r = some_same needs.running r (sym needs.is_running ∙ is) in
-        rw (ap (λ (x : Running). x.kind) (sym same) ∙ needs.configure, needs.supported) refl
+        subst (λ (x : Running). MayBeRefused x (state_of (codec_at k v.codecs)) (Some n)) same (needs.refusable n)
 
     item_own : (wants : Bool) (x : OrderItem) (e : Entry) → item_entry wants x (codec_at k v.codecs) ≡ Some e → Own (codec_at k v.codecs) e
     item_own wants (OrderItem.Caller c) e is = absurd cc

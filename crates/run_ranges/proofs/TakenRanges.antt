@@ -26,5 +26,5 @@ takes_from (e ∷ es) s n (suc p) who unit up legal is =
 pub takes_small : (cs : List CodecItem) (ts : List CodecTrace) → AreLegalTraces cs ts → (k p : ℕ) (who : Who) (unit : ℕ) → slice_get (at k (map (λ t. t.entries) ts)) p ≡ Some (Entry.Take who unit) → unit ≤ p
 takes_small cs [] legal k p who unit is = absurd cc
 takes_small [] (t ∷ ts) legal k p who unit is = absurd legal
-takes_small (c ∷ cs) (t ∷ ts) legal zero p who unit is = takes_from t.entries (opening_state t.opening) 0 p who unit (opening_up t.opening) legal.0.legal is
+takes_small (c ∷ cs) (t ∷ ts) legal zero p who unit is = omega (arith, takes_from t.entries (opening_state t.opening) 0 p who unit (opening_up t.opening) legal.0.legal is)
 takes_small (c ∷ cs) (t ∷ ts) legal (suc k) p who unit is = takes_small cs ts legal.1 k p who unit is
