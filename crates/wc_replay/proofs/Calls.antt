@@ -5,8 +5,7 @@ use Rattle.wc_base.specs.declared.{error.DomError.DomError, who.Who.Who, media.S
 use Rattle.wc_pool.specs.{declared.entry.PoolEntry.PoolEntry, declared.reference.MediaRef.MediaRef, Bag.references_made}
 use Rattle.wc_audio.specs.Sound.{Sound}
 use Rattle.codec_model.specs.declared.entry.{Entry.Entry, Handed.Handed, HeldSound.HeldSound}
-use Rattle.codec_model.specs.Replay.{encode_error, is_configured}
-use Rattle.codec_core.specs.Codec.{refused_as}
+use Rattle.codec_model.specs.Replay.{encode_error, refused_as, is_configured}
 use Rattle.codec_accounts.specs.Owed.{append_at}
 use Rattle.codec_accounts.specs.Codec.{CodecValue, codec_at, state_of, after_entry, slots_by}
 use Rattle.report_text.specs.declared.result.StepResult.{StepResult}
