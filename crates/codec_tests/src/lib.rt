@@ -10,6 +10,8 @@ mod codec_encode_tests;
 #[cfg(test)]
 mod codec_follow_tests;
 #[cfg(test)]
+mod codec_model_tests;
+#[cfg(test)]
 mod codec_queues_tests;
 #[cfg(test)]
 mod slot_registry_tests;
