@@ -1,9 +1,9 @@
 -- A description at the front of some room.
-use Rattle.std.proofs.Common.{ℕ, Bool, true, false, cond, ◌≡◌, ◌≤◌, ◌+◌, ◌%◌, ◌^◌, List, ◌++◌, length, take, drop, Option, Some, None, ap, sym, refl, ◌∙◌, arith, length-append, length-drop}
-use Rattle.std.specs.Prelude.{◌&&◌, ◌==◌, nat_le, bytes_eq, codes}
+use Rattle.std.proofs.Common.{ℕ, Bool, true, false, cond, ◌≡◌, ◌≤◌, ◌+◌, List, ◌++◌, length, take, drop, Some, refl, ◌∙◌, arith, length-append, length-drop}
+use Rattle.std.specs.Prelude.{nat_le}
 use Rattle.std.proofs.lemmas.Bool.{le-leb}
 use Rattle.std.proofs.lemmas.List.{take-append-le, drop-append-le}
-use Rattle.wc_config.specs.Streams.{big_endian, stream_info_of, is_usable, streaminfo_of}
+use Rattle.wc_config.specs.Streams.{streaminfo_of}
 use Rattle.wc_config.specs.declared.stream_info.StreamInfo.{StreamInfo}
 use Rattle.c_library.specs.Status.{done, too_small, fill_status, filled}
 

@@ -1,13 +1,13 @@
 -- Samples put into a room, one after another.
-use Rattle.std.proofs.Common.{ℕ, ℤ, Bool, cond, ◌≡◌, ◌<◌, ◌≤◌, ◌+◌, ◌*◌, ◌/◌, ◌++◌, ◌∷◌, [], List, length, take, map, slice_set, drop, ap, sym, subst, ◌∙◌, zero-add, refl}
-use Rattle.std.proofs.lemmas.Bool.{lt-leb, le-leb}
+use Rattle.std.proofs.Common.{ℕ, ℤ, ◌≡◌, ◌<◌, ◌+◌, ◌/◌, List, length, take, map, slice_set, zero-add, refl}
+use Rattle.std.proofs.lemmas.Bool.{lt-leb}
 use Rattle.std.proofs.lemmas.List.{take_more_set}
 use Rattle.std.proofs.lemmas.List.FromFn.{map-range_with_len_more, length-map-range_with_len}
 use Rattle.std.specs.List.{range_with_len}
 use Rattle.codec_definitions.specs.Flac.{sample_size}
 use Rattle.codec_definitions.specs.Pcm.{sample_at, converted}
 use Rattle.c_library.specs.Frames.{sample_in, samples_in}
-use Rattle.c_library.specs.Status.{done, too_small, fill_status, filled}
+use Rattle.c_library.specs.Status.{too_small, fill_status, filled}
 
 -- one sample more stands there
 pub one_more : (f : ℕ → ℤ) (out : List ℤ) (i : ℕ) (v : ℤ) → i < length out → v ≡ f i → take i out ≡ map f (range_with_len 0 i)

@@ -1,4 +1,3 @@
-use Rattle.std.proofs.Common.{ℕ, ◌<◌, ◌/◌, length, subst}
 use Rattle.c_library.proofs.Filled.{too_many}
 use Rattle.c_library.proofs.frames.put_samples.Goals as goal
 
