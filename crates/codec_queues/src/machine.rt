@@ -560,11 +560,11 @@ impl Machine {
     {
         match call {
             Call::Reset => {
-                self.enter();
+                self.place += 1;
                 Showing::Removal(self.clear())
             }
             Call::Close => {
-                self.enter();
+                self.place += 1;
                 Showing::Removal(self.shut())
             }
             Call::Take(_) => {
