@@ -1,6 +1,6 @@
 // The queues of a codec.
 ghost use Rattle.std.specs.Prelude.{◌≡◌, ◌<◌, ◌≤◌, ◌^◌, ◌+◌, [], true, false, IsTrue, IsSome, OnOk, OnErr, OnSome, IfOk, IfNone, IfSome, None, option_map};
-ghost use Rattle.codec_model.specs.Replay.{call_error, after_call, removal_error, accepted, encode_error, sends};
+ghost use Rattle.codec_model.specs.Replay.{call_error, after_call, removal_error, accepted, encode_error, may_call, sends};
 ghost use Rattle.codec_model.specs.Control.{at_next_place, after_take, takes_front, process_front, process, start_item, after_start, after_done, after_turn, turn_closes, after_reset, after_close, may_reclaim, opening_control, left};
 ghost use Rattle.codec_model.specs.Shown.{IsAnswer, exception_of, call_shows, accepted_shows, reclaim_shows, turn_shows, turn_word, closes, shown_of};
 ghost use Rattle.codec_queues.specs.Labels.{label_of};
@@ -237,6 +237,24 @@ impl Machine {
             CodecState::Configured => None,
             CodecState::Unconfigured => Some(DomError::InvalidState),
             CodecState::Closed => Some(DomError::InvalidState),
+        }
+    }
+
+    /// Whether a call can be made now, as it tells what became of an encode's data and which output is taken: a clone was
+    /// made exactly where the codec is configured, and the first output that was shown and not taken yet is taken.
+    pub fn may_call(&self, call: &Call) -> bool
+        ensures { result ≡ may_call call.now self.now }
+    {
+        match call {
+            Call::Encode(Handed::Gone) => true,
+            Call::Encode(Handed::Kept) => self.encode_error(false).is_some(),
+            Call::Encode(Handed::Cloned(_)) => self.encode_error(false).is_none(),
+            Call::Take(unit) => *unit == self.taken && (*unit as u128) < self.shown,
+            Call::Configure(_) => true,
+            Call::Decode(_) => true,
+            Call::Flush => true,
+            Call::Reset => true,
+            Call::Close => true,
         }
     }
 
@@ -534,7 +552,11 @@ impl Machine {
         let key_required = is_decoder(self.opening.kind) || self.key_required;
         match call {
             Call::Configure(config) => {
-                self.send(Work::Configure(config), CodecState::Configured, key_required)
+                self.send(
+                    Work::Configure(config),
+                    CodecState::Configured,
+                    key_required,
+                )
             }
             Call::Decode(chunk) => self.send(Work::Coded(Coded::Chunk(chunk)), phase, false),
             Call::Encode(Handed::Cloned(sound)) => {
@@ -560,11 +582,11 @@ impl Machine {
     {
         match call {
             Call::Reset => {
-                self.enter();
+                self.place += 1;
                 Showing::Removal(self.clear())
             }
             Call::Close => {
-                self.enter();
+                self.place += 1;
                 Showing::Removal(self.shut())
             }
             Call::Take(_) => {

@@ -8,9 +8,7 @@ ghost use Rattle.codec_queues.specs.Sent.{promised};
 ghost use Rattle.codec_queues.specs.Labels.{first_config, label_of};
 
 use crate::labels::Queued;
-use codec_model::{
-    Answer, Ended, Item, Message, Running, Showing, Task, TurnWord, Work, WorkKind,
-};
+use codec_model::{Answer, Ended, Item, Message, Running, Showing, Task, TurnWord, Work, WorkKind};
 use coder_api::Unit;
 use std::collections::VecDeque;
 use wc_base::{DomError, List, NoMemory};
