@@ -244,6 +244,11 @@ removes call.Reset = true
 removes call.Close = true
 removes _ = false
 
+-- a call that takes an output
+abbrev pub takes : Call → Bool
+takes (call.Take unit) = true
+takes _ = false
+
 -- a removal begins a new epoch, to which nothing was given
 abbrev pub removed : Control → State → State
 removed c s = record s { control = c; given = nothing_given }

@@ -2,7 +2,7 @@
 ghost use Rattle.std.specs.Prelude.{◌≡◌, IfOk, OnErr, None, option_map, true};
 ghost use Rattle.codec_model.specs.Control.{is_coded, kind_of, held_of, is_decoder, no_opening};
 ghost use Rattle.codec_model.specs.Control as control;
-ghost use Rattle.codec_model.specs.Replay.{config_asked, is_cloned, refused_as, sends};
+ghost use Rattle.codec_model.specs.Replay.{config_asked, is_cloned, refused_as, removes, sends};
 ghost use Rattle.codec_model.specs.Shown.{exception_of, promise_of, refused_shows, shown_of};
 
 use crate::entry::{Call, Coded, Handed, HeldSound, Opening, Pair, Showing, Work, WorkKind};
@@ -149,6 +149,13 @@ impl Call {
             Call::Close => false,
             Call::Take(_) => false,
         }
+    }
+
+    /// Whether it removes all that is queued, where it is not refused.
+    pub fn removes(&self) -> bool
+        ensures { result ≡ removes self.now }
+    {
+        matches!(self, Call::Reset | Call::Close)
     }
 
     /// The same call again, over the same shared bytes. Memory is wanted only of a call that sends a message.
