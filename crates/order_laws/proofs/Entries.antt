@@ -18,7 +18,7 @@ use Rattle.codec_model.specs.Held.{adds_held, lets_go, leaves_held, running_pair
 use Rattle.codec_accounts.specs.{Owed.at, Calls.who_of}
 use Rattle.codec_accounts.specs.ListLaws.{IsNew, at_same, at_other, at_grows, get_end, get_within, result_more}
 use Rattle.codec_accounts.specs.Codec.{CodecValue, state_after, state_of, codec_at, histories, after_entry, slots_after, next_by, step_by, BoxStep, Keep, Give, Renew}
-use Rattle.codec_accounts.specs.AccountLaws.{EntryFits, histories_more, history_at, histories_count, set_here, set_other, set_count}
+use Rattle.codec_accounts.specs.AccountLaws.{EntryFits, histories_more, history_at, histories_count, set_here, set_other}
 use Rattle.script_types.specs.declared.script.ScriptData.{ScriptData}
 use Rattle.media_accounts.specs.Accounts.{called_at, lent_at, Lending, MayAdd, AreParts, EntryMore}
 use Rattle.trace_text.specs.Follow.{Course, opening_at, with_entry, take_entry, outcome_by, outcome_for}

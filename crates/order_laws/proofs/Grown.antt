@@ -8,7 +8,7 @@ use Rattle.codec_definitions.specs.declared.unit.Unit as media
 use Rattle.codec_model.specs.{declared.entry.Entry.Entry, Replay.IsLegal}
 use Rattle.history_laws.specs.CountLaws.{outputs_stay}
 use Rattle.codec_accounts.specs.{Owed.at, ListLaws.get_some, ListLaws.get_kept}
-use Rattle.script_types.specs.declared.{script.ScriptData.ScriptData, steps.Step.Step, steps.MediaStep.MediaStep}
+use Rattle.script_types.specs.declared.{script.ScriptData.ScriptData, steps.Step.Step}
 use Rattle.script_types.specs.Names.{called, taken_from}
 use Rattle.report_text.specs.declared.result.StepResult.{StepResult}
 use Rattle.trace_text.specs.Follow.{Recorded, opening_at, output_at, take_entry}

@@ -1,5 +1,5 @@
 -- The lines of a legal run that fits its script are within their types, and name callers and codecs that are there.
-use Rattle.std.proofs.Common.{◌≡◌, ℕ, zero, suc, ◌+◌, ◌*◌, ◌<◌, ◌≤◌, ◌^◌, ◌&&◌, Bool, true, List, [], ◌∷◌, length, map, take, Option, Some, None, refl, ap, sym, subst, ◌∙◌, arith}
+use Rattle.std.proofs.Common.{◌≡◌, ℕ, zero, suc, ◌+◌, ◌*◌, ◌<◌, ◌≤◌, ◌^◌, ◌&&◌, true, List, [], ◌∷◌, length, map, take, Option, Some, None, refl, ap, sym, subst, ◌∙◌, arith}
 use Rattle.std.specs.Prelude.{nat_le, option_map, option_and_then, unwrap_or}
 use Rattle.std.specs.List.{AllByRecursion, zip, slice_get, sum_by}
 use Rattle.std.proofs.Math.Nat.{mul-le-mul}
