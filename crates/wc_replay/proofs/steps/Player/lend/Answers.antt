@@ -1,33 +1,33 @@
-use Rattle.std.proofs.Common.{ℕ, ◌≡◌, ◌++◌, ◌∷◌, [], false, None, refl, ap, sym, subst, ◌∙◌}
-use Rattle.std.proofs.lemmas.Result.{on_ok_weaker}
-use Rattle.wc_base.specs.declared.who.By.{By}
-use Rattle.codec_accounts.specs.{Codec.codec_at, Codec.state_of, Owed.append_at}
-use Rattle.codec_model.specs.{declared.entry.HeldSound.HeldSound, Replay.encode_error}
-use Rattle.media_variables.specs.{declared.lending.SoundFound.SoundFound, Variables.sound_at, Variables.variables_of}
-use Rattle.media_variables.specs.Held.{clones_of, pair_of, sound_found}
-use Rattle.report_text.specs.declared.result.StepResult.{StepResult}
-use Rattle.trace_text.specs.Follow.{Course, Move, after_move, encode_move}
-use Rattle.wc_replay.proofs.Calls.{asked, hands_clone}
+use Rattle.std.proofs.Common.{rules, ◌≡◌, ◌≤◌, ◌<◌, Bool, [], false, true, Some, OnOk, IfOk, is_some, length, slice_get, option_copied, option_map, None, ℕ, ◌+◌, ◌-◌, ◌*◌, ◌/◌, ◌%◌, nat_eq, nat_lt, List, ◌∷◌, ◌++◌, slice_index_or, slice_set, bit_and, bit_or, Fits, w8, w32, w64, Bor, MutBor}
+use Rattle.codec_accounts.specs.Codec.{codec_at, state_of, AreGivable}
+use Rattle.codec_accounts.specs.Owed.{at}
+use Rattle.codec_model.specs.declared.entry.Entry.TheVariants as entry
+use Rattle.codec_model.specs.declared.entry.Call.TheVariants.{Decode, Encode}
+use Rattle.codec_model.specs.Held.{adds_held}
+use Rattle.codec_model.specs.Replay.{may_call, encode_error, refused_as}
+use Rattle.media_accounts.specs.Accounts.{AreLent}
+use Rattle.media_variables.specs.Held.{sound_found}
+use Rattle.media_variables.specs.Held.{pair_of as the_pair_of}
+use Rattle.media_variables.specs.declared.lending.SoundFound.TheVariants as found
+use Rattle.order_laws.specs.Course.{held_by_codecs}
+use Rattle.script_types.specs.Names.{taken_from}
+use Rattle.script_types.specs.declared.steps.Step.TheVariants as a_step
+use Rattle.media_variables.specs.Variables.{Brought, media_came, sound_at, taken_came, variables_of}
+use Rattle.trace_text.specs.Follow.{Ask, with_result, after_move, advance, chunk_for, item_entry, call_move, encode_of, handle_move, media_move, take_move, found_at, look_of_flush, look_of_state, promise_after, step_move, follow_item, steps_of, source_error}
+use Rattle.report_text.specs.declared.result.StepResult.TheVariants as came
+use Rattle.script_types.specs.declared.script.OrderItem.TheVariants as item
+use Rattle.wc_replay.specs.Desk.{IsNext}
+use Rattle.wc_replay.specs.Player.{IsInRange, NamesInRange, IsPlayable, call_in, encoded_by}
 use Rattle.wc_replay.proofs.steps.Player.lend.Goals as goal
 
+-- src/steps.rt:321:22
+pub call_at-requires-clause-may : goal.call_at-requires-clause-may
+call_at-requires-clause-may g c κs within = ?
+
+-- src/steps.rt:321:22
+pub call_at-requires-clause-givable : goal.call_at-requires-clause-givable
+call_at-requires-clause-givable g c κs within = ?
+
+-- src/steps.rt:296:5
 pub returns : goal.returns
-returns g c =
-    let p = c.self.inside in
-    let k = c.args.codec in
-    let who = c.args.who in
-    let v : Course = record { callers = p.callers.items; codecs = p.desks.items; media = p.media; slots = p.slots } in
-    let d = codec_at k v.codecs in
-    let r = c.in_ok-samples.held in
-    let x : HeldSound = record { samples = c.in_ok-samples.samples; pair = pair_of r } in
-    let o = sound_at (variables_of who.caller v.media.variables) c.args.content in
-    let there = subst (λ (u : Course). sound_found (sound_at (variables_of who.caller u.media.variables) c.args.content) ≡ SoundFound.Open) (sym c.self.view_is) c.requires.open in
-    let accepted = subst (λ (u : Course). encode_error false (state_of (codec_at k u.codecs)).control ≡ None) (sym c.self.view_is) c.requires.accepted in
-    let lent = c.in_ok-samples.ensures.lent in
-    let history = lent.history ∙ ap (λ (n : ℕ). v.media.pool ++ clones_of (By.Codec k n) (pair_of r ∷ [])) (rw c.deref.ensures.value at c.place_at-place.ensures) in
-    on_ok_weaker c.note.result
-    (λ noted. asked v who.caller k c.in_ok-answer.answer.place _ _ c.in_ok-answer.answer.error _ c.note.new.callers.items c.encode_at.new.desks.items c.lend.new.self refl refl refl
-    c.in_ok-answer.ensures.made c.in_ok-answer.ensures.place (c.in_ok-answer.ensures.error ∙ sym accepted)
-    (noted ∙ ap (λ (a : StepResult). append_at who.caller a v.callers) c.call_result.ensures) c.in_ok-samples.ensures.same history
-    ∙ (ap (λ (m : Move). after_move m v) (sym (hands_clone v who k o x there accepted lent.handed))
-    ∙ ap (λ (u : Course). after_move (encode_move who k u.media.pool (sound_at (variables_of who.caller u.media.variables) c.args.content) (codec_at k u.codecs)) u) c.self.view_is))
-    c.note.ensures
+returns g c = ?
