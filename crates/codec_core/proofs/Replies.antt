@@ -19,11 +19,6 @@ pub twice : (b : Bool) → b ≡ not (not b)
 twice true = refl
 twice false = refl
 
--- a call that removes has its error as its exception
-pub removes_by_exception : (x : Call) (o : Option DomError) → (removes x && is_none (exception_of x o)) ≡ (removes x && is_none o)
-removes_by_exception Call.Flush o = refl
-removes_by_exception x o = refl
-
 module _ {t : TraceValue} {slot : Option Lent} {out : Out} {k : Control} {spare : ℕ} (is : IsCore t slot out k spare) {next : Option Lent} {k' : Control} (who : Who) (x : Call) (m : Moved next (Entry.Call who x) is.kept.state k') (spare' : ℕ) (box : next ≡ kept_box (not (removes x && is_none (call_error x k))) slot) where
   -- the codec after a call that takes no output
   pub core_called : (free : ℕ) (y : Shown) → y ≡ shown_at (Entry.Call who x) (with_control k is.kept.state) → takes x ≡ false → (left k' + spare' + reclaims k'.phase + 1 ≤ free) × (length t.entries + free < 2 ^ 63)

@@ -9,7 +9,7 @@ use Rattle.std.proofs.lemmas.Option.{slice_get_past}
 use Rattle.wc_base.specs.{Options.some_same, Options.cond_is, declared.who.Who.Who}
 use Rattle.wc_pool.specs.declared.entry.PoolEntry.{PoolEntry}
 use Rattle.codec_definitions.specs.declared.unit.Unit as media
-use Rattle.codec_model.specs.declared.entry.{Opening.Opening, Item.Item, Pair.Pair, Running.Running, Outcome.Outcome, Ended.Ended, Entry.Entry}
+use Rattle.codec_model.specs.declared.entry.{Opening.Opening, Item.Item, Pair.Pair, Running.Running, Outcome.Outcome, Ended.Ended, Call.Call, Entry.Entry}
 use Rattle.codec_model.specs.Control.{may_start, front, start_item}
 use Rattle.codec_model.specs.Replay.{State, step as entry_step, opening_state, replay, answer_to, start_step, done_step, done_ended, ended_of, IsLegal}
 use Rattle.codec_model.specs.Shown.{shown_at, each_shown, each_shown_from}
@@ -45,7 +45,7 @@ pub shown_last : (o : Opening) (h : List Entry) (e : Entry) → IsLegal o h → 
 shown_last o h e l = let r = some_is (replay o h) (opening_state o) l in rw (each_more o h e (state_after o h) r, sym (each_length o h (state_after o h) r)) (get_end (each_shown o h) (shown_at e (state_after o h)))
 
 -- a take of the first output that was shown and not taken yet
-pub take_legal : (who : Who) (s : State) → s.control.taken < s.control.shown → Steps (Entry.Take who s.control.taken) s
+pub take_legal : (who : Who) (s : State) → s.control.taken < s.control.shown → Steps (Entry.Call who (Call.Take s.control.taken)) s
 take_legal who s lt = rw (eq-eqb s.control.taken s.control.taken refl, lt-ltb s.control.taken s.control.shown lt) refl
 
 start_on : (is : List Item) (i : Item) (s : State) → may_start s.control ≡ true → front is ≡ Some i → is_some (start_step is s.control.epoch i.number s) ≡ true

@@ -5,7 +5,7 @@ use Rattle.std.proofs.lemmas.Option.{slice_get_within}
 use Rattle.wc_base.specs.declared.{who.Who.Who}
 use Rattle.wc_chunk.specs.declared.chunk.Chunk.{Chunk}
 use Rattle.codec_definitions.specs.declared.unit.Unit as media
-use Rattle.codec_model.specs.{declared.entry.Entry.Entry, Replay.IsLegal}
+use Rattle.codec_model.specs.{declared.entry.Call.Call, declared.entry.Entry.Entry, Replay.IsLegal}
 use Rattle.history_laws.specs.CountLaws.{outputs_stay}
 use Rattle.codec_accounts.specs.{Owed.at, ListLaws.get_some, ListLaws.get_kept}
 use Rattle.script_types.specs.declared.{script.ScriptData.ScriptData, steps.Step.Step, steps.MediaStep.MediaStep}
@@ -68,7 +68,7 @@ module _ (s : ScriptData) (w v : Recorded) (g : Grows w v) where
   made_stays : Legals s w → (who : Who) (t o : Option ℕ) (r : StepResult) → ((k p : ℕ) → made_at r ≡ Some (k, p) → p < length (at k w.codecs)) → IsResultBy s w who t o r → IsResultBy s v who t o r
   made_stays legal who None (Some k) (StepResult.Call other p error) within h =
       let m = g.more k in (h.0, rw (m.1, shown_kept (opening_at s k) (at k w.codecs) m.0 p (legal k) (rw h.0 at (within other p refl))) h.1)
-  made_stays legal who (Some k) o (StepResult.Unit other p n) within h = (let m = g.more k in (h.0, rw m.1 (get_kept (at k w.codecs) m.0 p (Entry.Take who n) h.1)))
+  made_stays legal who (Some k) o (StepResult.Unit other p n) within h = (let m = g.more k in (h.0, rw m.1 (get_kept (at k w.codecs) m.0 p (Entry.Call who (Call.Take n)) h.1)))
   made_stays legal who t o StepResult.Absent within h = h
   made_stays legal who t o r within h = h
 

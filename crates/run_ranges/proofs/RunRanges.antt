@@ -11,7 +11,7 @@ use Rattle.wc_config.specs.declared.{kind.Kind.Kind, codec.CoderId.CoderId}
 use Rattle.wc_chunk.specs.declared.chunk.Chunk.{Chunk}
 use Rattle.wc_pool.specs.Laws.{LiveAreNumbered}
 use Rattle.coder_api.specs.declared.slot.{SlotEntry.SlotEntry, SlotOp.SlotOp}
-use Rattle.codec_model.specs.declared.entry.{Opening.Opening, Entry.Entry, Outcome.Outcome, Shown.Shown}
+use Rattle.codec_model.specs.declared.entry.{Opening.Opening, Call.Call, Entry.Entry, Outcome.Outcome, Shown.Shown}
 use Rattle.codec_model.specs.Replay.{State, opening_state, step as legal_step, replay, replay_from}
 use Rattle.codec_model.specs.{Held.HeldStays, Facts.IsNeverStuck, Facts.Always}
 use Rattle.script_types.specs.declared.{script.ScriptData.ScriptData, script.CodecItem.CodecItem, steps.MediaStep.MediaStep, steps.Step.Step}
@@ -26,7 +26,7 @@ use Rattle.media_accounts.specs.Accounts.{called_at, lent_at}
 use Rattle.trace_text.specs.Follow.{Recorded, opening_at, output_at, steps_of, chunk_at, order_items}
 use Rattle.trace_text.specs.FitsLaws.{look_of, calls_by_places, order_by_places}
 use Rattle.trace_text.specs.Fits.{recorded_of, mark_of, result_in, entry_in, step_in, CallsAreIn, LookShows, LooksAreIn, IsLocalAnswer, LocalsAreIn, IsResultOf, taken_by, variables_at, came_at, brought_to, made_steps, lends_in, Fits, IsLegalTrace, AreLegalTraces, IsLegalRun}
-use Rattle.codec_accounts.specs.{ListLaws.get_some, Owed.at, Calls.who_of, Codec.state_after, Registry.BoxesAccounted, Registry.EndSays}
+use Rattle.codec_accounts.specs.{ListLaws.get_some, Owed.at, Codec.state_after, Registry.BoxesAccounted, Registry.EndSays}
 use Rattle.codec_accounts.specs.Calls as mark
 use Rattle.codec_accounts.specs.SlotPlaces.{IsOfCodec, cause_there}
 use Rattle.report_lines.specs.Fits.{IsCodec, FitsWho, FitsResult, FitsBy, FitsOp, FitsLine}
@@ -37,7 +37,7 @@ use Rattle.run_ranges.specs.Ranges.{AreWithin}
 use Rattle.run_ranges.proofs.{Cases.by_option, Cases.by_default, CodeRanges.CodesAreBytes, UnitRanges.judge, TakenRanges.takes_small}
 use Rattle.run_ranges.proofs.PoolRanges.{held_up_to, ops_fit, IsMadeBy, entry_made}
 use Rattle.run_ranges.proofs.MediaRanges.{IsChunkThere, IsOutputWithin, IsAnswerWithin, FitsTaken, size_small_of, AreSteps, came_answers, media_fits}
-use Rattle.run_ranges.proofs.EntryRanges.{IsOutcomeWithin, IsEntryWithin, lines_within}
+use Rattle.run_ranges.proofs.EntryRanges.{IsOutcomeWithin, IsCallWithin, IsEntryWithin, lines_within}
 use Rattle.run_ranges.proofs.CourseRanges.{IsOwnEntry, IsByUpTo, IsOpUpTo, by_up, chunk_made, contents_within, holds_own, output_own, course_up}
 
 -- ---- what was recorded
@@ -56,7 +56,7 @@ pub record IsKnown (s : ScriptData) (made : List CoderId) (w : Recorded) : Type 
   codecs : length w.codecs ≡ length s.codecs
   few_callers : length s.callers ≤ most_callers
   few_codecs : length s.codecs ≤ most_codecs
-  takes : (k p : ℕ) (who : Who) (unit : ℕ) → entry_in w k p ≡ Some (Entry.Take who unit) → unit ≤ p
+  takes : (k p : ℕ) (who : Who) (unit : ℕ) → entry_in w k p ≡ Some (Entry.Call who (Call.Take unit)) → unit ≤ p
   recorded : IsRecordedUpTo (length made) w
   open recorded use *
 
@@ -135,7 +135,7 @@ module _ (laws : CodesAreBytes) (s : ScriptData) (media : List (List Chunk)) (ma
   -- ---- results
 
   call_fits : (c j k p : ℕ) (error : Option DomError) → result_in w c j ≡ Some (StepResult.Call k p error) → IsCodec s k × (p < 2 ^ 64)
-  call_fits c j k p error is = let kept = (calls_by_places s w calls).kept c j k p error is in entry_known k p kept.entry kept.stands
+  call_fits c j k p error is = let kept = (calls_by_places s w calls).kept c j k p error is in entry_known k p _ kept.stands
 
   take_fits : (c j k p unit : ℕ) → result_in w c j ≡ Some (StepResult.Unit k p unit) → FitsResult s (StepResult.Unit k p unit)
   take_fits c j k p unit is =
@@ -196,17 +196,18 @@ module _ (laws : CodesAreBytes) (s : ScriptData) (media : List (List Chunk)) (ma
   outcome_within cause (Outcome.NoSlot n) says = omega (arith, slice_get_within w.slots n _ says.stands, h.slots)
   outcome_within cause _ says = tt
 
-  named_within : (k p : ℕ) (e : Entry) (who : Who) → entry_in w k p ≡ Some e → who_of e ≡ Some who → FitsWho s who
-  named_within k p e who is names =
-      let kept = (calls_by_places s w calls).only k p e who is names in step_known who kept.0 kept.1
+  named_within : (k p : ℕ) (who : Who) (x : Call) → entry_in w k p ≡ Some (Entry.Call who x) → FitsWho s who
+  named_within k p who x is = let kept = (calls_by_places s w calls).only k p who x is in step_known who kept.0 kept.1
+
+  call_within : (k p : ℕ) (who : Who) (x : Call) → entry_in w k p ≡ Some (Entry.Call who x) → IsCallWithin s who x
+  call_within k p who (Call.Take unit) is = (named_within k p who (Call.Take unit) is, omega (arith, h.takes k p who unit is, (entry_known k p _ is).1))
+  call_within k p who x is = named_within k p who x is
 
   entry_within : BoxesAccounted made (opening_at s) w.codecs w.slots → (k p : ℕ) (e : Entry) → entry_in w k p ≡ Some e → IsEntryWithin s e
-  entry_within boxes k p (Entry.Take who unit) is = (named_within k p (Entry.Take who unit) who is refl, omega (arith, h.takes k p who unit is, (entry_known k p _ is).1))
+  entry_within boxes k p (Entry.Call who x) is = call_within k p who x is
   entry_within boxes k p (Entry.Done epoch item moment o) is = (h.own k p (Entry.Done epoch item moment o) is, outcome_within _ o (boxes.ends k p epoch item moment o is).says)
   entry_within boxes k p (Entry.Reclaim moment) is = h.own k p (Entry.Reclaim moment) is
-  entry_within boxes k p (Entry.Start epoch item) is = tt
-  entry_within boxes k p Entry.Turn is = tt
-  entry_within boxes k p e is = named_within k p e _ is refl
+  entry_within boxes k p e is = tt
 
   -- ---- the registry
 

@@ -5,7 +5,8 @@ use Rattle.codec_core.specs.Codec.{Codec, kept_box}
 use Rattle.codec_core.proofs.Steps.{made_moves, place_kept}
 use Rattle.codec_core.proofs.Recorded.{call_ends}
 use Rattle.codec_core.proofs.Owning.{at_home, control_at, keeps_called, back_removal}
-use Rattle.codec_core.proofs.Replies.{core_called, replied, removes_by_exception, twice}
+use Rattle.codec_core.specs.ReplyLaws.{removes_by_exception}
+use Rattle.codec_core.proofs.Replies.{core_called, replied, twice}
 use Rattle.codec_core.proofs.codec.Core.make.Given.{Over}
 use Rattle.codec_core.proofs.codec.Core.make.Goals as goal
 
