@@ -101,8 +101,7 @@ pub(crate) fn known_after_item(work: &Work, before: Known) -> Known
 pub(crate) fn known_after_call(call: &Call, error: Option<DomError>, before: Known) -> Known
     ensures { result ≡ known_after error call.now before }
 {
-    let removes = matches!(call, Call::Reset | Call::Close);
-    if removes && error.is_none() {
+    if call.removes() && error.is_none() {
         nothing_known()
     } else {
         before
