@@ -15,13 +15,13 @@ use Rattle.flac_definitions.specs.ResidualSpelling.{IsInRange, IsResidual, folde
 use Rattle.flac_definitions.specs.Subframe.{subframe_at, with_wasted_bits}
 use Rattle.flac_definitions.specs.SubframeSpelling.{AreSamples, IsPredictor, IsFixed, IsBody, IsSubframe}
 use Rattle.flac_write.specs.SpellingLaws.{in_order, in_order_given, one_of, other_of}
-use Rattle.flac_plans.specs.Plans.{part_of, cost, first_least, best_parameter, plan_parameters}
-use Rattle.flac_plans.specs.Spelling.{residual_bits}
+use Rattle.flac_definitions.specs.Plans.{part_of, cost, first_least, best_parameter, plan_parameters}
+use Rattle.flac_definitions.specs.ResidualWriting.{residual_bits}
 use Rattle.flac_plans.specs.ResidualLaws as plan
-use Rattle.flac_subframes.specs.Fixed.{at, residual_at, residuals, folded_residual, is_in_range, are_in_range}
-use Rattle.flac_subframes.specs.Spelling.{sample_bits, HaveDepth, subframe_bits}
-use Rattle.flac_subframes.specs.declared.candidate.Candidate.{Candidate}
-use Rattle.flac_subframes.specs.declared.candidate.Candidate.TheVariants.{Constant, Verbatim, Fixed}
+use Rattle.flac_definitions.specs.FixedPredictors.{at, residual_at, residuals, folded_residual, is_in_range, are_in_range}
+use Rattle.flac_definitions.specs.SubframeWriting.{sample_bits, HaveDepth, subframe_bits}
+use Rattle.flac_definitions.specs.declared.candidate.Candidate.{Candidate}
+use Rattle.flac_definitions.specs.declared.candidate.Candidate.TheVariants.{Constant, Verbatim, Fixed}
 use Rattle.flac_subframe_laws.specs.Laws.{IsCandidate, IsWritable, WrittenSubframesAreRead}
 use Rattle.flac_subframe_laws.proofs.Samples.{samples_are, constant_is}
 use Rattle.flac_subframe_laws.proofs.Predictors.{coefficient_count, samples_given}

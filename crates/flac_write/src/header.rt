@@ -1,7 +1,7 @@
 // Headers of frames, written.
 ghost use Rattle.std.specs.Prelude.{◌≡◌, ◌<◌, ◌≤◌, ◌+◌, ◌-◌, ◌*◌, ◌/◌, ◌%◌, ◌^◌, ◌++◌, [], List, ℕ, length, OnOk};
 ghost use Rattle.flac_definitions.specs.Bits.{bits_of};
-ghost use Rattle.flac_write.specs.Header.{block_size_code, sample_rate_code, depth_code, further_bits, further_count, number_bits, long_number_bits, size_bits, code_bits, front_bits, header_bits, IsWritable};
+ghost use Rattle.flac_definitions.specs.HeaderWriting.{block_size_code, sample_rate_code, depth_code, further_bits, further_count, number_bits, long_number_bits, size_bits, code_bits, front_bits, header_bits, IsWritable};
 
 use crate::writer::BitWriter;
 use flac_definitions::FrameHeader;
