@@ -19,7 +19,7 @@ use Rattle.flac_definitions.specs.Plans.{part_of, cost, first_least, best_parame
 use Rattle.flac_definitions.specs.ResidualWriting.{residual_bits}
 use Rattle.flac_plans.specs.ResidualLaws as plan
 use Rattle.flac_definitions.specs.FixedPredictors.{at, residual_at, residuals, folded_residual, is_in_range, are_in_range}
-use Rattle.flac_definitions.specs.SubframeWriting.{sample_bits, HaveDepth, subframe_bits}
+use Rattle.flac_definitions.specs.SubframeWriting.{sample_bits, HasDepth, HaveDepth, subframe_bits}
 use Rattle.flac_definitions.specs.declared.candidate.Candidate.{Candidate}
 use Rattle.flac_definitions.specs.declared.candidate.Candidate.TheVariants.{Constant, Verbatim, Fixed}
 use Rattle.flac_subframe_laws.specs.Laws.{IsCandidate, IsWritable, WrittenSubframesAreRead}
@@ -108,7 +108,7 @@ fixed_is law depth order p xs positive h own =
     let front : AreSamples depth order (take order xs) (flat_map (sample_bits depth) (take order xs)) =
     subst (λ (k : ℕ). AreSamples depth k (take order xs) (flat_map (sample_bits depth) (take order xs))) long
     (samples_are depth (take order xs) positive (λ j lt. (let l : j < order = omega (arith, lt, long) in
-    subst (λ (v : ℤ). Rattle.flac_subframes.specs.Spelling.HasDepth depth v) (sym (get_or-take order xs j (pos 0) l)) (h j (omega (arith, l, below)))))) in
+    subst (λ (v : ℤ). HasDepth depth v) (sym (get_or-take order xs j (pos 0) l)) (h j (omega (arith, l, below)))))) in
     let writable : plan.IsWritable n order p (residuals order xs) parameters = record {
       count = omega (arith, length-map-range_with_len (λ (j : ℕ). residual_at order xs (order + j)) 0 (n - order), below);
       partition = own.1;
