@@ -22,7 +22,7 @@ use Rattle.flac_subframe_laws.specs.Laws as subframe
 use Rattle.flac_definitions.specs.Modes.{channel_of, coded_of, coded_depth, assignment_of, channel_candidate, best_mode, IsModeOf, IsFormat, mode_bits, other_modes}
 use Rattle.flac_blocks.specs.Search.{AreFitting}
 use Rattle.flac_definitions.specs.FrameWriting.{header_of, channel_spelled, channels_spelled, padded, mode_frame_bits, frame_bits}
-use Rattle.flac_blocks.specs.CodedLaws.{coded_fits, coded_count, header_writable, depth_some, shortest_at_most}
+use Rattle.flac_blocks.specs.CodedLaws.{coded_fits, coded_count, header_writable, depth_is, depth_some, shortest_at_most}
 use Rattle.flac_definitions.specs.declared.mode.BlockFormat.{BlockFormat}
 use Rattle.flac_definitions.specs.declared.mode.ChannelMode.{ChannelMode}
 use Rattle.flac_definitions.specs.declared.mode.ChannelMode.TheVariants.{Independent, LeftSide, SideRight, MidSide}
@@ -88,7 +88,9 @@ channels_from law f m block coded c (suc n) h e =
 -- ---- frames
 
 described_is : (info : StreamInfo) (f : BlockFormat) (m : ChannelMode) (block number : ℕ) → IsFormat f → IsModeOf f m → Describes info f → IsDescribed info (header_of f m block number)
-described_is info f m block number h o d = (d.rate, count_is f m h o ∙ d.channels, d.depth)
+described_is info f m block number h o d =
+    let few = depth_is f.depth h.depth in
+    (d.rate, count_is f m h o ∙ d.channels, d.depth, omega (arith, few.0, d.depth), omega (arith, few.1, d.depth))
 
 frame_spelled : subframe.WrittenSubframesAreRead → WrittenHeadersAreRead → (info : StreamInfo) (f : BlockFormat) (m : ChannelMode) (block number : ℕ) (xs : List ℤ) → CanBeWritten info f m block number xs
     → IsFrame info (header_of f m block number, xs) (mode_frame_bits f m block number (coded_of m block xs))

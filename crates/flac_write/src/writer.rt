@@ -46,6 +46,16 @@ impl BitWriter {
         }
     }
 
+    /// Takes all bits away. Takes no memory.
+    #[tactic(auto, unfolding(flac_definitions::specs::Bits::bits_of, flac_definitions::specs::Bits::bits_in))]
+    pub fn clear(&mut self)
+        ensures { self.new ≡ [] }
+    {
+        self.bytes.clear();
+        self.last = 0;
+        self.used = 0;
+    }
+
     /// Appends the `n` bits of `v`, the most significant first; `n` is at most 64, and `v` below 2^n. After a want of
     /// memory the bits are as before.
     #[inline]
