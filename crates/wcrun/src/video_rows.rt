@@ -298,9 +298,10 @@ end
 ";
 
 // Pictures of 2 by 2 pixels: a chunk that is called a key chunk and begins with 1 is refused; a key chunk and what is added to
-// it are decoded, and the first picture is taken. A first key chunk that is too short is taken, and closes its codec.
+// it are decoded. A first key chunk after the flush that is too short is taken, and closes the codec; the first picture is
+// taken after that.
 const SQUARE: &str =
-    r#"{"codecs":[{"name":"v","kind":"video-decoder"},{"name":"w","kind":"video-decoder"}],"callers":[{"name":"a","steps":[
+    r#"{"codecs":[{"name":"v","kind":"video-decoder"}],"callers":[{"name":"a","steps":[
 {"do":"configure","on":"v","config":{"codec":"x-raw-i420","codedWidth":2,"codedHeight":2}},
 {"do":"chunk","as":"c","init":{"type":"key","timestamp":0,"data":"01010101010101"}},
 {"do":"decode","on":"v","chunk":"c"},
@@ -309,15 +310,13 @@ const SQUARE: &str =
 {"do":"chunk","as":"e","init":{"type":"delta","timestamp":40000,"data":"01010101010101"}},
 {"do":"decode","on":"v","chunk":"e"},
 {"do":"flush","on":"v","as":"p"},
-{"do":"configure","on":"w","config":{"codec":"x-raw-i420","codedWidth":2,"codedHeight":2}},
 {"do":"chunk","as":"s","init":{"type":"key","timestamp":0,"data":"0001"}},
-{"do":"decode","on":"w","chunk":"s"},
+{"do":"decode","on":"v","chunk":"s"},
 {"do":"take","on":"v","as":"f"}]}],
-"order":["a","a","a","a","a","a","a","a","a","a","a",{"start":"v"},{"done":"v","at":1},{"turn":"v"},{"turn":"v"},
+"order":["a","a","a","a","a","a","a","a","a","a",{"start":"v"},{"done":"v","at":1},{"turn":"v"},{"turn":"v"},
 {"start":"v"},{"done":"v","at":2},{"turn":"v"},{"turn":"v"},
 {"start":"v"},{"done":"v","at":3},{"turn":"v"},{"start":"v"},{"done":"v","at":4},{"turn":"v"},
-{"start":"w"},{"done":"w","at":5},{"turn":"w"},{"turn":"w"},
-{"start":"w"},{"done":"w","at":6},{"turn":"w"},{"turn":"w"},"a"]}"#;
+{"start":"v"},{"done":"v","at":5},{"turn":"v"},"a"]}"#;
 
 const SQUARE_REPORT: &str = "wcrun report 1
 caller a
@@ -329,54 +328,44 @@ caller a
 5 ok
 6 v.3 ok
 7 v.4 ok
-8 w.0 ok
-9 ok
-10 w.1 ok
-11 v.19 unit 0
+8 ok
+9 v.5 ok
+10 v.23 unit 0
 codec v video-decoder 4
 0 a.0 configure = ok
 1 a.2 decode = DataError
 2 a.4 decode = ok
 3 a.6 decode = ok
 4 a.7 flush = ok
-5 start 0.0
-6 done 0.0 1 ran 0
-7 turn unblock
-8 turn process
-9 start 0.1
-10 done 0.1 2 ran 1
-11 turn dequeue
+5 a.9 decode = ok
+6 start 0.0
+7 done 0.0 1 ran 0
+8 turn unblock
+9 turn process
+10 start 0.1
+11 done 0.1 2 ran 1
+12 turn dequeue
   dequeue
-12 turn output
+13 turn output
   output video I420 2 2 0 - 010203040506
-13 start 0.2
-14 done 0.2 3 ran 1
-15 turn output
+14 start 0.2
+15 done 0.2 3 ran 1
+16 turn output
   output video I420 2 2 40000 - 020304050607
-16 start 0.3
-17 done 0.3 4 ran 0
-18 turn flushed
+17 start 0.3
+18 done 0.3 4 ran 0
+19 turn flushed
   resolve 4
-19 a.11 take = 0
-codec w video-decoder 4
-0 a.8 configure = ok
-1 a.10 decode = ok
-2 start 0.0
-3 done 0.0 5 ran 0
-4 turn unblock
-5 turn process
-6 start 0.1
-7 done 0.1 6 refused
-8 turn dequeue
-  dequeue
-9 turn close EncodingError
+20 start 0.4
+21 done 0.4 5 refused
+22 turn close EncodingError
   error EncodingError
+23 a.10 take = 0
 pool
-0 a.11 make 0 0
+0 a.10 make 0 0
 slots
-0 v.5 acquire decode:x-raw-i420 0
-1 w.2 acquire decode:x-raw-i420 1
-2 w.9 give decode:x-raw-i420 1
+0 v.6 acquire decode:x-raw-i420 0
+1 v.22 give decode:x-raw-i420 0
 held 1
 end
 ";
