@@ -1,5 +1,5 @@
 // Ways to code a subframe.
-use flac_plans::RicePlan;
+use crate::plan::RicePlan;
 
 /// A way to code the samples of one channel (RFC 9639, section 9.2): as one sample that all are, as they are, or by a
 /// fixed predictor with a partition order for its residual.

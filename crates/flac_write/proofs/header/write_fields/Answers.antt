@@ -1,8 +1,8 @@
 use Rattle.std.proofs.Common.{List, Bool, ℕ, ◌++◌, ◌≡◌, ◌∙◌, ap, subst, length, ◌%◌}
 use Rattle.std.specs.Result.{OnOk}
-use Rattle.flac_write.specs.Header.{code_bits, number_bits, size_bits, front_bits, block_size_code}
+use Rattle.flac_definitions.specs.HeaderWriting.{code_bits, number_bits, size_bits, front_bits, block_size_code}
 use Rattle.flac_write.proofs.NumberLaws.{whole_front, three_parts, with_sum}
-use Rattle.flac_write.proofs.header.write_header.Goals as goal
+use Rattle.flac_write.proofs.header.write_fields.Goals as goal
 
 pub crc8-sum-requires : goal.crc8-sum-requires
 crc8-sum-requires c =

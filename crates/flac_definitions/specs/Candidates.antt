@@ -2,11 +2,11 @@
 use Rattle.std.specs.Prelude.{ℕ, ℤ, ◌≡◌, ◌<◌, ◌≤◌, ◌+◌, ◌*◌, ◌^◌, min, nat_lt, Bool, true, false, List, [], ◌∷◌, ◌++◌, length, map, if◌then◌else◌}
 use Rattle.std.specs.List.{flat_map, filter, range_with_len}
 use Rattle.std.specs.Ordering.{int_eq}
-use Rattle.flac_plans.specs.Plans.{fits, plan_bits, best_partition, IsPlan, IsUsable}
-use Rattle.flac_subframes.specs.Fixed.{at, residuals, folded_residual, are_in_range}
-use Rattle.flac_subframes.specs.declared.candidate.Candidate.{Candidate}
-use Rattle.flac_subframes.specs.declared.candidate.Candidate.TheVariants.{Constant, Verbatim, Fixed}
-use Rattle.flac_subframes.specs.declared.candidate.Choice.{Choice}
+use Rattle.flac_definitions.specs.Plans.{fits, plan_bits, IsPlan, IsUsable}
+use Rattle.flac_definitions.specs.FixedPredictors.{at, residuals, folded_residual, are_in_range}
+use Rattle.flac_definitions.specs.declared.candidate.Candidate.{Candidate}
+use Rattle.flac_definitions.specs.declared.candidate.Candidate.TheVariants.{Constant, Verbatim, Fixed}
+use Rattle.flac_definitions.specs.declared.candidate.Choice.{Choice}
 
 -- whether all samples are one
 abbrev pub are_all : ℤ → List ℤ → Bool
@@ -64,11 +64,3 @@ pub record IsChoice (depth : ℕ) (xs : List ℤ) (candidate : Candidate) (choic
   pub bits : choice.bits ≡ candidate_bits depth xs candidate
   pub small : choice.bits < 2 ^ 63 + 2 ^ 32
   pub plan : HasPlan xs candidate choice
-
--- constant where that can be, and verbatim where not
-abbrev pub plain_candidate : List ℤ → Candidate
-plain_candidate xs = if is_constant xs then Constant else Verbatim
-
--- the first candidate of least length of one order
-abbrev pub best_of_order : ℕ → List ℤ → ℕ → Candidate
-best_of_order most xs order = Fixed order (best_partition (length xs) order most (folded_residual order xs))

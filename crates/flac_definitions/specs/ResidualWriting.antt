@@ -2,7 +2,7 @@
 use Rattle.std.specs.Prelude.{ℕ, ◌/◌, ◌^◌, Bool, true, false, List, [], ◌∷◌, ◌++◌, replicate, slice_index}
 use Rattle.std.specs.List.{flat_map, range_with_len}
 use Rattle.flac_definitions.specs.Bits.{bits_of}
-use Rattle.flac_plans.specs.Plans.{part_of}
+use Rattle.flac_definitions.specs.Plans.{part_of}
 
 -- a folded value's code: zeros, a 1 and the low bits (section 9.2.7.2)
 abbrev pub rice_bits : ℕ → ℕ → List Bool

@@ -2,11 +2,11 @@
 use Rattle.std.specs.Prelude.{ℕ, ℤ, pos, negsuc, neg_ℤ, ◌<◌, ◌≤ℤ◌, ◌<ℤ◌, ◌+◌, ◌-◌, ◌*◌, ◌^◌, Bool, List, ◌++◌, length, take}
 use Rattle.std.specs.List.{flat_map}
 use Rattle.flac_definitions.specs.Bits.{bits_of}
-use Rattle.flac_plans.specs.Plans.{plan_parameters}
-use Rattle.flac_plans.specs.Spelling.{residual_bits}
-use Rattle.flac_subframes.specs.Fixed.{at, folded_residual}
-use Rattle.flac_subframes.specs.declared.candidate.Candidate.{Candidate}
-use Rattle.flac_subframes.specs.declared.candidate.Candidate.TheVariants.{Constant, Verbatim, Fixed}
+use Rattle.flac_definitions.specs.Plans.{plan_parameters}
+use Rattle.flac_definitions.specs.ResidualWriting.{residual_bits}
+use Rattle.flac_definitions.specs.FixedPredictors.{at, folded_residual}
+use Rattle.flac_definitions.specs.declared.candidate.Candidate.{Candidate}
+use Rattle.flac_definitions.specs.declared.candidate.Candidate.TheVariants.{Constant, Verbatim, Fixed}
 
 -- a sample of so many bits as a number, in two's complement
 abbrev pub twos_complement : ℕ → ℤ → ℕ

@@ -1,5 +1,5 @@
 // Formats of blocks, and ways to code their channels.
-use flac_subframes::Choice;
+use crate::candidate::Choice;
 
 /// What the blocks of a stream have in common: `rate` frames a second, 1 to 8 `channels`, `depth` bits a sample (8, 16,
 /// 24 or 32), and the `level` at which they are coded, 0 to 8: how many candidates are tried.

@@ -1,15 +1,14 @@
 -- How the frame of a block is written (RFC 9639, section 9).
 use Rattle.std.specs.Prelude.{ℕ, ℤ, Bool, List, ◌++◌, length}
 use Rattle.std.specs.List.{flat_map, range_with_len}
-use Rattle.flac_definitions.specs.Bits.{bits_of}
+use Rattle.flac_definitions.specs.Bits.{bits_of, bits_to_byte}
 use Rattle.flac_definitions.specs.Sums.{bits_sum}
 use Rattle.flac_definitions.specs.declared.header.FrameHeader.{FrameHeader}
-use Rattle.flac_write.specs.Header.{header_bits}
-use Rattle.flac_write.specs.Writer.{bits_to_byte}
-use Rattle.flac_subframes.specs.Spelling.{subframe_bits}
-use Rattle.flac_blocks.specs.Modes.{channel_of, coded_of, coded_depth, assignment_of, channel_candidate, best_mode}
-use Rattle.flac_blocks.specs.declared.mode.BlockFormat.{BlockFormat}
-use Rattle.flac_blocks.specs.declared.mode.ChannelMode.{ChannelMode}
+use Rattle.flac_definitions.specs.HeaderWriting.{header_bits}
+use Rattle.flac_definitions.specs.SubframeWriting.{subframe_bits}
+use Rattle.flac_definitions.specs.Modes.{channel_of, coded_of, coded_depth, assignment_of, channel_candidate, best_mode}
+use Rattle.flac_definitions.specs.declared.mode.BlockFormat.{BlockFormat}
+use Rattle.flac_definitions.specs.declared.mode.ChannelMode.{ChannelMode}
 
 abbrev pub header_of : BlockFormat → ChannelMode → ℕ → ℕ → FrameHeader
 header_of f mode block number =

@@ -1,16 +1,16 @@
 -- How the channels of a block are coded, and the first mode of least length (RFC 9639, sections 4.2 and 9.1.3; the choice is ours).
-use Rattle.std.specs.Prelude.{ℕ, ℤ, pos, ◌≡◌, ◌<◌, ◌≤◌, ◌+◌, ◌-◌, ◌*◌, ◌+ℤ◌, ◌-ℤ◌, ◌==◌, ◌&&◌, ◌||◌, nat_lt, nat_le, Bool, List, [], ◌∷◌, ◌++◌, length, take, drop, sum_by, slice_index_or, if◌then◌else◌, IsTrue}
+use Rattle.std.specs.Prelude.{ℕ, ℤ, pos, ◌≡◌, ◌<◌, ◌≤◌, ◌-◌, ◌*◌, ◌+ℤ◌, ◌-ℤ◌, ◌==◌, ◌&&◌, ◌||◌, nat_lt, nat_le, Bool, List, [], ◌∷◌, ◌++◌, length, take, drop, sum_by, slice_index_or, if◌then◌else◌, IsTrue}
 use Rattle.std.specs.Int.{int_div_euclid}
 use Rattle.std.specs.List.{range_with_len}
 use Rattle.flac_definitions.specs.Stereo.{channel_depth}
-use Rattle.flac_subframes.specs.Candidates.{candidate_bits, best_candidate, first_shortest, IsChoice}
-use Rattle.flac_subframes.specs.Spelling.{HaveDepth}
-use Rattle.flac_subframes.specs.declared.candidate.Candidate.{Candidate}
-use Rattle.flac_subframes.specs.declared.candidate.Choice.{Choice}
-use Rattle.flac_blocks.specs.declared.mode.BlockFormat.{BlockFormat}
-use Rattle.flac_blocks.specs.declared.mode.ChannelMode.{ChannelMode}
-use Rattle.flac_blocks.specs.declared.mode.ChannelMode.TheVariants.{Independent, LeftSide, SideRight, MidSide}
-use Rattle.flac_blocks.specs.declared.mode.BlockChoice.{BlockChoice}
+use Rattle.flac_definitions.specs.Candidates.{candidate_bits, best_candidate, first_shortest, IsChoice}
+use Rattle.flac_definitions.specs.SubframeWriting.{HaveDepth}
+use Rattle.flac_definitions.specs.declared.candidate.Candidate.{Candidate}
+use Rattle.flac_definitions.specs.declared.candidate.Choice.{Choice}
+use Rattle.flac_definitions.specs.declared.mode.BlockFormat.{BlockFormat}
+use Rattle.flac_definitions.specs.declared.mode.ChannelMode.{ChannelMode}
+use Rattle.flac_definitions.specs.declared.mode.ChannelMode.TheVariants.{Independent, LeftSide, SideRight, MidSide}
+use Rattle.flac_definitions.specs.declared.mode.BlockChoice.{BlockChoice}
 
 -- a channel of a block, whose channels stand one after another
 abbrev pub channel_of : ℕ → List ℤ → ℕ → List ℤ
@@ -105,30 +105,3 @@ pub record IsBestBlock (f : BlockFormat) (block : ℕ) (xs : List ℤ) (choice :
   pub coded : choice.coded.items ≡ coded_of choice.mode block xs
   pub count : length choice.choices.items ≡ f.channels
   pub choices : AreChoices f choice.mode block choice.coded.items choice.choices.items
-
--- ---- for the search
-
--- the first and the second of a mode's coded channels, of what is known of the left one, the right one, the side and the mid
-abbrev pub first_of : {A : Type 0} → A → A → A → A → ChannelMode → A
-first_of left right side mid Independent = left
-first_of left right side mid LeftSide = left
-first_of left right side mid SideRight = side
-first_of left right side mid MidSide = mid
-
-abbrev pub second_of : {A : Type 0} → A → A → A → A → ChannelMode → A
-second_of left right side mid Independent = right
-second_of left right side mid LeftSide = side
-second_of left right side mid SideRight = right
-second_of left right side mid MidSide = side
-
--- the bits of both
-abbrev pub pair_bits : ℕ → ℕ → ℕ → ℕ → ChannelMode → ℕ
-pair_bits left right side mid mode = first_of left right side mid mode + second_of left right side mid mode
-
--- a choice is the first of least length
-abbrev pub IsBest : ℕ → ℕ → List ℤ → Choice → Type 0
-IsBest depth level xs choice = IsChoice depth xs (best_candidate depth level xs) choice
-
--- samples whose coded channels all have their depth
-abbrev pub AreFitting : BlockFormat → ChannelMode → ℕ → List ℤ → Type 0
-AreFitting f mode block coded = (c : ℕ) → c < f.channels → HaveDepth (coded_depth f mode c) (channel_of block coded c)

@@ -1,5 +1,5 @@
 -- Fixed predictors and their residuals (RFC 9639, section 9.2.5).
-use Rattle.std.specs.Prelude.{ℕ, zero, suc, ℤ, pos, neg_ℤ, ◌<◌, ◌+◌, ◌-◌, ◌^◌, ◌+ℤ◌, ◌-ℤ◌, ◌*ℤ◌, ◌≤ℤ◌, nat_lt, Bool, true, false, List, [], ◌∷◌, length, map, get_or, if◌then◌else◌}
+use Rattle.std.specs.Prelude.{ℕ, zero, suc, ℤ, pos, ◌+◌, ◌-◌, ◌^◌, ◌+ℤ◌, ◌-ℤ◌, ◌*ℤ◌, nat_lt, Bool, true, false, List, [], ◌∷◌, length, map, get_or, if◌then◌else◌}
 use Rattle.std.specs.List.{range_with_len}
 use Rattle.flac_definitions.specs.ResidualSpelling.{folded_value}
 
@@ -31,14 +31,3 @@ is_in_range v = nat_lt (folded_value v) (2 ^ 32 - 1)
 abbrev pub are_in_range : List ℤ → Bool
 are_in_range [] = true
 are_in_range (v ∷ vs) = if is_in_range v then are_in_range vs else false
-
--- each is at most `m`, above and below 0
-pub record IsWithin (m : ℕ) (v : ℤ) : Type 0 where
-  pub low : neg_ℤ (pos m) ≤ℤ v
-  pub high : v ≤ℤ pos m
-
-abbrev pub AreWithin : ℕ → List ℤ → Type 0
-AreWithin m xs = (j : ℕ) → j < length xs → IsWithin m (at xs j)
-
-abbrev pub differences : List ℤ → List ℤ
-differences xs = map (λ j. at xs (j + 1) -ℤ at xs j) (range_with_len 0 (length xs - 1))
