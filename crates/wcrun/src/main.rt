@@ -11,6 +11,8 @@ mod faults;
 mod flac_encode_rows;
 #[cfg(test)]
 mod flac_rows;
+mod help;
+mod hints;
 #[cfg(test)]
 mod media_rows;
 mod prepare;
@@ -159,7 +161,11 @@ fn carry_out<S: Sink>(rt: &HostRuntime, words: &[String], sink: &mut S) -> u8 {
 fn main(rt: HostRuntime) -> ExitCode {
     let mut sink = Output::new(io::writer(&rt));
     let status = match command_words(&rt) {
-        Ok(words) => carry_out(&rt, &words, &mut sink),
+        Ok(words) => {
+            let status = carry_out(&rt, &words, &mut sink);
+            hints::tell(&rt, rt.alloc(), &words, status);
+            status
+        }
         Err(_) => want_memory(&mut sink),
     };
     ExitCode::from(status)
