@@ -63,13 +63,15 @@ fn fault_of<F: Files>(alloc: Global, files: &mut F, name: &str) -> Option<Fault>
     }
 }
 
-fn tell_fault<R: rt::Files + Eprint>(rt: &R, alloc: Global, name: &str) {
+// Tells of the fault, and whether the script is JSON all the same.
+fn tell_fault<R: rt::Files + Eprint>(rt: &R, alloc: Global, name: &str) -> bool {
     let mut files = SystemFiles::new(alloc, rt);
     let Some(fault) = fault_of(alloc, &mut files, name) else {
-        return;
+        return false;
     };
     if let Fault::Unread { name } = &fault {
-        return tell_unread(rt, name.as_str());
+        tell_unread(rt, name.as_str());
+        return false;
     }
     let held = held_by(alloc, &mut files, &fault);
     // of a script above its limit nothing is looked at
@@ -79,6 +81,7 @@ fn tell_fault<R: rt::Files + Eprint>(rt: &R, alloc: Global, name: &str) {
     if let Ok(lines) = fault_hints(alloc, name, &text, &fault, held) {
         write(rt, &lines);
     }
+    fault != Fault::NotJson
 }
 
 fn warn<R: rt::Files + Eprint>(rt: &R, alloc: Global, name: &str) {
@@ -103,10 +106,11 @@ pub fn tell<R: rt::Files + Eprint>(rt: &R, alloc: Global, words: &[String], stat
         let _ = eprint!(rt; "wcrun {VERSION}\n\n{HELP}");
         return;
     };
-    if matches!(status, 3 | 4 | 7) {
-        tell_fault(rt, alloc, name);
-    }
-    if matches!(status, 0 | 3) {
+    let warns = match status {
+        3 | 4 | 7 => tell_fault(rt, alloc, name),
+        _ => status == 0,
+    };
+    if warns {
         warn(rt, alloc, name);
     }
 }
