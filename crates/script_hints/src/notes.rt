@@ -20,6 +20,17 @@ fn is_character(byte: u8) -> bool {
     byte & 0xc0 != 0x80
 }
 
+// A byte as it is shown. A delete is a question mark, and a control character of two bytes an inverted one.
+fn shown(before: u8, byte: u8) -> u8 {
+    if byte == 0x7f {
+        b'?'
+    } else if before == 0xc2 && (0x80..=0x9f).contains(&byte) {
+        0xbf
+    } else {
+        byte
+    }
+}
+
 // The line and the column of a place, from 1.
 fn position(text: &[u8], at: usize) -> (usize, usize) {
     let mut line: usize = 1;
@@ -83,9 +94,15 @@ impl<'t> Notes<'t> {
         self.bytes(words.as_bytes())
     }
 
-    /// Adds bytes.
+    /// Adds bytes, with another character in the place of each that a terminal would obey.
     pub fn bytes(&mut self, bytes: &[u8]) -> Result<(), AllocError> {
-        self.lines.extend_from_slice(bytes)
+        self.lines.reserve(bytes.len())?;
+        let mut before = b' ';
+        for byte in bytes {
+            self.lines.push(shown(before, *byte))?;
+            before = *byte;
+        }
+        Ok(())
     }
 
     /// Adds a number.
