@@ -5,7 +5,7 @@
 # beginning of a report and `out of memory`; 4 with `read fault: NAME`, where the system's own reading wanted memory. Needs
 # gcc. tools/fail-allocations.sh [PROGRAM]
 cd "$(dirname "$0")/.." || exit 2
-program=$(realpath "${1:-crates/wcrun/out/wcrun}") || exit 2
+program=$(realpath "${1:-$(tools/program)}") || exit 2
 work=$(mktemp -d) || exit 2
 trap 'rm -rf "$work"' EXIT
 cat > "$work/fail.c" <<'C'
