@@ -13,6 +13,7 @@ mod flac_encode_rows;
 mod flac_rows;
 #[cfg(test)]
 mod media_rows;
+mod laws;
 mod prepare;
 mod prepared;
 mod refusal;
