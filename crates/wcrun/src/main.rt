@@ -16,6 +16,7 @@ mod help;
 mod hints;
 #[cfg(test)]
 mod media_rows;
+mod laws;
 mod prepare;
 mod prepared;
 mod refusal;
