@@ -1,5 +1,5 @@
 // Chunks.
-ghost use Rattle.std.specs.Prelude.{◌≡◌, ◌<◌, ◌≤◌, Some};
+ghost use Rattle.std.specs.Prelude.{◌≡◌, Some};
 ghost use Rattle.codec_definitions.specs.Flac.{flac_units, flac_format};
 ghost use Rattle.coder_api.specs.Meaning.{Answers};
 ghost use Rattle.flac_decode.specs.Coder.{GivesUnit};

@@ -1,5 +1,5 @@
 // The decoder.
-ghost use Rattle.std.specs.Prelude.{◌≡◌, ◌<◌, ◌≤◌, true, Some, IfOk};
+ghost use Rattle.std.specs.Prelude.{◌≡◌, true, Some, IfOk};
 ghost use Rattle.codec_definitions.specs.Flac.{described};
 ghost use Rattle.coder_api.specs.Meaning.{Stopped, Configured, new_state, Answers, command_of, serves};
 ghost use Rattle.flac_decode.specs.Coder.{decoder_id, answer_in, IsDescribed, meaning_of};

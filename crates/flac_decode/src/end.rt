@@ -1,5 +1,5 @@
 // Where a frame ends.
-ghost use Rattle.std.specs.Prelude.{◌≡◌, ◌<◌, ◌≤◌, ◌^◌, take, IfOk, length};
+ghost use Rattle.std.specs.Prelude.{◌≡◌, ◌<◌, ◌^◌, take, IfOk, length};
 ghost use Rattle.flac_definitions.specs.Bits.{start_of};
 ghost use Rattle.flac_definitions.specs.Frame.{frame_at};
 ghost use Rattle.flac_decode.specs.FrameEnd.{most, EndsAt, end_of};
