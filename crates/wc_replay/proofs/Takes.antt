@@ -1,5 +1,5 @@
 -- What a take of a caller finds and makes, and the move of a step on media.
-use Rattle.std.proofs.Common.{ℕ, zero, suc, ◌≡◌, ◌∙◌, ◌≤◌, false, eq-eqb, Option, Some, None, is_some, List, [], ◌∷◌, ◌++◌, length, refl, ap, sym, subst, arith}
+use Rattle.std.proofs.Common.{ℕ, zero, suc, ◌≡◌, ◌∙◌, ◌≤◌, true, false, eq-eqb, Option, Some, None, is_some, List, [], ◌∷◌, ◌++◌, length, refl, ap, sym, subst, arith}
 use Rattle.std.specs.Prelude.{slice_get, slice_set, IfSome, IfNone, IfOk, Result, Ok, Err, option_map}
 use Rattle.std.specs.List.{AllByRecursion}
 use Rattle.std.proofs.lemmas.Bool.{ltb-false}
@@ -44,9 +44,9 @@ none_left old job refusal d may =
 pub none_next : (old : Codec) (job : Option JobValue) (refusal : Option ℕ) (v : CodecValue) → IsDesk old job refusal → seen old job refusal ≡ v → false ≡ may_take (state_at old).control.taken (state_at old).control → IsNext v None
 none_next old job refusal v d is may = subst (λ (x : CodecValue). IsNext x None) is (none_left old job refusal d may)
 
-pub some_next : (old : Codec) (job : Option JobValue) (refusal : Option ℕ) (v : CodecValue) (t : Output) → seen old job refusal ≡ v → slice_get (outputs_of (shown old.opening old.history)) (state_at old).control.taken ≡ Some t.unit → t.number ≡ (state_at old).control.taken → IsNext v (Some t)
-some_next old job refusal v t is unit number =
-    subst (λ (x : CodecValue). IsNext x (Some t)) is (unit, number, enough t.unit (at_each IsWholeUnit (outputs_of (shown old.opening old.history)) (state_at old).control.taken t.unit (outputs_are_whole old.opening old.history) unit))
+pub some_next : (old : Codec) (job : Option JobValue) (refusal : Option ℕ) (v : CodecValue) (t : Output) → seen old job refusal ≡ v → slice_get (outputs_of (shown old.opening old.history)) (state_at old).control.taken ≡ Some t.unit → t.number ≡ (state_at old).control.taken → true ≡ may_take (state_at old).control.taken (state_at old).control → IsNext v (Some t)
+some_next old job refusal v t is unit number may =
+    subst (λ (x : CodecValue). IsNext x (Some t)) is (unit, number, enough t.unit (at_each IsWholeUnit (outputs_of (shown old.opening old.history)) (state_at old).control.taken t.unit (outputs_are_whole old.opening old.history) unit), rw number (sym may))
 
 -- ---- the move of a take
 

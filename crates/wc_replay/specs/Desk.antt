@@ -5,7 +5,7 @@ use Rattle.wc_config.specs.declared.codec.CoderId.{CoderId}
 use Rattle.slot_registry.specs.Slots.{SlotsValue}
 use Rattle.codec_definitions.specs.declared.unit.Unit as media
 use Rattle.codec_model.specs.declared.entry.Entry.{Entry}
-use Rattle.codec_model.specs.Replay.{State, replay}
+use Rattle.codec_model.specs.{Replay.State, Replay.replay, Control.may_take}
 use Rattle.codec_model.specs.Held.{waiting_held}
 use Rattle.wc_base.specs.declared.who.By.{By}
 use Rattle.wc_base.specs.declared.who.Who.{Who}
@@ -74,7 +74,7 @@ next_output d = output_at d.opening d.history (state_of d).control.taken
 -- the next output of a codec, if one is left, with its number
 abbrev pub IsNext : CodecValue → Option Output → Type 0
 IsNext d None = next_output d ≡ None
-IsNext d (Some x) = (next_output d ≡ Some x.unit) × (x.number ≡ (state_of d).control.taken) × IsEnoughUnit x.unit
+IsNext d (Some x) = (next_output d ≡ Some x.unit) × (x.number ≡ (state_of d).control.taken) × IsEnoughUnit x.unit × (may_take x.number (state_of d).control ≡ true)
 
 -- a job that lacks a box of this id renews its box
 abbrev pub renewal : Option CoderId → BoxStep

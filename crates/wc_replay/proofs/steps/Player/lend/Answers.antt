@@ -1,33 +1,47 @@
-use Rattle.std.proofs.Common.{rules, ◌≡◌, ◌≤◌, ◌<◌, Bool, [], false, true, Some, OnOk, IfOk, is_some, length, slice_get, option_copied, option_map, None, ℕ, ◌+◌, ◌-◌, ◌*◌, ◌/◌, ◌%◌, nat_eq, nat_lt, List, ◌∷◌, ◌++◌, slice_index_or, slice_set, bit_and, bit_or, Fits, w8, w32, w64, Bor, MutBor}
-use Rattle.codec_accounts.specs.Codec.{codec_at, state_of, AreGivable}
-use Rattle.codec_accounts.specs.Owed.{at}
-use Rattle.codec_model.specs.declared.entry.Entry.TheVariants as entry
-use Rattle.codec_model.specs.declared.entry.Call.TheVariants.{Decode, Encode}
-use Rattle.codec_model.specs.Held.{adds_held}
-use Rattle.codec_model.specs.Replay.{may_call, encode_error, refused_as}
-use Rattle.media_accounts.specs.Accounts.{AreLent}
-use Rattle.media_variables.specs.Held.{sound_found}
-use Rattle.media_variables.specs.Held.{pair_of as the_pair_of}
-use Rattle.media_variables.specs.declared.lending.SoundFound.TheVariants as found
-use Rattle.order_laws.specs.Course.{held_by_codecs}
-use Rattle.script_types.specs.Names.{taken_from}
-use Rattle.script_types.specs.declared.steps.Step.TheVariants as a_step
-use Rattle.media_variables.specs.Variables.{Brought, media_came, sound_at, taken_came, variables_of}
-use Rattle.trace_text.specs.Follow.{Ask, with_result, after_move, advance, chunk_for, item_entry, call_move, encode_of, handle_move, media_move, take_move, found_at, look_of_flush, look_of_state, promise_after, step_move, follow_item, steps_of, source_error}
-use Rattle.report_text.specs.declared.result.StepResult.TheVariants as came
-use Rattle.script_types.specs.declared.script.OrderItem.TheVariants as item
-use Rattle.wc_replay.specs.Desk.{IsNext}
-use Rattle.wc_replay.specs.Player.{IsInRange, NamesInRange, IsPlayable, call_in, encoded_by}
+use Rattle.std.proofs.Common.{ℕ, ◌≡◌, ◌++◌, ◌∷◌, [], false, true, Option, None, ap, sym, subst, length, ◌∙◌}
+use Rattle.std.specs.Prelude.{IfSome, option_map}
+use Rattle.std.proofs.lemmas.Result.{on_ok_weaker}
+use Rattle.wc_base.specs.declared.who.By.{By}
+use Rattle.codec_accounts.specs.{Codec.codec_at, Codec.state_of, Codec.next_by, Codec.IsGivable, Owed.append_at}
+use Rattle.codec_model.specs.declared.entry.{Call.Call, Handed.Handed, HeldSound.HeldSound, Pair.Pair}
+use Rattle.codec_model.specs.Replay.{encode_error}
+use Rattle.wc_pool.specs.Bag.{references_made}
+use Rattle.media_variables.specs.{declared.lending.SoundFound.SoundFound, Variables.handed_of, Variables.sound_at, Variables.variables_of}
+use Rattle.media_variables.specs.Held.{clones_of, pair_of, sound_found}
+use Rattle.report_text.specs.declared.result.StepResult.{StepResult}
+use Rattle.trace_text.specs.Follow.{Course, after_move, call_move, encode_of}
+use Rattle.wc_replay.proofs.{Calls.asked, Calls.hands_clone, Calls.may_clone, Lent.media_same}
 use Rattle.wc_replay.proofs.steps.Player.lend.Goals as goal
 
--- src/steps.rt:321:22
 pub call_at-requires-clause-may : goal.call_at-requires-clause-may
-call_at-requires-clause-may g c κs within = ?
+call_at-requires-clause-may g c κs within =
+    may_clone (state_of (codec_at c.args.codec c.self.inside.desks.items)).control (subst (λ (u : Course). encode_error false (state_of (codec_at c.args.codec u.codecs)).control ≡ None) (sym c.self.view_is) c.requires.accepted)
 
--- src/steps.rt:321:22
 pub call_at-requires-clause-givable : goal.call_at-requires-clause-givable
-call_at-requires-clause-givable g c κs within = ?
+call_at-requires-clause-givable g c κs within =
+    let k = c.args.codec in
+    subst (λ (u : Course). IsGivable u.slots.history (next_by k (codec_at k u.codecs)) (codec_at k u.codecs).holding.box) (sym c.self.view_is) (c.requires.givable k)
 
--- src/steps.rt:296:5
 pub returns : goal.returns
-returns g c = ?
+returns g c =
+    let p = c.self.inside in
+    let k = c.args.codec in
+    let who = c.args.who in
+    let v : Course = record { callers = p.callers.items; codecs = p.desks.items; media = p.media; slots = p.slots } in
+    let d = codec_at k v.codecs in
+    let pair = c.pair_of-pair.result in
+    let x : HeldSound = record { samples = c.in_ok-samples.samples; pair = pair } in
+    let o = sound_at (variables_of who.caller v.media.variables) c.args.content in
+    let there = subst (λ (u : Course). sound_found (sound_at (variables_of who.caller u.media.variables) c.args.content) ≡ SoundFound.Open) (sym c.self.view_is) c.requires.open in
+    let accepted = subst (λ (u : Course). encode_error false (state_of (codec_at k u.codecs)).control ≡ None) (sym c.self.view_is) c.requires.accepted in
+    let lent = c.in_ok-samples.ensures.lent in
+    let clones = subst (λ (q : Pair). IfSome o (λ s. handed_of (references_made v.media.pool) true s ≡ Handed.Cloned (record { samples = c.in_ok-samples.samples; pair = q }))) (sym c.pair_of-pair.ensures) lent.handed in
+    let history = lent.history ∙ (ap (λ (n : ℕ). v.media.pool ++ clones_of (By.Codec k n) (pair_of c.in_ok-samples.held ∷ [])) (rw c.deref.ensures.value at c.place_at-place.ensures) ∙ ap (λ (q : Pair). v.media.pool ++ clones_of (By.Codec k (length d.history)) (q ∷ [])) (sym c.pair_of-pair.ensures)) in
+    let media_is = c.in_ok-answer.ensures.media ∙ (media_same c.lend.new.self ∙ (λ i. record { variables = c.in_ok-samples.ensures.same i; pool = history i })) in
+    on_ok_weaker c.note.result
+    (λ noted. asked v who k c.in_ok-answer.answer.place (Call.Encode (Handed.Cloned x)) c.in_ok-answer.answer.error c.note.new.callers.items c.call_at.new.desks.items c.call_at.new.media c.call_at.new.slots
+    c.in_ok-answer.ensures.made c.in_ok-answer.ensures.slots media_is c.in_ok-answer.ensures.place c.in_ok-answer.ensures.error
+    (noted ∙ ap (λ (a : StepResult). append_at who.caller a v.callers) c.call_result.ensures)
+    ∙ (ap (λ (y : Option Call). after_move (call_move who k y) v) (sym (hands_clone v k o x there accepted clones))
+    ∙ ap (λ (u : Course). after_move (call_move who k (option_map (encode_of u.media.pool (codec_at k u.codecs)) (sound_at (variables_of who.caller u.media.variables) c.args.content))) u) c.self.view_is))
+    c.note.ensures
