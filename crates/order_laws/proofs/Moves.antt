@@ -31,7 +31,7 @@ use Rattle.script_types.specs.declared.{script.OrderItem.OrderItem, script.Scrip
 use Rattle.report_text.specs.declared.result.StepResult.{StepResult}
 use Rattle.trace_text.specs.Report.{refusal_in}
 use Rattle.media_variables.specs.Held.{held_by}
-use Rattle.media_variables.specs.Variables.{Reference, Shape, SoundOf, Medium, Media, Came, Brought, medium_at, media_ref, sound_of, sound_in, sound_at, handed_by, handed_of, media_came, taken_came, unit_came, variables_of}
+use Rattle.media_variables.specs.Variables.{Reference, Shape, SoundOf, Medium, Media, Came, Brought, medium_at, media_ref, sound_of, sound_in, sound_at, handed_by, media_came, taken_came, unit_came, variables_of}
 use Rattle.media_accounts.specs.Accounts.{media_of, OneMore, IsQuiet, MediaStand, StepStands, NothingStands, StepsStand, OthersStand, LaterStand, LaterStands, EntryStands, EntriesStand}
 use Rattle.trace_text.specs.Follow.{Recorded, Course, record_of, opening_at, promise_after, steps_of, chunk_for, source_error, output_at, with_result, with_entry, Move, Answer, Ask, Handle, Receive, after_move, follow_item, handle_move, take_move, copied_chunk, outcome_for, end_of, turn_on, item_entry, advance, call_move, encode_of, result_of, look_of_state, step_move, next_move}
 use Rattle.trace_text.specs.Fits.{result_in, entry_in, step_in, exception_at, mark_of, marks_of, taken_by, brought_to, made_steps, came_at, variables_at, IsResultOf, LookShows, IsLocalAnswer, HasArguments, ArgumentsAreIn, MarksClimb}

@@ -30,7 +30,7 @@ use Rattle.report_text.specs.declared.result.StepResult.{StepResult}
 use Rattle.media_variables.specs.Variables.{Medium, Media, Came, Brought, sound_at, handed_by, entries_of, media_came, variables_of}
 use Rattle.media_variables.specs.Held.{ends_behind, clones_of}
 use Rattle.media_accounts.specs.Accounts.{pool_by}
-use Rattle.trace_text.specs.Follow.{Course, opening_of, steps_of, output_at, chunk_by, chunk_at, chunk_for, Move, Idle, Answer, Advance, Ask, Handle, Receive, with_entry, with_media, after_move, turn_on, advance, call_move, encode_of, found_at, handle_move, take_move, media_move, copied_chunk, step_move, next_move, item_move, follow_item, Follows, nothing_yet, order_items}
+use Rattle.trace_text.specs.Follow.{Course, opening_of, steps_of, output_at, chunk_by, chunk_at, chunk_for, Move, Idle, Answer, Advance, Ask, Handle, Receive, take_entry, with_entry, with_media, after_move, turn_on, advance, call_move, encode_of, found_at, handle_move, take_move, media_move, copied_chunk, step_move, next_move, item_move, follow_item, Follows, nothing_yet, order_items}
 use Rattle.history_laws.specs.{Outputs.HoldsOwn, OutputLaws.outputs_are, CountLaws.outputs_each}
 use Rattle.run_ranges.specs.Counts.{all_from, all_at}
 use Rattle.run_ranges.specs.Ranges.{IsMoment, IsConfigWithin, IsChunkWithin, IsShapeWithin, AreWithin}
@@ -252,7 +252,7 @@ move_up stays n most (Advance k e) v own h = settled n _ _ most (with_entry k e 
 move_up stays n most (Ask who k x) v own h = let e = Entry.Call who x in settled n _ _ most (with_entry k e v) (omega arith) (omega arith) (entry_up stays n _ most k e v own h)
 move_up stays n most (Handle who y) v own h = settled n _ _ most (with_media who y v) (omega arith) (omega arith) (media_up n _ most who y v own h)
 move_up stays n most (Receive who k number y) v own h =
-    let e = Entry.Call who (Call.Take number) in
+    let e = take_entry who number in
     settled n _ _ most (with_media who y (with_entry k e v)) (omega arith) (omega arith) (media_up (n + 1) _ most who y (with_entry k e v) own (entry_up stays n _ most k e v tt h))
 move_up stays n most _ v own h = settled n _ _ most v (omega arith) (omega arith) h
 

@@ -3,7 +3,7 @@ use Rattle.std.proofs.Common.{ℕ, ◌≡◌, ◌<◌, ◌≤◌, ◌+◌, ◌^�
 use Rattle.std.specs.Prelude.{flat_map}
 use Rattle.std.specs.List.{AllByRecursion, zip}
 use Rattle.std.proofs.lemmas.Bool.{and_parts, eqb-true}
-use Rattle.wc_base.specs.{Options.cond_is, declared.error.DomError.DomError, declared.who.Who.Who}
+use Rattle.wc_base.specs.{Options.cond_is, declared.error.DomError.DomError}
 use Rattle.codec_definitions.specs.declared.unit.Unit as media
 use Rattle.codec_definitions.specs.declared.unit.Unit.TheVariants as unit
 use Rattle.wc_config.specs.declared.config.AudioDecoderConfig.{AudioDecoderConfig}
@@ -16,7 +16,7 @@ use Rattle.codec_model.specs.Facts.{NamesEarlier, IsNeverStuck, Always}
 use Rattle.codec_model.specs.Earlier.{pending_below, resolved_below}
 use Rattle.script_types.specs.declared.script.ScriptData.{ScriptData}
 use Rattle.trace_text.specs.Report.{call_line_of, entry_line_of, output_lines, event_lines, lines_from, entry_lines}
-use Rattle.report_lines.specs.Fits.{FitsWho, FitsOutcome, FitsEntryLine, FitsLine}
+use Rattle.report_lines.specs.Fits.{FitsOutcome, FitsEntryLine, FitsLine}
 use Rattle.history_laws.specs.{Answers.answer_where, Numbers.AreItemsUpTo, Numbers.IsUpTo, NumberLaws.step_up, Outputs.HoldsOwn}
 use Rattle.history_laws.specs.OutputLaws.{all_append, IsOwn, IsOwnGiven, Own, step_own}
 use Rattle.run_ranges.proofs.{Cases.by_option, Cases.comes_after, CodeRanges.CodesAreBytes}
@@ -28,13 +28,9 @@ abbrev pub IsOutcomeWithin : Outcome → Type 0
 IsOutcomeWithin (Outcome.NoSlot n) = n < 2 ^ 64
 IsOutcomeWithin o = Unit {0}
 
--- the caller and the output of a call, and the moment and the refusal of an entry, are within their types, where it has one
-abbrev pub IsCallWithin : ScriptData → Who → Call → Type 0
-IsCallWithin s who (Call.Take unit) = FitsWho s who × (unit < 2 ^ 64)
-IsCallWithin s who x = FitsWho s who
-
+-- a call's line fits, whatever its exception; the moment and the refusal of another entry are within their types
 abbrev pub IsEntryWithin : ScriptData → Entry → Type 0
-IsEntryWithin s (Entry.Call who x) = IsCallWithin s who x
+IsEntryWithin s (Entry.Call who x) = (o : Option DomError) → FitsEntryLine s (call_line_of who x o)
 IsEntryWithin s (Entry.Done epoch item moment o) = (moment < 2 ^ 64) × IsOutcomeWithin o
 IsEntryWithin s (Entry.Reclaim moment) = moment < 2 ^ 64
 IsEntryWithin s e = Unit {0}
@@ -57,18 +53,13 @@ outcome_small laws k g _ e is given own = tt
 abbrev IsLineWithin : CodesAreBytes → ScriptData → ℕ → Entry → State → State → Type 0
 IsLineWithin laws script n e s t = IsUpTo n s.control → IsOwnGiven (judge laws) s.running_given → n < 2 ^ 64 → IsEntryWithin script e → FitsEntryLine script (entry_line_of e (shown_at e s))
 
--- a call's line tells who made it, and a take's its output
-call_fits : (script : ScriptData) (who : Who) (x : Call) (o : Option DomError) → IsCallWithin script who x → FitsEntryLine script (call_line_of who x o)
-call_fits script who (Call.Take unit) o own = own
-call_fits script who x o own = own
-
 -- an entry tells what it was given, or numbers of the state
 each_fits : (laws : CodesAreBytes) (script : ScriptData) (n : ℕ) → EachStep (IsLineWithin laws script n)
 each_fits laws script n = record {
-  refused = λ who x error s may e h given few own. call_fits script who x _ own;
-  sent = λ who x w s m may e h given few own. call_fits script who x _ own;
-  removes_all = λ who x s is e h given few own. call_fits script who x _ own;
-  takes = λ who unit s may h given few own. own;
+  refused = λ who x error s may e h given few own. own _;
+  sent = λ who x w s m may e h given few own. own _;
+  removes_all = λ who x s is e h given few own. own _;
+  takes = λ who unit s may h given few own. own None;
   start = λ i is epoch number s first may h given few own. (
       let last = and_parts (may_start s.control && eqb epoch s.control.epoch) (eqb number i.number) may in
       let items : AreItemsUpTo n (i ∷ is) = subst (AreItemsUpTo n) first h.queued in

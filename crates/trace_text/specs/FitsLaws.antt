@@ -5,7 +5,6 @@ use Rattle.wc_base.specs.declared.error.DomError.{DomError}
 use Rattle.wc_base.specs.declared.who.Who.{Who}
 use Rattle.wc_base.specs.Options.{some_same}
 use Rattle.codec_model.specs.declared.entry.Call.{Call}
-use Rattle.codec_model.specs.declared.entry.Call.TheVariants as call
 use Rattle.codec_model.specs.declared.entry.Entry.{Entry}
 use Rattle.codec_model.specs.declared.entry.Entry.TheVariants as entry
 use Rattle.codec_accounts.specs.Owed.{at}
@@ -16,7 +15,7 @@ use Rattle.script_types.specs.declared.script.ScriptData.{ScriptData}
 use Rattle.script_types.specs.Names.{called, taken_from}
 use Rattle.report_text.specs.declared.result.StepResult.{StepResult}
 use Rattle.report_text.specs.declared.result.StepResult.TheVariants as result
-use Rattle.trace_text.specs.Follow.{Recorded, opening_at}
+use Rattle.trace_text.specs.Follow.{Recorded, opening_at, take_entry}
 use Rattle.trace_text.specs.Fits.{result_in, entry_in, exception_at, mark_of, marks_of, IsResultBy, CallsAreIn, MarksClimb}
 
 -- The entry at this place is a call of this step, and shows this exception.
@@ -35,7 +34,7 @@ made_at _ = None
 -- its caller's step.
 pub record CallsByPlaces (s : ScriptData) (w : Recorded) : Type 0 where
   pub kept : (c j k p : ℕ) (error : Option DomError) → result_in w c j ≡ Some (result.Call k p error) → KeepsCall s w (record { caller = c; step = j }) k p error
-  pub taken : (c j k p n : ℕ) → result_in w c j ≡ Some (result.Unit k p n) → entry_in w k p ≡ Some (entry.Call (record { caller = c; step = j }) (call.Take n))
+  pub taken : (c j k p n : ℕ) → result_in w c j ≡ Some (result.Unit k p n) → entry_in w k p ≡ Some (take_entry (record { caller = c; step = j }) n)
   pub only : (k p : ℕ) (who : Who) (x : Call) → entry_in w k p ≡ Some (entry.Call who x) → (r : StepResult) × (result_in w who.caller who.step ≡ Some r) × (made_at r ≡ Some (k, p))
 
 -- a look at a codec after this many entries, if the result is one
@@ -85,8 +84,8 @@ shows_of s w who (Some n) o k p error h = absurd h
 shows_of s w who None None k p error h = absurd h
 shows_of s w who None (Some n) k p error h = subst (λ (m : ℕ). error ≡ exception_at (opening_at s m) (at m w.codecs) p) (sym h.0) h.1
 
-takes_of : (s : ScriptData) (w : Recorded) (who : Who) (t o : Option ℕ) (k p n : ℕ) → IsResultBy s w who t o (result.Unit k p n) → entry_in w k p ≡ Some (entry.Call who (call.Take n))
-takes_of s w who (Some m) o k p n h = subst (λ (i : ℕ). entry_in w i p ≡ Some (entry.Call who (call.Take n))) (sym h.0) h.1
+takes_of : (s : ScriptData) (w : Recorded) (who : Who) (t o : Option ℕ) (k p n : ℕ) → IsResultBy s w who t o (result.Unit k p n) → entry_in w k p ≡ Some (take_entry who n)
+takes_of s w who (Some m) o k p n h = subst (λ (i : ℕ). entry_in w i p ≡ Some (take_entry who n)) (sym h.0) h.1
 takes_of s w who None None k p n h = absurd h
 takes_of s w who None (Some m) k p n h = absurd h
 

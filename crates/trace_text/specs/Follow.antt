@@ -161,6 +161,10 @@ with_entry k e v = record v {
 abbrev pub with_media : Who → Came → Course → Course
 with_media who y v = record v { media = after_came who y v.media }
 
+-- the entry of a take of the output with this number
+abbrev pub take_entry : Who → ℕ → Entry
+take_entry who n = entry.Call who (call.Take n)
+
 -- the result of a call that is the next entry of a codec: its place, and its exception, if it has one
 abbrev pub result_of : ℕ → Call → CodecValue → StepResult
 result_of k x d = result.Call k (length d.history) (exception_of x (call_error x (state_of d).control))
@@ -171,7 +175,7 @@ after_move (Answer c r) v = with_result c r v
 after_move (Advance k e) v = with_entry k e v
 after_move (Ask who k x) v = with_result who.caller (result_of k x (codec_at k v.codecs)) (with_entry k (entry.Call who x) v)
 after_move (Handle who y) v = with_result who.caller y.answer (with_media who y v)
-after_move (Receive who k n y) v = with_result who.caller y.answer (with_media who y (with_entry k (entry.Call who (call.Take n)) v))
+after_move (Receive who k n y) v = with_result who.caller y.answer (with_media who y (with_entry k (take_entry who n) v))
 
 -- ---- the next entry of one codec
 
