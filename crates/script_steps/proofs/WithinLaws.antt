@@ -145,7 +145,7 @@ config_small Kind.AudioEncoder d =
     by_part (flac_number (codes "blockSize") 0 flac) _ _ (λ block_size f. by_part (flac_number (codes "compressLevel") 5 flac) _ _ (λ level g.
     by_part (flac_number (codes "bitsPerSample") 16 flac) _ _ (λ depth h.
     encoder_small codec rate channels block_size level depth (of _ (rate_in d) rate r (rate_small d)) (of _ (channels_in d) channels c (channels_small d))
-        (of _ (flac_number (codes "blockSize") 0 flac) block_size f (defaulted_if 0 u32_of Is32Bits (option_and_then (get (codes "blockSize")) flac) (omega arith) u32_small)))))))))
+    (of _ (flac_number (codes "blockSize") 0 flac) block_size f (defaulted_if 0 u32_of Is32Bits (option_and_then (get (codes "blockSize")) flac) (omega arith) u32_small)))))))))
 config_small Kind.VideoDecoder d =
     by_part (codec_in d) _ _ (λ codec a. by_part (pixels_in (codes "codedWidth") d) _ _ (λ width b. by_part (pixels_in (codes "codedHeight") d) _ _ (λ height c.
     by_part (pixels_in (codes "displayAspectWidth") d) _ _ (λ aspect_width e. by_part (pixels_in (codes "displayAspectHeight") d) _ _ (λ aspect_height f.
@@ -182,7 +182,7 @@ sound_small d =
     by_part (required u32_of (get (codes "numberOfFrames") d)) _ _ (λ frames n. by_part (required u32_of (get (codes "numberOfChannels") d)) _ _ (λ channels c.
     by_part (timestamp_in d) _ _ (λ timestamp t. by_part (content_in d) _ _ (λ content b.
     sound_made format rate frames channels timestamp content (of _ (required u32_of (get (codes "numberOfFrames") d)) frames n (required_if u32_of Is32Bits (get (codes "numberOfFrames") d) u32_small))
-        (of _ (timestamp_in d) timestamp t (timestamp_small d)) (of _ (content_in d) content b (content_small d))))))))
+    (of _ (timestamp_in d) timestamp t (timestamp_small d)) (of _ (content_in d) content b (content_small d))))))))
 
 picture_made : (format : Option PictureFormat) (width height : Option ℕ) (t : Option ℤ) (duration : Option (Option ℕ)) (content : Option (List ℕ)) → IfSome content IsBytes → IfSome (picture_with format width height t duration content) HoldsBytes
 picture_made (Some f) (Some w) (Some h) (Some t) (Some u) (Some b) k = k

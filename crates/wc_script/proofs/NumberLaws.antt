@@ -1,7 +1,7 @@
 -- The naturals in a JSON value that was read have 64 bits.
-use Rattle.std.proofs.Common.{◌≡◌, ◌<◌, ◌^◌, ◌==◌, ◌&&◌, ℕ, Bool, true, false, nat_lt, List, drop, slice_index, length, if◌then◌else◌, Option, Some, None, option_map, option_and_then, refl, ap, sym, subst, arith}
+use Rattle.std.proofs.Common.{◌≡◌, ◌<◌, ◌^◌, ◌==◌, ◌&&◌, ℕ, Bool, true, false, nat_lt, List, drop, slice_index, length, if◌then◌else◌, Option, Some, None, option_map, option_and_then, Ordering, Less, Equal, Greater, arith}
 use Rattle.std.specs.Option.{IfSome}
-use Rattle.std.specs.Ordering.{Ordering, nat_cmp, match_ordering}
+use Rattle.std.specs.Ordering.{nat_cmp, match_ordering}
 use Rattle.std.specs.Cmp.Lexicographic.{slice_cmp}
 use Rattle.std.specs.Str.{is_utf8}
 use Rattle.fast_float.specs.Text.{minus, Parts, scan, digits_of}
@@ -51,27 +51,23 @@ number_small s = by (slice_index s 0 == minus)
 
 -- ---- members
 
+put_at : (o : Ordering) (k l : List ℕ) (d e : Data) (ms more : Members) → IsSmall d → IsSmall e → HasSmall ms → HasSmall more → HasSmall (match_ordering o (member k d (member l e ms)) (member l d ms) (member l e more))
+put_at Less k l d e ms more a b c f = (a, (b, c))
+put_at Equal k l d e ms more a b c f = (a, c)
+put_at Greater k l d e ms more a b c f = (b, f)
+
 put_small : (k : List ℕ) (d : Data) (ms : Members) → IsSmall d → HasSmall ms → HasSmall (put k d ms)
 put_small k d no_members h t = (h, tt)
-put_small k d (member l e ms) h t = by (slice_cmp nat_cmp k l)
-  where
-    rest : HasSmall (put k d ms)
-    rest = put_small k d ms h t.1
-    by : (o : Ordering) → HasSmall (match_ordering o (member k d (member l e ms)) (member l d ms) (member l e (put k d ms)))
-    by Ordering.Less = (h, t)
-    by Ordering.Equal = (h, t.1)
-    by Ordering.Greater = (t.0, rest)
+put_small k d (member l e ms) h t = put_at (slice_cmp nat_cmp k l) k l d e ms (put k d ms) h t.0 t.1 (put_small k d ms h t.1)
+
+found_at : (o : Ordering) (e : Data) (more : Option Data) → IsSmall e → IfSome more IsSmall → IfSome (match_ordering o more (Some e) more) IsSmall
+found_at Less e more a b = b
+found_at Equal e more a b = a
+found_at Greater e more a b = b
 
 member_small : (k : List ℕ) (ms : Members) → HasSmall ms → IfSome (get_member k ms) IsSmall
 member_small k no_members t = tt
-member_small k (member l e ms) t = by (slice_cmp nat_cmp k l)
-  where
-    rest : IfSome (get_member k ms) IsSmall
-    rest = member_small k ms t.1
-    by : (o : Ordering) → IfSome (match_ordering o (get_member k ms) (Some e) (get_member k ms)) IsSmall
-    by Ordering.Less = rest
-    by Ordering.Equal = t.0
-    by Ordering.Greater = rest
+member_small k (member l e ms) t = found_at (slice_cmp nat_cmp k l) e (get_member k ms) t.0 (member_small k ms t.1)
 
 pub get_small : (k : List ℕ) (d : Data) → IsSmall d → IfSome (get k d) IsSmall
 get_small k null t = tt
@@ -146,6 +142,7 @@ value_small bytes = by (is_utf8 bytes)
     of : (o : Option json.Json) → IfSome (option_and_then of_json o) IsSmall
     of None = tt
     of (Some j) = json_small j
+
     by : (b : Bool) → IfSome (if b then read bytes else None) IsSmall
     by true = of (option_and_then (λ p. json.if_last p.0 p.1) (json.value max_depth (tokens bytes)))
     by false = tt

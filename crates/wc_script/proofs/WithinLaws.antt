@@ -1,5 +1,5 @@
 -- What a script that was read holds is within its types.
-use Rattle.std.proofs.Common.{◌≡◌, ◌<◌, ◌^◌, ◌+◌, ℕ, ◌||◌, List, [], ◌∷◌, ◌++◌, length, codes, Option, Some, None, option_and_then, Ok, IfOk, refl, Bool, true, false}
+use Rattle.std.proofs.Common.{◌≡◌, ◌<◌, ◌^◌, ◌+◌, ℕ, ◌||◌, nat_le, List, [], ◌∷◌, ◌++◌, length, codes, Option, Some, None, option_and_then, Ok, IfOk, refl, Bool, true, false}
 use Rattle.std.specs.Option.{IfSome}
 use Rattle.std.specs.List.{AllByRecursion}
 use Rattle.std.proofs.lemmas.Result.{IfOk-at_ok}
@@ -9,6 +9,9 @@ use Rattle.json_data.specs.View.{value_of}
 use Rattle.script_types.specs.declared.{fault.Place.Place, fault.Counted.Counted, script.CodecItem.CodecItem, script.CallerItem.CallerItem, script.OrderItem.OrderItem, script.ScriptData.ScriptData}
 use Rattle.script_types.specs.declared.steps.Step.{Step}
 use Rattle.script_types.specs.Names.{codec_named, caller_named, is_codec_name, is_caller_name}
+use Rattle.chunk_files.specs.declared.fault.Stop.{Stop}
+use Rattle.script_types.specs.declared.fault.Fault.{Fault}
+use Rattle.script_types.specs.Limits.{limit_of}
 use Rattle.script_types.specs.Sound.{counts_agree}
 use Rattle.script_steps.specs.Members.{needed, known, checked_name, name_in, array_in, natural_of}
 use Rattle.script_steps.specs.Sources.{has}
@@ -19,7 +22,7 @@ use Rattle.wc_script.specs.{declared.callers.Room.Room, declared.callers.Walked.
 use Rattle.wc_script.specs.Callers.{room_after, counted_step_of, steps_of, heading_of, caller_of, callers_of}
 use Rattle.wc_script.specs.Codecs.{codecs_of}
 use Rattle.wc_script.specs.Order.{order_word_of, codec_in, codec_at, order_by, order_from, order_item_of, order_of}
-use Rattle.wc_script.specs.Walk.{few, Parts, order_if_there, parts_with, parts_of, checked_order, ordered, whole_room, walk_of}
+use Rattle.wc_script.specs.Walk.{count_of, few, Parts, order_if_there, parts_with, parts_of, checked_order, ordered, whole_room, walk_of}
 use Rattle.wc_script.specs.Read.{script_of, script_of_value}
 use Rattle.wc_script.specs.Within.{HasSmallMoment, HasSmallSteps, IsScriptWithin, ScriptsAreWithin}
 use Rattle.wc_script.proofs.Proceeds.{by_part, by_read, by_top, only_if}
@@ -99,9 +102,12 @@ order_small codecs callers (Some ds) t =
 
 -- ---- the whole
 
+few_if : (what : Counted) (o : Option Items) → IfSome o AreSmall → IfOk (few what o) (λ x. IfSome x AreSmall)
+few_if what None t = tt
+few_if what (Some ds) t = only_if (nat_le (count_of ds) (limit_of what)) (Stop.Fault (Fault.TooMany what)) (Ok (Some ds)) (λ x. IfSome x AreSmall) (λ h. t)
+
 few_small : (what : Counted) (o r : Option Items) → few what o ≡ Ok r → IfSome o AreSmall → IfSome r AreSmall
-few_small what None r e t = IfOk-at_ok (λ x. IfSome x AreSmall) e tt
-few_small what (Some ds) r e t = IfOk-at_ok (λ x. IfSome x AreSmall) e (only_if _ _ _ (λ x. IfSome x AreSmall) (λ h. t))
+few_small what o r e t = IfOk-at_ok (λ x. IfSome x AreSmall) e (few_if what o t)
 
 parts_small : (d : Data) → IsSmall d → IfOk (parts_of d) (λ p. IfSome p.order AreSmall)
 unfolding parts_of

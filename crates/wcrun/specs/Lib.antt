@@ -1,7 +1,6 @@
 pub mod Words
 pub mod Refusals
 pub mod Outcome
-pub mod Spelled
 pub mod Headline
 pub mod Writing
 pub mod Stops

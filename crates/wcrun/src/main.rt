@@ -16,7 +16,6 @@ mod help;
 mod hints;
 #[cfg(test)]
 mod media_rows;
-mod laws;
 mod prepare;
 mod prepared;
 mod refusal;
