@@ -32,13 +32,16 @@ VIEW = os.path.join(TOP, "tools", "view")
 # Goes through all windows of the page and tells what stands in them; of a long report through some.
 PROBE = """
 <script>
+addEventListener('error', event => fetch('told', {method: 'POST', body: JSON.stringify({fault: event.message + ' at line ' + event.lineno})}));
+</script>
+<script>
 {
 const told = new Map(), hide = (kind, n) => { const it = document.querySelector(`[data-${kind}="${n}"]`); it.click(); };
 const collect = () => {
   for (const mark of document.querySelectorAll('#drawn [data-line]')) {
-    const rect = mark.querySelector('rect'), box = rect.getBBox(), style = getComputedStyle(rect), kinds = mark.getAttribute('class').split(' ');
+    const rect = mark.querySelector('rect'), box = rect.getBBox(), style = getComputedStyle(rect), kinds = mark.getAttribute('class').split(' ').filter(it => it !== 'found' && it !== 'linked');
     const lane = lanes.findIndex(it => it.seen && it.top <= box.y + 1 && box.y + box.height <= it.top + it.height + 1);
-    const key = [mark.dataset.line, kinds[0], kinds.includes('given'), lane].join(' ');
+    const key = [mark.dataset.line, lane, ...kinds].join(' ');
     if (!told.has(key)) {
       rect.dispatchEvent(new MouseEvent('mouseover', {bubbles: true}));
       told.set(key, {line: Number(mark.dataset.line), kinds, lane, stroke: style.stroke, fill: style.fill, height: box.height, y: box.y,
@@ -65,6 +68,7 @@ const firsts = marks.map(mark => [mark[LINE], mark[FIRST], mark[LAST], model.lan
 const steps = marks.filter(mark => mark[MORE]).map(mark => [mark[LINE], mark[MORE]]);
 const hidden = {};
 for (const kind of ['caller', 'codec']) {
+  if (!document.querySelector(`[data-${kind}="0"]`)) continue;
   hide(kind, 0);
   hidden[kind] = {lanes: lanes.filter(it => it.seen && it[kind] === 0).length, others: lanes.filter(it => it.seen).length, columns, drawn: document.querySelectorAll('#drawn [data-line]').length};
   hide(kind, 0);
@@ -133,7 +137,11 @@ def told_by(browser, pages):
     with tempfile.TemporaryDirectory() as profile:
         started = subprocess.Popen(commands(browser, profile, server.url()), stdout=subprocess.DEVNULL, stderr=subprocess.DEVNULL, env={**os.environ, "HOME": profile})
         try:
-            told = [server.told.get(timeout=600) for _ in pages]
+            told = []
+            for _ in pages:
+                told.append(server.told.get(timeout=600))
+                if "fault" in told[-1]:
+                    raise SystemExit("%s: %s: %s" % (browser, pages[server.at][0], told[-1]["fault"]))
         except queue.Empty:
             raise SystemExit("%s told nothing of %s" % (browser, pages[server.at][0]))
         finally:
