@@ -55,14 +55,14 @@ const room = laneWidth / state.width, windows = few ? Math.ceil(columns / room *
 const began = performance.now();
 for (let k = 0; k < windows; k++) { state.first = few ? k * room / 2 : k / 40 * columns; draw(); collect(); }
 const drawing = (performance.now() - began) / windows;
-const visits = kinds => { const found = []; state.line = 0; state.first = 0; for (let k = 0; k < 400; k++) { next(kinds, 1); if (!state.line || found.includes(state.line)) break; found.push(state.line); } return found; };
+const visits = kinds => { const found = []; state.line = 0; state.first = 0; for (let k = 0; k < (few ? 400 : 20); k++) { next(kinds, 1); if (!state.line || found.includes(state.line)) break; found.push(state.line); } return found; };
 const refusals = visits(isRefused), errors = visits(isError);
 const pictures = [...told.values()].filter(it => it.kinds.includes('picture')).map(it => {
   select(it.line, true);
   const canvas = document.getElementById('large'), data = canvas.getContext('2d').getImageData(0, 0, canvas.width, canvas.height).data;
   return {line: it.line, width: canvas.width, height: canvas.height, hidden: canvas.hidden, data: [...data]};
 });
-const links = [...told.keys()].map(key => Number(key.split(' ')[0])).map(line => [line, [...linkedTo(line)]]);
+const linked = [...told.keys()].map(key => Number(key.split(' ')[0])).map(line => [line, [...linkedTo(line)]]);
 const spansOf = word => marks.filter(mark => model.kinds[mark[KIND]].split(' ').includes(word)).map(mark => [mark[LINE], mark[FIRST], mark[LAST]]);
 const firsts = marks.map(mark => [mark[LINE], mark[FIRST], mark[LAST], model.lanes[mark[LANE]].kind]);
 const steps = marks.filter(mark => mark[MORE]).map(mark => [mark[LINE], mark[MORE]]);
@@ -76,7 +76,7 @@ for (const kind of ['caller', 'codec']) {
 select(1, false);
 const answer = JSON.stringify({marks: [...told.values()], lanes: model.lanes, report: document.getElementById('report').textContent, ready, drawing, windows,
   outside: [...document.querySelectorAll('[src],[href]')].filter(it => !(it.getAttribute('href') || '').startsWith('data:image/')).length,
-  refusals, errors, pictures, links, flushes: spansOf('flush').filter(it => it[1] !== it[2]), media: spansOf('medium'), firsts: few ? firsts : [], steps, hidden,
+  refusals, errors, pictures, links: linked, flushes: spansOf('flush').filter(it => it[1] !== it[2]), media: spansOf('medium'), firsts: few ? firsts : [], steps, hidden,
   curves: model.curves.map(it => ({...it, points: few ? it.points : it.points.slice(0, 100)})), columns: model.columns,
   text: document.getElementById('text').textContent.slice(0, 200)});
 fetch('told', {method: 'POST', body: answer}).then(() => fetch('next')).then(it => it.text()).then(name => { if (name) location = name; });
