@@ -32,13 +32,16 @@ VIEW = os.path.join(TOP, "tools", "view")
 # Goes through all windows of the page and tells what stands in them; of a long report through some.
 PROBE = """
 <script>
+addEventListener('error', event => fetch('told', {method: 'POST', body: JSON.stringify({fault: event.message + ' at line ' + event.lineno})}));
+</script>
+<script>
 {
 const told = new Map(), hide = (kind, n) => { const it = document.querySelector(`[data-${kind}="${n}"]`); it.click(); };
 const collect = () => {
   for (const mark of document.querySelectorAll('#drawn [data-line]')) {
-    const rect = mark.querySelector('rect'), box = rect.getBBox(), style = getComputedStyle(rect), kinds = mark.getAttribute('class').split(' ');
+    const rect = mark.querySelector('rect'), box = rect.getBBox(), style = getComputedStyle(rect), kinds = mark.getAttribute('class').split(' ').filter(it => it !== 'found' && it !== 'linked');
     const lane = lanes.findIndex(it => it.seen && it.top <= box.y + 1 && box.y + box.height <= it.top + it.height + 1);
-    const key = [mark.dataset.line, kinds[0], kinds.includes('given'), lane].join(' ');
+    const key = [mark.dataset.line, lane, ...kinds].join(' ');
     if (!told.has(key)) {
       rect.dispatchEvent(new MouseEvent('mouseover', {bubbles: true}));
       told.set(key, {line: Number(mark.dataset.line), kinds, lane, stroke: style.stroke, fill: style.fill, height: box.height, y: box.y,
@@ -52,19 +55,20 @@ const room = laneWidth / state.width, windows = few ? Math.ceil(columns / room *
 const began = performance.now();
 for (let k = 0; k < windows; k++) { state.first = few ? k * room / 2 : k / 40 * columns; draw(); collect(); }
 const drawing = (performance.now() - began) / windows;
-const visits = kinds => { const found = []; state.line = 0; state.first = 0; for (let k = 0; k < 400; k++) { next(kinds, 1); if (!state.line || found.includes(state.line)) break; found.push(state.line); } return found; };
+const visits = kinds => { const found = []; state.line = 0; state.first = 0; for (let k = 0; k < (few ? 400 : 20); k++) { next(kinds, 1); if (!state.line || found.includes(state.line)) break; found.push(state.line); } return found; };
 const refusals = visits(isRefused), errors = visits(isError);
 const pictures = [...told.values()].filter(it => it.kinds.includes('picture')).map(it => {
   select(it.line, true);
   const canvas = document.getElementById('large'), data = canvas.getContext('2d').getImageData(0, 0, canvas.width, canvas.height).data;
   return {line: it.line, width: canvas.width, height: canvas.height, hidden: canvas.hidden, data: [...data]};
 });
-const links = [...told.keys()].map(key => Number(key.split(' ')[0])).map(line => [line, [...linkedTo(line)]]);
+const linked = [...told.keys()].map(key => Number(key.split(' ')[0])).map(line => [line, [...linkedTo(line)]]);
 const spansOf = word => marks.filter(mark => model.kinds[mark[KIND]].split(' ').includes(word)).map(mark => [mark[LINE], mark[FIRST], mark[LAST]]);
 const firsts = marks.map(mark => [mark[LINE], mark[FIRST], mark[LAST], model.lanes[mark[LANE]].kind]);
 const steps = marks.filter(mark => mark[MORE]).map(mark => [mark[LINE], mark[MORE]]);
 const hidden = {};
 for (const kind of ['caller', 'codec']) {
+  if (!document.querySelector(`[data-${kind}="0"]`)) continue;
   hide(kind, 0);
   hidden[kind] = {lanes: lanes.filter(it => it.seen && it[kind] === 0).length, others: lanes.filter(it => it.seen).length, columns, drawn: document.querySelectorAll('#drawn [data-line]').length};
   hide(kind, 0);
@@ -72,7 +76,7 @@ for (const kind of ['caller', 'codec']) {
 select(1, false);
 const answer = JSON.stringify({marks: [...told.values()], lanes: model.lanes, report: document.getElementById('report').textContent, ready, drawing, windows,
   outside: [...document.querySelectorAll('[src],[href]')].filter(it => !(it.getAttribute('href') || '').startsWith('data:image/')).length,
-  refusals, errors, pictures, links, flushes: spansOf('flush').filter(it => it[1] !== it[2]), media: spansOf('medium'), firsts: few ? firsts : [], steps, hidden,
+  refusals, errors, pictures, links: linked, flushes: spansOf('flush').filter(it => it[1] !== it[2]), media: spansOf('medium'), firsts: few ? firsts : [], steps, hidden,
   curves: model.curves.map(it => ({...it, points: few ? it.points : it.points.slice(0, 100)})), columns: model.columns,
   text: document.getElementById('text').textContent.slice(0, 200)});
 fetch('told', {method: 'POST', body: answer}).then(() => fetch('next')).then(it => it.text()).then(name => { if (name) location = name; });
@@ -133,7 +137,11 @@ def told_by(browser, pages):
     with tempfile.TemporaryDirectory() as profile:
         started = subprocess.Popen(commands(browser, profile, server.url()), stdout=subprocess.DEVNULL, stderr=subprocess.DEVNULL, env={**os.environ, "HOME": profile})
         try:
-            told = [server.told.get(timeout=600) for _ in pages]
+            told = []
+            for _ in pages:
+                told.append(server.told.get(timeout=600))
+                if "fault" in told[-1]:
+                    raise SystemExit("%s: %s: %s" % (browser, pages[server.at][0], told[-1]["fault"]))
         except queue.Empty:
             raise SystemExit("%s told nothing of %s" % (browser, pages[server.at][0]))
         finally:
