@@ -9,7 +9,7 @@ import struct
 import engine as engines
 import judge
 import observed
-from browsers import END
+from browsers import BUSY
 from observed import CALLS
 
 DEVIATES, OPEN, ENGINE = "DEVIATES", "OPEN", "ENGINE"
@@ -243,7 +243,7 @@ class Judged:
             if event["k"] == "output" and event["state"] != "configured" and verdict.is_explained:
                 self.add(OPEN, name, "an output comes after the %s that dropped its chunk" % ("reset" if event["state"] == "unconfigured" else "close"),
                          "'Reset': the codec ceases to produce outputs, and no step takes away a task that was queued before", line_at.get(event["n"]), "output after a reset")
-        if verdict.owed:
+        if verdict.is_explained and verdict.owed:
             self.add(DEVIATES, name, "never came: %s" % ", ".join(verdict.owed[:6]), "a task that is queued is run", code="owed " + verdict.owed[0].split(" ")[0])
         self.outcomes(name, verdict, line_at)
         if self.pages.get(name, {}).get("missing"):
@@ -271,7 +271,7 @@ class Judged:
             if not any("in_call" in event for event in self.events[name]):
                 self.lines.append(word + "legal: an order gives this history (%s; %s)" % (saturated, verdict.how))
         elif verdict.is_explained:
-            self.lines.append(word + "legal as far as it goes (%s; %s), but %d ms after the last event there is still to come: %s" % (saturated, verdict.how, END, ", ".join(verdict.owed[:6])))
+            self.lines.append(word + "legal as far as it goes (%s; %s), but %d ms after the last event there is still to come: %s" % (saturated, verdict.how, BUSY, ", ".join(verdict.owed[:6])))
         else:
             self.impossible(name, verdict, line_at)
         if verdict.unsure:
