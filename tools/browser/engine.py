@@ -14,11 +14,20 @@ WORKING = ("configure", "decode", "encode", "flush")    # calls that queue a mes
 
 class Engine:
     def __init__(self, program):
-        self.program = os.path.abspath(program)
+        self.program, self.last = os.path.abspath(program), {}
 
     def replay(self, script, folder):
+        """The report of a script. The last ones are kept, since a probe is often asked again."""
+        text = json.dumps(script)
+        if (text, folder) not in self.last:
+            if len(self.last) > 40:
+                self.last.pop(next(iter(self.last)))
+            self.last[text, folder] = self.run(text, folder)
+        return self.last[text, folder]
+
+    def run(self, text, folder):
         with tempfile.NamedTemporaryFile("w", suffix=".json", delete=False) as file:
-            json.dump(script, file)
+            file.write(text)
         try:
             done = subprocess.run([self.program, "replay", file.name], cwd=folder, capture_output=True, text=True, timeout=300)
         finally:

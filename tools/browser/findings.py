@@ -195,7 +195,8 @@ def short(text, most=70):
 class Judged:
     """What is told of one run of a script."""
 
-    def __init__(self, job, log, engine, who):
+    def __init__(self, job, log, engine, who, all_faults=True):
+        self.all_faults = all_faults
         log = dict(log, list=observed.behind_calls(log["list"]))
         self.job, self.log, self.engine, self.script = job, log, engine, job["script"]
         self.findings, self.lines = Findings(), []
@@ -218,7 +219,7 @@ class Judged:
     def verdict(self, codec):
         claims = {"%s.%d" % (it["by"], it["j"]): 0 for it in self.pages.get(codec["name"], {}).get("support", []) if it["is"] is True}
         events = self.events[codec["name"]]
-        verdict = judge.judge(events, self.probe.fates, codec.get("saturation", 4), claims)
+        verdict = judge.judge(events, self.probe.fates, codec.get("saturation", 4), claims, all_faults=self.all_faults)
         # the engine reads more of this config than the browser
         if any(event["k"] == "call" and event["do"] == "configure" and event["valid"] != (self.probe.answers.get(event["by"]) != "TypeError") for event in events):
             verdict.own = False

@@ -59,7 +59,8 @@ def plans_of(events, fates, saturation, claims):
     return plans
 
 
-def judge(events, fates, saturation, claims=None, limit=LIMIT):
+def judge(events, fates, saturation, claims=None, limit=LIMIT, all_faults=True):
+    """The verdict of a history. Without `all_faults` only the first impossible event is told."""
     verdict, plans = Verdict(), plans_of(events, fates, saturation, claims or {})
     wide, best = None, None
     for number, (rules, own) in enumerate(plans):
@@ -83,6 +84,9 @@ def judge(events, fates, saturation, claims=None, limit=LIMIT):
         best = (wide, WIDEST, False)
     if best:                                        # all came; some that should come did not
         return verdict.take(*best)
+    if not all_faults:
+        verdict.rules, verdict.path, verdict.faults = WIDEST, longest_path(wide), [Fault(wide.far, possible(wide, WIDEST), None)]
+        return verdict
     return excused(verdict, events, fates, claims or {}, limit)
 
 
