@@ -198,7 +198,7 @@ def items_of(path, events, name):
             wait = []
         elif kind == "work":
             wait += [("start", name), ("done", name)]
-        elif detail not in (None, "fired"):
+        elif detail not in (None, "fired", "processing"):
             wait.append(("turn", name))
     return before, wait
 
@@ -279,7 +279,7 @@ class StandIns:
                 self.order += [{"start": name}, {"done": name, "at": 0}]
             elif kind == "event":
                 self.event(events[detail[0]], detail[1])
-            elif detail not in (None, "fired"):
+            elif detail not in (None, "fired", "processing"):
                 self.order.append({"turn": name})
         self.script = {"codecs": [{"name": name, "kind": "audio-decoder", "saturation": verdict.rules.saturation}],
                        "callers": [{"name": "a", "steps": self.steps}, {"name": "eye", "steps": self.looks}], "order": self.order}

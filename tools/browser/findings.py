@@ -267,7 +267,7 @@ class Judged:
         word = "codec %s: " % name
         saturated = "saturated at %d" % verdict.rules.saturation if verdict.rules.saturation else "saturated at moments of the codec's own choice"
         if verdict.rules.letter and verdict.is_explained:
-            saturated += "; work or tasks of before a reset still act, which the letter allows"
+            saturated += "; by what the letter leaves open beyond the program's steps"
         if verdict.is_legal():
             if not any("in_call" in event for event in self.events[name]):
                 self.lines.append(word + "legal: an order gives this history (%s; %s)" % (saturated, verdict.how))
@@ -283,7 +283,10 @@ class Judged:
         for number, fault in enumerate(verdict.faults):
             event = self.events[name][fault.place]
             line, instead = line_at.get(event["n"]), fault.instead
-            if event["k"] == "call":
+            if event["k"] == "call" and fault.excuse != "answer" and event["answer"] not in instead and any(word.startswith("reject") for word in instead):
+                what = "%s %s comes before %s" % (event["by"], event["do"], "; ".join(instead))
+                code, step = "rejection behind a call", "'Reset %s', step 6: reset rejects each pending promise itself, so that reactions run before another step" % INTERFACES[kind]
+            elif event["k"] == "call":
                 what = "%s %s = %s, where %s is the only answer" % (event["by"], event["do"], event["answer"], " or ".join(instead))
                 code, step = "answer of " + event["do"], step_of_call(kind, event["do"])
             else:

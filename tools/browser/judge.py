@@ -94,7 +94,7 @@ def judge(events, fates, saturation, claims=None, limit=LIMIT, all_faults=True):
 
 def excuses_for(event):
     if event["k"] == "call":
-        return ["answer"] if event["answer"] != "ok" else []
+        return (["answer"] if event["answer"] != "ok" else []) + ["late"]
     if event["k"] == "look":
         return ["size"]
     if event["k"] in ("reject", "error"):
@@ -130,6 +130,8 @@ def walk(verdict, events, rules, first):
                 excuses[place] = "plain"            # the call is right; what was read behind it comes to be told
                 found = search(events, rules, excuses, EXCUSE_LIMIT, found)
                 continue
+            if event["answer"] in instead:          # it is right, and comes too early
+                instead = possible(found, rules, "reject")
         else:
             instead = possible(found, rules, event["k"])
         further = best_excuse(verdict, events, rules, excuses, found)
