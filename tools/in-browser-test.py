@@ -24,6 +24,7 @@ import subprocess
 import sys
 import tempfile
 
+sys.dont_write_bytecode = True
 TOP = os.path.dirname(os.path.dirname(os.path.realpath(__file__)))
 sys.path.insert(0, os.path.join(TOP, "tools", "browser"))
 import browsers                     # noqa: E402
@@ -211,7 +212,7 @@ class JudgeTest:
         log = changed(log, self.draw)
         if log is None:
             return
-        judged = findings.Judged(job, log, self.engine, "wcrun")
+        judged = findings.Judged(job, log, self.engine, "wcrun", all_faults=False)
         self.counts["changed"] += 1
         if any(not verdict.is_legal() for verdict in judged.verdicts.values()):
             self.counts["refused"] += 1
@@ -222,9 +223,11 @@ class JudgeTest:
             self.counts["other"] += 1
 
     def run(self, histories, changes):
-        for name, script, folder in scripts_for_the_judge(self.draw):
+        for number, (name, script, folder) in enumerate(scripts_for_the_judge(self.draw)):
             if self.counts["histories"] >= histories and self.counts["changed"] >= changes:
                 break
+            if number % 50 == 49:
+                print("  so far: %(histories)d histories, %(changed)d changed" % self.counts, file=sys.stderr, flush=True)
             job, log = self.history(name, script, folder)
             for _ in range(6):
                 if self.counts["changed"] < changes:

@@ -21,9 +21,11 @@ PACKAGES = {"chromium": "chromium", "firefox": "firefox-esr"}
 PAGES = {"/page.html": "text/html", "/page.js": "text/javascript", "/steps.js": "text/javascript", "/worker.js": "text/javascript"}
 
 QUIET = 60      # milliseconds without an event that count as quiet between two steps
-END = 400       # and at the end, where what has not come by then counts as not coming
-AWAIT = 500     # an await is given up when nothing was heard for so long
+END = 400       # and at the end; where something is queued or a promise is pending,
+BUSY = 3000     # what has not come by then counts as not coming
+AWAIT = 1000    # an await is given up when nothing was heard for so long
 LIMIT = 60      # seconds that one script may take
+SILENT = 20     # seconds without a word from the page
 MOST_STARTS = 14
 
 CHROMIUM = ["--headless=new", "--no-sandbox", "--disable-gpu", "--disable-dev-shm-usage", "--no-first-run", "--no-default-browser-check", "--mute-audio",
@@ -129,7 +131,7 @@ def job_of(script, folder, pace="settle", workers=False):
             if step["do"] == "decode" and kinds.get(step["on"]) == "video-decoder":
                 video[caller["name"] + "/" + step["chunk"]] = True
     job = {"script": script, "plan": plan_of(script), "files": files, "videoChunks": video, "folder": folder, "pace": pace,
-           "quiet": QUIET, "endMs": END, "awaitMs": AWAIT}
+           "quiet": QUIET, "endMs": END, "busyMs": BUSY, "awaitMs": AWAIT}
     if workers:
         job["parts"] = []
         for names in parts_of(script):
@@ -184,7 +186,7 @@ class Desk:
             return "the browser ended with %s" % process.returncode
         if given and now - given[1] > LIMIT:
             return "no result after %d s" % LIMIT
-        if given and now - max(self.beat or given[1], given[1]) > 8:
+        if given and now - max(self.beat or given[1], given[1]) > SILENT:
             return "the page answers no more: its process crashed or hangs"
         if not given and self.next == 0 and now - began > 120:
             return "the page did not load"

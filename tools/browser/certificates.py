@@ -7,7 +7,7 @@ follow. `order`: the states of the order that was found, one step from each to t
 import codec_steps
 from codec_steps import HIDDEN, OPENING
 from judge import WIDEST
-from search import call_moves, shown_moves
+from search import call_moves, hidden_moves, shown_moves
 
 MOST_STATES = 60000
 
@@ -15,6 +15,8 @@ MOST_STATES = 60000
 def plain_moves(state, event):
     """All that may come next, with no shortcut: (whether it takes the event, state)."""
     ways = []
+    if state.tasks and state.tasks[0][0] == "processing":
+        return [(False, way) for _, _, way in hidden_moves(state, WIDEST)]
     if event["k"] == "call":
         ways += [(True, way) for _, _, way in call_moves(state, event, WIDEST, None)]
     elif event["k"] == "look":
@@ -54,11 +56,9 @@ def reachable(events, most=MOST_STATES):
 
 
 def states_of(path, events):
-    """The states along an order that was found: (whether the step took the event, state)."""
-    state, states, place = OPENING, [(None, OPENING)], 0
-    ways = [(None, state)]
-    # several ways may begin alike: all are followed, and the one that comes to the end is told
-    links = [(state, None)]
+    """The states along an order that was found, or None. Several ways may begin alike: all are followed, and one that comes to
+    the end is told."""
+    links = [(OPENING, None)]
     for kind, detail in path:
         after = []
         for state, link in links:
@@ -66,7 +66,6 @@ def states_of(path, events):
                 if all(way != other for other, _ in after):
                     after.append((way, (state, link)))
         links = after
-        place += kind == "event"
     if not links:
         return None
     state, link = links[0]
@@ -74,7 +73,6 @@ def states_of(path, events):
     while link is not None:
         state, link = link
         chain.append(state)
-    del states, ways
     return chain[::-1]
 
 

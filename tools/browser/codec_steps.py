@@ -14,8 +14,9 @@ from typing import NamedTuple, Optional
 
 INVALID_STATE = "InvalidStateError"
 
-# tasks that call nothing back; `fired` is what is left of a dequeue event's task when its handlers have run
-HIDDEN = ("unblock", "process", "desaturate", "fired")
+# tasks that call nothing back; `fired` is what is left of a dequeue event's task when its handlers have run, `processing` what is
+# left of a run of 'Process the control message queue' between two messages, where work may end beside it
+HIDDEN = ("unblock", "process", "desaturate", "fired", "processing")
 
 
 class Rules(NamedTuple):
@@ -45,7 +46,7 @@ OPENING = State()
 
 def is_begun(task):
     """A task that has called back and will do so again."""
-    return task[-1] is True or task[0] == "fired"
+    return task[-1] is True or task[0] in ("fired", "processing")
 
 
 def with_task(state, *task):
@@ -59,27 +60,37 @@ def schedule_dequeue(state):
     return with_task(state._replace(scheduled=True), "dequeue")
 
 
-def pass_others(state):
-    """Messages that no saturation holds back leave the queue."""
-    while state.queue and not state.blocked and state.queue[0][0] != "coded":
-        message = state.queue[0]
-        state = state._replace(queue=state.queue[1:], work=state.work + (message,), blocked=message[0] == "configure")
-    return state
+def may_process(state):
+    return bool(state.queue) and not state.blocked and not (state.saturated and state.queue[0][0] == "coded")
+
+
+def process_front(state, rules):
+    """The front message becomes an item of work: the ways."""
+    message = state.queue[0]
+    state = state._replace(queue=state.queue[1:], work=state.work + (message,))
+    if message[0] == "configure":
+        return [state._replace(blocked=True)]
+    if message[0] == "flush":
+        return [state]
+    state = schedule_dequeue(state._replace(size=state.size - 1))
+    if rules.saturation is None:
+        return [state, state._replace(saturated=True)]
+    is_full = sum(1 for item in state.work if item[0] == "coded") >= rules.saturation
+    return [state._replace(saturated=is_full)]
 
 
 def process(state, rules):
-    """'Process the control message queue': the ways in which it may go, the plainest first."""
-    fuller = []
-    while True:
-        state = pass_others(state)
-        if state.blocked or not state.queue or state.saturated:
-            return [state] + fuller[::-1]
-        message = state.queue[0]
-        state = schedule_dequeue(state._replace(queue=state.queue[1:], work=state.work + (message,), size=state.size - 1))
-        if rules.saturation is None:
-            fuller.append(pass_others(state._replace(saturated=True)))
-        elif sum(1 for item in state.work if item[0] == "coded") >= rules.saturation:
-            state = state._replace(saturated=True)
+    """'Process the control message queue': the ways in which it may go. By the letter work may end between two messages."""
+    if rules.letter:
+        return [state._replace(tasks=(("processing",),) + state.tasks) if may_process(state) else state]
+    ways, done = [state], []
+    while ways:
+        way = ways.pop()
+        if may_process(way):
+            ways += process_front(way, rules)[::-1]
+        else:
+            done.append(way)
+    return done
 
 
 def left_behind(state, is_closing):
@@ -219,6 +230,8 @@ def hidden_turn(state, rules):
     task, state = state.tasks[0][0], state._replace(tasks=state.tasks[1:])
     if task == "fired":
         return [state._replace(scheduled=False)]
+    if task == "processing":
+        return [after for way in process_front(state, rules) for after in process(way, rules)]
     if task == "unblock":
         return [with_task(state._replace(blocked=False), "process")]
     if task == "desaturate":

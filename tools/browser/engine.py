@@ -14,11 +14,20 @@ WORKING = ("configure", "decode", "encode", "flush")    # calls that queue a mes
 
 class Engine:
     def __init__(self, program):
-        self.program = os.path.abspath(program)
+        self.program, self.last = os.path.abspath(program), {}
 
     def replay(self, script, folder):
+        """The report of a script. The last ones are kept, since a probe is often asked again."""
+        text = json.dumps(script)
+        if (text, folder) not in self.last:
+            if len(self.last) > 40:
+                self.last.pop(next(iter(self.last)))
+            self.last[text, folder] = self.run(text, folder)
+        return self.last[text, folder]
+
+    def run(self, text, folder):
         with tempfile.NamedTemporaryFile("w", suffix=".json", delete=False) as file:
-            json.dump(script, file)
+            file.write(text)
         try:
             done = subprocess.run([self.program, "replay", file.name], cwd=folder, capture_output=True, text=True, timeout=300)
         finally:
@@ -189,7 +198,7 @@ def items_of(path, events, name):
             wait = []
         elif kind == "work":
             wait += [("start", name), ("done", name)]
-        elif detail not in (None, "fired"):
+        elif detail not in (None, "fired", "processing"):
             wait.append(("turn", name))
     return before, wait
 
@@ -270,7 +279,7 @@ class StandIns:
                 self.order += [{"start": name}, {"done": name, "at": 0}]
             elif kind == "event":
                 self.event(events[detail[0]], detail[1])
-            elif detail not in (None, "fired"):
+            elif detail not in (None, "fired", "processing"):
                 self.order.append({"turn": name})
         self.script = {"codecs": [{"name": name, "kind": "audio-decoder", "saturation": verdict.rules.saturation}],
                        "callers": [{"name": "a", "steps": self.steps}, {"name": "eye", "steps": self.looks}], "order": self.order}

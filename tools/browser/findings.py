@@ -9,7 +9,7 @@ import struct
 import engine as engines
 import judge
 import observed
-from browsers import END
+from browsers import BUSY
 from observed import CALLS
 
 DEVIATES, OPEN, ENGINE = "DEVIATES", "OPEN", "ENGINE"
@@ -195,7 +195,8 @@ def short(text, most=70):
 class Judged:
     """What is told of one run of a script."""
 
-    def __init__(self, job, log, engine, who):
+    def __init__(self, job, log, engine, who, all_faults=True):
+        self.all_faults = all_faults
         log = dict(log, list=observed.behind_calls(log["list"]))
         self.job, self.log, self.engine, self.script = job, log, engine, job["script"]
         self.findings, self.lines = Findings(), []
@@ -218,7 +219,7 @@ class Judged:
     def verdict(self, codec):
         claims = {"%s.%d" % (it["by"], it["j"]): 0 for it in self.pages.get(codec["name"], {}).get("support", []) if it["is"] is True}
         events = self.events[codec["name"]]
-        verdict = judge.judge(events, self.probe.fates, codec.get("saturation", 4), claims)
+        verdict = judge.judge(events, self.probe.fates, codec.get("saturation", 4), claims, all_faults=self.all_faults)
         # the engine reads more of this config than the browser
         if any(event["k"] == "call" and event["do"] == "configure" and event["valid"] != (self.probe.answers.get(event["by"]) != "TypeError") for event in events):
             verdict.own = False
@@ -243,7 +244,7 @@ class Judged:
             if event["k"] == "output" and event["state"] != "configured" and verdict.is_explained:
                 self.add(OPEN, name, "an output comes after the %s that dropped its chunk" % ("reset" if event["state"] == "unconfigured" else "close"),
                          "'Reset': the codec ceases to produce outputs, and no step takes away a task that was queued before", line_at.get(event["n"]), "output after a reset")
-        if verdict.owed:
+        if verdict.is_explained and verdict.owed:
             self.add(DEVIATES, name, "never came: %s" % ", ".join(verdict.owed[:6]), "a task that is queued is run", code="owed " + verdict.owed[0].split(" ")[0])
         self.outcomes(name, verdict, line_at)
         if self.pages.get(name, {}).get("missing"):
@@ -266,12 +267,12 @@ class Judged:
         word = "codec %s: " % name
         saturated = "saturated at %d" % verdict.rules.saturation if verdict.rules.saturation else "saturated at moments of the codec's own choice"
         if verdict.rules.letter and verdict.is_explained:
-            saturated += "; work or tasks of before a reset still act, which the letter allows"
+            saturated += "; by what the letter leaves open beyond the program's steps"
         if verdict.is_legal():
             if not any("in_call" in event for event in self.events[name]):
                 self.lines.append(word + "legal: an order gives this history (%s; %s)" % (saturated, verdict.how))
         elif verdict.is_explained:
-            self.lines.append(word + "legal as far as it goes (%s; %s), but %d ms after the last event there is still to come: %s" % (saturated, verdict.how, END, ", ".join(verdict.owed[:6])))
+            self.lines.append(word + "legal as far as it goes (%s; %s), but %d ms after the last event there is still to come: %s" % (saturated, verdict.how, BUSY, ", ".join(verdict.owed[:6])))
         else:
             self.impossible(name, verdict, line_at)
         if verdict.unsure:
@@ -282,7 +283,10 @@ class Judged:
         for number, fault in enumerate(verdict.faults):
             event = self.events[name][fault.place]
             line, instead = line_at.get(event["n"]), fault.instead
-            if event["k"] == "call":
+            if event["k"] == "call" and fault.excuse != "answer" and event["answer"] not in instead and any(word.startswith("reject") for word in instead):
+                what = "%s %s comes before %s" % (event["by"], event["do"], "; ".join(instead))
+                code, step = "rejection behind a call", "'Reset %s', step 6: reset rejects each pending promise itself, so that reactions run before another step" % INTERFACES[kind]
+            elif event["k"] == "call":
                 what = "%s %s = %s, where %s is the only answer" % (event["by"], event["do"], event["answer"], " or ".join(instead))
                 code, step = "answer of " + event["do"], step_of_call(kind, event["do"])
             else:

@@ -59,7 +59,8 @@ def plans_of(events, fates, saturation, claims):
     return plans
 
 
-def judge(events, fates, saturation, claims=None, limit=LIMIT):
+def judge(events, fates, saturation, claims=None, limit=LIMIT, all_faults=True):
+    """The verdict of a history. Without `all_faults` only the first impossible event is told."""
     verdict, plans = Verdict(), plans_of(events, fates, saturation, claims or {})
     wide, best = None, None
     for number, (rules, own) in enumerate(plans):
@@ -83,6 +84,9 @@ def judge(events, fates, saturation, claims=None, limit=LIMIT):
         best = (wide, WIDEST, False)
     if best:                                        # all came; some that should come did not
         return verdict.take(*best)
+    if not all_faults:
+        verdict.rules, verdict.path, verdict.faults = WIDEST, longest_path(wide), [Fault(wide.far, possible(wide, WIDEST), None)]
+        return verdict
     return excused(verdict, events, fates, claims or {}, limit)
 
 
@@ -90,7 +94,7 @@ def judge(events, fates, saturation, claims=None, limit=LIMIT):
 
 def excuses_for(event):
     if event["k"] == "call":
-        return ["answer"] if event["answer"] != "ok" else []
+        return (["answer"] if event["answer"] != "ok" else []) + ["late"]
     if event["k"] == "look":
         return ["size"]
     if event["k"] in ("reject", "error"):
@@ -126,6 +130,8 @@ def walk(verdict, events, rules, first):
                 excuses[place] = "plain"            # the call is right; what was read behind it comes to be told
                 found = search(events, rules, excuses, EXCUSE_LIMIT, found)
                 continue
+            if event["answer"] in instead:          # it is right, and comes too early
+                instead = possible(found, rules, "reject")
         else:
             instead = possible(found, rules, event["k"])
         further = best_excuse(verdict, events, rules, excuses, found)

@@ -7,6 +7,7 @@ PUSHES = ("decode", "encode", "reset", "close")     # calls that may queue a tas
 #   size     what was read there is not looked at          drop    the event is taken away
 #   answer   the call counts as not made                   silent  something that should have come before it did not
 #   name     the error has another name                    late    it came behind what stands next
+#            (of a call: the rejection that is owed)
 #   end      the promise ends in the other way             plain   the call itself is right, what was read behind it is not
 ANY_NAME = ("name", "name+size")
 ANY_SIZE = ("size", "name+size")
@@ -29,9 +30,9 @@ def call_moves(state, event, rules, excuse):
     inside = event.get("inside")
     if inside == "dequeue" and not (state.tasks and state.tasks[0][0] == "fired"):
         return
-    if state.owed and not inside:                   # reactions run before any other call
+    if state.owed and not inside and excuse != "late":       # reactions run before any other call
         return
-    if not inside and state.tasks and is_begun(state.tasks[0]) and state.tasks[0][0] == "fired":
+    if not inside and state.tasks and state.tasks[0][0] == "fired":
         return
     if excuse in ("answer", "drop"):
         yield "event", None, state
@@ -86,6 +87,9 @@ def silent_moves(state, rules):
 
 def moves(state, event, rules, excuse):
     """All that may come next: (kind, detail, state). The kind `event` takes the event."""
+    if state.tasks and state.tasks[0][0] == "processing":
+        yield from hidden_moves(state, rules)
+        return
     if event["k"] == "call":
         yield from call_moves(state, event, rules, excuse)
     elif event["k"] == "look":
@@ -109,6 +113,13 @@ def moves(state, event, rules, excuse):
     if head is None or head in HIDDEN or head == "close" or excuse == "late" or (event["k"] == "call" and event["do"] in PUSHES):
         for item, fate, way in work_ends(state, rules):
             yield "work", (item, fate), way
+
+
+def hidden_moves(state, rules):
+    for way in hidden_turn(state, rules):
+        yield "turn", state.tasks[0][0], way
+    for item, fate, way in work_ends(state, rules):
+        yield "work", (item, fate), way
 
 
 def still_to_come(state, rules):

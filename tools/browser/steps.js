@@ -101,7 +101,7 @@ class Run {
   ms() { return Math.round((now() - this.job.from) * 1000) / 1000; }
 
   codec({ name, kind }) {
-    const codec = { name, kind, outputs: 0, box: [], asked: [], real: null };
+    const codec = { name, kind, outputs: 0, promises: 0, box: [], asked: [], real: null };
     try {
       codec.real = new (CLASSES[kind]())({
         output: (output, metadata) => {
@@ -171,9 +171,10 @@ class Run {
     const promise = this.call(caller, number, it => it.real.flush());
     if (!promise) return;
     const kept = { state: "pending", on: step.on };
+    codec.promises++;
     kept.end = promise.then(
-      () => { kept.state = "resolved"; this.saw(codec, "resolve", { of: by }); },
-      e => { kept.state = "rejected"; kept.error = nameOf(e); this.saw(codec, "reject", { of: by, error: kept.error, message: messageOf(e) }); });
+      () => { kept.state = "resolved"; codec.promises--; this.saw(codec, "resolve", { of: by }); },
+      e => { kept.state = "rejected"; codec.promises--; kept.error = nameOf(e); this.saw(codec, "reject", { of: by, error: kept.error, message: messageOf(e) }); });
     caller.variables[step.as] = kept;
   }
 
@@ -260,20 +261,24 @@ class Run {
     this.tell(caller, number, "skipped");
   }
 
-  // Until no codec has had anything to tell for `quiet` ms, and none has anything queued.
-  async settle(quiet, most) {
+  // Something is queued or a promise is pending.
+  isBusy() {
+    return Object.values(this.codecs).some(it => it.real && it.real.state === "configured" && (queueSize(it) > 0 || it.promises > 0));
+  }
+
+  // Until no codec has had anything to tell for `quiet` ms, or for `busy` ms where something is still to come.
+  async settle(quiet, busy) {
     const from = now();
     for (;;) {
       await sleep(8);
-      const isBusy = Object.values(this.codecs).some(it => it.real && it.real.state === "configured" && queueSize(it) > 0);
-      if ((!isBusy && now() - this.last >= quiet && now() - from >= quiet) || now() - from > most) return;
+      if (now() - Math.max(this.last, from) >= (this.isBusy() ? busy : quiet)) return;
     }
   }
 
   async all() {
     for (const who of this.job.plan) {
       if (who === null) {
-        if (this.job.pace === "settle") await this.settle(this.job.quiet, 2000);
+        if (this.job.pace === "settle") await this.settle(this.job.quiet, this.job.awaitMs);
         continue;
       }
       const caller = this.callers[who];
@@ -281,8 +286,8 @@ class Run {
       await null;                           // promise reactions of this step run before the next step
       if (this.job.pace === "task") await nextTask();
     }
-    await this.settle(this.job.endMs, 8000);
-    const told = { list: this.list, codecs: [] };
+    await this.settle(this.job.endMs, this.job.busyMs);
+    const told = { list: [...this.list], codecs: [] };
     for (const codec of Object.values(this.codecs)) told.codecs.push(await this.atEnd(codec));
     for (const codec of Object.values(this.codecs)) if (codec.real && codec.real.state !== "closed") codec.real.close();
     for (const it of this.live) if (it.close) it.close();
