@@ -195,7 +195,9 @@ def check_changes(program, folder, count):
                 # Python names a place near the same one: a hint stands within a token of it
                 lines = changed.split("\n")
                 mine = sum(len(it) + 1 for it in lines[:int(found[1]) - 1]) + int(found[2]) - 1
-                if abs(mine - fault.pos) > 24:
+                # (a hint on a broken text stands where the text begins)
+                in_text = changed[mine:mine + 1] == '"' and mine < fault.pos and not re.search(r'(?<!\\)"', changed[mine + 1:fault.pos])
+                if abs(mine - fault.pos) > 24 and not in_text:
                     wrong += 1
                     print("  not json: %s, and Python at %d, not %d" % (hints[0], fault.pos, mine))
     print("%d scripts with a changed byte, %d refused: %d without one hint, %d with a hint on another place" % (count, refused, without, wrong))
