@@ -234,7 +234,6 @@ class Judged:
         verdict, entries = self.verdicts[name], self.report.codecs[name]
         line_at = {entry.origin: entry.line for entry in entries}
         self.confirm(name, verdict, entries)
-        self.say(name, verdict, line_at)
         for event in self.events[name]:
             if "in_call" in event:
                 text = "the %s callback ran inside the call %s, before it returned" % (event["k"], event["in_call"])
@@ -244,6 +243,7 @@ class Judged:
             if event["k"] == "output" and event["state"] != "configured" and verdict.is_explained:
                 self.add(OPEN, name, "an output comes after the %s that dropped its chunk" % ("reset" if event["state"] == "unconfigured" else "close"),
                          "'Reset': the codec ceases to produce outputs, and no step takes away a task that was queued before", line_at.get(event["n"]), "output after a reset")
+        self.say(name, verdict, line_at)
         if verdict.is_explained and verdict.owed:
             self.add(DEVIATES, name, "never came: %s" % ", ".join(verdict.owed[:6]), "a task that is queued is run", code="owed " + verdict.owed[0].split(" ")[0])
         self.outcomes(name, verdict, line_at)

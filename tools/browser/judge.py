@@ -165,7 +165,6 @@ def excused(verdict, events, fates, claims, limit):
     for rules, own, bonus in tries:
         first = search(events, rules, {}, limit)
         verdict.nodes += first.nodes
-        verdict.unsure = verdict.unsure or first.gave_up
         if first_far is None:
             first_far = first.far
         elif first.far < first_far:
