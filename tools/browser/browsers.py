@@ -142,8 +142,15 @@ def job_of(script, folder, pace="settle", workers=False):
 
 def read_job(path, pace, workers=False):
     with open(path, "rb") as file:
-        script = json.loads(file.read())
-    return job_of(script, os.path.dirname(os.path.abspath(path)), pace, workers)
+        content = file.read()
+    try:
+        return job_of(json.loads(content), os.path.dirname(os.path.abspath(path)), pace, workers)
+    except BadScript as fault:
+        raise BadScript("%s: %s" % (path, fault)) from None
+    except ValueError as fault:
+        raise BadScript("%s is no JSON: %s" % (path, fault)) from None
+    except (KeyError, TypeError, AttributeError) as fault:
+        raise BadScript("%s is no script; `wcrun replay` says what is wrong with it (%r)" % (path, fault)) from None
 
 
 # ---------------------------------------------------------------- the page's other end
