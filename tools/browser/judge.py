@@ -6,7 +6,8 @@ and more open, so that a verdict rests on as little as may be:
  1. the engine's own codecs, saturated at the script's number, then at 1 to 64;
  2. the same, saturated whenever the codec likes (the standard leaves it to the codec);
  3. codecs that may make anything of a chunk: refuse it, give no output, one, or several, at once or at the flush;
- 4. besides, what a reset leaves behind may still act, since no step takes it away.
+ 4. besides, what the letter leaves open beyond the program's steps (docs/DEFINITIONS.md): what a reset leaves behind may still
+    act, and work may end while messages are processed.
 
 The last rules hold all that the others hold. Where they explain nothing, no order gives the history.
 """
