@@ -7,6 +7,8 @@
  * What the caller owes:
  * - A slice is a pointer and, behind it, a count of elements: so many can be read there, or written where it is not const.
  *   Its pointer is not null and is aligned for its element, also where the count is 0; it has less than 2^63 bytes.
+ * - Every other pointer is not null, is aligned, and points to one value that can be read, and written where it is not const.
+ * - There is stack enough for the call.
  * - What a call may write meets nothing else that is handed to it. Slices that are only read may meet each other.
  * - What is read is set before: structs, all samples and bytes, and what a room holds already.
  * - While a call runs, nothing else writes what it was handed, nor reads what it may write.
@@ -26,6 +28,9 @@
 
 #include <stddef.h>
 #include <stdint.h>
+
+/* The version, as CHANGELOG.md has it. */
+#define ZEMIRAKO_VERSION "0.2.0"
 
 #ifdef __cplusplus
 extern "C" {

@@ -59,10 +59,7 @@ fn work_on<W: Write>(
     info: &StreamInfo,
     buffers: &mut Buffers,
     writer: &mut W,
-) -> io::Result<Option<u64>>
-    requires some { 0 < info.now.depth }
-    requires depth { info.now.depth ≤ 32 }
-{
+) -> io::Result<Option<u64>> {
     let Buffers {
         residual,
         samples,

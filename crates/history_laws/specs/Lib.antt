@@ -8,3 +8,4 @@ pub mod Numbers
 pub mod NumberLaws
 pub mod CountLaws
 pub mod WholeLaws
+pub mod Clones

@@ -2,3 +2,4 @@ mod Long
 mod Reading
 mod OneReading
 pub mod SomeReading
+mod WithinLaws

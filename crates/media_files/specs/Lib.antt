@@ -1,2 +1,3 @@
 pub mod Media
 pub mod Laws
+pub mod Within

@@ -1,5 +1,6 @@
 // What the definitions give.
 ghost use Rattle.media_files.specs.Laws.{OneReading, SomeReading};
+ghost use Rattle.media_files.specs.Within.{MediaAreWithin};
 
 use chunk_files::bytes_have_one_reading;
 
@@ -10,3 +11,9 @@ pub fn media_have_one_reading()
 {
     bytes_have_one_reading();
 }
+
+/// What the chunks of files hold is within its types, where the files hold bytes: timestamps have 64 bits with their sign,
+/// durations 64, and each chunk holds bytes.
+pub fn media_are_within()
+    ensures { MediaAreWithin }
+{}

@@ -81,21 +81,24 @@ impl CallerMedia {
         step: &MediaStep,
     ) -> Result<Option<StepResult>, NoMemory>
         requires { who.caller < length self.old.variables }
-        ensures { let b : Brought = record { chunk = chunk; taken = None } in
+        ensures came { let b : Brought = record { chunk = chunk; taken = None } in
             IfOk result (CameTo self.old self.new who b step.now) }
+        ensures err { OnErr result (self.new ≡ self.old) }
     {
         caller_step(alloc, &mut self.pool, &mut self.callers, who, &chunk, step)
     }
 
     /// A step of a caller that takes an output of a codec, and its answer. The step's variable holds
     /// audio data or a video frame with the output's bytes, or the output itself where it is a chunk.
+    /// After a want of memory all is as it was.
     pub fn take(&mut self, who: Who, unit: Unit, answer: StepResult) -> Result<StepResult, NoMemory>
         requires there { who.caller < length self.old.variables }
         requires enough { IsEnoughUnit unit }
-        ensures { let taken : Taken = record { unit = unit; answer = answer } in
+        ensures came { let taken : Taken = record { unit = unit; answer = answer } in
             let vs = variables_of who.caller self.old.variables in
             let came = taken_came self.old.pool who.step (Some taken) vs in
             IfOk result (λ r. IsCome self.old self.new who came (Some r)) }
+        ensures err { OnErr result (self.new ≡ self.old) }
     {
         caller_take(&mut self.pool, &mut self.callers, who, unit, answer)
     }
@@ -207,6 +210,8 @@ fn caller_step(
         let new : Media = record { variables = callers.new.items; pool = pool.new } in
         let b : Brought = record { chunk = chunk.now; taken = None } in
         IfOk result (CameTo old new who b step.now) }
+    ensures pool { OnErr result (pool.new ≡ pool.old) }
+    ensures callers { OnErr result (callers.new.items ≡ callers.old.items) }
     ensures held { AreHeld pool.new callers.new.items }
 {
     references_are_apart();
@@ -234,6 +239,8 @@ fn caller_take(
         let vs = variables_of who.caller callers.old.items in
         let came = taken_came pool.old who.step (Some taken) vs in
         IfOk result (λ r. IsCome old new who came (Some r)) }
+    ensures pool { OnErr result (pool.new ≡ pool.old) }
+    ensures callers { OnErr result (callers.new.items ≡ callers.old.items) }
     ensures held { AreHeld pool.new callers.new.items }
 {
     references_are_apart();

@@ -8,3 +8,4 @@ mod NumberLaws
 mod PlaceLaws
 mod Positions
 mod StepTables
+mod WithinLaws

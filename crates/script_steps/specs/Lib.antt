@@ -10,5 +10,6 @@ pub mod References
 pub mod MediaSteps
 pub mod Steps
 pub mod Soundness
+pub mod Within
 pub mod Chains
 pub mod NameLaws

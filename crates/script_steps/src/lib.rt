@@ -22,7 +22,7 @@ pub use config::read_config;
 pub use files::Files;
 pub use heads::{find_caller, find_codec, is_caller_name, is_codec_name};
 pub use inline::{read_inline_data, word_member};
-pub use laws::steps_are_sound;
+pub use laws::{steps_are_sound, steps_are_within};
 pub use media::{read_chunk_init, read_picture_init, read_sound_init, read_step_data};
 pub use members::{
     array_member, as_name, has, name_member, natural_member, object_member, optional_object,

@@ -17,6 +17,7 @@ use Rattle.seat_lock.specs.Claims.{HoldsClaims}
 use Rattle.seat_lock.specs.Logs.{AllBy, AreApart, AreBelow, Continues, Has, IsNotIn, NoneBy, longer}
 use Rattle.seat_lock.specs.Rule.{BelongTo, HasWitness, IsHome, IsOut, LockRule, NumberRule, PhaseRule, busy, busy_in, parts_of}
 use Rattle.seat_lock.specs.Seats.{Sitting, empty_view, first_view, less_claim, less_part, one_part, union_view, with_number, with_phase}
+use Rattle.seat_lock.specs.Seen.{NoneHasSeenMore}
 use Rattle.seat_lock.specs.Steps.{Settles, TakesNumber}
 use Rattle.wc_base.specs.Views.{Log, token_view}
 use Rattle.wc_base.specs.declared.seat.Phase.{Phase}
@@ -357,3 +358,21 @@ module _ (E : Type 0) where
           stands = subst (λ (l : Log E). tells home.value l) (sym k.has_log ∙ ap (λ (x : W). x.log) same) home.stands;
           all = subst (λ (l : Log E). AllBy v.numbers l) (sym k.has_log ∙ ap (λ (x : W). x.log) same) (all_mine s r id v at all);
         }
+
+    -- a seat or a token has seen a beginning of the log
+    seen_in : (log : Log E) (drawn : ℕ) (owner bearer : ℕ → ℕ) (j : ℕ) (w : W) (p : Phase E) → PhaseRule log drawn owner bearer j w p → ¬ (p ≡ Empty) → Continues w.numbers w.log log
+    seen_in log drawn owner bearer j w New s n = s.1
+    seen_in log drawn owner bearer j w Idle s n = s.1
+    seen_in log drawn owner bearer j w Token s n = s.1
+    seen_in log drawn owner bearer j w (Waiting t) s n = s.1
+    seen_in log drawn owner bearer j w (Holding t l) s n = s.1
+    seen_in log drawn owner bearer j w (Union a x b y) s n = s.1
+    seen_in log drawn owner bearer j w Empty s n = absurd (n refl)
+
+    -- beside a seat with all parts none has seen more
+    pub none_more : NoneHasSeenMore mints spends tells
+    none_more s id j v w r at all there is =
+        let k = r.witness in
+        let same : k.view ≡ v = same_view E s.views k.seat id k.view v k.at at (only s r id k.seat v k.view at all k.at k.has_parts) in
+        subst (λ (l : Log E). Continues w.numbers w.log l) (sym k.has_log ∙ ap (λ (x : W). x.log) same)
+        (seen_in r.log r.drawn r.owner r.bearer j w w.phase (r.seats j w there) is)

@@ -5,4 +5,5 @@ pub mod Own
 pub mod Passages
 pub mod Rule
 pub mod Seats
+pub mod Seen
 pub mod Steps

@@ -3,12 +3,14 @@
 #![tactic(auto)]
 
 mod held;
+mod laws;
 mod lock;
 mod picks;
 mod steps;
 mod told;
 
 pub use held::Held;
+pub use laws::none_has_seen_more;
 pub use lock::{Seat, SeatLock};
 pub use told::Told;
 pub use wc_base::{Passage, Token};

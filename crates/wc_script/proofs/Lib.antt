@@ -6,3 +6,5 @@ mod OrderLaws
 mod CountLaws
 mod SoundLaws
 mod FaultLaws
+mod NumberLaws
+mod WithinLaws

@@ -5,3 +5,4 @@ pub mod Order
 pub mod Walk
 pub mod Read
 pub mod Laws
+pub mod Within

@@ -9,6 +9,6 @@ mod order;
 mod read;
 mod walk;
 
-pub use laws::scripts_are_sound;
+pub use laws::{scripts_are_sound, scripts_are_within};
 pub use read::read_script;
 pub use script_types::{Counted, Fault, Place, Script, ScriptData, Stop, Wrong};
