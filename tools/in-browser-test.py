@@ -303,8 +303,8 @@ WANTED = [
     ("demo/ordinary.json", {"chromium": True, "firefox": True}),
     ("demo/reset.json", {"chromium": None, "firefox": True}),
     ("tools/browser/least/close-dequeue.json", {"chromium": False, "firefox": True}),
-    ("tools/browser/least/in-a-dequeue-event.json", {"chromium": None, "firefox": None}),
-    ("tools/browser/least/video-ordinary.json", {"chromium": True, "firefox": None}),
+    ("tools/browser/least/reset-in-a-dequeue-event.json", {"chromium": False, "firefox": True}),
+    ("tools/browser/least/video-ordinary.json", {"chromium": None, "firefox": True}),
 ]
 
 

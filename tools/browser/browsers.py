@@ -21,7 +21,7 @@ PACKAGES = {"chromium": "chromium", "firefox": "firefox-esr"}
 PAGES = {"/page.html": "text/html", "/page.js": "text/javascript", "/steps.js": "text/javascript", "/worker.js": "text/javascript"}
 
 QUIET = 60      # milliseconds without an event that count as quiet between two steps
-END = 400       # and at the end; where something is queued or a promise is pending,
+END = 800       # and at the end; where something is queued or a promise is pending,
 BUSY = 3000     # what has not come by then counts as not coming
 AWAIT = 1000    # an await is given up when nothing was heard for so long
 LIMIT = 60      # seconds that one script may take
@@ -142,8 +142,15 @@ def job_of(script, folder, pace="settle", workers=False):
 
 def read_job(path, pace, workers=False):
     with open(path, "rb") as file:
-        script = json.loads(file.read())
-    return job_of(script, os.path.dirname(os.path.abspath(path)), pace, workers)
+        content = file.read()
+    try:
+        return job_of(json.loads(content), os.path.dirname(os.path.abspath(path)), pace, workers)
+    except BadScript as fault:
+        raise BadScript("%s: %s" % (path, fault)) from None
+    except ValueError as fault:
+        raise BadScript("%s is no JSON: %s" % (path, fault)) from None
+    except (KeyError, TypeError, AttributeError) as fault:
+        raise BadScript("%s is no script; `wcrun replay` says what is wrong with it (%r)" % (path, fault)) from None
 
 
 # ---------------------------------------------------------------- the page's other end
@@ -285,26 +292,26 @@ def one_start(browser, jobs):
 
 
 def in_browser(browser, jobs):
-    """The log of each job. A job at which the page crashes is run once more without copying outputs; one that hangs has none."""
-    jobs, logs, starts = [dict(job) for job in jobs], {}, 0
-    while len(logs) < len(jobs) and starts < MOST_STARTS:
+    """The log of each job. A job at which the page falls silent is run once more, since the machine may have been busy; then once
+    without copying outputs; and then it has no log."""
+    jobs, logs, silent, starts = [dict(job) for job in jobs], {}, {}, 0
+    while len(logs) < len(jobs) and starts < MOST_STARTS + len(jobs) // 20:
         starts += 1
         todo = [n for n in range(len(jobs)) if n not in logs]
         came, hit, why = one_start(browser, [jobs[n] for n in todo])
         logs.update({todo[n]: log for n, log in came.items()})
-        if why is None:
-            continue
         at = todo[hit if hit is not None else 0]
-        if at in logs:
+        if why is None or at in logs:
             continue
-        if "crash" in why and "noread" not in jobs[at]:
+        silent[at] = silent.get(at, 0) + 1
+        if silent[at] == 2 and "crash" in why:
             jobs[at].update(noread=True)
-        else:
+        elif silent[at] > 1:
             logs[at] = {"fault": why}
     for n, job in enumerate(jobs):
         log = logs.setdefault(n, {"fault": "the browser was started too often"})
         if "noread" in job and "fault" not in log:
-            log["crashed"] = "the page's process crashed when a decoded output was copied; this is a second run that copies none"
+            log["crashed"] = "the page's process crashed twice when a decoded output was copied; this is a third run that copies none"
     return [logs[n] for n in range(len(jobs))]
 
 

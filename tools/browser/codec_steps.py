@@ -23,7 +23,8 @@ class Rules(NamedTuple):
     """What is taken as settled where the standard leaves room."""
     saturation: Optional[int]   # saturated at so many coded items; None: whenever the codec likes
     fates: dict                 # {call: "refused", or how many outputs}; a call that is not there may come to anything
-    letter: bool = False        # a reset leaves work and tasks that were queued before it, since no step takes them away
+    letter: bool = False        # a reset leaves work and tasks that were queued before it, since no step takes them away; work may
+                                # end between two messages; nothing holds back work behind an item that was refused
 
 
 class State(NamedTuple):

@@ -234,7 +234,6 @@ class Judged:
         verdict, entries = self.verdicts[name], self.report.codecs[name]
         line_at = {entry.origin: entry.line for entry in entries}
         self.confirm(name, verdict, entries)
-        self.say(name, verdict, line_at)
         for event in self.events[name]:
             if "in_call" in event:
                 text = "the %s callback ran inside the call %s, before it returned" % (event["k"], event["in_call"])
@@ -244,6 +243,7 @@ class Judged:
             if event["k"] == "output" and event["state"] != "configured" and verdict.is_explained:
                 self.add(OPEN, name, "an output comes after the %s that dropped its chunk" % ("reset" if event["state"] == "unconfigured" else "close"),
                          "'Reset': the codec ceases to produce outputs, and no step takes away a task that was queued before", line_at.get(event["n"]), "output after a reset")
+        self.say(name, verdict, line_at)
         if verdict.is_explained and verdict.owed:
             self.add(DEVIATES, name, "never came: %s" % ", ".join(verdict.owed[:6]), "a task that is queued is run", code="owed " + verdict.owed[0].split(" ")[0])
         self.outcomes(name, verdict, line_at)
@@ -311,16 +311,40 @@ class Judged:
             got, want = "refused" if fate == "refused" else len(outputs.get(by, [])), self.probe.fates.get(by)
             if want is not None and got != want:
                 self.other_fate(name, by, calls[by], got, want, line_at)
-            for place, (wanted, config) in zip(outputs.get(by, []), self.probe.outputs.get(by, [])):
+            for place, (wanted, config) in zip(outputs.get(by, []), self.probe.outputs.get(by, [])) if self.knows_outputs(name, verdict) else []:
                 entry = entry_at[events[place]["n"]]
                 if wanted[2:6] != entry.seen[2:6] or wanted[8:] != entry.seen[8:]:
                     self.odd.add((name, sum(1 for event in events[:place] if event["k"] == "output")))
                 Comparison(self.findings, "codec %s, output of %s" % (name, by), entry.line, name, self.report.kinds[name]).output(wanted, config, entry.seen, entry.config)
         for it in self.pages.get(name, {}).get("support", []):
             by = "%s.%d" % (it["by"], it["j"])
-            if by in fates and isinstance(it["is"], bool) and it["is"] != (fates[by] != "refused"):
-                self.add(DEVIATES, name, "isConfigSupported says %s, and configure %s" % (str(it["is"]).lower(), "closes the codec" if fates[by] == "refused" else "works"),
+            if by in calls and isinstance(it["is"], bool) and it["is"] != self.works(name, by, fates, verdict):
+                self.add(DEVIATES, name, "isConfigSupported says %s, and configure %s" % (str(it["is"]).lower(), "closes the codec" if it["is"] else "works"),
                          "'Check Configuration Support' answers both", line_at.get(calls[by]["n"]), "support", ", configure of %s" % by)
+
+    def knows_outputs(self, name, verdict):
+        """Whether it is told which call gave which output: none was left out or put in where no order gives the history."""
+        events = self.events[name]
+        return not any(fault.excuse != "size" and events[fault.place]["k"] in ("output", "resolve", "error") for fault in verdict.faults)
+
+    def works(self, name, by, fates, verdict):
+        """Whether a configure did what it should; what isConfigSupported says, where the page saw nothing that tells."""
+        said = next(it["is"] for it in self.pages[name]["support"] if "%s.%d" % (it["by"], it["j"]) == by)
+        events = self.events[name]
+        at = next(place for place, event in enumerate(events) if event["k"] == "call" and event["by"] == by)
+        if events[at]["answer"] != "ok":
+            return said
+        accepted = [event["by"] for event in events if event["k"] == "call" and event["do"] == "configure" and event["answer"] == "ok"]
+        if said:
+            # another configure may be the one that was refused
+            is_sure = verdict.is_explained or accepted == [by]
+            return not (is_sure and fates.get(by) == "refused")
+        for event in events[at + 1:]:
+            if event["k"] == "output":
+                return True
+            if event["k"] == "error" or (event["k"] == "call" and event["do"] in ("configure", "reset", "close") and event["answer"] == "ok"):
+                return False
+        return False
 
     def other_fate(self, name, by, call, got, want, line_at):
         def say(fate):

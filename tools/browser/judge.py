@@ -6,7 +6,8 @@ and more open, so that a verdict rests on as little as may be:
  1. the engine's own codecs, saturated at the script's number, then at 1 to 64;
  2. the same, saturated whenever the codec likes (the standard leaves it to the codec);
  3. codecs that may make anything of a chunk: refuse it, give no output, one, or several, at once or at the flush;
- 4. besides, what a reset leaves behind may still act, since no step takes it away.
+ 4. besides, what the letter leaves open beyond the program's steps (docs/DEFINITIONS.md): what a reset leaves behind may still
+    act, and work may end while messages are processed.
 
 The last rules hold all that the others hold. Where they explain nothing, no order gives the history.
 """
@@ -132,6 +133,10 @@ def walk(verdict, events, rules, first):
                 continue
             if event["answer"] in instead:          # it is right, and comes too early
                 instead = possible(found, rules, "reject")
+                if excuses[place] != "loose" and not any(word.startswith("reject") for word in instead):
+                    excuses[place] = "loose"        # it was made inside a callback that should not have come
+                    found = search(events, rules, excuses, EXCUSE_LIMIT, found)
+                    continue
         else:
             instead = possible(found, rules, event["k"])
         further = best_excuse(verdict, events, rules, excuses, found)
@@ -157,10 +162,10 @@ def oddness(faults, events):
 def excused(verdict, events, fates, claims, limit):
     """Tells each impossible event, under the rules that need the fewest excuses. The first one is the same under all."""
     choice, first_far = None, None
-    for (rules, own), bonus in (((WIDEST, False), 0), ((Rules(None, claims, True), False), 1), ((Rules(None, fates), True), 1.5)):
+    tries = ((WIDEST, False, 0), (Rules(None, claims, True), False, 0.1), (Rules(None, {}), False, 0.2), (Rules(None, fates), True, 0.3))
+    for rules, own, bonus in tries:
         first = search(events, rules, {}, limit)
         verdict.nodes += first.nodes
-        verdict.unsure = verdict.unsure or first.gave_up
         if first_far is None:
             first_far = first.far
         elif first.far < first_far:

@@ -8,6 +8,7 @@ PUSHES = ("decode", "encode", "reset", "close")     # calls that may queue a tas
 #   answer   the call counts as not made                   silent  something that should have come before it did not
 #   name     the error has another name                    late    it came behind what stands next
 #            (of a call: the rejection that is owed)
+#   loose    the call may be made at any time
 #   end      the promise ends in the other way             plain   the call itself is right, what was read behind it is not
 ANY_NAME = ("name", "name+size")
 ANY_SIZE = ("size", "name+size")
@@ -26,13 +27,16 @@ class Found:
         return self.owed is not None and not self.owed
 
 
+def is_time_for(state, inside, excuse):
+    """Whether a call may be made now: inside a dequeue event while it is fired, and not while reactions are owed."""
+    is_firing = bool(state.tasks) and state.tasks[0][0] == "fired"
+    if is_firing or inside == "dequeue":
+        return is_firing and inside == "dequeue"
+    return bool(inside) or not state.owed or excuse == "late"
+
+
 def call_moves(state, event, rules, excuse):
-    inside = event.get("inside")
-    if inside == "dequeue" and not (state.tasks and state.tasks[0][0] == "fired"):
-        return
-    if state.owed and not inside and excuse != "late":       # reactions run before any other call
-        return
-    if not inside and state.tasks and state.tasks[0][0] == "fired":
+    if excuse != "loose" and not is_time_for(state, event.get("inside"), excuse):
         return
     if excuse in ("answer", "drop"):
         yield "event", None, state

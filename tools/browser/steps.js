@@ -266,12 +266,16 @@ class Run {
     return Object.values(this.codecs).some(it => it.real && it.real.state === "configured" && (queueSize(it) > 0 || it.promises > 0));
   }
 
-  // Until no codec has had anything to tell for `quiet` ms, or for `busy` ms where something is still to come.
+  // Until no codec has had anything to tell for `quiet` ms, or for `busy` ms where something is still to come; five times as
+  // long where the machine is so busy that a short sleep is long.
   async settle(quiet, busy) {
     const from = now();
+    let longest = 0;
     for (;;) {
+      const before = now();
       await sleep(8);
-      if (now() - Math.max(this.last, from) >= (this.isBusy() ? busy : quiet)) return;
+      longest = Math.max(longest, now() - before);
+      if (now() - Math.max(this.last, from) >= (this.isBusy() ? busy : quiet) * (longest > 80 ? 5 : 1)) return;
     }
   }
 
