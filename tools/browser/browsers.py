@@ -26,6 +26,7 @@ BUSY = 3000     # what has not come by then counts as not coming
 AWAIT = 1000    # an await is given up when nothing was heard for so long
 LIMIT = 60      # seconds that one script may take
 SILENT = 20     # seconds without a word from the page
+LOADING = 120   # seconds until its first word; on a busy machine all of these are four times as long
 MOST_STARTS = 14
 
 CHROMIUM = ["--headless=new", "--no-sandbox", "--disable-gpu", "--disable-dev-shm-usage", "--no-first-run", "--no-default-browser-check", "--mute-audio",
@@ -188,14 +189,14 @@ class Desk:
 
     def wrong(self, began, process):
         """Why no more is to be expected, or None."""
-        now, given = time.monotonic(), self.given
+        now, given, patience = time.monotonic(), self.given, 4 if os.getloadavg()[0] > 2 * os.cpu_count() else 1
         if process.poll() is not None:
             return "the browser ended with %s" % process.returncode
-        if given and now - given[1] > LIMIT:
-            return "no result after %d s" % LIMIT
-        if given and now - max(self.beat or given[1], given[1]) > SILENT:
+        if given and now - given[1] > LIMIT * patience:
+            return "no result after %d s" % (LIMIT * patience)
+        if given and now - max(self.beat or given[1], given[1]) > SILENT * patience:
             return "the page answers no more: its process crashed or hangs"
-        if not given and self.next == 0 and now - began > 120:
+        if not given and self.next == 0 and now - began > LOADING * patience:
             return "the page did not load"
         return None
 
